@@ -41,6 +41,10 @@ abbrev pub posZ : ℤ → Bool
 posZ (pos n) = ltb 0 n
 posZ (negsuc n) = false
 
+pub nn-of-pos : (z : ℤ) → T (posZ z) → NN z
+nn-of-pos (pos n) t = nn n
+nn-of-pos (negsuc n) t = absurd t
+
 -- a positive factor is cancelled
 pub nn-cancel : (a z : ℤ) → T (posZ a) → NN (a *ℤ z) → NN z
 nn-cancel (negsuc a) z t h = absurd t
