@@ -156,7 +156,7 @@ module _ (t : ℕ) (α k : ℤ) where
         ⊕ con (pos 220) ⊗ fourthR ⊗ (con (pos 120315299382033768196698276) ⊗ (G ⊗ G) ⊖ γ ⊗ γ)
         ⊕ fourthR ⊗ con (pos 75253997308875638282859280) ⊗ (G ⊗ G)) tt
 
-    step-kept : Within box slope stiff → (d' : ℤ) → pos 16777216 *ℤ d' ≡ α *ℤ d -ℤ k *ℤ y +ℤ F →
+    pub step-kept : Within box slope stiff → (d' : ℤ) → pos 16777216 *ℤ d' ≡ α *ℤ d -ℤ k *ℤ y +ℤ F →
         NN (pos 120315299382033768196698276 *ℤ (X *ℤ X) -ℤ force *ℤ force) → NN (room rate X y d) → NN (room rate X (y +ℤ d') d')
     step-kept i d' step small inside =
         nn-cancel (pos 50000 *ℤ (rate *ℤ fourth rate) *ℤ pos 281474976710656) (room rate X (y +ℤ d') d') (lt→ltb 0 _ (above t))
