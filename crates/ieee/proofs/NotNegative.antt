@@ -136,6 +136,10 @@ abs-from v z = subst (λ (u : ℤ). natAbs u ≤ natAbs (v -ℤ z) + natAbs z) (
 pub abs-neg-mul : (n : ℕ) (a : ℤ) → natAbs (negℤ (pos n) *ℤ a) ≡ n * natAbs a
 abs-neg-mul n a = ap natAbs (ring (pos n ∷ a ∷ []) (neg (var 0) ⊗ var 1) (neg (var 0 ⊗ var 1)) tt) ∙ abs-neg (pos n *ℤ a) ∙ abs-mul n a
 
+pub abs-times : (a b : ℤ) → natAbs (a *ℤ b) ≡ natAbs a * natAbs b
+abs-times (pos a) b = abs-mul a b
+abs-times (negsuc a) b = abs-neg-mul (suc a) b
+
 -- ---- the distance of two natural numbers
 pub gap-above : (a b : ℕ) → a ≤ b + natAbs (pos a -ℤ pos b)
 gap-above a zero = omega arith
