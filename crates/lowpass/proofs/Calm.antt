@@ -7,10 +7,11 @@ use Prim.Native.Nat.{ℕ, _+_, _*_, _^_, _≤_, _<_, zero-le}
 use native.Mathlib.Nat.{le-trans, le-of-eq, mul-le-mul-left, one-mul}
 use lib.Dec.{T, lit≤}
 use lib.IntN.{ℤ, pos, natAbs, _-ℤ_}
-use lib.Ieee.{Float}
-use Rattle.ieee.specs.Units.{F32, mag}
+use lib.Ieee.{Float, fits}
+use Rattle.angles.specs.declared.Lowpass.{Lowpass}
+use Rattle.ieee.specs.Units.{One, F32, mag}
 use Rattle.ieee.proofs.Near.{val, abs-val, most}
-use Rattle.lowpass.specs.Lowpass.{BiquadLowpassState, output, next, filtered, afterAll}
+use Rattle.lowpass.specs.Lowpass.{BiquadLowpassState, plusZero, fresh, output, next, filtered, afterAll}
 use Rattle.lowpass.specs.Bound.{AtMost, AllAtMost, Range, passes}
 use Rattle.lowpass.proofs.Ellipse.{Inside, start, wider, bound}
 use Rattle.lowpass.proofs.Boxed.{step}
@@ -74,6 +75,20 @@ pub calm-next : {X : ℕ} {f : BiquadLowpassState} → Range X → Calm X f → 
 calm-next r c {x} h =
     let m = made r c x h in
     record { rate = c .rate; known = c .known; x1-small = h; x2-small = c .x1-small; y1-f32 = m .f32; y2-small = at-most (c .y1-f32) (bound (c .inside)); inside = m .kept }
+
+-- a new filter
+zero-f32 : F32 plusZero
+unfolding fits
+zero-f32 = record { fine = tt; fit = tt }
+
+zero-small : {X : ℕ} → AtMost X plusZero
+unfolding mag One
+zero-small = record { f32 = zero-f32; size = zero-le }
+
+pub calm-new : (rate X : ℕ) (c : Lowpass) → T (passes rate (fresh c)) → Calm X (fresh c)
+unfolding mag One
+calm-new rate X c t =
+    record { rate = rate; known = coefficients rate (fresh c) t; x1-small = zero-small; x2-small = zero-small; y1-f32 = zero-f32; y2-small = zero-small; inside = start rate X }
 
 pub calm-more : {X Y : ℕ} {f : BiquadLowpassState} → X ≤ Y → Calm X f → Calm Y f
 calm-more l c = record {

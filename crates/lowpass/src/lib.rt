@@ -1,6 +1,7 @@
 // The low-pass of the bass feed, document 01 item 6: five coefficients beside four past values, one sample at a time.
 ghost use mathlib.Core.Path.{_≡_};
-ghost use Rattle.lowpass.specs.Lowpass.{output, next, filtered, afterAll};
+ghost use Rattle.angles.specs.Angle.{Listed};
+ghost use Rattle.lowpass.specs.Lowpass.{new, output, next, filtered, afterAll};
 
 pub struct BiquadLowpassState {
     pub a1: f32,
@@ -21,6 +22,25 @@ pub struct Filtered {
 }
 
 impl BiquadLowpassState {
+    // The filter of a listed rate, with nothing in its memory.
+    pub fn new(rate: u32) -> BiquadLowpassState
+        requires { ⌜ Listed rate ⌝ }
+        ensures { λ r. ⌜ r ≡ new rate ⌝ }
+    {
+        let c = angles::coefficients(rate);
+        BiquadLowpassState {
+            a1: c.a1,
+            a2: c.a2,
+            b0: c.b0,
+            b1: c.b1,
+            b2: c.b2,
+            x1: 0.0,
+            x2: 0.0,
+            y1: 0.0,
+            y2: 0.0,
+        }
+    }
+
     // One sample.
     pub fn process(self, current: f32) -> Filtered
         ensures { λ r. ⌜ (r .sample ≡ output self current) × (r .filter ≡ next self current) ⌝ }
