@@ -3,6 +3,7 @@ ghost use mathlib.Core.Path.{_≡_};
 ghost use Rattle.angles.specs.Angle.{Listed};
 ghost use Rattle.lowpass.specs.Lowpass.{new, output, next, filtered, afterAll};
 
+#[repr(C)]
 pub struct BiquadLowpassState {
     pub a1: f32,
     pub a2: f32,
