@@ -85,10 +85,13 @@ zero-small : {X : ℕ} → AtMost X plusZero
 unfolding mag One
 zero-small = record { f32 = zero-f32; size = zero-le }
 
-pub calm-new : (rate X : ℕ) (c : Lowpass) → T (passes rate (fresh c)) → Calm X (fresh c)
+pub calm-start : (rate X : ℕ) (c : Lowpass) → Coefficients rate (c .a1) (c .a2) (c .b0) (c .b1) (c .b2) → Calm X (fresh c)
 unfolding mag One
-calm-new rate X c t =
-    record { rate = rate; known = coefficients rate (fresh c) t; x1-small = zero-small; x2-small = zero-small; y1-f32 = zero-f32; y2-small = zero-small; inside = start rate X }
+calm-start rate X c k =
+    record { rate = rate; known = k; x1-small = zero-small; x2-small = zero-small; y1-f32 = zero-f32; y2-small = zero-small; inside = start rate X }
+
+pub calm-new : (rate X : ℕ) (c : Lowpass) → T (passes rate (fresh c)) → Calm X (fresh c)
+calm-new rate X c t = calm-start rate X c (coefficients rate (fresh c) t)
 
 pub calm-more : {X Y : ℕ} {f : BiquadLowpassState} → X ≤ Y → Calm X f → Calm Y f
 calm-more l c = record {

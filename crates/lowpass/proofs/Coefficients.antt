@@ -12,7 +12,7 @@ use lib.Ieee.Scale.{finite}
 use Rattle.ieee.specs.Units.{One, F32, sign, mag, P, N}
 use Rattle.ieee.proofs.Ring.{R, var, con, _⊖_, _⊗_, neg, ring}
 use Rattle.ieee.proofs.Near.{Ratio}
-use Rattle.lowpass.specs.Bound.{steps, whole, boxed, passes}
+use Rattle.lowpass.specs.Bound.{every, steps, whole, boxed, tests, passes}
 use Rattle.lowpass.specs.Lowpass.{BiquadLowpassState}
 use Rattle.lowpass.proofs.Form.{both}
 use Rattle.lowpass.proofs.Boxed.{InBox}
@@ -47,17 +47,23 @@ module _ {rate α A k : ℕ} (h : InBox rate α A k) where
       fit : 7540 * 7540 * β ≤ 169624139315235782656 → β ≤ 281474976710656
       fit h = omega arith
 
+-- ---- the tests, one by one
+abbrev Every : List Bool → Type 0
+Every [] = Unit
+Every (b ∷ bs) = T b × Every bs
+
+parts : (bs : List Bool) → T (every bs) → Every bs
+parts [] t = tt
+parts (b ∷ bs) t = let p : T b × T (every bs) = both b (every bs) t in (p .0, parts bs (p .1))
+
 -- ---- a coefficient
 abbrev signed : Bool → ℕ → ℤ
 signed s n = cond s (negℤ (pos n)) (pos n)
 
-ratio : (s : Bool) (c : ℕ) (x : Float) → T (whole s c x) → Ratio x (signed s (steps c x)) c
+ratio : (s : Bool) (c : ℕ) (x : Float) → T (every (whole s c x)) → Ratio x (signed s (steps c x)) c
 ratio s c x t =
-    let n : ℕ = steps c x in
-    let t₁ : T (finite x) × T (fits binary32 x && (Bool·beq (sign x) s && eqb (n * One) (c * mag x))) = both (finite x) (fits binary32 x && (Bool·beq (sign x) s && eqb (n * One) (c * mag x))) t in
-    let t₂ : T (fits binary32 x) × T (Bool·beq (sign x) s && eqb (n * One) (c * mag x)) = both (fits binary32 x) (Bool·beq (sign x) s && eqb (n * One) (c * mag x)) (t₁ .1) in
-    let t₃ : T (Bool·beq (sign x) s) × T (eqb (n * One) (c * mag x)) = both (Bool·beq (sign x) s) (eqb (n * One) (c * mag x)) (t₂ .1) in
-    record { f32 = record { fine = t₁ .0; fit = t₂ .0 }; is = go (sign x) s (t₃ .0) (ap pos (eqb→eq (n * One) (c * mag x) (t₃ .1))) }
+    let p : Every (whole s c x) = parts (whole s c x) t in
+    record { f32 = record { fine = p .0; fit = p .1 .0 }; is = go (sign x) s (p .1 .1 .0) (ap pos (eqb→eq (steps c x * One) (c * mag x) (p .1 .1 .1 .0))) }
   where
     less : (c m : ℤ) → c *ℤ (pos 0 -ℤ m) ≡ negℤ (c *ℤ m)
     less c m = ring (c ∷ m ∷ []) (var 0 ⊗ (con (pos 0) ⊖ var 1)) (neg (var 0 ⊗ var 1)) tt
@@ -74,33 +80,21 @@ ratio s c x t =
     go false true h e = absurd h
     go true false h e = absurd h
 
-in-box : (rate α A β : ℕ) → T (boxed rate α A β) → InBox rate α A (16777216 + α - A) × (rate ≤ 192000) × (rate * rate * β ≤ 169624139315235782656)
+in-box : (rate α A β : ℕ) → T (every (boxed rate α A β)) → InBox rate α A (16777216 + α - A) × (rate ≤ 192000) × (rate * rate * β ≤ 169624139315235782656)
 in-box rate α A β t =
     let k : ℕ = 16777216 + α - A in
-    let c₁ = leb 8000 rate in
-    let c₂ = leb rate 192000 in
-    let c₃ = leb (16445027123 + α * rate) (16777216 * rate) in
-    let c₄ = leb (16777216 * rate) (17963029626 + α * rate) in
-    let c₅ = leb 8775066472939 (k * (rate * rate)) in
-    let c₆ = leb (k * (rate * rate)) 9728878046085 in
-    let c₇ = leb (rate * rate * β) 169624139315235782656 in
-    let t₁ : T c₁ × T (c₂ && (c₃ && (c₄ && (c₅ && (c₆ && c₇))))) = both c₁ (c₂ && (c₃ && (c₄ && (c₅ && (c₆ && c₇))))) t in
-    let t₂ : T c₂ × T (c₃ && (c₄ && (c₅ && (c₆ && c₇)))) = both c₂ (c₃ && (c₄ && (c₅ && (c₆ && c₇)))) (t₁ .1) in
-    let t₃ : T c₃ × T (c₄ && (c₅ && (c₆ && c₇))) = both c₃ (c₄ && (c₅ && (c₆ && c₇))) (t₂ .1) in
-    let t₄ : T c₄ × T (c₅ && (c₆ && c₇)) = both c₄ (c₅ && (c₆ && c₇)) (t₃ .1) in
-    let t₅ : T c₅ × T (c₆ && c₇) = both c₅ (c₆ && c₇) (t₄ .1) in
-    let t₆ : T c₆ × T c₇ = both c₆ c₇ (t₅ .1) in
-    let stiff : 8775066472939 ≤ k * (rate * rate) = leb→le 8775066472939 (k * (rate * rate)) (t₅ .0) in (
+    let p : Every (boxed rate α A β) = parts (boxed rate α A β) t in
+    let stiff : 8775066472939 ≤ k * (rate * rate) = leb→le 8775066472939 (k * (rate * rate)) (p .1 .1 .1 .1 .0) in (
       record {
         stiffness = sum k (rate * rate) stiff refl;
-        rate-low = le-trans (lit≤ tt) (leb→le 8000 rate (t₁ .0));
-        slope-low = leb→le (16445027123 + α * rate) (16777216 * rate) (t₃ .0);
-        slope-high = leb→le (16777216 * rate) (17963029626 + α * rate) (t₄ .0);
+        rate-low = le-trans (lit≤ tt) (leb→le 8000 rate (p .0));
+        slope-low = leb→le (16445027123 + α * rate) (16777216 * rate) (p .1 .1 .0);
+        slope-high = leb→le (16777216 * rate) (17963029626 + α * rate) (p .1 .1 .1 .0);
         stiff-low = stiff;
-        stiff-high = leb→le (k * (rate * rate)) 9728878046085 (t₆ .0);
+        stiff-high = leb→le (k * (rate * rate)) 9728878046085 (p .1 .1 .1 .1 .1 .0);
       },
-      leb→le rate 192000 (t₂ .0),
-      leb→le (rate * rate * β) 169624139315235782656 (t₆ .1),
+      leb→le rate 192000 (p .1 .0),
+      leb→le (rate * rate * β) 169624139315235782656 (p .1 .1 .1 .1 .1 .1 .0),
     )
   where
     sum : (k n : ℕ) → 8775066472939 ≤ k * n → 16777216 + α - A ≡ k → k + A ≡ 16777216 + α
@@ -110,33 +104,25 @@ in-box rate α A β t =
 pub coefficients : (rate : ℕ) (f : BiquadLowpassState) → T (passes rate f) → Coefficients rate (f .a1) (f .a2) (f .b0) (f .b1) (f .b2)
 unfolding passes
 coefficients rate f t =
-    let c₁ = whole true 16777216 (f .a1) in
-    let c₂ = whole false 16777216 (f .a2) in
-    let c₃ = whole false 281474976710656 (f .b0) in
-    let c₄ = whole false 281474976710656 (f .b1) in
-    let c₅ = whole false 281474976710656 (f .b2) in
+    let p : Every (tests rate f) = parts (tests rate f) t in
+    let α = steps 16777216 (f .a2) in
+    let A = steps 16777216 (f .a1) in
     let β₀ = steps 281474976710656 (f .b0) in
     let β₁ = steps 281474976710656 (f .b1) in
     let β₂ = steps 281474976710656 (f .b2) in
-    let c₆ = boxed rate (steps 16777216 (f .a2)) (steps 16777216 (f .a1)) (β₀ + β₁ + β₂) in
-    let t₁ : T c₁ × T (c₂ && (c₃ && (c₄ && (c₅ && c₆)))) = both c₁ (c₂ && (c₃ && (c₄ && (c₅ && c₆)))) t in
-    let t₂ : T c₂ × T (c₃ && (c₄ && (c₅ && c₆))) = both c₂ (c₃ && (c₄ && (c₅ && c₆))) (t₁ .1) in
-    let t₃ : T c₃ × T (c₄ && (c₅ && c₆)) = both c₃ (c₄ && (c₅ && c₆)) (t₂ .1) in
-    let t₄ : T c₄ × T (c₅ && c₆) = both c₄ (c₅ && c₆) (t₃ .1) in
-    let t₅ : T c₅ × T c₆ = both c₅ c₆ (t₄ .1) in
-    let b = in-box rate (steps 16777216 (f .a2)) (steps 16777216 (f .a1)) (β₀ + β₁ + β₂) (t₅ .1) in
+    let b = in-box rate α A (β₀ + β₁ + β₂) (p .1 .1 .1 .1 .1 .0) in
     record {
-      α = steps 16777216 (f .a2);
-      A = steps 16777216 (f .a1);
-      k = 16777216 + steps 16777216 (f .a2) - steps 16777216 (f .a1);
+      α = α;
+      A = A;
+      k = 16777216 + α - A;
       β₀ = β₀;
       β₁ = β₁;
       β₂ = β₂;
-      a1-is = ratio true 16777216 (f .a1) (t₁ .0);
-      a2-is = ratio false 16777216 (f .a2) (t₂ .0);
-      b0-is = ratio false 281474976710656 (f .b0) (t₃ .0);
-      b1-is = ratio false 281474976710656 (f .b1) (t₄ .0);
-      b2-is = ratio false 281474976710656 (f .b2) (t₅ .0);
+      a1-is = ratio true 16777216 (f .a1) (p .0);
+      a2-is = ratio false 16777216 (f .a2) (p .1 .0);
+      b0-is = ratio false 281474976710656 (f .b0) (p .1 .1 .0);
+      b1-is = ratio false 281474976710656 (f .b1) (p .1 .1 .1 .0);
+      b2-is = ratio false 281474976710656 (f .b2) (p .1 .1 .1 .1 .0);
       box = b .0;
       rate-high = b .1;
       gain = b .2;
