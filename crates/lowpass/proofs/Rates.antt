@@ -10,7 +10,7 @@ use Rattle.angles.specs.declared.Lowpass.{Lowpass}
 use Rattle.angles.proofs.Table.{At, at32000, at44100, at48000, at88200, at96000}
 use Rattle.ieee.specs.Units.{One, mag}
 use Rattle.lowpass.specs.Lowpass.{fresh, new, filtered}
-use Rattle.lowpass.specs.Bound.{AllAtMost, Range, passes}
+use Rattle.lowpass.specs.Bound.{Bounded, All, Range, passes}
 use Rattle.lowpass.proofs.Calm.{Calm, calm-new, filtered-bounded}
 
 -- worked out from the cosine and the sine
@@ -31,5 +31,5 @@ unfolding new
 calm-listed {rate} l X = calm-new rate X (coefficientsOf (cosine (w0 rate)) (sine (w0 rate))) (listed-passes l)
 
 -- document 01's filter: at a listed rate, from the start, samples of size at most X give finite outputs of size at most 2 X
-pub lowpass-bounded : {rate X : ℕ} → Listed rate → Range X → (xs : List Float) → AllAtMost X xs → AllAtMost (2 * X) (filtered (new rate) xs)
+pub lowpass-bounded : {rate X : ℕ} → Listed rate → Range X → (xs : List Float) → All (Bounded X) xs → All (Bounded (2 * X)) (filtered (new rate) xs)
 lowpass-bounded {rate} {X} l r xs h = filtered-bounded r (calm-listed l X) xs h
