@@ -1,5 +1,5 @@
 -- The low-pass cannot run away. `Calm X f` is what holds of a filter between two samples, X bounding the samples: a new filter has it (`calm-new`), a sample of size at most X
--- keeps it (`calm-next`, `calm-all`), it holds for every bounded-by X (`calm-more`), and with it every output is finite and at most 2 X (`output-bounded`, `filtered-bounded`).
+-- keeps it (`calm-next`, `calm-all`), it holds for every larger X (`calm-more`), and with it every output is finite and at most 2 X (`output-bounded`, `filtered-bounded`).
 -- X is in units, from 2 ^ -100 to 2 ^ 20 (`Range`). Assumes nothing.
 use mathlib.Core.List.{List, [], _∷_}
 use Prim.Native.Nat.{ℕ, _*_, _≤_}
