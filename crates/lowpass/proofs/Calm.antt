@@ -7,7 +7,7 @@ use native.Mathlib.Nat.{le-trans, mul-le-mul-left}
 use lib.Dec.{T, lit≤}
 use lib.IntN.{natAbs, _-ℤ_}
 use lib.Ieee.{Float}
-use Rattle.angles.specs.declared.Lowpass.{Lowpass}
+use Rattle.angles.specs.declared.filter.Coefficients.{Coefficients}
 use Rattle.ieee.specs.Units.{One, F32, mag}
 use Rattle.ieee.proofs.Constants.{zero-f32}
 use Rattle.ieee.proofs.Bound.{bounded-by, zero-bounded}
@@ -16,13 +16,13 @@ use Rattle.lowpass.specs.Lowpass.{BiquadLowpassState, fresh, output, nex
 use Rattle.lowpass.specs.Bound.{Bounded, All, Range, passes}
 use Rattle.lowpass.proofs.Ellipse.{Inside, start, wider, bound}
 use Rattle.lowpass.proofs.Boxed.{step}
-use Rattle.lowpass.proofs.Coefficients.{Coefficients, coefficients, α-high, A-high}
+use Rattle.lowpass.proofs.Passing.{Passing, passing, α-high, A-high}
 use Rattle.lowpass.proofs.Errors.{small}
 use Rattle.lowpass.proofs.Rounded.{steps}
 
 pub record Calm (X : ℕ) (f : BiquadLowpassState) : Type 0 where
   pub rate : ℕ
-  pub known : Coefficients rate (f .a1) (f .a2) (f .b0) (f .b1) (f .b2)
+  pub known : Passing rate (f .a1) (f .a2) (f .b0) (f .b1) (f .b2)
   pub x1-small : Bounded X (f .x1)
   pub x2-small : Bounded X (f .x2)
   pub y1-f32 : F32 (f .y1)
@@ -64,13 +64,13 @@ calm-next r c {x} h =
     record { rate = c .rate; known = c .known; x1-small = h; x2-small = c .x1-small; y1-f32 = m .f32; y2-small = bounded-abs (c .y1-f32) (bound (c .inside)); inside = m .kept }
 
 -- a new filter
-pub calm-start : (rate X : ℕ) (c : Lowpass) → Coefficients rate (c .a1) (c .a2) (c .b0) (c .b1) (c .b2) → Calm X (fresh c)
+pub calm-start : (rate X : ℕ) (c : Coefficients) → Passing rate (c .a1) (c .a2) (c .b0) (c .b1) (c .b2) → Calm X (fresh c)
 unfolding mag One
 calm-start rate X c k =
     record { rate = rate; known = k; x1-small = zero-bounded X; x2-small = zero-bounded X; y1-f32 = zero-f32; y2-small = zero-bounded (2 * X); inside = start rate X }
 
-pub calm-new : (rate X : ℕ) (c : Lowpass) → T (passes rate (fresh c)) → Calm X (fresh c)
-calm-new rate X c t = calm-start rate X c (coefficients rate (fresh c) t)
+pub calm-new : (rate X : ℕ) (c : Coefficients) → T (passes rate (fresh c)) → Calm X (fresh c)
+calm-new rate X c t = calm-start rate X c (passing rate (fresh c) t)
 
 pub calm-more : {X Y : ℕ} {f : BiquadLowpassState} → X ≤ Y → Calm X f → Calm Y f
 calm-more l c = record {

@@ -12,7 +12,7 @@ use Rattle.ieee.proofs.Bound.{bounded-by}
 use Rattle.ieee.proofs.NotNegative.{abs-add, abs-minus, abs-times, abs-neg}
 use Rattle.ieee.proofs.Near.{val, abs-most, bounded-abs, Near, Sum, Ratio, most, add-near, sub-near, mul-near, sum-size, near-size}
 use Rattle.lowpass.specs.Lowpass.{BiquadLowpassState, output}
-use Rattle.lowpass.proofs.Coefficients.{Coefficients, α-high, A-high, β-high}
+use Rattle.lowpass.proofs.Passing.{Passing, α-high, A-high, β-high}
 use Rattle.lowpass.proofs.Errors.{Steps}
 
 module _ (X : ℕ) (some : 1 ≤ X) (high : 32 * X ≤ most) where
@@ -59,7 +59,7 @@ module _ (X : ℕ) (some : 1 ≤ X) (high : 32 * X ≤ most) where
   fed q h s = product 1 1 (lit< tt) q (le-trans h (lit≤ tt)) (bounded-by (le-of-eq (sym (one-mul X))) s) (lit≤ tt) (lit≤ tt)
 
   -- the whole step
-  pub steps : {rate : ℕ} (f : BiquadLowpassState) (x : Float) (C : Coefficients rate (f .a1) (f .a2) (f .b0) (f .b1) (f .b2)) →
+  pub steps : {rate : ℕ} (f : BiquadLowpassState) (x : Float) (C : Passing rate (f .a1) (f .a2) (f .b0) (f .b1) (f .b2)) →
       Bounded X x → Bounded X (f .x1) → Bounded X (f .x2) → Bounded (2 * X) (f .y1) → Bounded (2 * X) (f .y2) →
       F32 (output f x) × Steps (C .α) (C .A) (C .β₀) (C .β₁) (C .β₂) (val x) (val (f .x1)) (val (f .x2)) (val (f .y1)) (val (f .y2)) (val (output f x))
   steps f x C hx hx1 hx2 hy1 hy2 =

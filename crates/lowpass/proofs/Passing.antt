@@ -16,7 +16,7 @@ use Rattle.lowpass.specs.Lowpass.{BiquadLowpassState}
 use Rattle.lowpass.proofs.Tests.{every, Every, parts}
 use Rattle.lowpass.proofs.Boxed.{InBox}
 
-pub record Coefficients (rate : ℕ) (a1 a2 b0 b1 b2 : Float) : Type 0 where
+pub record Passing (rate : ℕ) (a1 a2 b0 b1 b2 : Float) : Type 0 where
   pub α : ℕ
   pub A : ℕ
   pub k : ℕ
@@ -91,9 +91,9 @@ in-box rate α A β t =
     sum zero n h e = absurd (omega arith)
     sum (suc k) n h e = omega arith
 
-pub coefficients : (rate : ℕ) (f : BiquadLowpassState) → T (passes rate f) → Coefficients rate (f .a1) (f .a2) (f .b0) (f .b1) (f .b2)
+pub passing : (rate : ℕ) (f : BiquadLowpassState) → T (passes rate f) → Passing rate (f .a1) (f .a2) (f .b0) (f .b1) (f .b2)
 unfolding passes
-coefficients rate f t =
+passing rate f t =
     let p : Every (tests rate f) = parts (tests rate f) t in
     let α = steps 16777216 (f .a2) in
     let A = steps 16777216 (f .a1) in
