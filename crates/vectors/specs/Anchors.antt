@@ -26,9 +26,12 @@ abbrev pub 100·0 : Float
 -- ---- the room
 
 -- Document 01, item 2: "An infinite distance of either sign becomes 100."
+abbrev pub finiteDistance : Float → Float
+finiteDistance d = cond (infinite d) 100·0 d
+
 abbrev pub usedDistance : Maybe → Maybe
 usedDistance Absent = Absent
-usedDistance (Value d) = Value (cond (infinite d) 100·0 d)
+usedDistance (Value d) = Value (finiteDistance d)
 
 abbrev pub roomCenter : Vec3
 roomCenter = vec3 0·5 0·5 0·0

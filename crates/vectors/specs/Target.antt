@@ -16,9 +16,12 @@ abbrev pub 2·0 : Float
 abbrev pub -2·0 : Float
 -2·0 = ofBits binary32 0xc0000000
 
--- the sum of the last absolute position and a difference, from 0 to 1. Document 01, item 2: "a clamp keeps" a NaN; it keeps -0 too.
+-- The last absolute coordinate and a difference, from 0 to 1. Document 01, item 2: "a clamp keeps" a NaN; -0 stays too.
+abbrev pub summed : Float → Float → Float
+summed last d = clamped (add binary32 last d) 0·0 1·0
+
 abbrev pub differentialPosition : Vec3 → Vec3 → Vec3
-differentialPosition last d = pairwise (λ a b. clamped (add binary32 a b) 0·0 1·0) last d
+differentialPosition = pairwise summed
 
 -- from the room's coordinates (0 to 1; y from front to back, z upwards) to those of the cube (-1 to 1; y upwards, z to the front)
 abbrev pub cubical : Vec3 → Vec3
@@ -41,9 +44,12 @@ movable Room = true
 movable Screen = true
 movable Speaker = false
 
+-- the move that a block with a valid position asks for
+unfoldable pub moved : BlockPosition → Placed
+moved b = record { target = cubical (anchored (b .anchor) b (storedNext b)); position = storedNext b; last = lastNext b }
+
 -- Where the position is valid and the anchor is not speaker, the block moves the object; else its target is where the object is.
 unfoldable pub placed : BlockPosition → Vec3 → Placed
+unfolding moved
 placed b here =
-    cond (b .valid && movable (b .anchor))
-    (record { target = cubical (anchored (b .anchor) b (storedNext b)); position = storedNext b; last = lastNext b })
-    (record { target = here; position = b .position; last = b .last })
+    cond (b .valid && movable (b .anchor)) (moved b) (record { target = here; position = b .position; last = b .last })
