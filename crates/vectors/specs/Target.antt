@@ -1,6 +1,6 @@
 -- The target of a block for an object: the position part of `ObjectInfoBlockState::update_source_state`, on plain values. Assumes nothing.
 use mathlib.Core.Bool.{Bool, true, false, _&&_, cond}
-use lib.Ieee.{Float, binary32, ofBits, add, sub, mul}
+use lib.Ieee.{Float, binary32, ofBits, neg, add, sub, mul}
 use Rattle.ieee.specs.Small.{clamped}
 use Rattle.vectors.specs.declared.Vec3.{Vec3}
 use Rattle.vectors.specs.declared.Anchor.{Anchor}
@@ -14,7 +14,7 @@ abbrev pub 2·0 : Float
 2·0 = ofBits binary32 0x40000000
 
 abbrev pub -2·0 : Float
--2·0 = ofBits binary32 0xc0000000
+-2·0 = neg 2·0
 
 -- The last absolute coordinate and a difference, from 0 to 1. Document 01, item 2: "a clamp keeps" a NaN; -0 stays too.
 abbrev pub summed : Float → Float → Float
