@@ -7,6 +7,7 @@ ghost use Rattle.vectors.specs.Target.{summed, differentialPosition, cub
 use roots::Depth;
 
 // x grows to the right, y upwards, z to the front.
+#[repr(C)]
 pub struct Vec3 {
     pub x: f32,
     pub y: f32,
@@ -221,6 +222,7 @@ pub struct BlockPosition {
 }
 
 // An object's target, and what the block then holds as its position and as the last absolute one.
+#[repr(C)]
 pub struct Placed {
     pub target: Vec3,
     pub position: Vec3,

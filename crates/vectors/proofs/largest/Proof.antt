@@ -21,7 +21,7 @@ max-requires-2 : tie.Need-max-requires-2
 max-requires-2 c κs = search needs
 
 returns : tie.Need-returns
-returns c = 
+returns c =
     let first = c .before .before in
     c .max2 .ensures
     ∙ ap₂ larger (first .max .ensures ∙ ap₂ larger (first .before .before .abs .ensures) (first .before .abs2 .ensures)) (c .before .abs3 .ensures)
