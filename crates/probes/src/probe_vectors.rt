@@ -1,5 +1,9 @@
 use roots::Depth;
-use vectors::{Anchor, BlockPosition, Maybe, Placed, Vec3};
+use vectors::Anchor;
+use vectors::BlockPosition;
+use vectors::Maybe;
+use vectors::Placed;
+use vectors::Vec3;
 ghost use mathlib.Core.Path.{_≡_};
 ghost use Rattle.vectors.specs.Vectors.{vecAdd, vecSub, vecMulScalar, vecMulComponents, vecLength, mapToCube, lerpVec3};
 ghost use Rattle.vectors.specs.Anchors.{roomAnchored, screenAnchored};
@@ -67,22 +71,28 @@ fn maybe_of(present: bool, value: f32) -> Maybe
 fn depth_of(code: u8) -> Depth
     ensures { λ r. ⌜ r ≡ depthOf code ⌝ }
 {
-    match code {
-        0 => Depth::Fourth,
-        1 => Depth::Half,
-        2 => Depth::One,
-        _ => Depth::Two,
+    if code == 0 {
+        return Depth::Fourth;
     }
+    if code == 1 {
+        return Depth::Half;
+    }
+    if code == 2 {
+        return Depth::One;
+    }
+    Depth::Two
 }
 
 fn anchor_of(code: u8) -> Anchor
     ensures { λ r. ⌜ r ≡ anchorOf code ⌝ }
 {
-    match code {
-        0 => Anchor::Room,
-        1 => Anchor::Screen,
-        _ => Anchor::Speaker,
+    if code == 0 {
+        return Anchor::Room;
     }
+    if code == 1 {
+        return Anchor::Screen;
+    }
+    Anchor::Speaker
 }
 
 #[no_mangle]
