@@ -209,7 +209,7 @@ fn used_distance(distance: Maybe) -> Maybe
     }
 }
 
-// What a block holds of an object's position: `last` is the last absolute one.
+// The position part of `ObjectInfoBlockState`: `last` is its `last_precise`, the last absolute position, and `depth` its `depth_factor`.
 pub struct BlockPosition {
     pub valid: bool,
     pub differential: bool,
