@@ -1,12 +1,15 @@
 -- At the five rates, worked out: the angle, its cosine and sine, that they are the f32 meant, and the coefficients. Assumes nothing.
 use mathlib.Core.Path.{_≡_, refl, sym, ap₂, _∙_, subst}
 use mathlib.Core.Bool.{false}
-use Prim.Native.Nat.{ℕ}
+use Prim.Native.Nat.{ℕ, _≤_}
+use lib.Dec.{lit≤}
+use lib.Ieee.Positive.{num, den}
 use lib.IntN.{negsuc}
 use lib.Ieee.{Float, fin, round, ofBits, ofInt, add, sub, mul, div}
 use Rattle.ieee.specs.Small.{absolute}
 use Rattle.angles.specs.Angle.{partial, cosine, sine, w0, Meant, Listed, r32000, r44100, r48000, r88200, r96000}
 use Rattle.angles.specs.Filter.{coefficientsOf, coefficientsAt}
+use Rattle.angles.proofs.Unique.{meant-unique}
 
 abbrev angleAt : {n : ℕ} → Listed n → Float
 angleAt r32000 = fin false 12649723 (negsuc 28)
@@ -71,6 +74,23 @@ cosine-meant l = record { k = 3; here = at-rate l .cos3 ∙ sym (at-rate l .cos4
 pub sine-meant : {n : ℕ} → Listed n → Meant 1 (w0 n) (sine (w0 n))
 unfolding sine
 sine-meant l = record { k = 3; here = at-rate l .sin3 ∙ sym (at-rate l .sin4); next = refl }
+
+-- and no other is
+angle-small : {n : ℕ} (l : Listed n) → num (angleAt l) ≤ den (angleAt l)
+angle-small r32000 = lit≤ tt
+angle-small r44100 = lit≤ tt
+angle-small r48000 = lit≤ tt
+angle-small r88200 = lit≤ tt
+angle-small r96000 = lit≤ tt
+
+at-most-one : {n : ℕ} → Listed n → num (w0 n) ≤ den (w0 n)
+at-most-one l = subst (λ (x : Float). num x ≤ den x) (sym (angle-is l)) (angle-small l)
+
+pub cosine-only : {n : ℕ} {r : Float} → Listed n → Meant 0 (w0 n) r → r ≡ cosine (w0 n)
+cosine-only l m = meant-unique 0 (w0 _) _ _ (at-most-one l) m (cosine-meant l)
+
+pub sine-only : {n : ℕ} {r : Float} → Listed n → Meant 1 (w0 n) r → r ≡ sine (w0 n)
+sine-only l m = meant-unique 1 (w0 _) _ _ (at-most-one l) m (sine-meant l)
 
 -- ---- the coefficients
 worked : {n : ℕ} (l : Listed n) → coefficientsOf (cosineAt l) (sineAt l) ≡ coefficientsAt l
