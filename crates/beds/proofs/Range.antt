@@ -1,0 +1,14 @@
+-- What holds at each number of a range, shown one by one. Assumes nothing.
+use mathlib.Core.Logic.{⊎-elim}
+use mathlib.Core.Path.{_≡_, subst}
+use Prim.Native.Nat.{ℕ, zero, suc, _+_, _≤_, _<_}
+use native.Mathlib.Omega.{arith}
+use native.Mathlib.Nat.{eq-or-lt-of-le}
+
+abbrev pub Each : (ℕ → Type 0) → ℕ → ℕ → Type 0
+Each P a zero = Unit {0}
+Each P a (suc k) = P a × Each P (suc a) k
+
+pub between : (P : ℕ → Type 0) (a k : ℕ) → Each P a k → (n : ℕ) → a ≤ n → n < a + k → P n
+between P a zero e n h l = absurd (omega arith)
+between P a (suc k) e n h l = ⊎-elim (λ w. subst P w (e .0)) (λ w. between P (suc a) k (e .1) n w (omega arith)) (eq-or-lt-of-le h)
