@@ -5,7 +5,6 @@ ghost use lib.ListN.{length};
 ghost use Rattle.beds.specs.Routes.{routeOf, bassGain};
 ghost use Rattle.beds.specs.Positions.{bedPosition};
 ghost use Rattle.beds.specs.Matching.{lowFrequency, matches, firstOf, matching, counted};
-
 use vectors::Vec3;
 
 // How a bed is put out: on the bass channel at its reduced gain, panned at its position, on one channel, or not at all.
@@ -47,13 +46,66 @@ pub fn bass_gain(gain: f32) -> f32
 
 // The positions of the beds by code: to the right, up, to the front.
 const BED_X: [f32; 18] = [
-    -1.0, 1.0, 0.0, -1.0, -1.0, 1.0, 0.0, -1.0, 1.0, -1.0, 1.0, -1.0, 1.0, -1.0, 1.0, -1.0, 1.0, -1.0,
+    -1.0,
+    1.0,
+    0.0,
+    -1.0,
+    -1.0,
+    1.0,
+    0.0,
+    -1.0,
+    1.0,
+    -1.0,
+    1.0,
+    -1.0,
+    1.0,
+    -1.0,
+    1.0,
+    -1.0,
+    1.0,
+    -1.0,
 ];
+
 const BED_Y: [f32; 18] = [
-    0.0, 0.0, 0.0, -1.0, 0.0, 0.0, 0.0, 0.0, 0.0, 1.0, 1.0, 1.0, 1.0, 1.0, 1.0, 0.0, 0.0, -1.0,
+    0.0,
+    0.0,
+    0.0,
+    -1.0,
+    0.0,
+    0.0,
+    0.0,
+    0.0,
+    0.0,
+    1.0,
+    1.0,
+    1.0,
+    1.0,
+    1.0,
+    1.0,
+    0.0,
+    0.0,
+    -1.0,
 ];
+
 const BED_Z: [f32; 18] = [
-    1.0, 1.0, 1.0, 1.0, 0.0, 0.0, -1.0, -1.0, -1.0, 1.0, 1.0, 0.0, 0.0, -1.0, -1.0, 0.677_419, 0.677_419, 1.0,
+    1.0,
+    1.0,
+    1.0,
+    1.0,
+    0.0,
+    0.0,
+    -1.0,
+    -1.0,
+    -1.0,
+    1.0,
+    1.0,
+    0.0,
+    0.0,
+    -1.0,
+    -1.0,
+    0.677_419,
+    0.677_419,
+    1.0,
 ];
 
 // Where a bed stands; the origin for a code above 17.

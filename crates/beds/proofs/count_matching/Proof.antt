@@ -1,18 +1,15 @@
 -- `count_matching`: what is counted up to `i`, with what the rest counts, is the whole count.
 use borrow.Author.Needs.{needs}
 use mathlib.Core.Logic.{⊎-elim}
-use mathlib.Core.Path.{_≡_, refl, sym, ap, _∙_}
+use mathlib.Core.Path.{_≡_, sym, _∙_}
 use native.Mathlib.Omega.{arith}
 use mathlib.Core.Bool.{true, false}
-use Prim.Native.Nat.{_+_, _-_, _≤_, _<_}
+use Prim.Native.Nat.{_+_, _-_, _≤_}
 use lib.ListN.{length, drop, drop-of-length-le}
 use Rattle.beds.specs.Matching.{counted}
 use Rattle.beds.proofs.Laws.{counted-more}
 use Rattle.beds.proofs.count_matching.Statement.{statement}
 use Rattle.beds.proofs.count_matching.Tie as tie
-use Rattle.beds.proofs.count_matching.Reads as reads
-use Rattle.beds.proofs.count_matching.Lts as lts
-use Rattle.beds.proofs.bed_channel_matches_input.Reads as bed-channel-matches-input-reads
 
 abbrev Inv-loop : tie.InvT-loop
 Inv-loop requested codes n₀ i₀ n i = (i ≤ length codes) × (n ≤ i) × (n + counted requested (drop i codes) ≡ counted requested codes)
@@ -20,32 +17,25 @@ Inv-loop requested codes n₀ i₀ n i = (i ≤ length codes) × (n ≤ i) × (n
 abbrev μ-loop : tie.MeasureT-loop
 μ-loop requested codes n₀ i₀ n i = length codes - i
 
--- src/lib.rt:131:5
 loop-holds : tie.Need-loop-holds Inv-loop μ-loop
 loop-holds c = search needs
 
--- src/lib.rt:132:49
 shared-slice-read-bed-channel-matches-input :
     tie.Need-shared-slice-read-bed-channel-matches-input Inv-loop μ-loop
 shared-slice-read-bed-channel-matches-input c = search needs
 
--- src/lib.rt:132:12
 bed-channel-matches-input-requires : tie.Need-bed-channel-matches-input-requires Inv-loop μ-loop
 bed-channel-matches-input-requires c κs = search needs
 
--- src/lib.rt:133:13
 add-n : tie.Need-add-n Inv-loop μ-loop
 add-n c = search needs
 
--- src/lib.rt:135:9
 add-i : tie.Need-add-i Inv-loop μ-loop
 add-i c = search needs
 
--- src/lib.rt:131:5
 loop-less : tie.Need-loop-less Inv-loop μ-loop
 loop-less c = search needs
 
--- src/lib.rt:131:5
 loop-again : tie.Need-loop-again Inv-loop μ-loop
 loop-again c =
     let l = c .before .before .before .before in
@@ -57,7 +47,6 @@ loop-again c =
     (λ w. (search needs, search needs, more _ _ _ false (sym m ∙ w .0 .left) (omega arith) (l .loop .inv .2)))
     (c .if1 .came)
 
--- src/lib.rt:125:1
 returns : tie.Need-returns Inv-loop μ-loop
 returns c =
     let h : length (c .before .before .before .args .codes .now) ≤ c .before .loop .i = omega arith in

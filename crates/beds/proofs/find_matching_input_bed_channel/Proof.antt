@@ -4,40 +4,28 @@ use Rattle.beds.proofs.Laws.{by-exact, by-else}
 use borrow.Author.Needs.{needs}
 use Rattle.beds.proofs.find_matching_input_bed_channel.Statement.{statement}
 use Rattle.beds.proofs.find_matching_input_bed_channel.Tie as tie
-use Rattle.beds.proofs.find_matching_input_bed_channel.Reads as reads
-use Rattle.beds.proofs.find_matching_input_bed_channel.Lts as lts
-use Rattle.beds.proofs.first_of.Reads as first-of-reads
-use Rattle.beds.proofs.is_low_frequency_bed.Reads as is-low-frequency-bed-reads
 
--- src/lib.rt:109:9
 first-of-requires : tie.Need-first-of-requires
 first-of-requires c κs = search needs
 
--- src/lib.rt:111:19
 enum-known-exact : tie.Need-enum-known-exact
 enum-known-exact c = search needs
 
--- src/lib.rt:113:16
 enum-told : tie.Need-enum-told
 enum-told c = search needs
 
--- src/lib.rt:113:16
 is-low-frequency-bed-requires : tie.Need-is-low-frequency-bed-requires
 is-low-frequency-bed-requires c κs = search needs
 
--- src/lib.rt:114:17
 first-of-requires-2 : tie.Need-first-of-requires-2
 first-of-requires-2 c κs = search needs
 
--- src/lib.rt:106:1
 returns : tie.Need-returns
 returns c = by-exact _ _ (sym (c .before .before .before .first-of .ensures) ∙ c .before .exact .given .1)
 
--- src/lib.rt:106:1
 returns-2 : tie.Need-returns-2
 returns-2 c = c .first-of2 .ensures ∙ by-else _ _ (sym (c .before .before .before .before .before .first-of .ensures) ∙ c .before .before .before .enum-told .given .1) (sym (c .before .before .is-low-frequency-bed .ensures) ∙ c .before .if1 .taken)
 
--- src/lib.rt:106:1
 returns-3 : tie.Need-returns-3
 returns-3 c = by-else _ _ (sym (c .before .before .before .before .first-of .ensures) ∙ c .before .before .enum-told .given .1) (sym (c .before .is-low-frequency-bed .ensures) ∙ c .if1 .left)
 

@@ -3,7 +3,7 @@ use borrow.Author.Needs.{needs}
 use mathlib.Core.Logic.{⊎-elim, inl, inr}
 use mathlib.Core.Path.{_≡_, refl, sym}
 use native.Mathlib.Omega.{arith}
-use Prim.Native.Nat.{ℕ, _+_, _-_, _≤_}
+use Prim.Native.Nat.{_+_, _-_, _≤_}
 use lib.ListN.{length, List·getD-eq-default}
 use Rattle.beds.specs.declared.Route.the-variants.{Folded, Direct, Unsupported}
 use Rattle.beds.specs.Routes.{routes, routeOf}
