@@ -1,4 +1,4 @@
 pub mod Range
-pub mod Table
+pub mod Channels
 pub mod Laws
 pub mod Matches

@@ -12,3 +12,12 @@ Each P a (suc k) = P a × Each P (suc a) k
 pub between : (P : ℕ → Type 0) (a k : ℕ) → Each P a k → (n : ℕ) → a ≤ n → n < a + k → P n
 between P a zero e n h l = absurd (omega arith)
 between P a (suc k) e n h l = ⊎-elim (λ w. subst P w (e .0)) (λ w. between P (suc a) k (e .1) n w (omega arith)) (eq-or-lt-of-le h)
+
+-- x is none of 0, 1, .., k - 1, as the rest of a `match` says it
+abbrev pub NoneOf : ℕ → ℕ → Type 0
+NoneOf x zero = Unit {0}
+NoneOf x (suc k) = NoneOf x k × (x ≡ k → ⊥)
+
+pub not-below : (x k : ℕ) → NoneOf x k → k ≤ x
+not-below x zero n = omega arith
+not-below x (suc k) n = let h = not-below x k (n .0) in let m = n .1 in omega arith

@@ -3,7 +3,7 @@ ghost use mathlib.Core.Path.{_≡_};
 ghost use Prim.Native.Nat.{_≤_};
 ghost use lib.ListN.{length};
 ghost use Rattle.beds.specs.Routes.{routeOf, bassGain};
-ghost use Rattle.beds.specs.Positions.{bedPosition};
+ghost use Rattle.beds.specs.Positions.{point, bedPosition};
 ghost use Rattle.beds.specs.Matching.{lowFrequency, matches, firstOf, matching, counted};
 use vectors::Vec3;
 
@@ -44,86 +44,36 @@ pub fn bass_gain(gain: f32) -> f32
     gain * 0.316_227_76
 }
 
-// The positions of the beds by code: to the right, up, to the front.
-const BED_X: [f32; 18] = [
-    -1.0,
-    1.0,
-    0.0,
-    -1.0,
-    -1.0,
-    1.0,
-    0.0,
-    -1.0,
-    1.0,
-    -1.0,
-    1.0,
-    -1.0,
-    1.0,
-    -1.0,
-    1.0,
-    -1.0,
-    1.0,
-    -1.0,
-];
-
-const BED_Y: [f32; 18] = [
-    0.0,
-    0.0,
-    0.0,
-    -1.0,
-    0.0,
-    0.0,
-    0.0,
-    0.0,
-    0.0,
-    1.0,
-    1.0,
-    1.0,
-    1.0,
-    1.0,
-    1.0,
-    0.0,
-    0.0,
-    -1.0,
-];
-
-const BED_Z: [f32; 18] = [
-    1.0,
-    1.0,
-    1.0,
-    1.0,
-    0.0,
-    0.0,
-    -1.0,
-    -1.0,
-    -1.0,
-    1.0,
-    1.0,
-    0.0,
-    0.0,
-    -1.0,
-    -1.0,
-    0.677_419,
-    0.677_419,
-    1.0,
-];
+fn vec3(x: f32, y: f32, z: f32) -> Vec3
+    ensures { λ r. ⌜ r ≡ point x y z ⌝ }
+{
+    Vec3 { x: x, y: y, z: z }
+}
 
 // Where a bed stands; the origin for a code above 17.
 pub fn bed_channel_position(code: u8) -> Vec3
     ensures { λ r. ⌜ r ≡ bedPosition code ⌝ }
 {
-    if code > 17 {
-        return Vec3 {
-            x: 0.0,
-            y: 0.0,
-            z: 0.0,
-        };
-    }
-    let i = code as usize;
-    Vec3 {
-        x: BED_X[i],
-        y: BED_Y[i],
-        z: BED_Z[i],
+    match code {
+        0 => vec3(-1.0, 0.0, 1.0),
+        1 => vec3(1.0, 0.0, 1.0),
+        2 => vec3(0.0, 0.0, 1.0),
+        3 => vec3(-1.0, -1.0, 1.0),
+        4 => vec3(-1.0, 0.0, 0.0),
+        5 => vec3(1.0, 0.0, 0.0),
+        6 => vec3(0.0, 0.0, -1.0),
+        7 => vec3(-1.0, 0.0, -1.0),
+        8 => vec3(1.0, 0.0, -1.0),
+        9 => vec3(-1.0, 1.0, 1.0),
+        10 => vec3(1.0, 1.0, 1.0),
+        11 => vec3(-1.0, 1.0, 0.0),
+        12 => vec3(1.0, 1.0, 0.0),
+        13 => vec3(-1.0, 1.0, -1.0),
+        14 => vec3(1.0, 1.0, -1.0),
+        15 => vec3(-1.0, 0.0, 0.677_419),
+        16 => vec3(1.0, 0.0, 0.677_419),
+        17 => vec3(-1.0, -1.0, 1.0),
+        _ => vec3(0.0, 0.0, 0.0),
     }
 }
 
