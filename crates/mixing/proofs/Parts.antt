@@ -3,8 +3,8 @@ use mathlib.Core.Path.{_≡_, refl, sym, ap, _∙_}
 use mathlib.Core.List.{List, _++_}
 use Prim.Native.Nat.{ℕ, _+_, _-_, _<_, _≤_}
 use native.Mathlib.Omega.{arith}
-use lib.ListN.{length, getD, take, drop, length-append, length-drop, List·getD-append}
-use lib.Seq.{getD-append-add, getD-take, getD-drop, length-take-le, drop-at, take-at}
+use lib.ListN.{length, getD, take, drop, length-append, length-drop, take-append-drop, List·getD-append}
+use lib.Seq.{getD-append-add, getD-take, getD-drop, length-take-le, drop-at, take-at, drop-drop, drop-append-le, take-append-le}
 use Rattle.mixing.specs.Part.{onPart}
 
 -- a part from b to b + n that came back as ys
@@ -39,12 +39,29 @@ module _ {A : Type 0} (f : List A → List A) (keeps : (xs : List A) → length 
       ap (take n) (drop-at (take b os) (mid ++ drop n (drop b os)) b front) ∙ take-at mid (drop n (drop b os)) n long
 
   pub part-earlier : (a m : ℕ) → a + m ≤ b → take m (drop a (onPart f b n os)) ≡ take m (drop a os)
+  unfolding onPart
+  part-earlier a m l = ahead _ ∙ sym (ahead (drop b os)) ∙ ap (λ (t : List A). take m (drop a t)) (take-append-drop b os)
+    where
+      ahead : (ys : List A) → take m (drop a (take b os ++ ys)) ≡ take m (drop a (take b os))
+      ahead ys =
+          let e = front in
+          ap (take m) (drop-append-le a (take b os) ys (omega arith)) ∙ take-append-le m (drop a (take b os)) ys (rw length-drop (omega arith))
+
+  rest : drop (b + n) (onPart f b n os) ≡ drop (b + n) os
   unfolding onPart mid
-  part-earlier a m l = ?
+  rest =
+      sym (drop-drop n b (onPart f b n os))
+      ∙ ap (drop n) (drop-at (take b os) (mid ++ drop n (drop b os)) b front)
+      ∙ drop-at mid (drop n (drop b os)) n long
+      ∙ drop-drop n b os
 
   pub part-later : (a m : ℕ) → b + n ≤ a → take m (drop a (onPart f b n os)) ≡ take m (drop a os)
-  unfolding onPart mid
-  part-later a m l = ?
+  part-later a m l = ap (take m) (past (onPart f b n os) ∙ ap (drop (a - (b + n))) rest ∙ sym (past os))
+    where
+      past : (xs : List A) → drop a xs ≡ drop (a - (b + n)) (drop (b + n) xs)
+      past xs =
+          let e : b + n + (a - (b + n)) ≡ a = omega arith in
+          rw (drop-drop, e)
 
   -- before the part
   pub part-before : (i : ℕ) (d : A) → i < b → getD (onPart f b n os) i d ≡ getD os i d

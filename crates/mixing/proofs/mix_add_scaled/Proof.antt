@@ -1,9 +1,9 @@
 -- `mix_add_scaled`: after i samples the output is the first i mixed in.
 use borrow.Author.Needs.{needs, scaled-fits}
-use mathlib.Core.Path.{_≡_, refl, sym, ap, subst, _∙_}
-use Prim.Native.Nat.{ℕ, _-_, _≤_, _<_, _*_}
+use mathlib.Core.Path.{_≡_, refl, _∙_}
+use Prim.Native.Nat.{_-_, _≤_, _*_}
 use native.Mathlib.Omega.{arith}
-use lib.ListN.{length, take, length-set}
+use lib.ListN.{length, take}
 use lib.Seq.{take-all}
 use denote.Ref.{now}
 use mir.Syntax.{w64}
@@ -12,8 +12,6 @@ use Rattle.mixing.specs.Mixing.{mixed}
 use Rattle.mixing.proofs.Laws.{mixed-step}
 use Rattle.mixing.proofs.mix_add_scaled.Statement.{statement}
 use Rattle.mixing.proofs.mix_add_scaled.Tie as tie
-use Rattle.mixing.proofs.mix_add_scaled.Reads as reads
-use Rattle.mixing.proofs.mix_add_scaled.Lts as lts
 
 abbrev Inv-loop : tie.InvT-loop
 Inv-loop input output₀ gain i₀ output i = (i ≤ length input) × (length output ≡ length output₀) × (output ≡ mixed (take i input) gain output₀)

@@ -4,23 +4,16 @@ use Rattle.mixing.proofs.Laws.{full-zero, full-mixed}
 use borrow.Author.Needs.{needs}
 use Rattle.mixing.proofs.mix_full_channel.Statement.{statement}
 use Rattle.mixing.proofs.mix_full_channel.Tie as tie
-use Rattle.mixing.proofs.mix_full_channel.Reads as reads
-use Rattle.mixing.proofs.mix_full_channel.Lts as lts
-use Rattle.mixing.proofs.mix_add_scaled.Reads as mix-add-scaled-reads
 
--- src/lib.rt:27:9
 returns : tie.Need-returns
 returns c = full-zero _ _ _ (c .if1 .taken)
 
--- src/lib.rt:29:5
 mix-add-scaled-requires : tie.Need-mix-add-scaled-requires
 mix-add-scaled-requires c κs = search needs
 
--- src/lib.rt:22:1
 same-length : tie.Need-same-length
 same-length c = search needs
 
--- src/lib.rt:22:1
 returns-2 : tie.Need-returns-2
 returns-2 c = c .before .before .mix-add-scaled .ensures ∙ full-mixed _ _ _ (c .before .before .before .before .if1 .left)
 

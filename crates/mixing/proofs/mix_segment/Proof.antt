@@ -5,39 +5,28 @@ use Rattle.mixing.proofs.Parts.{part-back}
 use borrow.Author.Needs.{needs}
 use Rattle.mixing.proofs.mix_segment.Statement.{statement}
 use Rattle.mixing.proofs.mix_segment.Tie as tie
-use Rattle.mixing.proofs.mix_segment.Reads as reads
-use Rattle.mixing.proofs.mix_segment.Lts as lts
-use Rattle.mixing.proofs.mix_full_channel.Reads as mix-full-channel-reads
 
--- src/lib.rt:37:15
 add-end : tie.Need-add-end
 add-end c = search needs
 
--- src/lib.rt:38:29
 mul-mix-full-channel : tie.Need-mul-mix-full-channel
 mul-mix-full-channel c = search needs
 
--- src/lib.rt:38:29
 sub-mix-full-channel : tie.Need-sub-mix-full-channel
 sub-mix-full-channel c = search needs
 
--- src/lib.rt:38:29
 part-mix-full-channel-start : tie.Need-part-mix-full-channel-start
 part-mix-full-channel-start c = search needs
 
--- src/lib.rt:38:29
 part-mix-full-channel-end : tie.Need-part-mix-full-channel-end
 part-mix-full-channel-end c = search needs
 
--- src/lib.rt:38:5
 mix-full-channel-requires : tie.Need-mix-full-channel-requires
 mix-full-channel-requires c κs = search needs
 
--- src/lib.rt:33:1
 same-length : tie.Need-same-length
 same-length c = search needs
 
--- src/lib.rt:33:1
 returns : tie.Need-returns
 returns c =
     let a = c .before .before .before .before .before .before .args in
