@@ -5,7 +5,7 @@ ghost use lib.ListN.{length};
 ghost use Rattle.words.specs.Words.{word};
 ghost use Rattle.mixing.specs.Mixing.{mixed, mixedFull};
 ghost use Rattle.mixing.specs.Part.{onPart};
-ghost use Rattle.mixing.specs.Samples.{Plain, samples};
+ghost use Rattle.mixing.specs.Samples.{Plain, samples, allPass};
 
 // Each sample of `input` times the gain is added to the output's.
 pub fn mix_add_scaled(input: &[f32], output: &mut [f32], gain: f32)
@@ -37,6 +37,23 @@ pub fn mix_segment(input: &[f32], output: &mut [f32], offset: usize, gain: f32)
 {
     let end = offset + input.len();
     mix_full_channel(input, &mut output[offset..end], gain);
+}
+
+// Refusal 8: whether each of `count` samples from `at` on is finite and within ±16.
+pub fn samples_pass(pcm: &[u8], at: usize, count: usize) -> bool
+    requires { ⌜ at + 4 * count ≤ length (now pcm) ⌝ }
+    ensures { λ r. ⌜ r ≡ allPass (now (pcm .entry)) at count ⌝ }
+{
+    let mut largest = 0u32;
+    let mut i = 0usize;
+    while i < count {
+        let size = words::u32_at(pcm, at + 4 * i) % 0x8000_0000;
+        if size > largest {
+            largest = size;
+        }
+        i += 1;
+    }
+    largest <= 0x4180_0000
 }
 
 // The samples whose words stand from `at` on, as many as `row` has. None is a NaN's pattern, so that the loop has no branch.
