@@ -12,10 +12,10 @@ pub fn mix_add_scaled(input: &[f32], output: &mut [f32], gain: f32)
     requires { ⌜ length (now input) ≤ length (now output) ⌝ }
     ensures { λ _. ⌜ now (output .exit) ≡ mixed (now (input .entry)) gain (now (output .entry)) ⌝ }
 {
-    let mut i = 0usize;
-    while i < input.len() {
-        output[i] = output[i] + input[i] * gain;
-        i += 1;
+    let mut k = 0usize;
+    while k < input.len() {
+        output[k] = output[k] + input[k] * gain;
+        k += 1;
     }
 }
 

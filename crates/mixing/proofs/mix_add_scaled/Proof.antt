@@ -1,4 +1,4 @@
--- `mix_add_scaled`: after i samples the output is the first i mixed in.
+-- `mix_add_scaled`: after k samples the output is the first k mixed in.
 use borrow.Author.Needs.{needs, scaled-fits}
 use mathlib.Core.Path.{_≡_, refl, _∙_}
 use Prim.Native.Nat.{_-_, _≤_, _*_}
@@ -14,12 +14,12 @@ use Rattle.mixing.proofs.mix_add_scaled.Statement.{statement}
 use Rattle.mixing.proofs.mix_add_scaled.Tie as tie
 
 abbrev Inv-loop : tie.InvT-loop
-Inv-loop input output₀ gain i₀ output i = (i ≤ length input) × (length output ≡ length output₀) × (output ≡ mixed (take i input) gain output₀)
+Inv-loop input output₀ gain k₀ output k = (k ≤ length input) × (length output ≡ length output₀) × (output ≡ mixed (take k input) gain output₀)
 
 abbrev μ-loop : tie.MeasureT-loop
-μ-loop input output₀ gain i₀ output i = length input - i
+μ-loop input output₀ gain k₀ output k = length input - k
 
-offset : (c : tie.In-loop Inv-loop μ-loop) → Fits w64 (c .before .loop .i * 4)
+offset : (c : tie.In-loop Inv-loop μ-loop) → Fits w64 (c .before .loop .k * 4)
 offset c = scaled-fits _ (length (now (c .before .before .args .input))) 4 (c .loop-test .taken) (c .before .before .good .0 .1)
 
 loop-holds : tie.Need-loop-holds Inv-loop μ-loop
@@ -43,8 +43,8 @@ mul-output-3 c = offset (c .before .before)
 slice-write-output : tie.Need-slice-write-output Inv-loop μ-loop
 slice-write-output c = search needs
 
-add-i : tie.Need-add-i Inv-loop μ-loop
-add-i c = search needs
+add-k : tie.Need-add-k Inv-loop μ-loop
+add-k c = search needs
 
 loop-less : tie.Need-loop-less Inv-loop μ-loop
 loop-less c = search needs
@@ -52,14 +52,14 @@ loop-less c = search needs
 loop-again : tie.Need-loop-again Inv-loop μ-loop
 loop-again c =
     let l = c .before .before .before in
-    (search needs, search needs, rw (l .loop .inv .2) (mixed-step (l .loop .i) (l .before .args .input .now) (l .before .args .gain) (l .before .args .output .now) (omega arith) (omega arith)))
+    (search needs, search needs, rw (l .loop .inv .2) (mixed-step (l .loop .k) (l .before .args .input .now) (l .before .args .gain) (l .before .args .output .now) (omega arith) (omega arith)))
 
 same-length : tie.Need-same-length Inv-loop μ-loop
 same-length c = search needs
 
 returns : tie.Need-returns Inv-loop μ-loop
 returns c =
-    let h : length (now (c .before .before .args .input)) ≤ c .before .loop .i = omega arith in
+    let h : length (now (c .before .before .args .input)) ≤ c .before .loop .k = omega arith in
     c .before .loop .inv .2 ∙ simp take-all
 
 pub mix-add-scaled-spec : {M : Type 1} → statement M
@@ -75,7 +75,7 @@ mix-add-scaled-spec =
     shared-slice-read-output
     mul-output-3
     slice-write-output
-    add-i
+    add-k
     loop-less
     loop-again
     same-length
