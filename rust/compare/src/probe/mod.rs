@@ -1,4 +1,6 @@
 //! The Rattle functions that crates/probes exports, one module a crate. A slice crosses as its
 //! pointer and its length.
 
+pub mod beds;
+pub mod mixing;
 pub mod words;
