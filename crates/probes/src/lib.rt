@@ -2,4 +2,5 @@
 // each crate NAME (a module cannot have a crate's name).
 mod probe_beds;
 mod probe_mixing;
+mod probe_vectors;
 mod probe_words;

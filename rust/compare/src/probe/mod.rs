@@ -3,4 +3,5 @@
 
 pub mod beds;
 pub mod mixing;
+pub mod vectors;
 pub mod words;
