@@ -35,8 +35,8 @@ module _ (s : List ℕ) where
       ∙ and-assoc (passes (word s at)) (allPass s (at + 4) n) (passes (word s (at + 4 * suc n)))
 
   -- one word more, that passes or does not
-  pub pass-step : (at i : ℕ) {t u v : Bool} → t ≡ allPass s at i → passes (word s (at + 4 * i)) ≡ v → u ≡ (t && v) → u ≡ allPass s at (i + 1)
-  pass-step at i e p q = q ∙ rw (e, ← p) (sym (more at i)) ∙ ap (allPass s at) (sym (add-one i))
+  pub pass-step : (at i : ℕ) {t : Bool} → t ≡ allPass s at i → (u v : Bool) → passes (word s (at + 4 * i)) ≡ v → u ≡ (t && v) → u ≡ allPass s at (i + 1)
+  pass-step at i e u v p q = q ∙ rw (e, ← p) (sym (more at i)) ∙ ap (allPass s at) (sym (add-one i))
 
   -- each of them passes
   pub pass-at : (at n : ℕ) → allPass s at n ≡ true → (k : ℕ) → k < n → passes (word s (at + 4 * k)) ≡ true
