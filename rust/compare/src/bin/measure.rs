@@ -2,7 +2,6 @@
 //! for each function; claims nothing.
 
 use compare::{Generator, probe};
-use oracle::leaf;
 use std::hint::black_box;
 use std::time::{Duration, Instant};
 
@@ -29,82 +28,60 @@ fn to_bits(x: f32) -> u32 {
     x.to_bits()
 }
 
-/// Rows of 64 samples of a source, mixed into the eleven full-range channels of a block, with a
-/// gain for each.
-fn mixing(inputs: &mut Generator) {
-    const SOURCES: usize = 1_000;
-    let rows: Vec<f32> = (0..SOURCES * 64)
-        .map(|_| inputs.between(-1.0, 1.0))
-        .collect();
-    let gains: Vec<f32> = (0..11).map(|_| inputs.between(0.01, 0.1)).collect();
+/// Places at a cache line.
+#[repr(align(64))]
+struct Places([f32; 1_536]);
+
+/// Rows of `length` samples, each mixed four times.
+fn mix(rows: &[f32], length: usize, mix_segment: impl Fn(&[f32], &mut [f32], usize, f32)) {
+    let mut places = Places([0.0; 1_536]);
+    for row in rows.chunks(length) {
+        for _ in 0..4 {
+            mix_segment(row, black_box(&mut places.0), 0, 0.01);
+        }
+    }
+}
+
+/// Rows of 64 samples out of bytes.
+fn read(bytes: &[u8], read_row: impl Fn(&[u8], &mut [f32])) {
+    let mut places = Places([0.0; 1_536]);
+    for pcm in bytes.chunks(256) {
+        read_row(pcm, black_box(&mut places.0[..64]));
+    }
+}
+
+fn mixing() {
+    let mut inputs = Generator::new(4);
+    let rows: Vec<f32> = (0..768_000).map(|_| inputs.between(-1.0, 1.0)).collect();
+    for length in [64, 1_536] {
+        compare_times(
+            &format!("mix_segment, 3,072,000 samples in rows of {length}"),
+            || mix(&rows, length, probe::mixing::mix_segment),
+            || mix(&rows, length, mix_segment),
+        );
+    }
     let bytes: Vec<u8> = rows.iter().flat_map(|x| x.to_le_bytes()).collect();
-    let (mut block, mut other) = ([0.0f32; 704], [0.0f32; 704]);
     compare_times(
-        "mix_segment, 1,000 rows of 64 into 11 channels",
-        || {
-            for row in rows.chunks(64) {
-                for (channel, &gain) in gains.iter().enumerate() {
-                    probe::mixing::mix_segment(row, &mut block, channel * 64, gain);
-                }
-            }
-            black_box(&block);
-        },
-        || {
-            for row in rows.chunks(64) {
-                for (channel, &gain) in gains.iter().enumerate() {
-                    mix_segment(row, &mut other, channel * 64, gain);
-                }
-            }
-            black_box(&other);
-        },
-    );
-    let long: Vec<f32> = (0..1_536).map(|_| inputs.between(-1.0, 1.0)).collect();
-    let (mut channel, mut rust) = (long.clone(), long.clone());
-    compare_times(
-        "mix_add_scaled, 1,000 rows of 1,536",
-        || {
-            (0..1_000)
-                .for_each(|_| probe::mixing::mix_add_scaled(black_box(&long), &mut channel, 0.01))
-        },
-        || (0..1_000).for_each(|_| mix_add_scaled(black_box(&long), &mut rust, 0.01)),
-    );
-    let (mut row, mut floats) = ([0.0f32; 64], [0.0f32; 64]);
-    compare_times(
-        "samples_pass and read_row, 1,000 rows of 64",
-        || {
-            for part in bytes.chunks(256) {
-                probe::mixing::read_row(part, &mut row);
-                black_box(&row);
-            }
-        },
-        || {
-            for part in bytes.chunks(256) {
-                read_row(part, &mut floats);
-                black_box(&floats);
-            }
-        },
+        "samples_pass and read_row, 768,000 samples in rows of 64",
+        || read(&bytes, probe::mixing::read_row),
+        || read(&bytes, read_row),
     );
 }
 
 #[inline(never)]
 fn mix_segment(input: &[f32], output: &mut [f32], offset: usize, gain: f32) {
-    leaf::mix_segment(input, output, offset, gain);
+    oracle::leaf::mix_segment(input, output, offset, gain);
 }
 
-#[inline(never)]
-fn mix_add_scaled(input: &[f32], output: &mut [f32], gain: f32) {
-    leaf::mix_add_scaled(input, output, gain);
-}
-
+/// No function of the source: what a Rust host would write.
 #[inline(never)]
 fn read_row(pcm: &[u8], row: &mut [f32]) {
-    if pcm
-        .as_chunks()
-        .0
+    let words = pcm.as_chunks().0;
+    if words
         .iter()
         .all(|&word| f32::from_le_bytes(word).abs() <= 16.0)
     {
-        for (x, &word) in row.iter_mut().zip(pcm.as_chunks().0) {
+        for (x, &word) in row.iter_mut().zip(words) {
             *x = f32::from_le_bytes(word);
         }
     }
@@ -122,5 +99,5 @@ fn main() {
         },
         || floats.iter().for_each(|&x| _ = black_box(to_bits(x))),
     );
-    mixing(&mut inputs);
+    mixing();
 }
