@@ -1,9 +1,5 @@
--- Routes, places and coordinates as the numbers that the probes give. Assumes nothing.
+-- Routes and places as the numbers that the probes give. Assumes nothing.
 use Prim.Native.Nat.{ℕ}
-use mathlib.Core.Bool.{cond}
-use lib.Dec.{eqb}
-use lib.Ieee.{Float}
-use Rattle.vectors.specs.declared.Vec3.{Vec3}
 use Rattle.beds.specs.declared.Route.{Route}
 use Rattle.beds.specs.declared.Route.the-variants.{Bass, Folded, Direct, Unsupported}
 use Rattle.beds.specs.declared.Found.{Found}
@@ -18,6 +14,3 @@ routeNumber Unsupported = 102
 abbrev pub foundNumber : Found → ℕ
 foundNumber (At i) = i
 foundNumber Nothing = 18_446_744_073_709_551_615
-
-abbrev pub axisOf : ℕ → Vec3 → Float
-axisOf n v = cond (eqb n 0) (v .x) (cond (eqb n 1) (v .y) (v .z))

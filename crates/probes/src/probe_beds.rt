@@ -1,5 +1,6 @@
 use beds::Found;
 use beds::Route;
+use vectors::Vec3;
 ghost use mathlib.Core.Path.{_≡_};
 ghost use mathlib.Core.Bool.{cond};
 ghost use lib.Dec.{leb};
@@ -7,7 +8,7 @@ ghost use lib.ListN.{length};
 ghost use Rattle.beds.specs.Routes.{routeOf, bassGain};
 ghost use Rattle.beds.specs.Positions.{bedPosition};
 ghost use Rattle.beds.specs.Matching.{matches, matching, counted};
-ghost use Rattle.probes.specs.Beds.{routeNumber, foundNumber, axisOf};
+ghost use Rattle.probes.specs.Beds.{routeNumber, foundNumber};
 
 #[no_mangle]
 pub extern "C" fn probe_route_of(code: u8) -> u64
@@ -29,19 +30,11 @@ pub extern "C" fn probe_bass_gain(gain: f32) -> f32
     beds::bass_gain(gain)
 }
 
-// One coordinate of a bed's position: 0 x, 1 y, else z.
 #[no_mangle]
-pub extern "C" fn probe_bed_channel_position(code: u8, axis: u8) -> f32
-    ensures { λ r. ⌜ r ≡ axisOf axis (bedPosition code) ⌝ }
+pub extern "C" fn probe_bed_channel_position(code: u8) -> Vec3
+    ensures { λ r. ⌜ r ≡ bedPosition code ⌝ }
 {
-    let position = beds::bed_channel_position(code);
-    if axis == 0 {
-        return position.x;
-    }
-    if axis == 1 {
-        return position.y;
-    }
-    position.z
+    beds::bed_channel_position(code)
 }
 
 #[no_mangle]

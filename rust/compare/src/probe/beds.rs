@@ -1,3 +1,12 @@
+use oracle::Vector;
+
+#[repr(C)]
+struct Vec3 {
+    x: f32,
+    y: f32,
+    z: f32,
+}
+
 #[derive(Clone, Copy, Debug, PartialEq, Eq)]
 pub enum Route {
     Bass,
@@ -9,7 +18,7 @@ pub enum Route {
 unsafe extern "C" {
     safe fn probe_route_of(code: u8) -> u64;
     safe fn probe_bass_gain(gain: f32) -> f32;
-    safe fn probe_bed_channel_position(code: u8, axis: u8) -> f32;
+    safe fn probe_bed_channel_position(code: u8) -> Vec3;
     safe fn probe_bed_channel_matches_input(requested: u8, provided: u8) -> bool;
     fn probe_find_matching_input_bed_channel(
         requested: u8,
@@ -32,8 +41,9 @@ pub fn bass_gain(gain: f32) -> f32 {
     probe_bass_gain(gain)
 }
 
-pub fn bed_channel_position(code: u8) -> [f32; 3] {
-    [0, 1, 2].map(|axis| probe_bed_channel_position(code, axis))
+pub fn bed_channel_position(code: u8) -> Vector {
+    let v = probe_bed_channel_position(code);
+    [v.x, v.y, v.z]
 }
 
 pub fn bed_channel_matches_input(requested: u8, provided: u8) -> bool {
