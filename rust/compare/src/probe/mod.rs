@@ -2,5 +2,7 @@
 //! pointer and its length.
 
 pub mod lowpass;
+pub mod beds;
+pub mod mixing;
 pub mod vectors;
 pub mod words;
