@@ -1,0 +1,5 @@
+pub mod Lists
+pub mod Axis
+pub mod Choose
+pub mod Levels
+pub mod Rows

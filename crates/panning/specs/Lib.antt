@@ -1,0 +1,5 @@
+pub mod Choice
+pub mod Terms
+pub mod Table
+pub mod Arrays
+pub mod Hall
