@@ -1,16 +1,20 @@
+-- `panning::pan` meets its contract: its arrays are finite, and they are the 7.1.4 hall, by computation. Assumes nothing.
+use mathlib.Core.List.{map}
+use lib.Ieee.{ofBits, fits}
+use Rattle.panning.specs.Choice.{keep, every}
+use Rattle.panning.specs.Arrays.{from, marked}
+use Rattle.panning.specs.Hall.{positions714, hall714}
+use Rattle.panning.proofs.Levels.{finite-table}
 use Rattle.panning.proofs.pan.Statement.{statement}
 use Rattle.panning.proofs.pan.Tie as tie
-use Rattle.panning.proofs.pan.Reads as reads
-use Rattle.panning.proofs.pan.Lts as lts
-use Rattle.panning.proofs.pan_in.Reads as pan-in-reads
 
--- src/lib.rt:387:5
 pan-in-requires : tie.Need-pan-in-requires
-pan-in-requires c κs = ?
+unfolding ofBits fits keep every from marked positions714
+pan-in-requires c κs = (finite-table (map (λ v. v .x) positions714) tt, (finite-table (map (λ v. v .y) positions714) tt, (finite-table (map (λ v. v .z) positions714) tt, tt)))
 
--- src/lib.rt:380:1
 returns : tie.Need-returns
-returns c = ?
+unfolding ofBits keep from marked positions714 hall714
+returns c = c .pan-in .ensures
 
 pub pan-spec : {M : Type 1} → statement M
 pan-spec = tie.close (tie.spec pan-in-requires returns)

@@ -1,46 +1,42 @@
+-- `panning::pan_in` meets its contract. Assumes nothing.
 use borrow.Author.Needs.{needs}
+use denote.Ref.{now}
+use lib.Ieee.{ofBits}
+use Rattle.panning.specs.Arrays.{places, members}
+use Rattle.panning.proofs.Rows.{pan-none, pan-some}
 use Rattle.panning.proofs.pan_in.Statement.{statement}
 use Rattle.panning.proofs.pan_in.Tie as tie
-use Rattle.panning.proofs.pan_in.Reads as reads
-use Rattle.panning.proofs.pan_in.Lts as lts
-use Rattle.panning.proofs.channels_of.Reads as channels-of-reads
-use Rattle.panning.proofs.corner_coefficients.Reads as corner-coefficients-reads
-use Rattle.panning.proofs.extra.Reads as extra-reads
-use Rattle.panning.proofs.hall_corners.Reads as hall-corners-reads
-use Rattle.panning.proofs.inner_gain.Reads as inner-gain-reads
-use Rattle.panning.proofs.silent.Reads as silent-reads
 
--- src/lib.rt:319:9
 silent-requires : tie.Need-silent-requires
 silent-requires c κs = search needs
 
--- src/lib.rt:319:9
 returns : tie.Need-returns
-returns c = ?
+unfolding ofBits
+returns c =
+    let a = c .before .before .args in
+    pan-none (places (now (a .x)) (now (a .y)) (now (a .z))) (members (now (a .present))) (a .channels) (a .place) (a .gain) (a .size) (c .before .if1 .taken) (c .silent .ensures)
 
--- src/lib.rt:321:9
 hall-corners-requires : tie.Need-hall-corners-requires
 hall-corners-requires c κs = search needs
 
--- src/lib.rt:322:63
 inner-gain-requires : tie.Need-inner-gain-requires
 inner-gain-requires c κs = search needs
 
--- src/lib.rt:322:9
 corner-coefficients-requires : tie.Need-corner-coefficients-requires
 corner-coefficients-requires c κs = search needs
 
--- src/lib.rt:323:9
 channels-of-requires : tie.Need-channels-of-requires
 channels-of-requires c κs = search needs
 
--- src/lib.rt:327:16
 extra-requires : tie.Need-extra-requires
 extra-requires c κs = search needs
 
--- src/lib.rt:302:1
 returns-2 : tie.Need-returns-2
-returns-2 c = ?
+unfolding ofBits
+returns-2 c =
+    let a = c .before .before .before .before .before .before .args in
+    pan-some (places (now (a .x)) (now (a .y)) (now (a .z))) (members (now (a .present))) (a .channels) (a .place) (a .gain) (a .size) (c .before .before .before .before .before .if1 .left) (c .before .before .before .before .hall-corners .ensures) (c .before .before .before .inner-gain .ensures)
+    (c .before .before .corner-coefficients .ensures) (c .before .channels-of .ensures) (c .extra .ensures)
 
 pub pan-in-spec : {M : Type 1} → statement M
 pan-in-spec =
