@@ -90,7 +90,7 @@ module _ (near : Nearest root) where
         rooted-most (corner-rooted c) eight-grid (mul-le-mul (h .most) (omega (arith, eight-is)))
 
   -- ---- size
-  extra-plus : (n g s : Float) → F32 n → T (le 1·0 n) → Gain8 g → Size1 s → Plus (extra n g s) Eight·0
+  pub extra-plus : (n g s : Float) → F32 n → T (le 1·0 n) → Gain8 g → Size1 s → Plus (extra n g s) Eight·0
   unfolding extra
   extra-plus n g s f o G S = go (ne s 0·0)
     where

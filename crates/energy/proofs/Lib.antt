@@ -6,3 +6,4 @@ pub mod Weighing
 pub mod Once
 pub mod Audible
 pub mod Coefficients
+pub mod Facts

@@ -66,11 +66,11 @@ pub zero-P : P 0·0 ≡ 0
 unfolding mag One
 zero-P = refl
 
-eight-f32 : F32 8·0
+pub eight-f32 : F32 8·0
 unfolding fits
 eight-f32 = record { fine = tt; fit = tt }
 
-eight-P : P 8·0 ≡ 8 * One
+pub eight-P : P 8·0 ≡ 8 * One
 unfolding mag One
 eight-P = refl
 
