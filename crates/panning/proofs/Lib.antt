@@ -3,3 +3,4 @@ pub mod Axis
 pub mod Choose
 pub mod Levels
 pub mod Rows
+pub mod Cases

@@ -3,3 +3,4 @@ pub mod Terms
 pub mod Table
 pub mod Arrays
 pub mod Hall
+pub mod Cases
