@@ -235,6 +235,7 @@ fn row_pair(x: &[f32; 12], row: Ends, v: f32, w: f32) -> Pair
 }
 
 // What is mixed of an object: `extra` on every full-range speaker, then the corners in their order.
+#[repr(C)]
 pub struct Panned {
     pub corners: [usize; 8],
     pub coefficients: [f32; 8],
