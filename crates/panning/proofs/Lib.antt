@@ -4,3 +4,4 @@ pub mod Choose
 pub mod Levels
 pub mod Rows
 pub mod Cases
+pub mod Corners714

@@ -9,13 +9,13 @@ use Rattle.panning.specs.Choice.{0·0}
 use Rattle.panning.specs.Arrays.{places}
 
 -- 0.70710677, 0.48368952 and 1, with a sign
-abbrev diagonal : Bool → Float
+abbrev pub diagonal : Bool → Float
 diagonal s = fin s 11863283 (negsuc 23)
 
-abbrev surround : Bool → Float
+abbrev pub surround : Bool → Float
 surround s = fin s 16229927 (negsuc 24)
 
-abbrev one : Bool → Float
+abbrev pub one : Bool → Float
 one s = fin s 1 (pos 0)
 
 unfoldable pub positions714 : List Vec3

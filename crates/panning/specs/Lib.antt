@@ -3,4 +3,5 @@ pub mod Terms
 pub mod Table
 pub mod Arrays
 pub mod Hall
+pub mod Corners714
 pub mod Cases
