@@ -12,7 +12,7 @@ use Rattle.ieee.proofs.Compare.{lt→, →lt, le→, eq→}
 use Rattle.vectors.specs.declared.Vec3.{Vec3}
 use Rattle.panning.specs.Choice.{0·0, keep, every, orElse, first, ge, last, below, above, level, end, flank, layer, row, side, corner}
 use Rattle.panning.specs.declared.Ends.{Ends}
-use Rattle.panning.specs.Arrays.{sideOf, rowOf, layerOf, chosen, Inside}
+use Rattle.panning.specs.Found.{sideOf, rowOf, layerOf, chosen, Inside}
 use Rattle.panning.specs.Corners714.{pairEnds, narrowEnds, wideEnds, frontEnds, floorEnds, ceilingEnds, cube714}
 use Rattle.panning.specs.Hall.{positions714, hall714, fullRange, diagonal, surround, one}
 use Rattle.panning.proofs.Axis.{eq-finite}

@@ -1,7 +1,5 @@
 pub mod Lists
 pub mod Axis
-pub mod Choose
-pub mod Levels
 pub mod Rows
-pub mod Cases
 pub mod Corners714
+pub mod Cases
