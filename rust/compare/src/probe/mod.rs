@@ -2,4 +2,5 @@
 //! pointer and its length.
 
 pub mod panning;
+pub mod vectors;
 pub mod words;
