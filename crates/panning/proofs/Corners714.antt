@@ -15,7 +15,6 @@ use Rattle.panning.specs.declared.Ends.{Ends}
 use Rattle.panning.specs.Found.{sideOf, rowOf, layerOf, chosen, Inside}
 use Rattle.panning.specs.Corners714.{pairEnds, narrowEnds, wideEnds, frontEnds, floorEnds, ceilingEnds, cube714}
 use Rattle.panning.specs.Hall.{positions714, hall714, fullRange, diagonal, surround, one}
-use Rattle.panning.proofs.Axis.{eq-finite}
 
 abbrev floor : List ℕ
 floor = 0 ∷ 1 ∷ 2 ∷ 4 ∷ 5 ∷ 6 ∷ 7 ∷ []
@@ -150,6 +149,15 @@ unfolding all last keep every orElse first hall714 positions714 le lt eq
 three = tt
 
 -- ---- what the comparisons of floats say
+-- a value that equals a finite one is finite
+pub eq-finite : (a v : Float) → F32 a → T (fits binary32 v) → T (eq a v) → F32 v
+unfolding eq
+eq-finite nan v f g h = absurd (f .fine)
+eq-finite (inf s) v f g h = absurd (f .fine)
+eq-finite (fin s m e) nan f g h = absurd h
+eq-finite (fin s m e) (inf t) f g h = absurd h
+eq-finite (fin s m e) (fin t n d) f g h = record { fine = tt; fit = g }
+
 imply : (a b : Bool) → (T a → T b) → T (implies a b)
 imply true b h = h tt
 imply false b h = tt
