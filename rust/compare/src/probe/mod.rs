@@ -4,5 +4,6 @@
 pub mod lowpass;
 pub mod beds;
 pub mod mixing;
+pub mod panning;
 pub mod vectors;
 pub mod words;
