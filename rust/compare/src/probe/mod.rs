@@ -1,5 +1,7 @@
 //! The Rattle functions that crates/probes exports, one module a crate. A slice crosses as its
 //! pointer and its length.
 
+pub mod angles;
+pub mod roots;
 pub mod vectors;
 pub mod words;
