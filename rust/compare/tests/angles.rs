@@ -6,17 +6,36 @@ use oracle::leaf;
 
 /// a1 a2 b0 b1 b2
 const STATED: [(u32, [u32; 5]); 5] = [
-    (32_000, [0xbffbbc37, 0x3f779c38, 0x390f2583, 0x398f2583, 0x390f2583]),
-    (44_100, [0xbffce7be, 0x3f79e26a, 0x38976b65, 0x39176b65, 0x38976b65]),
-    (48_000, [0xbffd281c, 0x3f7a6036, 0x387fe85f, 0x38ffe85f, 0x387fe85f]),
-    (88_200, [0xbffe73dc, 0x3f7cec79, 0x37985448, 0x38185448, 0x37985448]),
-    (96_000, [0xbffe940b, 0x3f7d2c1b, 0x37808942, 0x38008942, 0x37808942]),
+    (
+        32_000,
+        [0xbffbbc37, 0x3f779c38, 0x390f2583, 0x398f2583, 0x390f2583],
+    ),
+    (
+        44_100,
+        [0xbffce7be, 0x3f79e26a, 0x38976b65, 0x39176b65, 0x38976b65],
+    ),
+    (
+        48_000,
+        [0xbffd281c, 0x3f7a6036, 0x387fe85f, 0x38ffe85f, 0x387fe85f],
+    ),
+    (
+        88_200,
+        [0xbffe73dc, 0x3f7cec79, 0x37985448, 0x38185448, 0x37985448],
+    ),
+    (
+        96_000,
+        [0xbffe940b, 0x3f7d2c1b, 0x37808942, 0x38008942, 0x37808942],
+    ),
 ];
 
 #[test]
 fn coefficients_are_the_stated_ones() {
     for (rate, stated) in STATED {
-        assert_eq!(angles::coefficients(rate).map(f32::to_bits), stated, "{rate}");
+        assert_eq!(
+            angles::coefficients(rate).map(f32::to_bits),
+            stated,
+            "{rate}"
+        );
     }
 }
 

@@ -1,6 +1,6 @@
-//! Roots and powers against exact references. Each function runs on the edges, on all floats whose
-//! bits lie within 1,000 of an edge's, and on drawn floats: 10,000,000 in all. Two further runs
-//! take every 24-digit number at two neighbouring exponents, and every subnormal: 25,165,824.
+//! Roots and powers against exact references. Each function runs on all floats whose
+//! bits lie within 1,000 of an edge's, and on drawn floats: 10,000,000 in all. The square root runs
+//! also on every 24-digit number at two neighbouring exponents and on every subnormal: 25,165,823.
 
 use compare::probe::roots;
 use compare::{Generator, same};

@@ -72,7 +72,11 @@ fn main() {
     let times = |f: fn(f32) -> f32| [chain(f) - loops[0], independent(f, &inputs) - loops[1]];
     let functions: [(&str, fn(f32) -> f32, fn(f32) -> f32); 3] = [
         ("sqrt / hardware", roots::sqrt, hardware),
-        ("fourth_root / hardware twice", roots::fourth_root, hardware_twice),
+        (
+            "fourth_root / hardware twice",
+            roots::fourth_root,
+            hardware_twice,
+        ),
         ("fourth_root / powf(0.25)", roots::fourth_root, powf),
     ];
     for (name, rattle, rust) in functions {
