@@ -27,14 +27,14 @@ low-power p y e = subst (λ (z : Float). inf false ≡ rootPower p z) (sym e) re
 float-to-bits-b : tie.Need-float-to-bits-b
 float-to-bits-b c = positive c .number
 
-either-bits-requires : tie.Need-either-bits-requires
-either-bits-requires c κs = (positive (c .before) .some, c .if2 .taken)
+root-bits-requires : tie.Need-root-bits-requires
+root-bits-requires c κs = (positive (c .before) .some, c .if2 .taken)
 
 float-from-bits-result : tie.Need-float-from-bits-result
-float-from-bits-result c = not-above _ (omega (arith, c .either-bits .ensures .0))
+float-from-bits-result c = not-above _ (omega (arith, c .root-bits .ensures .0))
 
 returns : tie.Need-returns
-returns c = sym (positive (c .before .before) .power-is _ (c .before .if2 .taken) ∙ c .either-bits .ensures .1)
+returns c = sym (positive (c .before .before) .power-is _ (c .before .if2 .taken) ∙ c .root-bits .ensures .1)
 
 returns-2 : tie.Need-returns-2
 returns-2 c = top-power _ _ (positive (c .before) .top (c .if2 .left))
@@ -65,7 +65,7 @@ root-power-spec =
     tie.close
     (tie.spec
     float-to-bits-b
-    either-bits-requires
+    root-bits-requires
     float-from-bits-result
     returns
     returns-2

@@ -1,11 +1,12 @@
--- `roots::fourth::fourth_rest` meets its contract. Assumes nothing.
+-- `roots::bits::fourth_rest` meets its contract. Assumes nothing.
 use mathlib.Core.Path.{ap}
 use Prim.Native.Nat.{ℕ, _*_, _+_, _%_, _<_}
 use native.Mathlib.Omega.{arith}
 use borrow.Author.Needs.{needs}
+use Rattle.roots.proofs.Near.{ranged-fourth}
 use Rattle.roots.proofs.Rests.{fourth-factor, fourth-range, between}
-use Rattle.roots.proofs.fourth.fourth_rest.Statement.{statement}
-use Rattle.roots.proofs.fourth.fourth_rest.Tie as tie
+use Rattle.roots.proofs.bits.fourth_rest.Statement.{statement}
+use Rattle.roots.proofs.bits.fourth_rest.Tie as tie
 
 four : (e : ℕ) → (e + 3) % 4 < 4
 four e = omega arith
@@ -38,7 +39,7 @@ returns : tie.Need-returns
 returns c =
     let r = fourth-range _ (four (c .args .e)) in
     let b = between (c .pre .0) (c .pre .1) (r .0) (r .1) in
-    (ap (λ (x : ℕ). c .args .m * x) (fourth-factor _ (four (c .args .e))), omega (arith, b .0), omega (arith, b .1))
+    (ap (λ (x : ℕ). c .args .m * x) (fourth-factor _ (four (c .args .e))), omega (arith, b .0), omega (arith, b .1), ranged-fourth _ (omega (arith, b .0)) (omega (arith, b .1)))
 
 pub fourth-rest-spec : {M : Type 1} → statement M
 fourth-rest-spec =

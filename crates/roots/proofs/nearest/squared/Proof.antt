@@ -1,9 +1,9 @@
--- `roots::square::squared` meets its contract. Assumes nothing.
+-- `roots::nearest::squared` meets its contract. Assumes nothing.
 use mathlib.Core.Path.{refl}
 use native.Mathlib.Nat.{mul-le-mul}
 use native.Mathlib.Omega.{arith}
-use Rattle.roots.proofs.square.squared.Statement.{statement}
-use Rattle.roots.proofs.square.squared.Tie as tie
+use Rattle.roots.proofs.nearest.squared.Statement.{statement}
+use Rattle.roots.proofs.nearest.squared.Tie as tie
 
 mul-result : tie.Need-mul-result
 mul-result c = let h = mul-le-mul (c .pre) (c .pre) in record { fits = omega (arith, h) }

@@ -1,10 +1,10 @@
--- `roots::fourth::high_square` meets its contract. Assumes nothing.
+-- `roots::nearest::high_square` meets its contract. Assumes nothing.
 use mathlib.Core.Path.{_≡_, ap}
 use Prim.Native.Nat.{ℕ, _+_, _*_, _/_, _%_, _^_, _≤_, _<_}
 use native.Mathlib.Nat.{mul-le-mul, div-add-mod', div-le-self}
 use native.Mathlib.Omega.{arith}
-use Rattle.roots.proofs.fourth.high_square.Statement.{statement}
-use Rattle.roots.proofs.fourth.high_square.Tie as tie
+use Rattle.roots.proofs.nearest.high_square.Statement.{statement}
+use Rattle.roots.proofs.nearest.high_square.Tie as tie
 
 record Bounds (h l : ℕ) : Type 0 where
   hh : h * h ≤ 2 ^ 44
