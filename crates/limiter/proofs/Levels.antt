@@ -128,6 +128,9 @@ raised m x p f = subst (λ (b : Bool). Raised m x (cond b (absolute x) (cond (lt
     by-nan true e = subst (λ (b : Bool). Raised m x (cond b (absolute x) m)) (sym (passed x e .0)) (under (le-trans (le-of-eq (passed x e .1)) (omega arith)))
     by-nan false e = by-test e (lt m (absolute x)) (λ t. t) (λ t. t)
 
+pub raised-by : (m x r : Float) → Level m → Fit x → r ≡ larger m (absolute x) → Raised m x r
+raised-by m x r p f e = subst (Raised m x) (sym e) (raised m x p f)
+
 -- the test that finds it
 pub raise-taken : (m x a : Float) → Level m → a ≡ absolute x → lt m a ≡ true → a ≡ larger m (absolute x)
 unfolding larger

@@ -1,3 +1,4 @@
 pub mod Levels
 pub mod Peaks
 pub mod Laws
+pub mod Rows

@@ -12,7 +12,7 @@ use Rattle.ieee.specs.Units.{mag}
 use Rattle.ieee.specs.Bounds.{All}
 use Rattle.ieee.specs.Small.{absolute, larger}
 use Rattle.limiter.specs.Limiter.{0·0, peakFrom, peak, blockPeak}
-use Rattle.limiter.proofs.Levels.{Level, Fit, rank, level-unique, level-abs, Raised, raised}
+use Rattle.limiter.proofs.Levels.{Level, Fit, rank, level-unique, level-abs, Raised, raised, raised-by}
 
 -- each rank is at most k
 abbrev pub Under : ℕ → List Float → Type 0
@@ -67,9 +67,6 @@ from-next m r xs i h e = ap (λ (v : Float). peakFrom v (drop (i + 1) xs)) e ∙
 pub from-end : (m : Float) (xs : List Float) (i : ℕ) → length xs ≤ i → m ≡ peakFrom m (drop i xs)
 from-end m xs i h = sym (ap (peakFrom m) (drop-of-length-le xs h))
 
-pub raised-by : (m x r : Float) → Level m → Fit x → r ≡ larger m (absolute x) → Raised m x r
-raised-by m x r p f e = subst (Raised m x) (sym e) (raised m x p f)
-
 -- ---- four running maxima
 pub record Lanes (a b c d : Float) (rest whole : List Float) : Type 0 where
   pub a-level : Level a
@@ -88,7 +85,10 @@ lanes-start xs = record { a-level = zero-level; b-level = zero-level; c-level = 
 pub lanes-next : {a b c d x y z w a' b' c' d' : Float} {rest whole : List Float} → Lanes a b c d (x ∷ y ∷ z ∷ w ∷ rest) whole
     → Raised a x a' → Raised b y b' → Raised c z c' → Raised d w d' → Lanes a' b' c' d' rest whole
 lanes-next h p q r s = record {
-  a-level = p .level; b-level = q .level; c-level = r .level; d-level = s .level;
+  a-level = p .level;
+  b-level = q .level;
+  c-level = r .level;
+  d-level = s .level;
   same = same-as (record {
     to = λ k u. (le-trans (p .first) (u .0), (le-trans (q .first) (u .1 .0), (le-trans (r .first) (u .1 .1 .0), (le-trans (s .first) (u .1 .1 .1 .0), (le-trans (p .second) (u .0), (le-trans (q .second) (u .1 .0), (le-trans (r .second) (u .1 .1 .0), (le-trans (s .second) (u .1 .1 .1 .0), u .1 .1 .1 .1))))))));
     from = λ k u. (p .least k (u .0) (u .1 .1 .1 .1 .0), (q .least k (u .1 .0) (u .1 .1 .1 .1 .1 .0), (r .least k (u .1 .1 .0) (u .1 .1 .1 .1 .1 .1 .0), (s .least k (u .1 .1 .1 .0) (u .1 .1 .1 .1 .1 .1 .1 .0), u .1 .1 .1 .1 .1 .1 .1 .1))));
