@@ -2,21 +2,19 @@
 -- in which its samples are taken. Assumes nothing.
 use mathlib.Core.Path.{_≡_, refl, sym, ap, _∙_, subst}
 use mathlib.Core.Bool.{Bool, true, false, not, cond, true≢false}
-use mathlib.Core.List.{List, [], _∷_}
-use Prim.Native.Nat.{ℕ, zero, suc, _+_, _≤_, _<_}
-use native.Mathlib.Nat.{le-refl, le-trans, le-of-eq, le-of-lt, le-antisymm, lt-irrefl, lt-of-lt-of-le}
+use mathlib.Core.List.{[]}
+use Prim.Native.Nat.{ℕ, zero, suc, _≤_, _<_}
+use native.Mathlib.Nat.{le-refl, le-trans, le-of-eq, le-of-lt, lt-irrefl}
 use native.Mathlib.Omega.{arith}
 use lib.Dec.{T}
 use lib.IntN.{ℤ}
 use lib.Ieee.{Float, nan, inf, fin, binary32, fits, isNan, lt}
-use Rattle.ieee.specs.Units.{Top, F32, sign, mag, P, N}
-use Rattle.ieee.specs.Bounds.{All}
+use Rattle.ieee.specs.Units.{Top, mag}
 use Rattle.ieee.specs.Small.{absolute, larger}
 use Rattle.ieee.proofs.Value.{shape}
 use Rattle.ieee.proofs.Unique.{unique}
 use Rattle.ieee.proofs.Exact.{fine}
 use Rattle.ieee.proofs.Compare.{lt→, nlt→}
-use Rattle.limiter.specs.Limiter.{0·0, peakFrom, peak, blockPeak}
 pub use Rattle.limiter.specs.Level.{Level}
 
 unfoldable pub rank : Float → ℕ

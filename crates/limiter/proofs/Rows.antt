@@ -4,8 +4,8 @@ use mathlib.Core.List.{List, [], _∷_, _++_, append-assoc}
 use Prim.Native.Nat.{ℕ, zero, suc, _+_, _-_, _*_, _≤_, _<_}
 use native.Mathlib.Nat.{lt-irrefl}
 use native.Mathlib.Omega.{arith}
-use borrow.Rule.Slice.PartMut.{putMid, post-is}
-use lib.ListN.{length, take, drop, length-append, length-drop, take-append-drop}
+use borrow.Rule.Slice.PartMut.{putMid}
+use lib.ListN.{length, take, drop, length-drop, take-append-drop}
 use lib.Seq.{drop-drop, take-append-add, drop-append-add, length-take-le}
 use lib.Ieee.{Float}
 use Rattle.ieee.specs.Small.{absolute, larger}
