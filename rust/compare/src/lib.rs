@@ -1,0 +1,19 @@
+//! What the comparing tests share: the Rattle functions, generators of inputs, and equality of
+//! floats.
+
+mod frames;
+mod generator;
+pub mod probe;
+
+pub use frames::Frames;
+pub use generator::Generator;
+
+/// Equal bit for bit, all NaNs being equal.
+pub fn same(a: f32, b: f32) -> bool {
+    a.to_bits() == b.to_bits() || a.is_nan() && b.is_nan()
+}
+
+/// `same` at each place, and as many places.
+pub fn all_same(a: &[f32], b: &[f32]) -> bool {
+    a.len() == b.len() && a.iter().zip(b).all(|(&a, &b)| same(a, b))
+}

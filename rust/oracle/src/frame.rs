@@ -1,0 +1,84 @@
+//! A frame in the terms of document 01, "What a call receives".
+
+use crate::Vector;
+
+#[derive(Clone, Debug, Default, PartialEq)]
+pub struct Frame {
+    pub rate: u32,
+    /// Samples of each channel.
+    pub samples: usize,
+    /// Code, 0 to 17, of each bed channel.
+    pub beds: Vec<u8>,
+    pub objects: usize,
+    /// Channel after channel, beds then objects: (beds + objects) * samples.
+    pub pcm: Vec<f32>,
+    pub updates: Vec<Update>,
+}
+
+impl Frame {
+    /// The samples of one channel, beds then objects.
+    pub fn channel(&self, index: usize) -> &[f32] {
+        &self.pcm[index * self.samples..][..self.samples]
+    }
+}
+
+#[derive(Clone, Debug, Default, PartialEq)]
+pub struct Update {
+    pub offset: u16,
+    pub objects: u8,
+    pub bed_or_isf_objects: u8,
+    /// Code of each bed channel.
+    pub beds: Vec<u8>,
+    pub elements: Vec<Element>,
+}
+
+#[derive(Clone, Debug, Default, PartialEq)]
+pub struct Element {
+    pub blocks: Vec<Block>,
+    /// For each object, one entry a block.
+    pub objects: Vec<Vec<Object>>,
+}
+
+#[derive(Clone, Copy, Debug, Default, PartialEq)]
+pub struct Block {
+    pub offset: i64,
+    pub ramp: i64,
+}
+
+#[derive(Clone, Copy, Debug, Default, PartialEq)]
+pub enum Anchor {
+    #[default]
+    Room,
+    Screen,
+    Speaker,
+}
+
+/// An object in a block.
+#[derive(Clone, Copy, Debug, PartialEq)]
+pub struct Object {
+    pub anchor: Anchor,
+    pub position_valid: bool,
+    pub differential: bool,
+    pub gain: Option<f32>,
+    pub position: Option<Vector>,
+    pub distance: Option<f32>,
+    pub size: Option<f32>,
+    pub screen: f32,
+    pub depth: f32,
+}
+
+impl Default for Object {
+    fn default() -> Self {
+        Self {
+            anchor: Anchor::Room,
+            position_valid: false,
+            differential: false,
+            gain: None,
+            position: None,
+            distance: None,
+            size: None,
+            screen: 1.0,
+            depth: 1.0,
+        }
+    }
+}

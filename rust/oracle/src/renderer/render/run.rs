@@ -1,0 +1,202 @@
+//! The renderer, under the rules of document 01 that the Rust leaves to its caller: a refused
+//! frame counts as never sent.
+
+use super::state::State;
+#[cfg(not(no_sources))]
+use super::{
+    MetadataRendererState, Render714Error, Render714Frame, Render714TimeslotDebug, Renderer714,
+    convert,
+};
+use crate::Vector;
+use crate::frame::Frame;
+
+/// What push answers.
+#[derive(Clone, Debug, PartialEq)]
+pub enum Pushed {
+    /// The ready samples of the twelve channels.
+    Ready(Vec<Vec<f32>>),
+    Refused(Refusal),
+    /// The Rust panicked; the renderer is as before the call.
+    Panicked,
+}
+
+/// A refusal's number, 9 to 14, and its two counts.
+#[derive(Clone, Copy, Debug, PartialEq, Eq)]
+pub struct Refusal {
+    pub number: u8,
+    pub counts: [u64; 2],
+}
+
+/// `Render714TimeslotDebug`: the sources of one slot.
+#[derive(Clone, Debug, PartialEq)]
+pub struct Slot {
+    pub sample_offset: usize,
+    pub sources: Vec<SlotSource>,
+}
+
+/// `Render714SourceDebug`.
+#[derive(Clone, Copy, Debug, PartialEq)]
+pub struct SlotSource {
+    pub object_index: usize,
+    /// Code of a bed's channel.
+    pub static_channel: Option<u8>,
+    pub position: Vector,
+    pub gain: f32,
+    pub size: f32,
+    pub lfe: bool,
+    pub position_valid: bool,
+}
+
+pub struct Oracle {
+    #[cfg(not(no_sources))]
+    renderer: Renderer714,
+}
+
+impl Oracle {
+    over_sources! {
+        #[expect(clippy::new_without_default)]
+        pub fn new() -> Self {
+            Oracle { renderer: Renderer714::new() }
+        }
+
+        pub fn reset(&mut self) {
+            self.renderer.reset();
+        }
+
+        pub fn push(&mut self, frame: &Frame) -> Pushed {
+            self.push_with_debug(frame).0
+        }
+
+        /// Also the rows of the slots whose samples are ready.
+        pub fn push_with_debug(&mut self, frame: &Frame) -> (Pushed, Vec<Slot>) {
+            let input = convert::input_frame(frame);
+            let before = self.renderer.clone();
+            let pushed = quiet::caught(|| self.renderer.push_frame_with_debug(&input));
+            let refused = match pushed {
+                Some(Ok((output, slots))) => {
+                    return (Pushed::Ready(output.channels), slots.iter().map(slot).collect());
+                }
+                Some(Err(error)) => Pushed::Refused(refusal(&error)),
+                None => Pushed::Panicked,
+            };
+            self.renderer = before;
+            (refused, Vec::new())
+        }
+
+        /// The pending samples of the twelve channels, or none.
+        pub fn flush(&mut self) -> Option<Vec<Vec<f32>>> {
+            self.renderer.flush().map(|Render714Frame { channels, .. }| channels)
+        }
+
+        /// Rows in store keep leading silence from panicking; no sample depends on them.
+        pub fn store_debug_rows(&mut self, rows: usize) {
+            let row = Render714TimeslotDebug { sample_offset: 0, sources: Vec::new() };
+            self.renderer.pending_timeslot_debug.extend(vec![row; rows]);
+        }
+
+        pub fn state(&self) -> State {
+            super::state::read::state(&self.renderer)
+        }
+    }
+}
+
+#[cfg(not(no_sources))]
+impl Clone for Renderer714 {
+    fn clone(&self) -> Self {
+        Self {
+            sample_rate: self.sample_rate,
+            limiter_gain: self.limiter_gain,
+            stream_sample_offset: self.stream_sample_offset,
+            metadata_timeslot_phase: self.metadata_timeslot_phase,
+            metadata_timeslot_stream_sample: self.metadata_timeslot_stream_sample,
+            lfe_lowpass: self.lfe_lowpass.clone(),
+            metadata: self.metadata.clone(),
+            limiter_pending: self.limiter_pending.clone(),
+            pending_timeslot_debug: self.pending_timeslot_debug.clone(),
+        }
+    }
+}
+
+#[cfg(not(no_sources))]
+impl Clone for MetadataRendererState {
+    fn clone(&self) -> Self {
+        Self {
+            initialized: self.initialized,
+            payload_stream_sample: self.payload_stream_sample,
+            object_count: self.object_count,
+            bed_or_isf_objects: self.bed_or_isf_objects,
+            bed_channels: self.bed_channels.clone(),
+            bed_sources: self.bed_sources.clone(),
+            elements: self.elements.clone(),
+            dynamic_sources: self.dynamic_sources.clone(),
+        }
+    }
+}
+
+/// Document 01, "The Rust's own".
+#[cfg(not(no_sources))]
+pub(super) fn refusal(error: &Render714Error) -> Refusal {
+    let (number, first, second) = match *error {
+        Render714Error::SampleRateChanged { expected, provided } => {
+            (9, expected as usize, provided as usize)
+        }
+        Render714Error::MissingOamd => (10, 0, 0),
+        Render714Error::ObjectCountMismatch { expected, provided } => (11, expected, provided),
+        Render714Error::UnsupportedSampleCount(samples) => (12, samples, 0),
+        Render714Error::BedChannelCountMismatch { expected, provided } => (13, expected, provided),
+        Render714Error::UnsupportedBedChannel(channel) => {
+            (14, convert::bed_code(channel).into(), 0)
+        }
+        Render714Error::OamdStateUninitialized => unreachable!("document 01: cannot arise"),
+    };
+    Refusal {
+        number,
+        counts: [first as u64, second as u64],
+    }
+}
+
+#[cfg(not(no_sources))]
+fn slot(debug: &Render714TimeslotDebug) -> Slot {
+    Slot {
+        sample_offset: debug.sample_offset,
+        sources: debug
+            .sources
+            .iter()
+            .map(|source| SlotSource {
+                object_index: source.object_index,
+                static_channel: source.static_channel.map(convert::bed_code),
+                position: convert::vector(source.position),
+                gain: source.gain,
+                size: source.size,
+                lfe: source.lfe,
+                position_valid: source.position_valid,
+            })
+            .collect(),
+    }
+}
+
+/// Panics caught without the message that the hook would print.
+#[cfg(not(no_sources))]
+mod quiet {
+    use std::cell::Cell;
+    use std::panic::{self, AssertUnwindSafe};
+    use std::sync::Once;
+
+    thread_local!(static QUIET: Cell<bool> = const { Cell::new(false) });
+
+    pub fn caught<T>(run: impl FnOnce() -> T) -> Option<T> {
+        static HOOK: Once = Once::new();
+        HOOK.call_once(|| {
+            let hook = panic::take_hook();
+            panic::set_hook(Box::new(move |info| {
+                if !QUIET.get() {
+                    hook(info);
+                }
+            }));
+        });
+        QUIET.set(true);
+        let outcome = panic::catch_unwind(AssertUnwindSafe(run));
+        QUIET.set(false);
+        outcome.ok()
+    }
+}
