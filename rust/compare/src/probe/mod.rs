@@ -1,5 +1,7 @@
 //! The Rattle functions that crates/probes exports, one module a crate. A slice crosses as its
 //! pointer and its length.
 
+pub mod ieee;
+pub mod limiter;
 pub mod vectors;
 pub mod words;
