@@ -87,12 +87,12 @@ fn scale_block(block: &mut [f32], samples: usize, gain: f32)
     ensures { λ _. ⌜ now (block .exit) ≡ laid (scaledBlock gain (channels 12 samples (now (block .entry)))) (now (block .entry)) ⌝ }
 {
     let mut at: usize = 0;
-    let mut left: usize = 12;
-    while left > 0 {
+    let mut unscaled: usize = 12;
+    while unscaled > 0 {
         let end = at + samples;
         scale_slice_in_place(&mut block[at..end], gain);
         at += 64;
-        left -= 1;
+        unscaled -= 1;
     }
 }
 
