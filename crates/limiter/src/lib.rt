@@ -1,4 +1,6 @@
 // The output limiter: the peak of a block, the gain that it leaves, scaling, and the gain's growth.
+pub mod places;
+
 ghost use mathlib.Core.Path.{_≡_};
 ghost use Prim.Native.Nat.{_≤_};
 ghost use lib.ListN.{length};
