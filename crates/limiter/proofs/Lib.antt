@@ -1,8 +1,8 @@
 pub mod Levels
 pub mod Peaks
 pub mod Laws
-pub mod Rows
 pub mod Runs
+pub mod Rows
 pub mod Lowered
 pub mod Growth
 pub mod Theorem

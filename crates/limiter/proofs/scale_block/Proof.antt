@@ -6,8 +6,6 @@ use Prim.Native.Nat.{ℕ, _+_, _-_, _*_, _≤_}
 use native.Mathlib.Omega.{arith}
 use lib.ListN.{length, take, drop}
 use Rattle.limiter.specs.Limiter.{scaled, scaledBlock, channels, laid}
-use borrow.Rule.Slice.PartMut.{same-len-mid}
-use Rattle.limiter.proofs.Laws.{length-scaled}
 use Rattle.limiter.proofs.Rows.{laid-next, laid-end}
 use Rattle.limiter.proofs.scale_block.Statement.{statement}
 use Rattle.limiter.proofs.scale_block.Tie as tie
@@ -56,7 +54,8 @@ loop-again c =
     let l = c .before .before .before .before .before .loop in
     let a = c .before .before .before .before .before .before .before .args in
     let z = c .before .before .scale-slice-in-place in
-    (omega arith, same-len-mid (l .at) (l .at + a .samples - l .at) (l .block) (z .last .0) (ap length (z .ensures) ∙ length-scaled (a .gain) (take (l .at + a .samples - l .at) (drop (l .at) (l .block)))) ∙ l .inv .1, laid-next (a .gain) (l .unscaled) (a .samples) (l .at) (l .block) (z .last .0) (omega arith) (omega arith) (omega arith) (z .ensures) ∙ l .inv .2)
+    let n = laid-next (a .gain) (l .unscaled) (a .samples) (l .at) (l .block) (z .last .0) (omega arith) (omega arith) (omega arith) (z .ensures) in
+    (omega arith, n .0 ∙ l .inv .1, n .1 ∙ l .inv .2)
 
 same-length : tie.Need-same-length Inv-loop μ-loop
 same-length c = search needs
