@@ -8,7 +8,7 @@ ghost use Rattle.ieee.specs.Small.{absolute, larger};
 ghost use Rattle.limiter.specs.Level.{Level};
 ghost use Rattle.limiter.specs.Limiter.{0·0, 1·0, peakFrom, peak, scaled, lowered, grown};
 ghost use Rattle.limiter.specs.Limiter.{blockPeak, blockGain, scaledBlock, channels, laid, Limited};
-ghost use Rattle.limiter.specs.Places.{Given};
+ghost use Rattle.limiter.specs.Places.{Room, Given};
 
 pub struct Limiter {
     pub gain: f32,
@@ -149,7 +149,7 @@ impl Limiter {
         step: usize,
         to: usize,
     ) -> Self
-        requires { ⌜ (length (now places) ≡ 3072) × (samples ≤ 64) × (rate ≤ 16777216) × (to + 4 * samples ≤ step) × (12 * step ≤ length (now out)) ⌝ }
+        requires { ⌜ Room (now places) samples rate (now out) step to ⌝ }
         ensures { λ r. ⌜ Given (self .gain) samples rate (now (places .entry)) step to (now (out .entry)) (r .gain) (now (out .exit)) ⌝ }
     {
         let mut block = [0.0f32; 768];

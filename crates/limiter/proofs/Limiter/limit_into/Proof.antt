@@ -1,5 +1,4 @@
 -- `limiter::Limiter::limit_into` meets its contract. Assumes nothing.
-use native.Mathlib.Omega.{arith}
 use mathlib.Core.Path.{_≡_, ap, _∙_}
 use mathlib.Core.List.{List}
 use lib.Dec.{lit≤}
@@ -10,13 +9,6 @@ use Rattle.limiter.proofs.Rows.{channels-laid, channels-at-lengths}
 use borrow.Author.Needs.{needs}
 use Rattle.limiter.proofs.Limiter.limit_into.Statement.{statement}
 use Rattle.limiter.proofs.Limiter.limit_into.Tie as tie
-use Rattle.limiter.proofs.Limiter.limit_into.Reads as reads
-use Rattle.limiter.proofs.Limiter.limit_into.Lts as lts
-use Rattle.limiter.proofs.Limiter.grow.Reads as grow-reads
-use Rattle.limiter.proofs.Limiter.lower.Reads as lower-reads
-use Rattle.limiter.proofs.block_peak.Reads as block-peak-reads
-use Rattle.limiter.proofs.places.load_block.Reads as load-block-reads
-use Rattle.limiter.proofs.places.store_block.Reads as store-block-reads
 
 slice-aggregate-load-block : tie.Need-slice-aggregate-load-block
 slice-aggregate-load-block c = search needs
@@ -60,7 +52,7 @@ returns c =
     let s = a .places .now in
     let cs = channelsAt 12 n s 0 in
     let ls = channels-at-lengths 12 n s 0 in
-    let e : channels 12 n (load .last .1 .1 .0) ≡ cs = ap (channels 12 n) (load .ensures) ∙ channels-laid 12 n cs _ (ls .0) (ls .1) (start .pre .1) (lit≤ tt) in
+    let e : channels 12 n (load .last .1 .1 .0) ≡ cs = ap (channels 12 n) (load .ensures) ∙ channels-laid 12 n cs _ (ls .0) (ls .1) (start .pre .samples) (lit≤ tt) in
     let f : low .result .gain ≡ blockGain (a .self .gain) cs = low .ensures ∙ ap (λ (p : Float). lowered p (a .self .gain)) (top .ensures ∙ ap (blockPeak 0·0) e) in
     record {
       gain = c .grow .ensures ∙ ap (grown n (a .rate)) f;

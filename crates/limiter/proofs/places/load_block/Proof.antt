@@ -1,19 +1,15 @@
 -- `limiter::places::load_block` meets its contract. Assumes nothing.
 use borrow.Author.Needs.{needs}
 use native.Mathlib.Omega.{arith}
-use mathlib.Core.Path.{_≡_, refl, sym, ap, _∙_}
+use mathlib.Core.Path.{_≡_, refl, ap, _∙_}
 use mathlib.Core.List.{_++_}
-use Prim.Native.Nat.{ℕ, _+_, _*_, _-_, _≤_, _<_}
-use lib.ListN.{length, take, drop, length-drop}
-use lib.Seq.{length-take-le}
+use Prim.Native.Nat.{_+_, _*_, _≤_}
+use lib.ListN.{length, take, drop}
 use Rattle.limiter.specs.Limiter.{laid}
 use Rattle.limiter.specs.Places.{floatsAt, channelsAt}
 use Rattle.limiter.proofs.Rows.{part-length, load-next, load-end}
 use Rattle.limiter.proofs.places.load_block.Statement.{statement}
 use Rattle.limiter.proofs.places.load_block.Tie as tie
-use Rattle.limiter.proofs.places.load_block.Reads as reads
-use Rattle.limiter.proofs.places.load_block.Lts as lts
-use Rattle.limiter.proofs.places.load_samples.Reads as load-samples-reads
 
 abbrev Inv-loop : tie.InvT-loop
 Inv-loop places samples block₀ at₀ left₀ block at left = (at + 64 * left ≡ 768) × (length block ≡ 768) × (take at block ++ laid (channelsAt left samples places (4 * at)) (drop at block) ≡ laid (channelsAt 12 samples places 0) block₀)

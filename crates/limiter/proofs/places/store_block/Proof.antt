@@ -1,17 +1,14 @@
 -- `limiter::places::store_block` meets its contract. Assumes nothing.
 use borrow.Author.Needs.{needs}
 use native.Mathlib.Omega.{arith}
-use mathlib.Core.Path.{_≡_, refl, sym, ap, _∙_}
-use Prim.Native.Nat.{ℕ, _+_, _*_, _-_, _≤_, _<_}
-use lib.ListN.{length, take, drop}
+use mathlib.Core.Path.{_≡_, refl, ap, _∙_}
+use Prim.Native.Nat.{ℕ, _+_, _*_, _≤_}
+use lib.ListN.{length, drop}
 use Rattle.limiter.specs.Limiter.{scaledBlock, channels}
 use Rattle.limiter.specs.Places.{withChannels}
 use Rattle.limiter.proofs.Rows.{part-length, store-next, store-end, room-next}
 use Rattle.limiter.proofs.places.store_block.Statement.{statement}
 use Rattle.limiter.proofs.places.store_block.Tie as tie
-use Rattle.limiter.proofs.places.store_block.Reads as reads
-use Rattle.limiter.proofs.places.store_block.Lts as lts
-use Rattle.limiter.proofs.places.store_scaled.Reads as store-scaled-reads
 
 abbrev Inv-loop : tie.InvT-loop
 Inv-loop block samples gain out₀ step to at₀ base₀ left₀ out at base left = (at + 64 * left ≡ 768) × (base + left * step ≤ length out₀) × (length out ≡ length out₀) × (withChannels (scaledBlock gain (channels left samples (drop at block))) step (base + to) out ≡ withChannels (scaledBlock gain (channels 12 samples block)) step to out₀)
