@@ -2,5 +2,9 @@
 // each crate NAME (a module cannot have a crate's name).
 mod probe_ieee;
 mod probe_limiter;
+mod probe_lowpass;
+mod probe_beds;
+mod probe_mixing;
+mod probe_panning;
 mod probe_vectors;
 mod probe_words;

@@ -3,5 +3,9 @@
 
 pub mod ieee;
 pub mod limiter;
+pub mod lowpass;
+pub mod beds;
+pub mod mixing;
+pub mod panning;
 pub mod vectors;
 pub mod words;
