@@ -5,6 +5,7 @@ pub mod Runs
 pub mod Rows
 pub mod Lowered
 pub mod Growth
+pub mod Return
 pub mod Theorem
 pub mod Cases
 pub mod Sums
