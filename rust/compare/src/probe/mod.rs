@@ -9,5 +9,6 @@ pub mod mixing;
 pub mod panning;
 pub mod angles;
 pub mod roots;
+pub mod records;
 pub mod vectors;
 pub mod words;
