@@ -28,7 +28,6 @@ fn to_bits(x: f32) -> u32 {
     x.to_bits()
 }
 
-<<<<<<< HEAD
 /// A filter over 300 rows of 1,536 samples, the largest frame.
 fn lowpass() {
     let mut inputs = Generator::new(2);
@@ -48,7 +47,6 @@ fn lowpass() {
     );
 }
 
-=======
 /// Places at a cache line.
 #[repr(align(64))]
 struct Places([f32; 1_536]);
@@ -108,7 +106,6 @@ fn read_row(pcm: &[u8], row: &mut [f32]) {
     }
 }
 
->>>>>>> beds
 fn main() {
     lowpass();
     let mut inputs = Generator::new(1);
