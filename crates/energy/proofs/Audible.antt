@@ -10,7 +10,7 @@ use native.Mathlib.Omega.{arith}
 use lib.Dec.{T, T-not, not-T, eqb, eqb→eq, eqb-refl}
 use lib.Ieee.{Float, eq, ne}
 use lib.Ieee.Fits.{and-i, and-l, and-r}
-use Rattle.ieee.specs.Units.{F32, mag, P, N}
+use Rattle.ieee.specs.Units.{F32, mag}
 use Rattle.ieee.proofs.Compare.{eq→}
 use Rattle.ieee.proofs.Signed.{one-sided, mag-is}
 use Rattle.vectors.specs.declared.Vec3.{Vec3}

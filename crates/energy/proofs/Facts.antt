@@ -2,14 +2,14 @@
 use mathlib.Core.Path.{_≡_, refl, sym, ap, _∙_, subst, subst⁻¹}
 use mathlib.Core.Logic.{inl, inr}
 use mathlib.Core.Bool.{Bool, true, false, not, cond}
-use mathlib.Core.List.{List, [], _∷_, _++_, map, List·Memᴰ, List·Memᴰ·head, List·Memᴰ·not-nil, List·Memᴰ·append-cases}
-use Prim.Native.Nat.{ℕ, _+_, _*_}
+use mathlib.Core.List.{List, [], _++_, map, List·Memᴰ, List·Memᴰ·not-nil, List·Memᴰ·append-cases}
+use Prim.Native.Nat.{ℕ, _*_}
 use native.Mathlib.Nat.{zero-mul}
 use native.Mathlib.Omega.{arith}
 use lib.Dec.{T}
 use lib.Ieee.{Float, binary32, fits, mul, sub, le, eq, ne}
 use lib.Ieee.Fits.{and-i}
-use Rattle.ieee.specs.Units.{One, F32, mag, P, N}
+use Rattle.ieee.specs.Units.{One, F32, mag, P}
 use Rattle.ieee.specs.Nearest.{Root}
 use Rattle.ieee.proofs.Compare.{→le, →eq, eq→}
 use Rattle.ieee.proofs.Signed.{mag-is}
@@ -18,7 +18,7 @@ use Rattle.roots.specs.Root.{root}
 use Rattle.roots.proofs.Laws.{root-nearest}
 use Rattle.vectors.specs.declared.Vec3.{Vec3}
 use Rattle.panning.specs.declared.Panned.{Panned}
-use Rattle.panning.specs.Choice.{Corner, differ, corner, corners, 0·0, 1·0}
+use Rattle.panning.specs.Choice.{Corner, corner, corners, 0·0, 1·0}
 use Rattle.panning.specs.Terms.{up, ahead, across, part, rowWeight, coefficient, innerGain, extra, nothing, panned, Term, term, audible, paired, spread, cornerTerms, terms}
 use Rattle.panning.specs.Table.{Table, Position, 8·0, between}
 use Rattle.energy.specs.Facts.{Each, squares, AddsUp, Pans}
@@ -29,7 +29,7 @@ use Rattle.energy.proofs.Weighing.{Plus, Eight·0, eight-is, weight, we
 use Rattle.energy.proofs.Once.{once}
 use Rattle.energy.proofs.Sum.{root-zero, Eight, eight, add-up}
 use Rattle.energy.proofs.Audible.{audible→, audible-none, map-in, allSquares, square-audible, by-channel, apart, apart-once, Differ, differs, apart-audible}
-use Rattle.energy.proofs.Coefficients.{Rooted, corner-rooted, corner-plus, extra-plus, inner-gain8}
+use Rattle.energy.proofs.Coefficients.{corner-rooted, corner-plus, extra-plus, inner-gain8}
 
 part-between : (s : Float) → Part s → T (between 0·0 1·0 s)
 unfolding between

@@ -9,10 +9,9 @@ use lib.Ieee.{Float, binary32, sub, mul, eq, ne}
 use Rattle.roots.specs.Root.{root}
 use Rattle.vectors.specs.declared.Vec3.{Vec3}
 use Rattle.panning.specs.Choice.{Corner, corner, corners, 0·0, 1·0}
-use Rattle.panning.specs.Terms.{ratio, up, ahead, across, rowWeight, sideCoefficient, coefficient, innerGain, extra, nothing, panned}
+use Rattle.panning.specs.Terms.{ratio, up, ahead, across, rowWeight, coefficient, innerGain, extra, nothing, panned}
 use Rattle.panning.specs.Found.{Inside, RowIs, chosen}
 use Rattle.panning.specs.declared.Ends.{Ends}
-use Rattle.panning.specs.declared.Layer.{Layer}
 use Rattle.panning.specs.declared.Cube.{Cube}
 use Rattle.panning.specs.declared.Pair.{Pair}
 use Rattle.panning.specs.declared.Panned.{Panned}
@@ -30,15 +29,9 @@ row-no {a} {b} {v} {w} t = record {
   right-is = sym (ap (λ (y : Bool). cond y (root (mul binary32 w (ratio a b v))) 0·0) t);
 }
 
--- ---- structs of the code
+-- the two ends of a row
 pub ends-of : {l h l' h' : ℕ} → l ≡ l' → h ≡ h' → _≡_ {A = Ends} (record { low = l; high = h }) (record { low = l'; high = h' })
 ends-of p q = cc
-
-pub layer-of : {f r f' r' : Ends} → f ≡ f' → r ≡ r' → _≡_ {A = Layer} (record { front = f; rear = r }) (record { front = f'; rear = r' })
-layer-of p q = cc
-
-pub cube-of : {b t b' t' : Layer} → b ≡ b' → t ≡ t' → _≡_ {A = Cube} (record { bottom = b; top = t }) (record { bottom = b'; top = t' })
-cube-of p q = cc
 
 -- ---- the eight coefficients
 row-moved : {a b v w u : Float} {r : Pair} → w ≡ u → RowIs a b v w r → RowIs a b v u r

@@ -5,7 +5,6 @@ use mathlib.Core.Bool.{true, false}
 use mathlib.Core.List.{List, [], _∷_, map}
 use lib.IntN.{pos, negsuc}
 use lib.Ieee.{Float, nan, fin}
-use Rattle.vectors.specs.declared.Vec3.{Vec3}
 use Rattle.roots.specs.Root.{root}
 use Rattle.panning.specs.Choice.{0·0, 1·0}
 use Rattle.panning.specs.Terms.{term}
