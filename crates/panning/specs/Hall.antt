@@ -9,7 +9,7 @@ use lib.Ieee.{Float, nan, fin}
 use Rattle.vectors.specs.declared.Vec3.{Vec3}
 use Rattle.panning.specs.declared.Panned.{Panned}
 use Rattle.panning.specs.Choice.{0·0}
-use Rattle.panning.specs.Terms.{Term, panned, terms}
+use Rattle.panning.specs.Terms.{Term, panned, terms, onChannel}
 
 -- 0.70710677, 0.48368952 and 1, with a sign
 abbrev pub diagonal : Bool → Float
@@ -55,6 +55,10 @@ panned714 p g s = panned hall714 fullRange 12·0 p g s
 
 abbrev pub terms714 : Vec3 → Float → Float → List Term
 terms714 p g s = terms fullRange (panned714 p g s)
+
+-- the coefficients that it adds on channel c
+abbrev pub pan714 : Vec3 → Float → Float → ℕ → List Float
+pan714 p g s c = onChannel c (terms714 p g s)
 
 -- what `pan` answers: the eight corners are channels
 pub record PannedIs (p : Vec3) (g s : Float) (r : Panned) : Type 0 where
