@@ -1,12 +1,12 @@
 -- There is one f32 meant at most. Each sum lies between the two before it, so once two neighbours round to r all later sums do. Assumes nothing.
 use mathlib.Core.Path.{_≡_, refl, sym, ap, _∙_, subst}
 use mathlib.Core.Logic.{_⊎_, inl, inr}
-use mathlib.Core.Bool.{Bool, true, false, cond}
+use mathlib.Core.Bool.{Bool, false, cond}
 use Prim.Native.Nat.{ℕ, zero, suc, _+_, _-_, _*_, _%_, _^_, _≤_, _<_}
 use native.Mathlib.Nat.{le-trans, le-of-eq, le-antisymm, eq-or-lt-of-le, eq-zero-or-pos, lt-irrefl, lt-of-le-of-lt, lt-of-lt-of-le, mul-comm, mul-one, one-mul, mul-right-comm, mul-le-mul, mul-le-mul-left, mul-le-mul-right, mul-pos, one-le-pow, pow-suc, pow-zero, pow-le-pow-left}
 use native.Mathlib.Omega.{arith}
 use borrow.Author.Tests.{eq-eqb, ne-eqb}
-use lib.Dec.{eqb, lit<}
+use lib.Dec.{lit<}
 use lib.Pow.{pow-add}
 use lib.Ieee.{Float, binary32, round}
 use lib.Ieee.Positive.{num, den, den-pos}

@@ -4,5 +4,7 @@ mod probe_beds;
 mod probe_lowpass;
 mod probe_mixing;
 mod probe_panning;
+mod probe_angles;
+mod probe_roots;
 mod probe_vectors;
 mod probe_words;

@@ -5,5 +5,7 @@ pub mod beds;
 pub mod lowpass;
 pub mod mixing;
 pub mod panning;
+pub mod angles;
+pub mod roots;
 pub mod vectors;
 pub mod words;
