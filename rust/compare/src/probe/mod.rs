@@ -1,11 +1,11 @@
 //! The Rattle functions that crates/probes exports, one module a crate. A slice crosses as its
 //! pointer and its length.
 
+pub mod angles;
 pub mod beds;
 pub mod lowpass;
 pub mod mixing;
 pub mod panning;
-pub mod angles;
 pub mod roots;
 pub mod vectors;
 pub mod words;
