@@ -1,5 +1,7 @@
 //! Panning against `render_object_timeslot_to_714`, mixed term by term: every combination of
 //! special positions, gains and sizes (1,906,624 coefficient sets), and 9,000,000 random ones.
+//! Which speakers are chosen depends on how a position compares with the speakers' coordinates:
+//! the special positions have every outcome.
 
 use compare::{Generator, all_same, probe::panning};
 use oracle::leaf::render_object_timeslot_to_714;

@@ -107,8 +107,42 @@ fn read_row(pcm: &[u8], row: &mut [f32]) {
     }
 }
 
+/// Objects at random places above the floor, each panned and mixed over a slot.
+fn panning() {
+    let mut inputs = Generator::new(5);
+    let samples: Vec<f32> = (0..64).map(|_| inputs.between(-1.0, 1.0)).collect();
+    let mut coordinate = |low| inputs.between(low, 1.0);
+    let places: Vec<_> = (0..20_000)
+        .map(|_| [coordinate(-1.0), coordinate(0.0), coordinate(-1.0)])
+        .collect();
+    let mut output = vec![vec![0.0; 64]; 12];
+    let mut mixed = output.clone();
+    compare_times(
+        "pan and mix_segment, 20,000 slots of 64 samples",
+        || {
+            for &place in &places {
+                for (channel, gain) in probe::panning::pan(place, 0.7, 0.0).terms() {
+                    probe::mixing::mix_segment(&samples, &mut mixed[channel], 0, gain);
+                }
+            }
+        },
+        || {
+            for &place in &places {
+                let source = oracle::state::Source {
+                    gain: 0.7,
+                    size: 0.0,
+                    cubical_position: place,
+                    position_valid: true,
+                };
+                oracle::leaf::render_object_timeslot_to_714(&samples, &mut output, 0, &source);
+            }
+        },
+    );
+}
+
 fn main() {
     lowpass();
+    panning();
     let mut inputs = Generator::new(1);
     let floats: Vec<f32> = (0..1_000_000).map(|_| inputs.float()).collect();
     compare_times(

@@ -4,10 +4,11 @@
 pub mod beds;
 pub mod ieee;
 pub mod limiter;
+pub mod angles;
+pub mod beds;
 pub mod lowpass;
 pub mod mixing;
 pub mod panning;
-pub mod angles;
 pub mod roots;
 pub mod records;
 pub mod vectors;
