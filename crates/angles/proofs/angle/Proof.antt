@@ -1,7 +1,7 @@
 -- `angles::angle` meets its contract, by the table. Assumes nothing.
 use mathlib.Core.Path.{_≡_, refl, sym, subst}
 use Prim.Native.Nat.{ℕ}
-use lib.Ieee.{Float, ofBits}
+use lib.Ieee.{ofBits}
 use Rattle.angles.specs.Angle.{cosine, sine, w0, Listed, r32000, r44100, r48000, r88200, r96000}
 use Rattle.angles.proofs.Table.{cosineAt, sineAt, cosine-is, sine-is}
 use Rattle.angles.proofs.angle.Statement.{statement}
