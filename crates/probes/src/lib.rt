@@ -10,6 +10,8 @@ mod probe_mixing;
 mod probe_mixing;
 mod probe_panning;
 mod probe_panning;
+mod probe_mixing;
+mod probe_panning;
 mod probe_records;
 mod probe_roots;
 mod probe_vectors;
