@@ -1,0 +1,55 @@
+-- The target of a block for an object: the position part of `ObjectInfoBlockState::update_source_state`, on plain values. Assumes nothing.
+use mathlib.Core.Bool.{Bool, true, false, _&&_, cond}
+use lib.Ieee.{Float, binary32, ofBits, add, sub, mul}
+use Rattle.ieee.specs.Small.{clamped}
+use Rattle.vectors.specs.declared.Vec3.{Vec3}
+use Rattle.vectors.specs.declared.Anchor.{Anchor}
+use Rattle.vectors.specs.declared.Anchor.the-variants.{Room, Screen, Speaker}
+use Rattle.vectors.specs.declared.BlockPosition.{BlockPosition}
+use Rattle.vectors.specs.declared.Placed.{Placed}
+use Rattle.vectors.specs.Vectors.{0·0, 1·0, vec3, pairwise}
+use Rattle.vectors.specs.Anchors.{usedDistance, roomAnchored, screenAnchored}
+
+abbrev pub 2·0 : Float
+2·0 = ofBits binary32 0x40000000
+
+abbrev pub -2·0 : Float
+-2·0 = ofBits binary32 0xc0000000
+
+-- The last absolute coordinate and a difference, from 0 to 1. Document 01, item 2: "a clamp keeps" a NaN; -0 stays too.
+abbrev pub summed : Float → Float → Float
+summed last d = clamped (add binary32 last d) 0·0 1·0
+
+abbrev pub differentialPosition : Vec3 → Vec3 → Vec3
+differentialPosition = pairwise summed
+
+-- from the room's coordinates (0 to 1; y from front to back, z upwards) to those of the cube (-1 to 1; y upwards, z to the front)
+abbrev pub cubical : Vec3 → Vec3
+cubical p = vec3 (sub binary32 (mul binary32 (p .x) 2·0) 1·0) (p .z) (add binary32 (mul binary32 (p .y) -2·0) 1·0)
+
+-- the stored position, and the last absolute one, once the block is applied
+abbrev pub storedNext : BlockPosition → Vec3
+storedNext b = cond (b .differential) (differentialPosition (b .last) (b .position)) (b .position)
+
+abbrev pub lastNext : BlockPosition → Vec3
+lastNext b = cond (b .differential) (b .last) (b .position)
+
+abbrev pub anchored : Anchor → BlockPosition → Vec3 → Vec3
+anchored Room b p = roomAnchored p (usedDistance (b .distance))
+anchored Screen b p = screenAnchored p (b .screen) (b .depth)
+anchored Speaker b p = p
+
+abbrev pub movable : Anchor → Bool
+movable Room = true
+movable Screen = true
+movable Speaker = false
+
+-- the move that a block with a valid position asks for
+unfoldable pub moved : BlockPosition → Placed
+moved b = record { target = cubical (anchored (b .anchor) b (storedNext b)); position = storedNext b; last = lastNext b }
+
+-- Where the position is valid and the anchor is not speaker, the block moves the object; else its target is where the object is.
+unfoldable pub placed : BlockPosition → Vec3 → Placed
+unfolding moved
+placed b here =
+    cond (b .valid && movable (b .anchor)) (moved b) (record { target = here; position = b .position; last = b .last })
