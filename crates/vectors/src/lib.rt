@@ -3,7 +3,7 @@ ghost use mathlib.Core.Path.{_≡_};
 ghost use lib.Ieee.{binary32};
 ghost use Rattle.vectors.specs.Vectors.{zeroVec3, vecAdd, vecSub, vecMulScalar, vecMulComponents, vecLength, largest, mapToCube, lerp, lerpVec3};
 ghost use Rattle.vectors.specs.Anchors.{finiteDistance, usedDistance, roomCenter, fromCenter, roomAnchored, reference, multiplier, onScreen, screenAnchored};
-ghost use Rattle.vectors.specs.Target.{summed, differentialPosition, cubical, anchored, movable, moved, placed};
+ghost use Rattle.vectors.specs.Target.{summed, differentialPosition, cubical, anchored, nextPosition, nextLast, movable, moved, kept, placed};
 use roots::Depth;
 
 // x grows to the right, y upwards, z to the front.
@@ -250,21 +250,69 @@ fn cubical(position: Vec3) -> Vec3
     }
 }
 
-// A position by the block's anchor, in the cube.
-fn anchored_target(block: BlockPosition, position: Vec3) -> Vec3
-    ensures { λ r. ⌜ r ≡ cubical (anchored (block .anchor) block position) ⌝ }
+// Where the block's anchor puts a position.
+fn anchored_position(block: BlockPosition, position: Vec3) -> Vec3
+    ensures { λ r. ⌜ r ≡ anchored (block .anchor) block position ⌝ }
 {
     let anchor = block.anchor;
     match anchor {
         Anchor::Room => {
             let distance = block.distance;
-            cubical(room_anchored_position(position, used_distance(distance)))
+            room_anchored_position(position, used_distance(distance))
         }
         Anchor::Screen => {
             let depth = block.depth;
-            cubical(screen_anchored_position(position, block.screen, depth))
+            screen_anchored_position(position, block.screen, depth)
         }
-        Anchor::Speaker => cubical(position),
+        Anchor::Speaker => position,
+    }
+}
+
+// The position that the block holds once it is applied.
+fn next_position(block: BlockPosition) -> Vec3
+    ensures { λ r. ⌜ r ≡ nextPosition block ⌝ }
+{
+    let position = block.position;
+    let last = block.last;
+    if block.differential {
+        return differential_position(last, position);
+    }
+    position
+}
+
+// The last absolute position, once the block is applied.
+fn next_last(block: BlockPosition) -> Vec3
+    ensures { λ r. ⌜ r ≡ nextLast block ⌝ }
+{
+    let position = block.position;
+    let last = block.last;
+    if block.differential { last } else { position }
+}
+
+// What a block does that moves its object.
+fn moved(block: BlockPosition) -> Placed
+    ensures { λ r. ⌜ r ≡ moved block ⌝ }
+{
+    let position = next_position(block);
+    let last = next_last(block);
+    let target = cubical(anchored_position(block, position));
+    Placed {
+        target,
+        position,
+        last,
+    }
+}
+
+// What a block does that leaves its object where it is.
+fn kept(block: BlockPosition, here: Vec3) -> Placed
+    ensures { λ r. ⌜ r ≡ kept block here ⌝ }
+{
+    let position = block.position;
+    let last = block.last;
+    Placed {
+        target: here,
+        position,
+        last,
     }
 }
 
@@ -272,29 +320,9 @@ fn movable(anchor: Anchor) -> bool
     ensures { λ r. ⌜ r ≡ movable anchor ⌝ }
 {
     match anchor {
+        Anchor::Room => true,
+        Anchor::Screen => true,
         Anchor::Speaker => false,
-        _ => true,
-    }
-}
-
-// The move that a block with a valid position asks for.
-fn moved(block: BlockPosition) -> Placed
-    ensures { λ r. ⌜ r ≡ moved block ⌝ }
-{
-    let position = block.position;
-    let last = block.last;
-    if block.differential {
-        let sum = differential_position(last, position);
-        return Placed {
-            target: anchored_target(block, sum),
-            position: sum,
-            last: last,
-        };
-    }
-    Placed {
-        target: anchored_target(block, position),
-        position: position,
-        last: position,
     }
 }
 
@@ -302,17 +330,12 @@ fn moved(block: BlockPosition) -> Placed
 pub fn update_source_position(block: BlockPosition, here: Vec3) -> Placed
     ensures { λ r. ⌜ r ≡ placed block here ⌝ }
 {
+    if !block.valid {
+        return kept(block, here);
+    }
     let anchor = block.anchor;
-    if block.valid {
-        if movable(anchor) {
-            return moved(block);
-        }
+    if movable(anchor) {
+        return moved(block);
     }
-    let position = block.position;
-    let last = block.last;
-    Placed {
-        target: here,
-        position: position,
-        last: last,
-    }
+    kept(block, here)
 }
