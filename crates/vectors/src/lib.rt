@@ -190,7 +190,12 @@ pub fn screen_anchored_position(position: Vec3, screen: f32, depth: Depth) -> Ve
     ensures { λ r. ⌜ r ≡ screenAnchored position screen depth ⌝ }
 {
     let power = roots::power(position.y, depth);
-    on_screen(multiplier(power), multiplier(screen), position, reference(position))
+    on_screen(
+        multiplier(power),
+        multiplier(screen),
+        position,
+        reference(position),
+    )
 }
 
 // A distance as it is used, where there is one.

@@ -26,7 +26,7 @@ enum-told-3 : tie.Need-enum-told-3
 enum-told-3 c = search needs
 
 returns : tie.Need-returns
-returns c = 
+returns c =
     let told = c .before .before in
     let a = told .before .before .args in
     c .room-anchored-position .ensures
@@ -34,7 +34,7 @@ returns c =
     ∙ sym (ap (λ (k : Anchor). anchored k (a .block) (a .position)) (told .enum-told .given .1))
 
 returns-2 : tie.Need-returns-2
-returns-2 c = 
+returns-2 c =
     let a = c .before .before .before .args in
     c .screen-anchored-position .ensures
     ∙ sym (ap (λ (k : Anchor). anchored k (a .block) (a .position)) (c .before .enum-told2 .given .1))

@@ -19,7 +19,7 @@ cubical-requires c κs = search needs
 
 returns : tie.Need-returns
 unfolding moved
-returns c = 
+returns c =
     let last = c .before .before in
     let b = last .before .before .args .block in
     let target : c .cubical .result ≡ cubical (anchored (b .anchor) b (nextPosition b)) =

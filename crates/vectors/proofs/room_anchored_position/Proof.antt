@@ -29,7 +29,7 @@ returns c = sym (ap (roomAnchored (c .before .before .args .position)) (c .enum-
 
 returns-2 : tie.Need-returns-2
 unfolding roomAnchored
-returns-2 c = 
+returns-2 c =
     let mapped = c .before .before in
     let known = mapped .before .before in
     c .from-center .ensures
