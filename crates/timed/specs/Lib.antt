@@ -1,3 +1,4 @@
 pub mod Turns
 pub mod Infos
 pub mod Objects
+pub mod Slot

@@ -2,4 +2,5 @@
 pub mod clock;
 pub mod infos;
 pub mod objects;
+pub mod slot;
 pub mod state;

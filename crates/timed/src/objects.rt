@@ -1,6 +1,6 @@
 // What a block and a ramp do to beds and dynamic objects.
 ghost use mathlib.Core.Path.{_≡_};
-ghost use Prim.Native.Nat.{_+_, _*_, _<_, _≤_};
+ghost use Prim.Native.Nat.{ℕ, _+_, _*_, _<_, _≤_};
 ghost use lib.ListN.{length};
 ghost use Rattle.timed.specs.Objects.{orElse, moved, IsMoved, movedAll, IsMovedAll, bedGains, ramped, rampedAll};
 use crate::infos;
@@ -74,7 +74,7 @@ pub struct Moving {
 impl Moving {
     // A block applied to `count` objects; the info of object d is `first` + 8 d.
     pub fn apply_block(self, infos: &mut [u8], first: usize, count: usize, arrived: bool) -> Moving
-        requires { ⌜ (length (now infos) ≡ 22528) × (first + 8 * count < 520) × (count ≤ 16) ⌝ }
+        requires { ⌜ (length (now infos) ≡ 22528) × (count ≤ 16) × ((d : ℕ) → d < count → first + 8 * d < 512) ⌝ }
         ensures { λ r. ⌜ IsMovedAll (movedAll arrived first count self (now (infos .entry))) r (now (infos .exit)) ⌝ }
     {
         let mut next = self;
@@ -138,7 +138,7 @@ fn ramp_one(source: DynamicSourceState, track: Track, last: bool, t: f32) -> Dyn
 
 // The beds' gains after a block; the info of bed i is `first` + 8 i.
 pub fn bed_gains(gains: [f32; 18], infos: &[u8], first: usize, count: usize) -> [f32; 18]
-    requires { ⌜ (length (now infos) ≡ 22528) × (first + 8 * count < 520) × (count ≤ 18) ⌝ }
+    requires { ⌜ (length (now infos) ≡ 22528) × (count ≤ 18) × ((d : ℕ) → d < count → first + 8 * d < 512) ⌝ }
     ensures { λ r. ⌜ r ≡ bedGains (now (infos .entry)) first count gains ⌝ }
 {
     let mut next = gains;
