@@ -1,0 +1,20 @@
+use borrow.Author.Needs.{needs}
+use Rattle.timed.proofs.state.ElementRendererState.active.Statement.{statement}
+use Rattle.timed.proofs.state.ElementRendererState.active.Tie as tie
+use Rattle.timed.proofs.state.ElementRendererState.active.Reads as reads
+use Rattle.timed.proofs.state.ElementRendererState.active.Lts as lts
+
+-- src/slot.rt:172:13
+returns : tie.Need-returns
+returns c = ?
+
+-- src/slot.rt:175:21
+array-copy-out-block : tie.Need-array-copy-out-block
+array-copy-out-block c = search needs
+
+-- src/slot.rt:168:5
+returns-2 : tie.Need-returns-2
+returns-2 c = ?
+
+pub active-spec : {M : Type 1} → statement M
+active-spec = tie.close (tie.spec returns array-copy-out-block returns-2)
