@@ -1,6 +1,6 @@
 //! Copies the three Rust sources to OUT_DIR, unchanged but for the substitutions below. They are
-//! looked for under VOQLISNA_RUST_SRC, else `../shared/docs/src` beside the project; where neither
-//! has them the crate is built with the cfg `no_sources`.
+//! looked for under VOQLISNA_RUST_SRC, or `../shared/docs/src` where that is not set, a path from
+//! the project's root; where they are not there the crate is built with the cfg `no_sources`.
 
 use std::path::{Path, PathBuf};
 use std::{env, fs};
@@ -20,11 +20,9 @@ const SUBSTITUTIONS: [(&str, &str); 3] = [
 fn main() {
     println!("cargo::rustc-check-cfg=cfg(no_sources)");
     println!("cargo::rerun-if-env-changed=VOQLISNA_RUST_SRC");
-    let manifest = PathBuf::from(env::var("CARGO_MANIFEST_DIR").unwrap());
-    let folder = match env::var_os("VOQLISNA_RUST_SRC") {
-        Some(folder) => PathBuf::from(folder),
-        None => manifest.join("../../../shared/docs/src"),
-    };
+    let root = PathBuf::from(env::var("CARGO_MANIFEST_DIR").unwrap()).join("../..");
+    let folder = env::var_os("VOQLISNA_RUST_SRC").unwrap_or("../shared/docs/src".into());
+    let folder = root.join(folder);
     println!("cargo::rerun-if-changed={}", folder.display());
     let found = SOURCES.map(|name| find(&folder, name));
     if found.iter().all(Vec::is_empty) {

@@ -47,18 +47,32 @@ impl Generator {
         self.bits() % bound
     }
 
+    /// True one time in `of`.
     pub fn chance(&mut self, of: u64) -> bool {
         self.below(of) == 0
     }
 
+    pub fn pick<T: Copy>(&mut self, choices: &[T]) -> T {
+        choices[self.below(choices.len() as u64) as usize]
+    }
+
+    /// Absent one time in three.
+    pub fn maybe<T>(&mut self, make: impl FnOnce(&mut Self) -> T) -> Option<T> {
+        if self.chance(3) {
+            None
+        } else {
+            Some(make(self))
+        }
+    }
+
     /// Any bit pattern, one time in four an edge.
     pub fn float(&mut self) -> f32 {
-        let bits = self.bits();
-        if self.chance(4) {
-            f32::from_bits(EDGES[bits as usize % EDGES.len()])
+        let bits = if self.chance(4) {
+            self.pick(&EDGES)
         } else {
-            f32::from_bits(bits as u32)
-        }
+            self.bits() as u32
+        };
+        f32::from_bits(bits)
     }
 
     /// A float from `low` to `high`, evenly spread.

@@ -1,9 +1,11 @@
-//! What the comparing tests share: the Rattle functions, a generator of inputs, and equality of
+//! What the comparing tests share: the Rattle functions, generators of inputs, and equality of
 //! floats.
 
+mod frames;
 mod generator;
 pub mod probe;
 
+pub use frames::Frames;
 pub use generator::Generator;
 
 /// Equal bit for bit, all NaNs being equal.

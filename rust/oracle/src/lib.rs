@@ -6,10 +6,11 @@
 //! `#[cfg_attr(no_sources, ignore = "Rust sources not at hand")]`.
 
 /// Functions over the sources: each has its body where the sources are at hand, and stops
-/// elsewhere.
+/// elsewhere. None is inlined, so that a measured call costs what a call of the Rattle code does.
 macro_rules! over_sources {
     ($($(#[$meta:meta])* pub fn $name:ident($($arg:tt)*) $(-> $ret:ty)? $body:block)*) => {$(
         $(#[$meta])*
+        #[inline(never)]
         #[cfg_attr(no_sources, allow(unused_variables))]
         pub fn $name($($arg)*) $(-> $ret)? {
             #[cfg(not(no_sources))]
@@ -24,7 +25,7 @@ pub mod exact;
 pub mod frame;
 mod renderer;
 
-pub use renderer::render::run::{Oracle, Pushed, Refusal};
+pub use renderer::render::run::{Oracle, Pushed, Refusal, Slot, SlotSource};
 pub use renderer::render::{leaf, state};
 
 /// A position or direction: x, y, z.

@@ -22,6 +22,12 @@ fn time(run: &mut impl FnMut()) -> Duration {
     start.elapsed()
 }
 
+/// Called, as the Rattle function is, and not inlined.
+#[inline(never)]
+fn to_bits(x: f32) -> u32 {
+    x.to_bits()
+}
+
 fn main() {
     let mut inputs = Generator::new(1);
     let floats: Vec<f32> = (0..1_000_000).map(|_| inputs.float()).collect();
@@ -32,6 +38,6 @@ fn main() {
                 .iter()
                 .for_each(|&x| _ = black_box(probe::words::bits_of(x)))
         },
-        || floats.iter().for_each(|&x| _ = black_box(x.to_bits())),
+        || floats.iter().for_each(|&x| _ = black_box(to_bits(x))),
     );
 }

@@ -88,6 +88,12 @@ impl Oracle {
             self.renderer.flush().map(|Render714Frame { channels, .. }| channels)
         }
 
+        /// Rows in store keep leading silence from panicking; no sample depends on them.
+        pub fn store_debug_rows(&mut self, rows: usize) {
+            let row = Render714TimeslotDebug { sample_offset: 0, sources: Vec::new() };
+            self.renderer.pending_timeslot_debug.extend(vec![row; rows]);
+        }
+
         pub fn state(&self) -> State {
             super::state::read::state(&self.renderer)
         }

@@ -1,0 +1,96 @@
+//! The oracle over whole streams: 400 of 25 frames in each test.
+
+use compare::{Frames, all_same};
+use oracle::frame::{Frame, Update};
+use oracle::state::Metadata;
+use oracle::{Oracle, Pushed};
+use std::collections::BTreeMap;
+
+/// A refused frame, or one at which the Rust panics, counts as never sent.
+#[test]
+#[cfg_attr(no_sources, ignore = "Rust sources not at hand")]
+fn refused_frames_leave_no_trace() {
+    let mut outcomes = BTreeMap::new();
+    for seed in 0..400 {
+        let mut frames = Frames::new(seed, 200);
+        let (mut all, mut accepted) = (Oracle::new(), Oracle::new());
+        let (mut of_all, mut of_accepted) = (Vec::new(), Vec::new());
+        for _ in 0..25 {
+            let frame = frames.next_frame();
+            let outcome = match all.push(&frame) {
+                Pushed::Ready(ready) => {
+                    of_all.extend(ready);
+                    let Pushed::Ready(ready) = accepted.push(&frame) else {
+                        panic!("seed {seed}: a refusal left a trace");
+                    };
+                    of_accepted.extend(ready);
+                    "ready".to_string()
+                }
+                Pushed::Refused(refusal) => refusal.number.to_string(),
+                Pushed::Panicked => "panicked".to_string(),
+            };
+            *outcomes.entry(outcome).or_insert(0) += 1;
+        }
+        of_all.extend(all.flush().unwrap_or_default());
+        of_accepted.extend(accepted.flush().unwrap_or_default());
+        assert_eq!(of_all.len(), of_accepted.len(), "seed {seed}");
+        assert!(
+            of_all.iter().zip(&of_accepted).all(|(a, b)| all_same(a, b)),
+            "seed {seed}"
+        );
+    }
+    assert_eq!(outcomes.len(), 8, "every outcome arises: {outcomes:?}");
+}
+
+/// With rows in store, and without the frames that document 01's 7 refuses, the Rust never panics.
+#[test]
+#[cfg_attr(no_sources, ignore = "Rust sources not at hand")]
+fn the_rust_panics_only_where_document_01_says() {
+    let mut refused = 0;
+    for seed in 0..400 {
+        let mut frames = Frames::new(seed, 200);
+        let mut oracle = Oracle::new();
+        for _ in 0..25 {
+            let frame = frames.next_frame();
+            if keeps_too_few_flags(&oracle.state().metadata, &frame) {
+                refused += 1;
+                continue;
+            }
+            oracle.store_debug_rows(4);
+            assert_ne!(oracle.push(&frame), Pushed::Panicked, "seed {seed}");
+        }
+    }
+    assert!(refused > 0);
+}
+
+/// Document 01's 7: an update that would be applied keeps an element that has flags for fewer
+/// dynamic objects than the update.
+fn keeps_too_few_flags(state: &Metadata, frame: &Frame) -> bool {
+    // Blocks, objects and flags of each element.
+    let mut elements: Vec<(usize, usize, usize)> = state
+        .elements
+        .iter()
+        .map(|e| (e.block_used.len(), e.info_blocks.len(), e.update_now.len()))
+        .collect();
+    let applied =
+        |update: &&Update| update.offset == 0 || usize::from(update.offset) < frame.samples;
+    let mut updates: Vec<&Update> = frame.updates.iter().filter(applied).collect();
+    updates.sort_by_key(|update| update.offset);
+    updates.iter().any(|update| {
+        let objects = usize::from(update.objects);
+        let dynamic = objects.saturating_sub(update.bed_or_isf_objects.into());
+        if elements.len() != update.elements.len() {
+            elements = vec![(0, 0, 0); update.elements.len()];
+        }
+        elements
+            .iter_mut()
+            .zip(&update.elements)
+            .fold(false, |few, (kept, element)| {
+                let blocks = element.blocks.len();
+                if (kept.0, kept.1) != (blocks, objects) {
+                    *kept = (blocks, objects, dynamic);
+                }
+                few || kept.2 < dynamic
+            })
+    })
+}

@@ -1,0 +1,194 @@
+//! Document 01's cases that the Rust alone can run, and the oracle's own rules: a refused frame
+//! counts as never sent, a panic is an outcome.
+
+use oracle::frame::{Block, Element, Frame, Object, Update};
+use oracle::{Oracle, Pushed, Refusal};
+
+const CENTER: u8 = 2;
+const LFE: u8 = 3;
+const REAR_CENTER: u8 = 6;
+const LFE2: u8 = 17;
+
+/// Every sample is 0.5.
+fn frame(samples: usize, beds: &[u8], objects: usize, updates: Vec<Update>) -> Frame {
+    Frame {
+        rate: 48_000,
+        samples,
+        beds: beds.to_vec(),
+        objects,
+        pcm: vec![0.5; (beds.len() + objects) * samples],
+        updates,
+    }
+}
+
+/// An update without elements: each bed is an object, and `dynamic` more.
+fn update(offset: u16, beds: &[u8], dynamic: u8) -> Update {
+    let bed_or_isf_objects = beds.len() as u8;
+    Update {
+        offset,
+        objects: bed_or_isf_objects + dynamic,
+        bed_or_isf_objects,
+        beds: beds.to_vec(),
+        elements: Vec::new(),
+    }
+}
+
+fn refused(number: u8, first: u64, second: u64) -> Pushed {
+    Pushed::Refused(Refusal {
+        number,
+        counts: [first, second],
+    })
+}
+
+fn ready(pushed: Pushed) -> Vec<Vec<f32>> {
+    match pushed {
+        Pushed::Ready(channels) => channels,
+        other => panic!("{other:?}"),
+    }
+}
+
+fn lengths(channels: &[Vec<f32>]) -> Vec<usize> {
+    channels.iter().map(Vec::len).collect()
+}
+
+#[test]
+#[cfg_attr(no_sources, ignore = "Rust sources not at hand")]
+fn a_hundred_samples_are_64_ready_and_36_flushed() {
+    let mut oracle = Oracle::new();
+    let input = frame(100, &[CENTER], 0, vec![update(0, &[CENTER], 0)]);
+    let channels = ready(oracle.push(&input));
+    assert_eq!(lengths(&channels), [64; 12]);
+    assert_eq!(channels[2], [0.5 * 0.707; 64]);
+    assert_eq!(lengths(&oracle.flush().unwrap()), [36; 12]);
+    assert_eq!(oracle.flush(), None);
+    oracle.reset();
+    assert_eq!(oracle.state(), Oracle::new().state());
+}
+
+#[test]
+#[cfg_attr(no_sources, ignore = "Rust sources not at hand")]
+fn refusals_give_their_number_and_counts() {
+    let mut oracle = Oracle::new();
+    assert_eq!(
+        oracle.push(&frame(1, &[CENTER], 0, vec![])),
+        refused(10, 0, 0)
+    );
+    let few = frame(1, &[CENTER], 1, vec![update(0, &[CENTER], 2)]);
+    assert_eq!(oracle.push(&few), refused(11, 2, 1));
+    let empty = frame(0, &[CENTER], 0, vec![update(0, &[CENTER], 0)]);
+    assert_eq!(oracle.push(&empty), refused(12, 0, 0));
+    // The two LFE codes match each other: both count as wanted.
+    let no_bass = frame(1, &[CENTER], 0, vec![update(0, &[LFE, CENTER, LFE2], 0)]);
+    assert_eq!(oracle.push(&no_bass), refused(13, 2, 0));
+    let rear = frame(1, &[REAR_CENTER], 0, vec![update(0, &[REAR_CENTER], 0)]);
+    assert_eq!(oracle.push(&rear), refused(14, 6, 0));
+
+    ready(oracle.push(&frame(1, &[CENTER], 0, vec![update(0, &[CENTER], 0)])));
+    let rate = Frame {
+        rate: 44_100,
+        ..frame(1, &[CENTER], 0, vec![])
+    };
+    assert_eq!(oracle.push(&rate), refused(9, 48_000, 44_100));
+    assert_eq!(
+        oracle.push(&frame(1, &[CENTER], 3, vec![])),
+        refused(11, 0, 3)
+    );
+    // In time: 11 at sample 2 comes before 13 at sample 3.
+    let later = vec![update(3, &[LFE], 0), update(2, &[CENTER], 1)];
+    assert_eq!(
+        oracle.push(&frame(4, &[CENTER], 0, later)),
+        refused(11, 1, 0)
+    );
+}
+
+#[test]
+#[cfg_attr(no_sources, ignore = "Rust sources not at hand")]
+fn a_refused_frame_leaves_no_trace() {
+    let good = || frame(100, &[CENTER], 1, vec![update(0, &[CENTER], 1)]);
+    let refusals = [
+        Frame {
+            rate: 44_100,
+            ..frame(1, &[CENTER], 1, vec![])
+        },
+        frame(70, &[CENTER], 2, vec![update(0, &[CENTER], 1)]),
+        frame(0, &[CENTER], 1, vec![update(0, &[CENTER], 1)]),
+        frame(70, &[CENTER], 1, vec![update(65, &[LFE], 1)]),
+        frame(
+            70,
+            &[CENTER, REAR_CENTER],
+            1,
+            vec![update(65, &[REAR_CENTER], 1)],
+        ),
+    ];
+    let (mut plain, mut disturbed) = (Oracle::new(), Oracle::new());
+    for refusal in &refusals {
+        assert!(matches!(disturbed.push(refusal), Pushed::Refused(_)));
+    }
+    for _ in 0..3 {
+        assert_eq!(disturbed.state(), plain.state());
+        assert_eq!(disturbed.push(&good()), plain.push(&good()));
+        for refusal in &refusals {
+            assert!(matches!(disturbed.push(refusal), Pushed::Refused(_)));
+        }
+    }
+    assert_eq!(disturbed.flush(), plain.flush());
+}
+
+/// An update at the frame's end is dropped: 64 silent samples are ready and no row is.
+#[test]
+#[cfg_attr(no_sources, ignore = "Rust sources not at hand")]
+fn leading_silence_panics_unless_rows_are_in_store() {
+    let silent = frame(64, &[CENTER], 0, vec![update(64, &[CENTER], 0)]);
+    let mut oracle = Oracle::new();
+    let before = oracle.state();
+    assert_eq!(oracle.push(&silent), Pushed::Panicked);
+    assert_eq!(oracle.state(), before);
+    oracle.store_debug_rows(1);
+    assert_eq!(oracle.push(&silent), Pushed::Ready(vec![vec![0.0; 64]; 12]));
+}
+
+/// Document 01's 7: the second update keeps an element that has no flag for its dynamic object.
+#[test]
+#[cfg_attr(no_sources, ignore = "Rust sources not at hand")]
+fn a_kept_element_without_flags_panics_when_used() {
+    let element = Element {
+        blocks: vec![Block { offset: 0, ramp: 0 }],
+        objects: vec![vec![Object::default()]],
+    };
+    let one_object = |bed_or_isf_objects| Update {
+        offset: 0,
+        objects: 1,
+        bed_or_isf_objects,
+        beds: Vec::new(),
+        elements: vec![element.clone()],
+    };
+    let mut oracle = Oracle::new();
+    ready(oracle.push(&frame(1, &[CENTER], 0, vec![one_object(1)])));
+    let before = oracle.state();
+    // At sample 64 the timecode passes the block's offset.
+    assert_eq!(
+        oracle.push(&frame(65, &[], 1, vec![one_object(0)])),
+        Pushed::Panicked
+    );
+    assert_eq!(oracle.state(), before);
+}
+
+#[test]
+#[cfg_attr(no_sources, ignore = "Rust sources not at hand")]
+fn debug_rows_tell_each_slot() {
+    let mut oracle = Oracle::new();
+    let input = frame(100, &[LFE], 1, vec![update(0, &[LFE], 1)]);
+    let (_, slots) = oracle.push_with_debug(&input);
+    assert_eq!(slots.len(), 1);
+    let [bass, object] = slots[0].sources.as_slice() else {
+        panic!()
+    };
+    assert_eq!(
+        (bass.static_channel, bass.lfe, bass.gain),
+        (Some(LFE), true, 0.707)
+    );
+    assert_eq!(
+        (object.static_channel, object.position, object.gain),
+        (None, [0.0; 3], 0.707)
+    );
+}
