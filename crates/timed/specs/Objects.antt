@@ -9,6 +9,8 @@ use lib.Ieee.{Float, nan}
 use Rattle.vectors.specs.declared.Vec3.{Vec3}
 use Rattle.vectors.specs.declared.Maybe.{Maybe}
 use Rattle.vectors.specs.declared.Maybe.the-variants.{Absent, Value}
+use Rattle.vectors.specs.declared.BlockPosition.{BlockPosition}
+use Rattle.vectors.specs.declared.Placed.{Placed}
 use Rattle.vectors.specs.Vectors.{lerpVec3}
 use Rattle.vectors.specs.Target.{placed}
 use Rattle.timed.specs.Turns.{times}
@@ -40,21 +42,27 @@ pub record After : Type 0 where
   pub moved : Moved
   pub infos : List ℕ
 
--- Info k for one object: gain and size where present; its target; the object put there where no ramp remains (`arrived`).
--- The info then holds the position that was used, and the last absolute one.
-unfoldable pub moved : Bool → ℕ → DynamicSourceState → List ℕ → After
-unfolding blockPosition
-moved arrived k s is =
-    let b = blockPosition is k in
-    let p = placed b (s .place) in
-    let jump = b .valid && arrived in
+-- what block position b and its target p make of an object, for info k
+abbrev pub afterMove : Bool → ℕ → DynamicSourceState → List ℕ → BlockPosition → Placed → After
+afterMove arrived k s is b p =
     record {
       moved = record {
-        source = record { gain = orElse (gainAt is k) (s .gain); size = orElse (sizeAt is k) (s .size); place = cond jump (p .target) (s .place); placed = jump || s .placed };
+        source = record {
+          gain = orElse (gainAt is k) (s .gain);
+          size = orElse (sizeAt is k) (s .size);
+          place = cond (b .valid && arrived) (p .target) (s .place);
+          placed = (b .valid && arrived) || s .placed;
+        };
         track = record { now = b .valid; future = p .target };
       };
       infos = withVec (withVec is (44 * k + 20) (p .position)) (44 * k + 32) (p .last);
     }
+
+-- Info k for one object: gain and size where present; its target; the object put there where no ramp remains (`arrived`).
+-- The info then holds the position that was used, and the last absolute one.
+unfoldable pub moved : Bool → ℕ → DynamicSourceState → List ℕ → After
+unfolding blockPosition
+moved arrived k s is = afterMove arrived k s is (blockPosition is k) (placed (blockPosition is k) (s .place))
 
 pub record IsMoved (a : After) (m : Moved) (is : List ℕ) : Type 0 where
   pub object : m ≡ a .moved
@@ -82,10 +90,13 @@ pub record IsMovedAll (w : Work) (m : Moving) (is : List ℕ) : Type 0 where
   pub objects : m ≡ w .moving
   pub infos : is ≡ w .infos
 
+abbrev pub bedAt : List ℕ → ℕ → ℕ → List Float → List Float
+bedAt is first i gs = set gs i (orElse (gainAt is (first + 8 * i)) (getD gs i nan))
+
 -- the beds' gains, where present; the info of bed i is first + 8 i
 unfoldable pub bedGains : List ℕ → ℕ → ℕ → List Float → List Float
 unfolding times
-bedGains is first count gs = times count 0 (λ i xs. set xs i (orElse (gainAt is (first + 8 * i)) (getD xs i nan))) gs
+bedGains is first count gs = times count 0 (bedAt is first) gs
 
 -- ---- a ramp
 

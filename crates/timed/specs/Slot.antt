@@ -7,7 +7,7 @@ use mathlib.Core.List.{List}
 use lib.Dec.{eqb, leb, ltb}
 use lib.IntN.{pos}
 use lib.ListN.{getD, set}
-use lib.Ieee.{Float, binary32, ofInt, div}
+use lib.Ieee.{Float, binary32, ofBits, ofInt, div}
 use Rattle.ieee.specs.Small.{smaller}
 use Rattle.vectors.specs.Vectors.{1·0}
 use Rattle.timed.specs.Turns.{times}
@@ -42,6 +42,18 @@ pub record Reaches (r : Reach) : Type 0 where
 -- what stands past a table's end
 abbrev pub noBlock : BlockState
 noBlock = record { offset = 0; ramp = 0; used = false }
+
+-- "an offset or ramp outside ±1,048,576" is refused; "a remaining ramp from -2^21 - 64 × the stream's position to 2^20"
+pub record Ramps (position : ℕ) (schedule : List BlockState) (remaining : ℕ) : Type 0 where
+  pub offsets : (b : ℕ) → getD schedule b noBlock .offset ≤ 2097152
+  pub ramps : (b : ℕ) → getD schedule b noBlock .ramp ≤ 2097152
+  pub most : remaining ≤ 140737489403904
+  pub least : middle ≤ remaining + (2097152 + 64 * position)
+
+-- an element's ranges, at a stream position
+pub record InRange (position : ℕ) (e : ElementRendererState) : Type 0 where
+  pub blocks : e .blocks ≤ 8
+  pub ramps : Ramps position (e .schedule) (e .remaining)
 
 -- ---- blocks
 
@@ -91,9 +103,12 @@ blocksApplied w r n k = times n 0 (blockAt w r) k
 
 -- ---- the ramp
 
+abbrev pub 64·0 : Float
+64·0 = ofBits binary32 0x42800000
+
 -- "A ramp moves by 64 / remaining, at most 1"
 unfoldable pub share : ℕ → Float
-share remaining = smaller (div binary32 (ofInt binary32 (pos 64)) (ofInt binary32 (pos (remaining - middle)))) 1·0
+share remaining = smaller (div binary32 64·0 (ofInt binary32 (pos (remaining - middle)))) 1·0
 
 -- where a ramp remains, each object moves by its share, and 64 samples of the ramp are over; `before` has the flags of the element's previous slot
 unfoldable pub rampApplied : List Track → ℕ → Slot → Slot

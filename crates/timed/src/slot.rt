@@ -2,7 +2,7 @@
 ghost use mathlib.Core.Path.{_≡_};
 ghost use Prim.Native.Nat.{ℕ, _+_, _-_, _*_, _<_, _≤_};
 ghost use lib.ListN.{length};
-ghost use Rattle.timed.specs.Slot.{InTime, due, leftAfter, share, Reaches, IsWork, blockApplied, blocksApplied, rampApplied, begins, active, updatedSources, IsUpdated};
+ghost use Rattle.timed.specs.Slot.{InTime, InRange, due, leftAfter, share, Reaches, IsWork, blockApplied, blocksApplied, rampApplied, begins, active, updatedSources, IsUpdated};
 use crate::objects;
 use crate::objects::Moving;
 use crate::state::BlockState;
@@ -48,7 +48,7 @@ impl BlockState {
 
 // The share of a ramp that one slot takes.
 fn share(remaining: u64) -> f32
-    requires { ⌜ 140737488355328 ≤ remaining ⌝ }
+    requires { ⌜ (140737488355328 ≤ remaining) × (remaining ≤ 140737489403904) ⌝ }
     ensures { λ r. ⌜ r ≡ share remaining ⌝ }
 {
     ieee::min(64.0 / ((remaining - 140737488355328) as f32), 1.0)
@@ -116,7 +116,7 @@ impl Slot {
 
     // The ramp, where one remains; `before` has the flags of the element's previous slot.
     fn ramp(self, before: [Track; 16], count: usize) -> Slot
-        requires { ⌜ count ≤ 16 ⌝ }
+        requires { ⌜ (count ≤ 16) × (self .remaining ≤ 140737489403904) ⌝ }
         ensures { λ r. ⌜ r ≡ rampApplied before count self ⌝ }
     {
         let remaining = self.remaining;
@@ -185,7 +185,7 @@ impl ElementRendererState {
         gains: [f32; 18],
         sources: [DynamicSourceState; 16],
     ) -> Updated
-        requires { ⌜ (length (now infos) ≡ 22528) × (self .blocks ≤ 8) × InTime when × Reaches reach ⌝ }
+        requires { ⌜ (length (now infos) ≡ 22528) × InTime when × Reaches reach × InRange (when .start) self ⌝ }
         ensures { λ r. ⌜ IsUpdated (updatedSources when reach self gains sources (now (infos .entry))) r (now (infos .exit)) ⌝ }
     {
         let schedule = self.schedule;

@@ -35,12 +35,12 @@ f32-at-requires c κs = search needs
 -- src/infos.rt:48:9
 returns : tie.Need-returns
 unfolding maybeAt
-returns c = cc
+returns c = rw (← c .before .before .before .u32-at .ensures, ← c .before .before .has .ensures, c .before .if1 .taken, c .f32-at .ensures)
 
 -- src/infos.rt:42:1
 returns-2 : tie.Need-returns-2
 unfolding maybeAt
-returns-2 c = cc
+returns-2 c = rw (← c .before .before .u32-at .ensures, ← c .before .has .ensures, c .if1 .left)
 
 pub maybe-at-spec : {M : Type 1} → statement M
 maybe-at-spec =

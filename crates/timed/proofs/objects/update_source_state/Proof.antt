@@ -1,3 +1,7 @@
+use denote.Ref.{now}
+use Rattle.timed.proofs.Laws.{moved-by}
+use Rattle.timed.specs.Objects.{moved}
+use native.Mathlib.Omega.{arith}
 use borrow.Author.Needs.{needs}
 use Rattle.timed.proofs.objects.update_source_state.Statement.{statement}
 use Rattle.timed.proofs.objects.update_source_state.Tie as tie
@@ -35,27 +39,27 @@ update-source-position-requires c κs = search needs
 
 -- src/objects.rt:38:27
 mul-put-vec : tie.Need-mul-put-vec
-mul-put-vec c = ?
+mul-put-vec c = omega (arith, c .before .before .before .before .before .before .before .before .before .before .before .before .before .pre)
 
 -- src/objects.rt:38:27
 add-put-vec : tie.Need-add-put-vec
-add-put-vec c = ?
+add-put-vec c = omega (arith, c .before .before .before .before .before .before .before .before .before .before .before .before .before .pre)
 
 -- src/objects.rt:38:5
 put-vec-requires : tie.Need-put-vec-requires
-put-vec-requires c κs = ?
+put-vec-requires c κs = omega (arith, c .before .before .before .before .before .before .before .before .before .before .before .before .before .pre)
 
 -- src/objects.rt:39:27
 mul-put-vec-2 : tie.Need-mul-put-vec-2
-mul-put-vec-2 c = ?
+mul-put-vec-2 c = omega (arith, c .before .before .before .before .before .before .before .before .before .before .before .before .before .before .before .before .before .pre)
 
 -- src/objects.rt:39:27
 add-put-vec-2 : tie.Need-add-put-vec-2
-add-put-vec-2 c = ?
+add-put-vec-2 c = omega (arith, c .before .before .before .before .before .before .before .before .before .before .before .before .before .before .before .before .before .pre)
 
 -- src/objects.rt:39:5
 put-vec-requires-2 : tie.Need-put-vec-requires-2
-put-vec-requires-2 c κs = ?
+put-vec-requires-2 c κs = omega (arith, c .before .before .before .before .before .before .before .before .before .before .before .before .before .before .before .before .before .pre, c .before .before .before .put-vec .kept)
 
 -- src/objects.rt:46:13
 same-length : tie.Need-same-length
@@ -63,7 +67,15 @@ same-length c = search needs
 
 -- src/objects.rt:46:13
 returns : tie.Need-returns
-returns c = ?
+returns c = 
+    let s = c .before .before .before .before .before .before .before .before .before .before .before .before .before .before .before .before .before .before .before .before .before .before .args in
+    let b = c .before .before .before .before .before .before .before .before .before .before .before .before .block-position in
+    let p = c .before .before .before .before .before .before .before .before .before .before .before .update-source-position in
+    let e = moved-by (s .arrived) (s .k) (s .source) (now (s .infos)) (b .result) (p .result) (b .ensures) (p .ensures) in
+    record {
+      object = rw (e, c .before .if1 .taken, c .if2 .taken, c .before .before .before .before .before .before .before .before .before .before .before .before .before .before .before .before .before .before .or-else .ensures, c .before .before .before .before .before .before .before .before .before .before .before .before .before .before .before .before .before .before .before .maybe-at .ensures, c .before .before .before .before .before .before .before .before .before .before .before .before .before .before .before .or-else2 .ensures, c .before .before .before .before .before .before .before .before .before .before .before .before .before .before .before .before .maybe-at2 .ensures);
+      infos = rw (e, c .before .before .before .before .put-vec2 .ensures, c .before .before .before .before .before .before .before .before .put-vec .ensures);
+    }
 
 -- src/objects.rt:28:1
 same-length-2 : tie.Need-same-length-2
@@ -71,7 +83,15 @@ same-length-2 c = search needs
 
 -- src/objects.rt:28:1
 returns-2 : tie.Need-returns-2
-returns-2 c = ?
+returns-2 c = 
+    let s = c .before .before .before .before .before .before .before .before .before .before .before .before .before .before .before .before .before .before .before .before .before .before .args in
+    let b = c .before .before .before .before .before .before .before .before .before .before .before .before .block-position in
+    let p = c .before .before .before .before .before .before .before .before .before .before .before .update-source-position in
+    let e = moved-by (s .arrived) (s .k) (s .source) (now (s .infos)) (b .result) (p .result) (b .ensures) (p .ensures) in
+    record {
+      object = rw (e, c .before .if1 .taken, c .if2 .left, c .before .before .before .before .before .before .before .before .before .before .before .before .before .before .before .before .before .before .or-else .ensures, c .before .before .before .before .before .before .before .before .before .before .before .before .before .before .before .before .before .before .before .maybe-at .ensures, c .before .before .before .before .before .before .before .before .before .before .before .before .before .before .before .or-else2 .ensures, c .before .before .before .before .before .before .before .before .before .before .before .before .before .before .before .before .maybe-at2 .ensures);
+      infos = rw (e, c .before .before .before .before .put-vec2 .ensures, c .before .before .before .before .before .before .before .before .put-vec .ensures);
+    }
 
 -- src/objects.rt:28:1
 same-length-3 : tie.Need-same-length-3
@@ -79,7 +99,15 @@ same-length-3 c = search needs
 
 -- src/objects.rt:28:1
 returns-3 : tie.Need-returns-3
-returns-3 c = ?
+returns-3 c = 
+    let s = c .before .before .before .before .before .before .before .before .before .before .before .before .before .before .before .before .before .before .before .before .before .args in
+    let b = c .before .before .before .before .before .before .before .before .before .before .before .block-position in
+    let p = c .before .before .before .before .before .before .before .before .before .before .update-source-position in
+    let e = moved-by (s .arrived) (s .k) (s .source) (now (s .infos)) (b .result) (p .result) (b .ensures) (p .ensures) in
+    record {
+      object = rw (e, c .if1 .left, c .before .before .before .before .before .before .before .before .before .before .before .before .before .before .before .before .before .or-else .ensures, c .before .before .before .before .before .before .before .before .before .before .before .before .before .before .before .before .before .before .maybe-at .ensures, c .before .before .before .before .before .before .before .before .before .before .before .before .before .before .or-else2 .ensures, c .before .before .before .before .before .before .before .before .before .before .before .before .before .before .before .maybe-at2 .ensures);
+      infos = rw (e, c .before .before .before .put-vec2 .ensures, c .before .before .before .before .before .before .before .put-vec .ensures);
+    }
 
 pub update-source-state-spec : {M : Type 1} → statement M
 update-source-state-spec =

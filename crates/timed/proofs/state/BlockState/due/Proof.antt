@@ -22,7 +22,7 @@ add-result-2 c = search needs
 
 -- src/slot.rt:29:5
 returns-2 : tie.Need-returns-2
-returns-2 c = ?
+returns-2 c = rw (c .before .before .before .if1 .left)
 
 pub due-spec : {M : Type 1} → statement M
 due-spec = tie.close (tie.spec returns cast-result add-result add-result-2 returns-2)

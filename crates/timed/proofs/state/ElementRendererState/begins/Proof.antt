@@ -1,3 +1,4 @@
+use Rattle.timed.specs.Slot.{begins}
 use borrow.Author.Needs.{needs}
 use Rattle.timed.proofs.state.ElementRendererState.begins.Statement.{statement}
 use Rattle.timed.proofs.state.ElementRendererState.begins.Tie as tie
@@ -27,11 +28,13 @@ add-result-2 c = search needs
 
 -- src/slot.rt:162:13
 returns : tie.Need-returns
-returns c = ?
+unfolding begins
+returns c = rw (← c .before .before .before .before .before .before .active .ensures, c .before .before .before .before .before .if1 .taken)
 
 -- src/slot.rt:155:5
 returns-2 : tie.Need-returns-2
-returns-2 c = ?
+unfolding begins
+returns-2 c = rw (← c .before .active .ensures, c .if1 .left)
 
 pub begins-spec : {M : Type 1} → statement M
 begins-spec =
