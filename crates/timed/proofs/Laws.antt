@@ -20,8 +20,8 @@ unfoldable pub use Rattle.timed.specs.Turns.{times}
 pub turn : {S : Type 0} (n i : ℕ) (f : ℕ → S → S) (s : S) → i < n → times (n - i) i f s ≡ times (n - (i + 1)) (i + 1) f (f i s)
 unfolding times
 turn n i f s h =
-  let e : n - i ≡ suc (n - (i + 1)) = omega arith in
-  rw (e, add-one)
+    let e : n - i ≡ suc (n - (i + 1)) = omega arith in
+    rw (e, add-one)
 
 -- a number that an f32 holds
 pub in-float : (m : ℕ) → m ≤ 2 ^ 24 → T (inFloat binary32 (pos m))

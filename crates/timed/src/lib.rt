@@ -4,3 +4,4 @@ pub mod infos;
 pub mod objects;
 pub mod slot;
 pub mod state;
+pub mod timeslot;

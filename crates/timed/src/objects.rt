@@ -25,7 +25,12 @@ pub struct Moved {
 }
 
 // `update_source_state` of info k; where no ramp remains (`arrived`), the object is put at its target.
-fn update_source_state(infos: &mut [u8], k: usize, source: DynamicSourceState, arrived: bool) -> Moved
+fn update_source_state(
+    infos: &mut [u8],
+    k: usize,
+    source: DynamicSourceState,
+    arrived: bool,
+) -> Moved
     requires { ⌜ (44 * k + 44 ≤ length (now infos)) × (k < 512) ⌝ }
     ensures { λ r. ⌜ IsMoved (moved arrived k source (now (infos .entry))) r (now (infos .exit)) ⌝ }
 {

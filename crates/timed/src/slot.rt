@@ -85,7 +85,12 @@ impl Slot {
             sources: sources,
             tracks: tracks,
         };
-        let moved = moving.apply_block(infos, reach.first + b, reach.count, left <= 140737488355328);
+        let moved = moving.apply_block(
+            infos,
+            reach.first + b,
+            reach.count,
+            left <= 140737488355328,
+        );
         let next = moved.sources;
         let going = moved.tracks;
         Slot {

@@ -66,7 +66,7 @@ loop-less c = search needs
 
 -- src/objects.rt:146:5
 loop-again : tie.Need-loop-again Inv-loop μ-loop
-loop-again c = 
+loop-again c =
     let l = c .before .before .before .loop in
     let s = c .before .before .before .before .before .args in
     (search needs, rw (c .or-else .ensures, c .before .maybe-at .ensures) (sym (turn (s .count) (l .i) (bedAt (now (s .infos)) (s .first)) (l .next) (search needs)) ∙ l .inv .1))
@@ -74,7 +74,7 @@ loop-again c =
 -- src/objects.rt:140:1
 returns : tie.Need-returns Inv-loop μ-loop
 unfolding bedGains times
-returns c = 
+returns c =
     let l = c .before .loop in
     let s = c .before .before .before .args in
     let e : s .count - l .i ≡ 0 = omega arith in

@@ -67,7 +67,7 @@ same-length c = search needs
 
 -- src/objects.rt:46:13
 returns : tie.Need-returns
-returns c = 
+returns c =
     let s = c .before .before .before .before .before .before .before .before .before .before .before .before .before .before .before .before .before .before .before .before .before .before .args in
     let b = c .before .before .before .before .before .before .before .before .before .before .before .before .block-position in
     let p = c .before .before .before .before .before .before .before .before .before .before .before .update-source-position in
@@ -83,7 +83,7 @@ same-length-2 c = search needs
 
 -- src/objects.rt:28:1
 returns-2 : tie.Need-returns-2
-returns-2 c = 
+returns-2 c =
     let s = c .before .before .before .before .before .before .before .before .before .before .before .before .before .before .before .before .before .before .before .before .before .before .args in
     let b = c .before .before .before .before .before .before .before .before .before .before .before .before .block-position in
     let p = c .before .before .before .before .before .before .before .before .before .before .before .update-source-position in
@@ -99,7 +99,7 @@ same-length-3 c = search needs
 
 -- src/objects.rt:28:1
 returns-3 : tie.Need-returns-3
-returns-3 c = 
+returns-3 c =
     let s = c .before .before .before .before .before .before .before .before .before .before .before .before .before .before .before .before .before .before .before .before .before .args in
     let b = c .before .before .before .before .before .before .before .before .before .before .before .block-position in
     let p = c .before .before .before .before .before .before .before .before .before .before .update-source-position in

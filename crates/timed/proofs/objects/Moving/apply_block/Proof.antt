@@ -70,7 +70,7 @@ loop-less c = search needs
 
 -- src/objects.rt:82:9
 loop-again : tie.Need-loop-again Inv-loop μ-loop
-loop-again c = 
+loop-again c =
     let l = c .before .before .before .before .before .before .before .before .loop in
     let s = c .before .before .before .before .before .before .before .before .before .before .args in
     let m = c .before .before .before .before .update-source-state in
@@ -83,7 +83,7 @@ same-length c = search needs
 -- src/objects.rt:76:5
 returns : tie.Need-returns Inv-loop μ-loop
 unfolding movedAll times
-returns c = 
+returns c =
     let l = c .before .loop in
     let s = c .before .before .before .args in
     let e : s .count - l .d ≡ 0 = omega arith in

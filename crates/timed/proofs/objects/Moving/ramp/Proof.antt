@@ -68,7 +68,7 @@ loop-less c = search needs
 
 -- src/objects.rt:101:9
 loop-again : tie.Need-loop-again Inv-loop μ-loop
-loop-again c = 
+loop-again c =
     let l = c .before .before .before .before .before .loop in
     let s = c .before .before .before .before .before .before .args in
     (search needs, rw (c .ramp-one .ensures) (sym (turn (s .count) (l .d) (rampedAt (s .t) (s .t2)) (l .next) (search needs)) ∙ l .inv .1))
@@ -76,7 +76,7 @@ loop-again c =
 -- src/objects.rt:95:5
 returns : tie.Need-returns Inv-loop μ-loop
 unfolding rampedAll times
-returns c = 
+returns c =
     let l = c .before .loop in
     let s = c .before .before .args in
     let e : s .count - l .d ≡ 0 = omega arith in

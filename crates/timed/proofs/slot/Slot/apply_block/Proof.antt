@@ -52,7 +52,7 @@ same-length c = search needs
 -- src/slot.rt:68:5
 returns : tie.Need-returns
 unfolding blockApplied
-returns c = 
+returns c =
     record {
       slot = rw (c .before .before .before .before .apply-block .ensures .objects, c .before .before .before .before .before .before .before .before .before .bed-gains .ensures, c .before .before .before .before .before .before .before .before .before .before .before .before .before .left .ensures);
       infos = rw (c .before .before .before .before .apply-block .ensures .infos, c .before .before .before .before .before .before .before .before .before .before .before .before .before .left .ensures);

@@ -53,7 +53,7 @@ loop-less c = search needs
 
 -- src/slot.rt:107:9
 loop-again : tie.Need-loop-again Inv-loop μ-loop
-loop-again c = 
+loop-again c =
     let l = c .before .before .before .before .loop in
     let s = c .before .before .before .before .before .before .args in
     let k : Work = record { slot = l .next; infos = l .infos } in
@@ -70,7 +70,7 @@ same-length c = search needs
 -- src/slot.rt:101:5
 returns : tie.Need-returns Inv-loop μ-loop
 unfolding blocksApplied times
-returns c = 
+returns c =
     let l = c .before .loop in
     let s = c .before .before .before .args in
     let e : s .n - l .b ≡ 0 = omega arith in
