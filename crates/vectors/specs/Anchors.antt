@@ -20,6 +20,7 @@ abbrev pub 0·9 : Float
 abbrev pub 0·486 : Float
 0·486 = ofBits binary32 0x3ef8d4fe
 
+-- `INFINITE_DISTANCE_FALLBACK`
 abbrev pub 100·0 : Float
 100·0 = ofBits binary32 0x42c80000
 
@@ -33,6 +34,7 @@ abbrev pub usedDistance : Maybe → Maybe
 usedDistance Absent = Absent
 usedDistance (Value d) = Value (finiteDistance d)
 
+-- `ROOM_CENTER`
 abbrev pub roomCenter : Vec3
 roomCenter = vec3 0·5 0·5 0·0
 
@@ -40,8 +42,8 @@ roomCenter = vec3 0·5 0·5 0·0
 abbrev pub fromCenter : Float → Vec3 → Vec3
 fromCenter k c = vecAdd (vecMulScalar c k) (vecMulScalar roomCenter (sub binary32 1·0 k))
 
+-- where a distance is given, the position on the cube, drawn to the centre by its own distance over the given one
 unfoldable pub roomAnchored : Vec3 → Maybe → Vec3
-unfolding mapToCube
 roomAnchored p Absent = p
 roomAnchored p (Value d) = fromCenter (div binary32 (vecLength (mapToCube p)) d) (mapToCube p)
 
@@ -63,5 +65,6 @@ onScreen d s p r =
     vecAdd (vecMulComponents d (vecSub (vecAdd (vecMulComponents s p) r) (vecMulComponents s r)))
     (vecSub r (vecMulComponents d r))
 
+-- Document 01, item 2: "Depth is y to the power 0.25, 0.5, 1 or 2, nearest f32."
 unfoldable pub screenAnchored : Vec3 → Float → Depth → Vec3
 screenAnchored p s depth = onScreen (multiplier (depthPower depth (p .y))) (multiplier s) p (reference p)

@@ -16,7 +16,7 @@ abbrev pub 2·0 : Float
 abbrev pub -2·0 : Float
 -2·0 = neg 2·0
 
--- The last absolute coordinate and a difference, from 0 to 1. Document 01, item 2: "a clamp keeps" a NaN; -0 stays too.
+-- The last absolute coordinate and a difference, brought into 0 to 1. Document 01, item 2: of a NaN, "a clamp keeps it"; -0 stays too.
 abbrev pub summed : Float → Float → Float
 summed last d = clamped (add binary32 last d) 0·0 1·0
 
@@ -54,5 +54,4 @@ movable Speaker = false
 
 -- Where the position is valid and the anchor is not speaker, the block moves its object; else the target is the object's own place.
 unfoldable pub placed : BlockPosition → Vec3 → Placed
-unfolding moved
 placed b here = cond (b .valid && movable (b .anchor)) (moved b) (kept b here)

@@ -48,6 +48,6 @@ lerpVec3 a b t = pairwise (lerp t) a b
 abbrev pub largest : Vec3 → Float
 largest v = larger (larger (absolute (v .x)) (absolute (v .y))) (absolute (v .z))
 
--- onto the cube's surface; where no component has a size above 0, the origin
+-- onto the surface of the cube; the origin where the largest size is 0
 unfoldable pub mapToCube : Vec3 → Vec3
 mapToCube v = cond (eq (largest v) 0·0) zeroVec3 (vecMulScalar v (div binary32 1·0 (largest v)))

@@ -7,6 +7,7 @@ ghost use Rattle.vectors.specs.Target.{summed, differentialPosition, cub
 use roots::Depth;
 
 // x grows to the right, y upwards, z to the front.
+#[repr(C)]
 pub struct Vec3 {
     pub x: f32,
     pub y: f32,
@@ -208,7 +209,7 @@ fn used_distance(distance: Maybe) -> Maybe
     }
 }
 
-// What a block holds of an object's position: `last` is the last absolute one.
+// The position part of `ObjectInfoBlockState`: `last` is its `last_precise`, the last absolute position, and `depth` its `depth_factor`.
 pub struct BlockPosition {
     pub valid: bool,
     pub differential: bool,
@@ -221,6 +222,7 @@ pub struct BlockPosition {
 }
 
 // An object's target, and what the block then holds as its position and as the last absolute one.
+#[repr(C)]
 pub struct Placed {
     pub target: Vec3,
     pub position: Vec3,
