@@ -21,7 +21,7 @@ use Rattle.records.proofs.layout.cells.Reads as cells-reads
 
 -- src/layout.rt:71:9
 returns : tie.Need-returns
-returns c = 
+returns c =
     let a = c .before .before .args in
     broken-if _ _ (too-long (a .meta .now) (c .before .before .pre .0) (a .objects) (a .e) (omega arith))
 

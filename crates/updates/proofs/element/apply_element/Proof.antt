@@ -30,7 +30,10 @@ same-length c = search needs
 
 -- src/element.rt:149:1
 returns : tie.Need-returns
-returns c = ?
+returns c =
+    let k = c .before .before .before .before .before .is-kept .ensures in
+    let n = c .before .before .before .before .before .before .blocks-at .ensures .0 in
+    record { element = rw (c .next-element .ensures, k, n); infos = rw (c .before .before .before .put-objects .ensures, k, n) }
 
 pub apply-element-spec : {M : Type 1} → statement M
 apply-element-spec =

@@ -8,7 +8,7 @@ use Rattle.timed.proofs.Laws.{turn}
 use Rattle.timed.specs.Turns.{times}
 use denote.Ref.{now}
 use lib.ListN.{length}
-use Rattle.updates.specs.Stored.{infoAt, objectStored}
+use Rattle.updates.specs.Stored.{infoGiven, objectStored}
 use Rattle.updates.specs.Said.{elementOf}
 use Rattle.updates.proofs.element.put_object.Statement.{statement}
 use Rattle.updates.proofs.element.put_object.Tie as tie
@@ -19,7 +19,7 @@ use Rattle.records.proofs.layout.object_place.Reads as object-place-reads
 use Rattle.updates.proofs.info.put_info.Reads as put-info-reads
 
 abbrev Inv-loop : tie.InvT-loop
-Inv-loop infos₀ meta p n first o fresh bed b₀ infos b = (b ≤ n) × ((length infos ≡ 22528) × (times (n - b) b (infoAt fresh bed (elementOf meta p) first o) infos ≡ times n 0 (infoAt fresh bed (elementOf meta p) first o) infos₀))
+Inv-loop infos₀ meta p n first o fresh bed b₀ infos b = (b ≤ n) × ((length infos ≡ 22528) × (times (n - b) b (infoGiven fresh bed (elementOf meta p) first o) infos ≡ times n 0 (infoGiven fresh bed (elementOf meta p) first o) infos₀))
 
 abbrev μ-loop : tie.MeasureT-loop
 μ-loop infos₀ meta p n first o fresh bed b₀ infos b = n - b
@@ -58,10 +58,10 @@ loop-less c = search needs
 
 -- src/element.rt:44:5
 loop-again : tie.Need-loop-again Inv-loop μ-loop
-loop-again c = 
+loop-again c =
     let l = c .before .before .before .before .before .before .before .loop in
     let s = c .before .before .before .before .before .before .before .before .before .before .args in
-    (search needs, (omega (arith, c .before .before .put-info .kept), rw (c .before .before .put-info .ensures, c .before .before .before .before .info-at .ensures, c .before .before .before .before .before .object-place .ensures) (sym (turn (s .n) (l .b) (infoAt (s .fresh) (s .bed) (elementOf (now (s .meta)) (s .p)) (s .first) (s .o)) (l .infos) (search needs)) ∙ l .inv .1 .1)))
+    (search needs, (omega (arith, c .before .before .put-info .kept), rw (c .before .before .put-info .ensures, c .before .before .before .before .info-at .ensures, c .before .before .before .before .before .object-place .ensures) (sym (turn (s .n) (l .b) (infoGiven (s .fresh) (s .bed) (elementOf (now (s .meta)) (s .p)) (s .first) (s .o)) (l .infos) (search needs)) ∙ l .inv .1 .1)))
 
 -- src/element.rt:30:1
 same-length : tie.Need-same-length Inv-loop μ-loop
@@ -70,10 +70,10 @@ same-length c = search needs
 -- src/element.rt:30:1
 returns : tie.Need-returns Inv-loop μ-loop
 unfolding objectStored
-returns c = 
+returns c =
     let l = c .before .loop in
     let s = c .before .before .before .before .args in
-    let a = sym (ended (s .n) (l .b) (infoAt (s .fresh) (s .bed) (elementOf (now (s .meta)) (s .p)) (s .first) (s .o)) (l .infos) (omega arith)) ∙ l .inv .1 .1 in
+    let a = sym (ended (s .n) (l .b) (infoGiven (s .fresh) (s .bed) (elementOf (now (s .meta)) (s .p)) (s .first) (s .o)) (l .infos) (omega arith)) ∙ l .inv .1 .1 in
     a ∙ rw (c .before .before .before .before .pre .1)
 
 pub put-object-spec : {M : Type 1} → statement M

@@ -36,7 +36,7 @@ raised-block-at-requires c κs = omega (arith, c .block-place .ensures, c .befor
 
 -- src/element.rt:83:21
 cast-t11 : tie.Need-cast-t11 Inv-loop μ-loop
-cast-t11 c = 
+cast-t11 c =
     let l = c .before .before .before .before .loop in
     let w = c .before .before .before .before .before .before .pre in
     let h : c .before .raised-block-at .result .offset ≤ 2097152 = rw (c .before .raised-block-at .ensures, c .before .before .block-place .ensures) (w .1 .offsets (l .b) (omega (arith, w .0, c .before .before .before .loop-test))) in
@@ -44,7 +44,7 @@ cast-t11 c =
 
 -- src/element.rt:84:19
 cast-t12 : tie.Need-cast-t12 Inv-loop μ-loop
-cast-t12 c = 
+cast-t12 c =
     let l = c .before .before .before .before .before .loop in
     let w = c .before .before .before .before .before .before .before .pre in
     let h : c .before .before .raised-block-at .result .ramp ≤ 2097152 = rw (c .before .before .raised-block-at .ensures, c .before .before .before .block-place .ensures) (w .1 .ramps (l .b) (omega (arith, w .0, c .before .before .before .before .loop-test))) in
@@ -68,7 +68,7 @@ loop-less c = search needs
 
 -- src/element.rt:80:5
 loop-again : tie.Need-loop-again Inv-loop μ-loop
-loop-again c = 
+loop-again c =
     let l = c .before .before .before .before .before .loop in
     let s = c .before .before .before .before .before .before .before .args in
     (search needs, rw (c .before .before .raised-block-at .ensures, c .before .before .before .block-place .ensures) (sym (turn (s .n) (l .b) (blockGiven (elementOf (now (s .meta)) (s .p))) (l .next) (search needs)) ∙ l .inv .1))
@@ -76,7 +76,7 @@ loop-again c =
 -- src/element.rt:74:1
 returns : tie.Need-returns Inv-loop μ-loop
 unfolding scheduled
-returns c = 
+returns c =
     let l = c .before .loop in
     let s = c .before .before .before .args in
     let a = sym (ended (s .n) (l .b) (blockGiven (elementOf (now (s .meta)) (s .p))) (l .next) (omega arith)) ∙ l .inv .1 in

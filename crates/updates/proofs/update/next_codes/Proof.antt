@@ -54,7 +54,7 @@ loop-less c = search needs
 
 -- src/update.rt:56:5
 loop-again : tie.Need-loop-again Inv-loop μ-loop
-loop-again c = 
+loop-again c =
     let l = c .before .before .loop in
     let s = c .before .before .before .args in
     (search needs, sym (turn 18 (l .k) (codeGiven (updateOf (now (s .meta)) (s .u))) (l .next) (search needs)) ∙ l .inv .1)
@@ -62,7 +62,7 @@ loop-again c =
 -- src/update.rt:50:1
 returns : tie.Need-returns Inv-loop μ-loop
 unfolding codesGiven
-returns c = 
+returns c =
     let l = c .before .loop in
     let s = c .before .before .args in
     sym (ended 18 (l .k) (codeGiven (updateOf (now (s .meta)) (s .u))) (l .next) (omega arith)) ∙ l .inv .1
