@@ -1,5 +1,9 @@
 //! The Rattle functions that crates/probes exports, one module a crate. A slice crosses as its
 //! pointer and its length.
 
+pub mod lowpass;
+pub mod beds;
+pub mod mixing;
+pub mod panning;
 pub mod vectors;
 pub mod words;

@@ -1,0 +1,3 @@
+pub mod Rows
+pub mod Corners714
+pub mod Cases
