@@ -4,5 +4,6 @@ mod probe_lowpass;
 mod probe_beds;
 mod probe_mixing;
 mod probe_panning;
+mod probe_timed;
 mod probe_vectors;
 mod probe_words;

@@ -5,5 +5,6 @@ pub mod lowpass;
 pub mod beds;
 pub mod mixing;
 pub mod panning;
+pub mod timed;
 pub mod vectors;
 pub mod words;

@@ -4,13 +4,13 @@ use Prim.Native.Nat.{_≤_, _-_}
 use mathlib.Core.Path.{_≡_, refl, sym, _∙_}
 use native.Mathlib.Omega.{arith}
 use native.Mathlib.Numerals.{unary-clauses}
-use Rattle.timed.proofs.Laws.{turn}
+use Rattle.timed.proofs.Laws.{turn, ended}
 use Rattle.timed.specs.Turns.{times}
 use denote.Ref.{now}
 use lib.ListN.{length}
 use Rattle.updates.specs.Said.{elementOf}
 use Rattle.updates.specs.Stored.{objectGiven, objectsStored}
-use Rattle.updates.proofs.Laws.{ended, cell-below}
+use Rattle.updates.proofs.Laws.{cell-below}
 use Rattle.updates.proofs.element.put_objects.Statement.{statement}
 use Rattle.updates.proofs.element.put_objects.Tie as tie
 use Rattle.updates.proofs.element.put_objects.Reads as reads

@@ -3,12 +3,11 @@ use Prim.Native.Nat.{_≤_, _-_}
 use mathlib.Core.Path.{_≡_, refl, sym, _∙_}
 use native.Mathlib.Omega.{arith}
 use native.Mathlib.Numerals.{unary-clauses}
-use Rattle.timed.proofs.Laws.{turn}
+use Rattle.timed.proofs.Laws.{turn, ended}
 use Rattle.timed.specs.Turns.{times}
 use denote.Ref.{now}
 use Rattle.updates.specs.Said.{elementOf}
 use Rattle.updates.specs.Applied.{blockGiven, scheduled}
-use Rattle.updates.proofs.Laws.{ended}
 use Rattle.updates.proofs.element.schedule_of.Statement.{statement}
 use Rattle.updates.proofs.element.schedule_of.Tie as tie
 use Rattle.updates.proofs.element.schedule_of.Reads as reads

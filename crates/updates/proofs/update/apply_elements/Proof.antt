@@ -3,7 +3,7 @@ use Prim.Native.Nat.{_≤_, _-_}
 use mathlib.Core.Path.{_≡_, refl, sym, _∙_}
 use native.Mathlib.Omega.{arith}
 use native.Mathlib.Numerals.{unary-clauses}
-use Rattle.timed.proofs.Laws.{turn}
+use Rattle.timed.proofs.Laws.{turn, ended}
 use Rattle.timed.specs.Turns.{times}
 use denote.Ref.{now}
 use mathlib.Core.Path.{ap}
@@ -12,7 +12,7 @@ use Rattle.records.specs.Laid.{elementAt}
 use Rattle.updates.specs.Whole.{WholeElement}
 use Rattle.updates.specs.Said.{updateOf}
 use Rattle.updates.specs.Applied.{Work, elementGiven, elementsApplied}
-use Rattle.updates.proofs.Laws.{ended, element-more, element-turn}
+use Rattle.updates.proofs.Laws.{element-more, element-turn}
 use Rattle.updates.proofs.update.apply_elements.Statement.{statement}
 use Rattle.updates.proofs.update.apply_elements.Tie as tie
 use Rattle.updates.proofs.update.apply_elements.Reads as reads

@@ -17,7 +17,7 @@ apply-blocks-requires c κs = search needs
 ramp-requires : tie.Need-ramp-requires
 ramp-requires c κs =
     let s = c .before .before .before .before .before .before .before .args in
-    (omega (arith, c .before .before .before .before .before .before .before .pre .2), rw (c .before .before .apply-blocks .ensures .slot) (blocks-ramps (s .when) (s .reach) (s .self .blocks) _ (c .before .before .before .before .before .before .before .pre .3 .ramps) .most))
+    (omega (arith, c .before .before .before .before .before .before .before .pre .2), rw (c .before .before .apply-blocks .ensures .slot) (blocks-ramps (s .when) (s .reach) (s .self .blocks) _ (c .before .before .before .before .before .before .before .pre .3 .blocks) (c .before .before .before .before .before .before .before .pre .3 .ramps) .most))
 
 -- src/slot.rt:180:5
 same-length : tie.Need-same-length
