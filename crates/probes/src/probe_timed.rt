@@ -2,7 +2,7 @@
 ghost use mathlib.Core.Path.{_≡_};
 ghost use mathlib.Core.Bool.{true};
 ghost use mathlib.Core.Logic.{_⊎_};
-ghost use Prim.Native.Nat.{ℕ, _+_, _*_, _≤_, _<_};
+ghost use Prim.Native.Nat.{ℕ, _-_, _≤_, _<_};
 ghost use lib.ListN.{getD};
 ghost use Rattle.timed.specs.Slot.{InRange, noBlock};
 ghost use Rattle.timed.specs.State.{Within, IsTimed, slotAt};
@@ -16,7 +16,7 @@ use timed::state::ElementRendererState;
 use timed::state::MetadataRendererState;
 
 fn schedule_fits(schedule: [BlockState; 8]) -> bool
-    ensures { λ r. ⌜ r ≡ true → (b : ℕ) → b < 8 → (getD schedule b noBlock .offset ≤ 2097152) × (getD schedule b noBlock .ramp ≤ 2097152) ⌝ }
+    ensures { λ r. ⌜ (r ≡ true → (b : ℕ) → b < 8 → (getD schedule b noBlock .offset ≤ 2097152) × (getD schedule b noBlock .ramp ≤ 2097152)) ⌝ }
 {
     let mut b = 0usize;
     while b < 8 {
@@ -34,7 +34,7 @@ fn schedule_fits(schedule: [BlockState; 8]) -> bool
 
 fn element_fits(e: ElementRendererState, position: u64) -> bool
     requires { ⌜ position ≤ 1099511627776 ⌝ }
-    ensures { λ r. ⌜ r ≡ true → InRange position e ⌝ }
+    ensures { λ r. ⌜ (r ≡ true → InRange position e) ⌝ }
 {
     if e.blocks > 8 {
         return false;
@@ -51,7 +51,7 @@ fn element_fits(e: ElementRendererState, position: u64) -> bool
 }
 
 fn counts_fit(s: MetadataRendererState) -> bool
-    ensures { λ r. ⌜ r ≡ true → (s .objects ≤ 32) × (s .isf ≤ 255) × (s .objects - s .isf ≤ 16) × (s .beds ≤ 18) × (s .beds ≤ s .objects) × (s .elements ≤ 2) ⌝ }
+    ensures { λ r. ⌜ (r ≡ true → (s .objects ≤ 32) × (s .isf ≤ 255) × (s .objects - s .isf ≤ 16) × (s .beds ≤ 18) × (s .beds ≤ s .objects) × (s .elements ≤ 2)) ⌝ }
 {
     if s.objects > 32 {
         return false;
@@ -73,7 +73,7 @@ fn counts_fit(s: MetadataRendererState) -> bool
 
 fn state_fits(s: MetadataRendererState, position: u64) -> bool
     requires { ⌜ position ≤ 1099511627776 ⌝ }
-    ensures { λ r. ⌜ r ≡ true → Within position s ⌝ }
+    ensures { λ r. ⌜ (r ≡ true → Within position s) ⌝ }
 {
     if !counts_fit(s) {
         return false;

@@ -28,7 +28,9 @@ fn layout(inputs: &mut Generator, most: u64) -> Layout {
         beds: (0..beds).map(|_| inputs.below(18) as u8).collect(),
         isf: if inputs.chance(20) { 255 } else { isf },
         objects,
-        blocks: (0..inputs.below(3)).map(|_| inputs.below(most.min(8) + 1)).collect(),
+        blocks: (0..inputs.below(3))
+            .map(|_| inputs.below(most.min(8) + 1))
+            .collect(),
     }
 }
 
@@ -50,13 +52,27 @@ fn object(inputs: &mut Generator) -> Object {
         gain: inputs.maybe(|inputs| inputs.between(0.0, 8.0)),
         position: inputs.maybe(|inputs| {
             let any = inputs.chance(6);
-            std::array::from_fn(|_| if any { inputs.float() } else { inputs.between(-0.5, 1.5) })
+            std::array::from_fn(|_| {
+                if any {
+                    inputs.float()
+                } else {
+                    inputs.between(-0.5, 1.5)
+                }
+            })
         }),
         distance: inputs.maybe(|inputs| {
-            if inputs.chance(6) { inputs.float() } else { inputs.between(0.0, 3.0) }
+            if inputs.chance(6) {
+                inputs.float()
+            } else {
+                inputs.between(0.0, 3.0)
+            }
         }),
         size: inputs.maybe(|inputs| inputs.between(0.0, 1.0)),
-        screen: if inputs.chance(6) { inputs.float() } else { inputs.between(0.0, 1.0) },
+        screen: if inputs.chance(6) {
+            inputs.float()
+        } else {
+            inputs.between(0.0, 1.0)
+        },
         depth: inputs.pick(&DEPTHS),
     }
 }
@@ -72,7 +88,10 @@ fn update(inputs: &mut Generator, layout: &Layout) -> Update {
             .iter()
             .map(|&blocks| Element {
                 blocks: (0..blocks)
-                    .map(|_| Block { offset: span(inputs), ramp: span(inputs) })
+                    .map(|_| Block {
+                        offset: span(inputs),
+                        ramp: span(inputs),
+                    })
                     .collect(),
                 objects: (0..layout.objects)
                     .map(|_| (0..blocks).map(|_| object(inputs)).collect())
@@ -87,9 +106,13 @@ fn lacks_flags(state: &oracle::state::Metadata, update: &Update) -> bool {
     let dynamic = usize::from(update.objects.saturating_sub(update.bed_or_isf_objects));
     state.elements.len() == update.elements.len()
         && state.object_count == usize::from(update.objects)
-        && state.elements.iter().zip(&update.elements).any(|(old, new)| {
-            old.block_used.len() == new.blocks.len() && old.update_now.len() < dynamic
-        })
+        && state
+            .elements
+            .iter()
+            .zip(&update.elements)
+            .any(|(old, new)| {
+                old.block_used.len() == new.blocks.len() && old.update_now.len() < dynamic
+            })
 }
 
 fn same_vector(a: timed::Vec3, b: [f32; 3]) -> bool {
@@ -107,7 +130,10 @@ fn assert_same(ours: &Timed, theirs: &oracle::state::Metadata, step: usize) {
     for (ours, &theirs) in state.gains.iter().zip(&theirs.bed_sources) {
         assert!(same(*ours, theirs), "bed gain, step {step}");
     }
-    assert_eq!(state.objects.saturating_sub(state.isf), theirs.dynamic_sources.len());
+    assert_eq!(
+        state.objects.saturating_sub(state.isf),
+        theirs.dynamic_sources.len()
+    );
     for (ours, theirs) in state.sources.iter().zip(&theirs.dynamic_sources) {
         assert!(
             same(ours.gain, theirs.gain)
@@ -127,10 +153,20 @@ fn assert_same_element(ours: &Timed, e: usize, theirs: &oracle::state::Element, 
     let element = &ours.state.states[e];
     assert_eq!(element.blocks, theirs.block_used.len());
     assert_eq!(element.flags, theirs.update_now.len());
-    assert_eq!(element.remaining.wrapping_sub(MIDDLE) as i64, theirs.future_distance, "step {step}");
+    assert_eq!(
+        element.remaining.wrapping_sub(MIDDLE) as i64,
+        theirs.future_distance,
+        "step {step}"
+    );
     for (b, block) in element.schedule[..element.blocks].iter().enumerate() {
-        assert_eq!(i64::from(block.offset) - i64::from(ZERO), theirs.block_offsets[b]);
-        assert_eq!(i64::from(block.ramp) - i64::from(ZERO), theirs.ramp_duration[b]);
+        assert_eq!(
+            i64::from(block.offset) - i64::from(ZERO),
+            theirs.block_offsets[b]
+        );
+        assert_eq!(
+            i64::from(block.ramp) - i64::from(ZERO),
+            theirs.ramp_duration[b]
+        );
         assert_eq!(block.used, theirs.block_used[b], "step {step}");
     }
     for (d, track) in element.tracks[..element.flags].iter().enumerate() {
@@ -152,8 +188,18 @@ fn assert_same_info(ours: &Timed, k: usize, theirs: &oracle::state::Info, step: 
         (Some(ours), Some(theirs)) => same(ours, theirs),
         (ours, theirs) => ours.is_none() && theirs.is_none(),
     };
-    let vector = |word| timed::Vec3 { x: float(word), y: float(word + 1), z: float(word + 2) };
-    let used = |distance: f32| if distance.is_infinite() { 100.0 } else { distance };
+    let vector = |word| timed::Vec3 {
+        x: float(word),
+        y: float(word + 1),
+        z: float(word + 2),
+    };
+    let used = |distance: f32| {
+        if distance.is_infinite() {
+            100.0
+        } else {
+            distance
+        }
+    };
     assert_eq!(head & 1 != 0, theirs.valid_position);
     assert_eq!(head & 2 != 0, theirs.differential_position);
     assert!(fits(maybe(4, 1), theirs.gain), "step {step}");
@@ -161,7 +207,10 @@ fn assert_same_info(ours: &Timed, k: usize, theirs: &oracle::state::Info, step: 
     assert!(fits(maybe(16, 3).map(used), theirs.distance), "step {step}");
     assert!(same(float(4), theirs.screen_factor), "step {step}");
     assert_eq!(ANCHORS[(head >> 8 & 255) as usize], theirs.anchor);
-    assert!(same(DEPTHS[(head >> 16) as usize], theirs.depth_factor), "step {step}");
+    assert!(
+        same(DEPTHS[(head >> 16) as usize], theirs.depth_factor),
+        "step {step}"
+    );
     assert!(same_vector(vector(5), theirs.position), "step {step}");
     assert!(same_vector(vector(8), theirs.last_precise), "step {step}");
 }
@@ -179,11 +228,16 @@ fn compare_slots(seed: u64, most: u64, slots: usize) {
                 let old = kept;
                 kept = layout(&mut inputs, most);
                 if inputs.chance(2) {
-                    kept = Layout { isf: inputs.below(u64::from(old.objects) + 1) as u8, ..old };
+                    kept = Layout {
+                        isf: inputs.below(u64::from(old.objects) + 1) as u8,
+                        ..old
+                    };
                     kept.isf = kept.isf.max(kept.objects.saturating_sub(16));
                 }
             }
-            let updates: Vec<_> = (0..1 + inputs.below(2)).map(|_| update(&mut inputs, &kept)).collect();
+            let updates: Vec<_> = (0..1 + inputs.below(2))
+                .map(|_| update(&mut inputs, &kept))
+                .collect();
             let records = timed::records(&updates);
             for (index, update) in updates.iter().enumerate() {
                 if !lacks_flags(&theirs.state(), update) {

@@ -119,9 +119,8 @@ impl Timed {
 
     pub fn update_timeslot(&mut self, start: u64) {
         let infos = &mut self.infos;
-        self.state = unsafe {
-            probe_update_timeslot(self.state, infos.as_mut_ptr(), infos.len(), start)
-        };
+        self.state =
+            unsafe { probe_update_timeslot(self.state, infos.as_mut_ptr(), infos.len(), start) };
     }
 
     /// The update of that index.
