@@ -58,7 +58,7 @@ either-requires c κs = search needs
 
 -- src/shape.rt:74:1
 returns : tie.Need-returns
-returns c = ?
+returns c = rw (c .either .ensures, c .before .both .ensures, c .before .before .next-flags .ensures, c .before .before .before .is-kept .ensures)
 
 pub judge-element-spec : {M : Type 1} → statement M
 judge-element-spec =
