@@ -5,11 +5,12 @@ use mathlib.Core.Path.{_≡_, refl, sym, subst, ap, _∙_}
 use mathlib.Core.Bool.{Bool, true, false, _&&_, cond}
 use mathlib.Core.List.{List}
 use lib.Dec.{eqb, leb}
-use lib.ListN.{getD, set}
+use lib.ListN.{length, getD, set}
 use lib.Ieee.{Float, nan, binary32, toBits}
 use native.Mathlib.Omega.{arith}
 use borrow.Author.Tests.{leb-true, leb-false}
 use Rattle.words.specs.Words.{word, floatAt, withFloat}
+use Rattle.words.proofs.Numbers.{length-kept}
 use Rattle.words.proofs.Beside.{Kept, kept-twice, number-keeps, reads-before, reads-past}
 use Rattle.vectors.specs.declared.Vec3.{Vec3}
 use Rattle.vectors.specs.declared.Maybe.{Maybe}
@@ -51,6 +52,10 @@ unfolding withVec
 vec-keeps is at v =
   kept-twice at (at + 12) (kept-twice at (at + 8) (float-keeps is at (v .x)) (float-keeps _ (at + 4) (v .y)) (omega arith) (omega arith) (omega arith) (omega arith)) (float-keeps _ (at + 8) (v .z))
   (omega arith) (omega arith) (omega arith) (omega arith)
+
+pub vec-length : (is : List ℕ) (at : ℕ) (v : Vec3) → length (withVec is at v) ≡ length is
+unfolding withVec withFloat
+vec-length is at v = simp length-kept
 
 -- the value at place `at` of info k, beside what was stored
 maybe-same : (is out : List ℕ) (k bit at : ℕ) → word out (44 * k) ≡ word is (44 * k) → word out (44 * k + at) ≡ word is (44 * k + at) → maybeAt out k bit at ≡ maybeAt is k bit at
@@ -100,6 +105,7 @@ module _ (G S : Float → Type 0) where
     pub gains : GainsSound (t .state .gains)
     pub sources : SourcesSound (t .state .sources)
     pub infos : InfosSound (t .infos)
+    pub room : length (t .infos) ≡ 22528
 
   -- ---- a block
 
@@ -116,6 +122,7 @@ module _ (G S : Float → Type 0) where
   record WorkSound (w : Work) : Type 0 where
     sources : SourcesSound (w .moving .sources)
     infos : InfosSound (w .infos)
+    room : length (w .infos) ≡ 22528
 
   moved-sound : (arrived : Bool) (first d : ℕ) (w : Work) → first + 8 * d < 512 → WorkSound w → WorkSound (movedAt arrived first d w)
   unfolding moved
@@ -131,27 +138,30 @@ module _ (G S : Float → Type 0) where
         (λ j. (level G (gainAt (w .infos) k) (s .gain) (h .infos k l .0) (h .sources d j .0), level S (sizeAt (w .infos) k) (s .size) (h .infos k l .1) (h .sources d j .1)))
         (h .sources);
       infos = λ j i. info-beside (w .infos) (a .infos) k j kept (h .infos j i);
+      room = simp vec-length (h .room);
     }
 
-  all-moved-sound : (arrived : Bool) (first n : ℕ) (m : Moving) (is : List ℕ) → ((d : ℕ) → d < n → first + 8 * d < 512) → SourcesSound (m .sources) → InfosSound is → WorkSound (movedAll arrived first n m is)
+  all-moved-sound : (arrived : Bool) (first n : ℕ) (m : Moving) (is : List ℕ) → ((d : ℕ) → d < n → first + 8 * d < 512) → SourcesSound (m .sources) → InfosSound is → length is ≡ 22528 → WorkSound (movedAll arrived first n m is)
   unfolding movedAll
-  all-moved-sound arrived first n m is r h f =
-    times-in WorkSound (movedAt arrived first) n (λ d w l k. moved-sound arrived first d w (r d l) k) n 0 (omega arith) (record { moving = m; infos = is }) (record { sources = h; infos = f })
+  all-moved-sound arrived first n m is r h f z =
+    times-in WorkSound (movedAt arrived first) n (λ d w l k. moved-sound arrived first d w (r d l) k) n 0 (omega arith) (record { moving = m; infos = is }) (record { sources = h; infos = f; room = z })
 
   record SlotSound (w : slot.Work) : Type 0 where
     gains : GainsSound (w .slot .gains)
     sources : SourcesSound (w .slot .sources)
     infos : InfosSound (w .infos)
+    room : length (w .infos) ≡ 22528
 
   block-sound : (w : Timing) (r : Reach) (b : ℕ) (k : slot.Work) → b < 8 → Reaches r → SlotSound k → SlotSound (blockApplied w r b k)
   unfolding blockApplied
   block-sound w r b k l q h =
     let left = leftAfter w (getD (k .slot .schedule) b noBlock) in
-    let m = all-moved-sound (leb left middle) (r .first + b) (r .count) (record { sources = k .slot .sources; tracks = k .slot .tracks }) (k .infos) (λ d i. omega (arith, q .objects d i)) (h .sources) (h .infos) in
+    let m = all-moved-sound (leb left middle) (r .first + b) (r .count) (record { sources = k .slot .sources; tracks = k .slot .tracks }) (k .infos) (λ d i. omega (arith, q .objects d i)) (h .sources) (h .infos) (h .room) in
     record {
       gains = beds-sound (k .infos) (r .beds + b) (r .channels) (k .slot .gains) (h .infos) (λ i j. omega (arith, q .beds i j)) (h .gains);
       sources = m .sources;
       infos = m .infos;
+      room = m .room;
     }
 
   blocks-sound : (w : Timing) (r : Reach) (n : ℕ) (k : slot.Work) → n ≤ 8 → Reaches r → SlotSound k → SlotSound (blocksApplied w r n k)
@@ -192,12 +202,13 @@ module _ (G S : Float → Type 0) where
   slot-of-sound w i t j r h =
     let e = elementOf (t .state) i in
     let k : slot.Work = record { slot = record { schedule = e .schedule; remaining = e .remaining; gains = t .state .gains; sources = t .state .sources; tracks = e .tracks }; infos = t .infos } in
-    let b = blocks-sound w (reachOf (t .state) i) (e .blocks) k (r .states i j .blocks) (reaches (w .start) (t .state) i j r) (record { gains = h .gains; sources = h .sources; infos = h .infos }) in
+    let b = blocks-sound w (reachOf (t .state) i) (e .blocks) k (r .states i j .blocks) (reaches (w .start) (t .state) i j r) (record { gains = h .gains; sources = h .sources; infos = h .infos; room = h .room }) in
     let s = blocksApplied w (reachOf (t .state) i) (e .blocks) k .slot in
     record {
       gains = ramp-gains (e .tracks) (t .state .objects - t .state .isf) s (b .gains);
       sources = ramp-sound (e .tracks) (t .state .objects - t .state .isf) s (b .sources);
       infos = b .infos;
+      room = b .room;
     }
 
   pub slot-sound : (start : ℕ) (t : Timed) → Within start (t .state) → Sound t → Sound (slotAt start t)
