@@ -1,0 +1,23 @@
+-- `timed::slot::share`: the remaining ramp is a number that an f32 holds. Assumes nothing.
+use native.Mathlib.Omega.{arith}
+use borrow.Author.Needs.{needs}
+use Rattle.timed.specs.Slot.{share}
+use Rattle.timed.proofs.Laws.{in-float}
+use Rattle.timed.proofs.slot.share.Statement.{statement}
+use Rattle.timed.proofs.slot.share.Tie as tie
+
+sub-min : tie.Need-sub-min
+sub-min c = search needs
+
+int-to-float-min : tie.Need-int-to-float-min
+int-to-float-min c = in-float _ (omega arith)
+
+min-requires : tie.Need-min-requires
+min-requires c κs = search needs
+
+returns : tie.Need-returns
+unfolding share
+returns c = c .min .ensures
+
+pub share-spec : {M : Type 1} → statement M
+share-spec = tie.close (tie.spec sub-min int-to-float-min min-requires returns)

@@ -1,0 +1,22 @@
+-- `timed::state::BlockState::due`: a used block is not due. Assumes nothing.
+use borrow.Author.Needs.{needs}
+use Rattle.timed.proofs.state.BlockState.due.Statement.{statement}
+use Rattle.timed.proofs.state.BlockState.due.Tie as tie
+
+returns : tie.Need-returns
+returns c = search needs
+
+cast-result : tie.Need-cast-result
+cast-result c = search needs
+
+add-result : tie.Need-add-result
+add-result c = search needs
+
+add-result-2 : tie.Need-add-result-2
+add-result-2 c = search needs
+
+returns-2 : tie.Need-returns-2
+returns-2 c = rw (c .before .before .before .if1 .left)
+
+pub due-spec : {M : Type 1} → statement M
+due-spec = tie.close (tie.spec returns cast-result add-result add-result-2 returns-2)

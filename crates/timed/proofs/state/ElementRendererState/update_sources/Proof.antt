@@ -1,0 +1,29 @@
+-- `timed::state::ElementRendererState::update_sources`: the blocks keep the remaining ramp within its range. Assumes nothing.
+use native.Mathlib.Omega.{arith}
+use borrow.Author.Needs.{needs}
+use Rattle.timed.specs.Slot.{updatedSources}
+use Rattle.timed.proofs.Ramps.{blocks-ramps}
+use Rattle.timed.proofs.state.ElementRendererState.update_sources.Statement.{statement}
+use Rattle.timed.proofs.state.ElementRendererState.update_sources.Tie as tie
+
+apply-blocks-requires : tie.Need-apply-blocks-requires
+apply-blocks-requires c κs = search needs
+
+ramp-requires : tie.Need-ramp-requires
+ramp-requires c κs =
+    let s = c .before .before .before .before .before .before .before .args in
+    (omega (arith, c .before .before .before .before .before .before .before .pre .2), rw (c .before .before .apply-blocks .ensures .slot) (blocks-ramps (s .when) (s .reach) (s .self .blocks) _ (c .before .before .before .before .before .before .before .pre .3 .blocks) (c .before .before .before .before .before .before .before .pre .3 .ramps) .most))
+
+same-length : tie.Need-same-length
+same-length c = search needs
+
+returns : tie.Need-returns
+unfolding updatedSources
+returns c =
+    record {
+      updated = rw (c .before .before .before .before .ramp .ensures, c .before .before .before .before .before .before .before .apply-blocks .ensures .slot);
+      infos = c .before .before .before .before .before .before .before .apply-blocks .ensures .infos;
+    }
+
+pub update-sources-spec : {M : Type 1} → statement M
+update-sources-spec = tie.close (tie.spec apply-blocks-requires ramp-requires same-length returns)

@@ -1,0 +1,6 @@
+pub mod Turns
+pub mod Infos
+pub mod Objects
+pub mod Slot
+pub mod State
+pub mod Cases
