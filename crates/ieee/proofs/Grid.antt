@@ -2,11 +2,11 @@
 -- but for the library's `kept` and `drop`. Monotone, exact on the grid, within half a unit in the last place. Assumes nothing.
 use mathlib.Core.Path.{_≡_, refl, sym, ap, _∙_, subst}
 use mathlib.Core.Logic.{_⊎_, inl, inr}
-use Prim.Native.Nat.{ℕ, zero, suc, _+_, _-_, _*_, _/_, _%_, _^_, _≤_, _<_, zero-le, compare, Ordering, Ordering·lt, Ordering·eq, Ordering·gt}
-use native.Mathlib.Nat.{le-refl, le-trans, le-of-eq, le-antisymm, lt-of-le-of-lt, lt-of-lt-of-le, eq-or-lt-of-le, mul-comm, mul-assoc, mul-left-comm, mul-right-comm, mul-le-mul-right, mul-le-mul-left, le-of-mul-le-mul-right, le-div-iff-mul-le, div-lt-iff-lt-mul, div-div-eq-div-mul, mul-pos, div-add-mod', eq-zero-or-pos, mod-lt}
+use Prim.Native.Nat.{ℕ, suc, _+_, _-_, _*_, _/_, _%_, _^_, _≤_, _<_, zero-le, compare, Ordering, Ordering·lt, Ordering·eq, Ordering·gt}
+use native.Mathlib.Nat.{le-refl, le-trans, le-of-eq, le-antisymm, lt-of-le-of-lt, eq-or-lt-of-le, mul-comm, mul-assoc, mul-left-comm, mul-le-mul-right, mul-le-mul-left, le-of-mul-le-mul-right, le-div-iff-mul-le, div-lt-iff-lt-mul, div-div-eq-div-mul, mul-pos, div-add-mod', eq-zero-or-pos, mod-lt}
 use native.Mathlib.Omega.{arith}
 use mathlib.Core.Bool.{not}
-use lib.Dec.{T, isLe, isEq, eqb, leb→le, nleb→lt, eqb→eq, eqb-refl, lit≤, lit<}
+use lib.Dec.{T, isLe, isEq, eqb, leb→le, nleb→lt, eqb→eq, eqb-refl, lit<}
 use lib.Arith.{lt-of-le-ne}
 use lib.Pow.{pow-add, pow-pos, pow-mono, shl-lt}
 use lib.Ieee.{size, nearest}

@@ -1,12 +1,9 @@
 -- A finite f32 is its sign and its size: two with the same sign and the same size are the same float. So x + 0.0, x * 1.0 and 0.0 - x give x or -x itself, and not only its value.
 -- Assumes nothing.
-use mathlib.Core.Path.{_≡_, refl, sym, ap, _∙_, subst}
-use Prim.Native.Nat.{ℕ, zero, suc, _+_, _-_, _*_, _/_, _^_, _≤_, _<_}
-use native.Mathlib.Nat.{mul-one}
+use mathlib.Core.Path.{_≡_, refl, sym, ap, _∙_}
+use Prim.Native.Nat.{ℕ, _+_, _-_, _*_, _/_, _^_, _<_}
 use native.Mathlib.Omega.{arith}
 use mathlib.Core.Bool.{Bool, true, false, cond}
-use lib.IntN.{ℤ, pos, negsuc}
-use lib.Dec.{T}
 use lib.Ieee.{Float, nan, inf, fin, binary32, size, top, hid, toBits}
 use lib.Ieee.Bits.{ofBits-toBits}
 use Rattle.ieee.proofs.Value.{One, F32, sign, mag, P, N, Is}

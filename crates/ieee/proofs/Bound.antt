@@ -1,0 +1,100 @@
+-- Nothing overflows: a bound of the format on the exact result bounds the rounded one, since rounding is monotone. No error is counted. `Bounded b x`: x is finite and of size at most b units.
+-- Assumes nothing.
+use mathlib.Core.Path.{_≡_, sym, ap, _∙_, subst}
+use mathlib.Core.Logic.{_⊎_, inl, inr}
+use mathlib.Core.List.{List, [], _∷_}
+use Prim.Native.Nat.{ℕ, suc, _+_, _*_, _^_, _≤_, _<_}
+use native.Mathlib.Nat.{le-trans, le-of-eq, lt-of-le-of-lt, zero-lt-suc, mul-assoc, mul-le-mul, mul-le-mul-right}
+use native.Mathlib.Omega.{arith}
+use lib.ListN.{length}
+use lib.Ieee.{Float, binary32, neg, add, sub, mul}
+use Rattle.ieee.specs.Units.{Tame}
+pub use Rattle.ieee.specs.Bounds.{Bounded, All, sumFrom}
+use Rattle.ieee.proofs.Grid.{OnGrid, grid-at}
+use Rattle.ieee.proofs.Value.{One, one-pos, Top, mag, P, N}
+use Rattle.ieee.proofs.Constants.{0·0, zero-f32, zero-mag}
+use Rattle.ieee.proofs.Ops.{Rounds, small, add-rounds, mul-rounds, sub-open, neg-f32, neg-P, neg-N}
+use Rattle.ieee.proofs.Signed.{at-most, minus-at-most, mag-is, one-sided}
+
+pub bounded-by : {a b : ℕ} {x : Float} → a ≤ b → Bounded a x → Bounded b x
+bounded-by h k = record { f32 = k .f32; most = le-trans (k .most) h }
+
+pub zero-bounded : (b : ℕ) → Bounded b 0·0
+zero-bounded b = record { f32 = zero-f32; most = omega (arith, zero-mag) }
+
+pub neg-bounded : {a : ℕ} {x : Float} → Bounded a x → Bounded a (neg x)
+neg-bounded {a} {x} k = record { f32 = neg-f32 x (k .f32); most = omega (arith, mag-is x, mag-is (neg x), neg-P x (k .f32), neg-N x (k .f32), k .most) }
+
+-- a value in [-1, 1]
+pub bounded-tame : {x : Float} → Bounded One x → Tame x
+bounded-tame {x} k = record { f32 = k .f32; high = omega (arith, mag-is x, k .most); deep = omega (arith, mag-is x, k .most) }
+
+-- ---- one operation
+pub rounds-bounded : {w c A B : ℕ} {z : Float} → OnGrid w → 0 < c → Rounds z A B c → A ≤ B + w * c → B ≤ A + w * c → Bounded w z
+rounds-bounded {w} {c} {A} {B} {z} g C r h k = record { f32 = r .f32; most = go (one-sided z) (at-most C r g h) (minus-at-most C r g k) }
+  where
+    go : (P z ≡ 0) ⊎ (N z ≡ 0) → P z ≤ w → N z ≤ w → mag z ≤ w
+    go (inl e) p n = omega (arith, mag-is z)
+    go (inr e) p n = omega (arith, mag-is z)
+
+pub add-bounded : {a b w : ℕ} {x y : Float} → OnGrid w → w < Top → a + b ≤ w → Bounded a x → Bounded b y → Bounded w (add binary32 x y)
+add-bounded {a} {b} {w} {x} {y} g l h p q =
+    let i : P x + P y ≤ N x + N y + w * 1 = omega (arith, mag-is x, mag-is y, p .most, q .most) in
+    let j : N x + N y ≤ P x + P y + w * 1 = omega (arith, mag-is x, mag-is y, p .most, q .most) in
+    let c = zero-lt-suc 0 in
+    rounds-bounded g c (add-rounds x y (p .f32) (q .f32) (small g l (P x + P y) (N x + N y) 1 c i j)) i j
+
+pub sub-bounded : {a b w : ℕ} {x y : Float} → OnGrid w → w < Top → a + b ≤ w → Bounded a x → Bounded b y → Bounded w (sub binary32 x y)
+sub-bounded {a} {b} {w} {x} {y} g l h p q = subst (Bounded w) (sym (sub-open x y)) (add-bounded g l h p (neg-bounded q))
+
+pub mul-bounded : {a b w : ℕ} {x y : Float} → OnGrid w → w < Top → a * b ≤ w * One → Bounded a x → Bounded b y → Bounded w (mul binary32 x y)
+mul-bounded {a} {b} {w} {x} {y} g l h p q =
+    let A = P x * P y + N x * N y in
+    let B = P x * N y + N x * P y in
+    let e : mag x * mag y ≡ A + B = ap (λ (u : ℕ). u * mag y) (mag-is x) ∙ ap (λ (u : ℕ). (P x + N x) * u) (mag-is y) ∙ spread (P x) (N x) (P y) (N y) in
+    let m : mag x * mag y ≤ w * One = le-trans (mul-le-mul (p .most) (q .most)) h in
+    let i : A ≤ B + w * One = first A B (w * One) (le-trans (le-of-eq (sym e)) m) in
+    let j : B ≤ A + w * One = second A B (w * One) (le-trans (le-of-eq (sym e)) m) in
+    rounds-bounded g one-pos (mul-rounds x y (p .f32) (q .f32) (small g l A B One one-pos i j)) i j
+  where
+    spread : (s t u v : ℕ) → (s + t) * (u + v) ≡ s * u + t * v + (s * v + t * u)
+    spread s t u v = omega arith
+
+    first : (s t u : ℕ) → s + t ≤ u → s ≤ t + u
+    first s t u h = omega arith
+
+    second : (s t u : ℕ) → s + t ≤ u → t ≤ s + u
+    second s t u h = omega arith
+
+-- ---- a sum of m values of size at most b * u, u = 2 ^ j, where m * b is at most 2 ^ 24: then each partial bound is a value of the format. u comes with an equation, so that `One` can stand for it
+module _ (b j : ℕ) {u : ℕ} (is : 2 ^ j ≡ u) where
+  pub next-bounded : (n : ℕ) {a x : Float} → suc n * b ≤ 16777216 → suc n * (b * u) < Top → Bounded (n * (b * u)) a → Bounded (b * u) x → Bounded (suc n * (b * u)) (add binary32 a x)
+  next-bounded n {a} {x} g l p q = add-bounded (subst OnGrid (mul-assoc (suc n) b (2 ^ j) ∙ ap (λ (v : ℕ). suc n * (b * v)) is) (grid-at (suc n * b) j g)) l (one-more n (b * u)) p q
+    where
+      one-more : (n w : ℕ) → n * w + w ≤ suc n * w
+      one-more n w = omega arith
+
+  -- to n values that are added up already
+  pub more-bounded : (n : ℕ) (xs : List Float) {a : Float} → (n + length xs) * b ≤ 16777216 → (n + length xs) * (b * u) < Top → Bounded (n * (b * u)) a → All (Bounded (b * u)) xs → Bounded ((n + length xs) * (b * u)) (sumFrom a xs)
+  more-bounded n [] {a} g l p q = subst (λ (m : ℕ). Bounded (m * (b * u)) a) (same n) p
+    where
+      same : (n : ℕ) → n ≡ n + 0
+      same n = omega arith
+  more-bounded n (x ∷ xs) {a} g l p q =
+      subst (λ (m : ℕ). Bounded (m * (b * u)) (sumFrom (add binary32 a x) xs)) e
+      (more-bounded (suc n) xs (subst (λ (m : ℕ). m * b ≤ 16777216) (sym e) g) (subst (λ (m : ℕ). m * (b * u) < Top) (sym e) l)
+      (next-bounded n (le-trans (mul-le-mul-right b short) g) (lt-of-le-of-lt (mul-le-mul-right (b * u) short) l) p (q .0)) (q .1))
+    where
+      e : suc n + length xs ≡ n + suc (length xs)
+      e = omega arith
+
+      short : suc n ≤ n + suc (length xs)
+      short = omega arith
+
+  pub bounded-sum : (m : ℕ) (xs : List Float) → length xs ≤ m → m * b ≤ 16777216 → m * (b * u) < Top → All (Bounded (b * u)) xs → Bounded (m * (b * u)) (sumFrom 0·0 xs)
+  bounded-sum m xs h g l q =
+      bounded-by (mul-le-mul-right (b * u) h')
+      (more-bounded 0 xs (le-trans (mul-le-mul-right b h') g) (lt-of-le-of-lt (mul-le-mul-right (b * u) h') l) (zero-bounded (0 * (b * u))) q)
+    where
+      h' : 0 + length xs ≤ m
+      h' = omega arith

@@ -1,0 +1,87 @@
+-- The constants of the port, by their values in units: 0, 1, 0.9, 8, 16; and the whole numbers below 2 ^ 24, which are f32 values below `Top`. Assumes nothing.
+use mathlib.Core.Path.{_≡_, refl}
+use Prim.Native.Nat.{ℕ, _*_, _≤_, _<_}
+use native.Mathlib.Nat.{lt-of-le-of-lt, mul-le-mul-right}
+use mathlib.Core.Bool.{false}
+use lib.IntN.{pos, negsuc}
+use lib.Dec.{lit<}
+use lib.Ieee.{Float, fin, fits}
+use Rattle.ieee.proofs.Grid.{OnGrid}
+use Rattle.ieee.proofs.Value.{One, Top, F32, mag, P}
+
+abbrev pub 0·0 : Float
+0·0 = fin false 0 (pos 0)
+
+abbrev pub 1·0 : Float
+1·0 = fin false 1 (pos 0)
+
+abbrev pub 0·9 : Float
+0·9 = fin false 7549747 (negsuc 22)
+
+abbrev pub 8·0 : Float
+8·0 = fin false 1 (pos 3)
+
+abbrev pub 16·0 : Float
+16·0 = fin false 1 (pos 4)
+
+-- ---- they are f32 values
+pub zero-f32 : F32 0·0
+unfolding fits
+zero-f32 = record { fine = tt; fit = tt }
+
+pub one-f32 : F32 1·0
+unfolding fits
+one-f32 = record { fine = tt; fit = tt }
+
+pub ninth-f32 : F32 0·9
+unfolding fits
+ninth-f32 = record { fine = tt; fit = tt }
+
+pub eight-f32 : F32 8·0
+unfolding fits
+eight-f32 = record { fine = tt; fit = tt }
+
+pub sixteen-f32 : F32 16·0
+unfolding fits
+sixteen-f32 = record { fine = tt; fit = tt }
+
+-- ---- in units
+pub zero-mag : mag 0·0 ≡ 0
+unfolding mag
+zero-mag = refl
+
+pub one-P : P 1·0 ≡ One
+unfolding mag One
+one-P = refl
+
+pub ninth-P : 8388608 * P 0·9 ≡ 7549747 * One
+unfolding mag One
+ninth-P = refl
+
+pub eight-P : P 8·0 ≡ 8 * One
+unfolding mag One
+eight-P = refl
+
+pub sixteen-P : P 16·0 ≡ 16 * One
+unfolding mag One
+sixteen-P = refl
+
+-- ---- whole numbers
+pub top-pos : 0 < Top
+unfolding Top
+top-pos = lit< tt
+
+pub one-less : One < Top
+unfolding One Top
+one-less = lit< tt
+
+pub whole-grid : (n : ℕ) → n < 16777216 → OnGrid (n * One)
+unfolding One
+whole-grid n h = record { q = n; j = 149; small = h; is = refl }
+
+most-less : 16777216 * One < Top
+unfolding One Top
+most-less = lit< tt
+
+pub whole-less : (n : ℕ) → n ≤ 16777216 → n * One < Top
+whole-less n h = lt-of-le-of-lt (mul-le-mul-right One h) most-less

@@ -1,0 +1,2 @@
+pub mod Limiter
+pub mod Level
