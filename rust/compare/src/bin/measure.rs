@@ -28,7 +28,27 @@ fn to_bits(x: f32) -> u32 {
     x.to_bits()
 }
 
+/// A filter over 300 rows of 1,536 samples, the largest frame.
+fn lowpass() {
+    let mut inputs = Generator::new(2);
+    let samples: Vec<f32> = (0..1_536).map(|_| inputs.between(-16.0, 16.0)).collect();
+    let run = |filtered: fn(&mut [f32; 9], &mut [f32])| {
+        let mut filter = probe::lowpass::new(48_000);
+        let mut row = samples.clone();
+        for _ in 0..300 {
+            row.copy_from_slice(&samples);
+            filtered(black_box(&mut filter), black_box(&mut row));
+        }
+    };
+    compare_times(
+        "lowpass, 460,800 samples",
+        || run(probe::lowpass::process_in_place),
+        || run(oracle::leaf::lowpass_process_in_place),
+    );
+}
+
 fn main() {
+    lowpass();
     let mut inputs = Generator::new(1);
     let floats: Vec<f32> = (0..1_000_000).map(|_| inputs.float()).collect();
     compare_times(

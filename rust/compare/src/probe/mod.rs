@@ -1,4 +1,5 @@
 //! The Rattle functions that crates/probes exports, one module a crate. A slice crosses as its
 //! pointer and its length.
 
+pub mod lowpass;
 pub mod words;

@@ -1,0 +1,17 @@
+-- `BiquadLowpassState::new` meets its contract. Assumes nothing.
+use mathlib.Core.Path.{ap}
+use borrow.Author.Needs.{needs}
+use lib.Ieee.{ofBits}
+use Rattle.lowpass.specs.Lowpass.{fresh, new}
+use Rattle.lowpass.proofs.BiquadLowpassState.new.Statement.{statement}
+use Rattle.lowpass.proofs.BiquadLowpassState.new.Tie as tie
+
+coefficients-requires : tie.Need-coefficients-requires
+coefficients-requires c κs = search needs
+
+returns : tie.Need-returns
+unfolding new ofBits
+returns c = ap fresh (c .coefficients .ensures)
+
+pub new-spec : {M : Type 1} → statement M
+new-spec = tie.close (tie.spec coefficients-requires returns)

@@ -1,0 +1,83 @@
+-- `process_in_place` meets its contract: what is done and what is left, filtered, are the whole filtered, and the filter left runs to the same end. Assumes nothing.
+use mathlib.Core.List.{[], append-nil}
+use lib.ListN.{drop-of-length-le}
+use lib.Seq.{take-all}
+use borrow.Author.Needs.{needs, scaled-fits}
+use native.Mathlib.Omega.{arith}
+use mathlib.Core.Path.{_≡_, refl, sym, ap, subst, _∙_}
+use Prim.Native.Nat.{ℕ, _+_, _-_, _*_, _≤_, _<_}
+use lib.ListN.{length, getD, set, take, drop, length-set}
+use denote.Ref.{now}
+use mir.Syntax.{w64}
+use mir.Val.{Fits}
+use mathlib.Core.List.{_++_}
+use Rattle.lowpass.specs.Lowpass.{filtered, afterAll}
+use Rattle.lowpass.proofs.Laws.{state-more, list-more}
+use Rattle.lowpass.proofs.BiquadLowpassState.process_in_place.Statement.{statement}
+use Rattle.lowpass.proofs.BiquadLowpassState.process_in_place.Tie as tie
+
+abbrev Inv-loop : tie.InvT-loop
+Inv-loop samples₀ filter₀ i₀ samples filter i = (i ≤ length samples) × (length samples ≡ length samples₀) × (afterAll filter (drop i samples) ≡ afterAll filter₀ samples₀) × (take i samples ++ filtered filter (drop i samples) ≡ filtered filter₀ samples₀)
+
+abbrev μ-loop : tie.MeasureT-loop
+μ-loop samples₀ filter₀ i₀ samples filter i = length samples₀ - i
+
+loop-holds : tie.Need-loop-holds Inv-loop μ-loop
+loop-holds c = search needs
+
+mul-process : tie.Need-mul-process Inv-loop μ-loop
+mul-process c = search needs
+
+slice-read-process : tie.Need-slice-read-process Inv-loop μ-loop
+slice-read-process c = search needs
+
+process-requires : tie.Need-process-requires Inv-loop μ-loop
+process-requires c κs = search needs
+
+mul-samples : tie.Need-mul-samples Inv-loop μ-loop
+mul-samples c = search needs
+
+slice-write-samples : tie.Need-slice-write-samples Inv-loop μ-loop
+slice-write-samples c = search needs
+
+add-i : tie.Need-add-i Inv-loop μ-loop
+add-i c = search needs
+
+loop-less : tie.Need-loop-less Inv-loop μ-loop
+loop-less c = search needs
+
+loop-again : tie.Need-loop-again Inv-loop μ-loop
+loop-again c =
+    let l = c .before .before .before .before in
+    let e = c .before .process .ensures in
+    let h : l .loop .i < length (l .loop .samples) = omega arith in
+    (simp length-set (omega arith), simp length-set (omega arith), rw (e .1) (state-more (l .loop .filter) (l .loop .samples) (l .loop .i) h _ ∙ l .loop .inv .2), rw (e .0, e .1) (list-more (l .loop .filter) (l .loop .samples) (l .loop .i) h ∙ l .loop .inv .3))
+
+same-length : tie.Need-same-length Inv-loop μ-loop
+same-length c = search needs
+
+returns : tie.Need-returns Inv-loop μ-loop
+returns c =
+    let l = c .before in
+    let h : length (l .loop .samples) ≤ l .loop .i = omega arith in
+    let d : drop (l .loop .i) (l .loop .samples) ≡ [] = drop-of-length-le (l .loop .samples) h in
+    let t : take (l .loop .i) (l .loop .samples) ≡ l .loop .samples = take-all (l .loop .i) (l .loop .samples) h in
+    (rw d at (l .loop .inv .2), sym (append-nil (l .loop .samples)) ∙ (rw (d, t) at (l .loop .inv .3)))
+
+pub process-in-place-spec : {M : Type 1} → statement M
+process-in-place-spec =
+    tie.close
+    (tie.spec
+    Inv-loop
+    μ-loop
+    loop-holds
+    mul-process
+    slice-read-process
+    process-requires
+    mul-samples
+    slice-write-samples
+    add-i
+    loop-less
+    loop-again
+    same-length
+    returns)

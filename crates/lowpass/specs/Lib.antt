@@ -1,0 +1,2 @@
+pub mod Lowpass
+pub mod Bound

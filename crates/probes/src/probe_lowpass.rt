@@ -1,0 +1,35 @@
+use lowpass::BiquadLowpassState;
+ghost use mathlib.Core.Path.{_≡_};
+ghost use Rattle.lowpass.specs.Lowpass.{new, filtered, afterAll};
+ghost use Rattle.angles.specs.Angle.{Listed};
+
+// At a rate that is not listed: nothing but zeros.
+#[no_mangle]
+pub extern "C" fn probe_lowpass_new(rate: u32) -> BiquadLowpassState
+    ensures { λ r. ⌜ (Listed rate → r ≡ new rate) ⌝ }
+{
+    match rate {
+        32000 | 44100 | 48000 | 88200 | 96000 => BiquadLowpassState::new(rate),
+        _ => BiquadLowpassState {
+            a1: 0.0,
+            a2: 0.0,
+            b0: 0.0,
+            b1: 0.0,
+            b2: 0.0,
+            x1: 0.0,
+            x2: 0.0,
+            y1: 0.0,
+            y2: 0.0,
+        },
+    }
+}
+
+#[no_mangle]
+pub extern "C" fn probe_lowpass_process_in_place(
+    filter: BiquadLowpassState,
+    samples: &mut [f32],
+) -> BiquadLowpassState
+    ensures { λ r. ⌜ (r ≡ afterAll filter (now (samples .entry))) × (now (samples .exit) ≡ filtered filter (now (samples .entry))) ⌝ }
+{
+    filter.process_in_place(samples)
+}
