@@ -1,0 +1,4 @@
+pub mod Range
+pub mod Channels
+pub mod Laws
+pub mod Matches

@@ -1,0 +1,36 @@
+-- Which input feeds a bed. Assumes nothing.
+use Prim.Native.Nat.{ℕ, zero, suc, _+_}
+use mathlib.Core.Bool.{Bool, cond, _&&_, _||_}
+use mathlib.Core.List.{List, [], _∷_}
+use lib.Dec.{eqb}
+use Rattle.beds.specs.declared.Found.{Found}
+use Rattle.beds.specs.declared.Found.the-variants.{At, Nothing}
+
+abbrev pub lowFrequency : ℕ → Bool
+lowFrequency code = eqb code 3 || eqb code 17
+
+-- an input's code feeds a bed's: the same, or both LFE
+abbrev pub matches : ℕ → ℕ → Bool
+matches requested provided = eqb requested provided || (lowFrequency requested && lowFrequency provided)
+
+-- the first place, counted from i, of a or b
+abbrev pub firstFrom : ℕ → ℕ → ℕ → List ℕ → Found
+firstFrom i a b [] = Nothing
+firstFrom i a b (c ∷ cs) = cond (eqb c a || eqb c b) (At i) (firstFrom (suc i) a b cs)
+
+unfoldable pub firstOf : ℕ → ℕ → List ℕ → Found
+firstOf a b cs = firstFrom 0 a b cs
+
+abbrev pub orElse : Found → Found → Found
+orElse (At i) other = At i
+orElse Nothing other = other
+
+-- Document 01, item 3: "The two LFE codes match each other when no exact match exists".
+unfoldable pub matching : ℕ → List ℕ → Found
+unfolding firstOf
+matching code inputs = orElse (firstOf code code inputs) (cond (lowFrequency code) (firstOf 3 17 inputs) Nothing)
+
+-- how many of the codes match a bed: the counts of refusal 13
+abbrev pub counted : ℕ → List ℕ → ℕ
+counted code [] = 0
+counted code (c ∷ cs) = cond (matches code c) 1 0 + counted code cs

@@ -1,0 +1,21 @@
+-- `mix_full_channel`: by the gain's test.
+use mathlib.Core.Path.{_∙_}
+use Rattle.mixing.proofs.Laws.{full-zero, full-mixed}
+use borrow.Author.Needs.{needs}
+use Rattle.mixing.proofs.mix_full_channel.Statement.{statement}
+use Rattle.mixing.proofs.mix_full_channel.Tie as tie
+
+returns : tie.Need-returns
+returns c = full-zero _ _ _ (c .if1 .taken)
+
+mix-add-scaled-requires : tie.Need-mix-add-scaled-requires
+mix-add-scaled-requires c κs = search needs
+
+same-length : tie.Need-same-length
+same-length c = search needs
+
+returns-2 : tie.Need-returns-2
+returns-2 c = c .before .before .mix-add-scaled .ensures ∙ full-mixed _ _ _ (c .before .before .before .before .if1 .left)
+
+pub mix-full-channel-spec : {M : Type 1} → statement M
+mix-full-channel-spec = tie.close (tie.spec returns mix-add-scaled-requires same-length returns-2)

@@ -1,0 +1,4 @@
+pub mod Part
+pub mod Mixing
+pub mod Samples
+pub mod Sums

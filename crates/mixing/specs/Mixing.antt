@@ -1,0 +1,17 @@
+-- What the mixing functions leave in their output. Assumes nothing.
+use mathlib.Core.Bool.{cond}
+use mathlib.Core.List.{List, [], _∷_}
+use lib.Ieee.{Float, binary32, add, mul, eq, ofBits}
+
+abbrev pub 0·0 : Float
+0·0 = ofBits binary32 0
+
+-- `mix_add_scaled`: *target += sample * gain, for as many as there are samples
+abbrev pub mixed : List Float → Float → List Float → List Float
+mixed [] g os = os
+mixed (x ∷ xs) g [] = []
+mixed (x ∷ xs) g (o ∷ os) = add binary32 o (mul binary32 x g) ∷ mixed xs g os
+
+-- `mix_full_channel`: a gain of either zero adds nothing
+unfoldable pub mixedFull : List Float → Float → List Float → List Float
+mixedFull xs g os = cond (eq g 0·0) os (mixed xs g os)
