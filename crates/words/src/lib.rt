@@ -1,20 +1,102 @@
+// Numbers in byte slices, little-endian: u16, u32, u64, i64 and f32 at any place, and runs of u32.
 ghost use mathlib.Core.Path.{_≡_};
-ghost use Prim.Native.Nat.{_+_, _<_, _≤_};
-ghost use lib.ListN.{length};
+ghost use mathlib.Core.List.{_++_};
+ghost use Prim.Native.Nat.{_+_, _*_, _<_, _≤_};
+ghost use lib.ListN.{length, drop};
 ghost use lib.Ieee.{binary32, ofBits, toBits};
-ghost use Rattle.words.specs.Words.{word, floatAt, withWord, withFloat};
+ghost use mir.Syntax.{w64};
+ghost use mir.Val.{toZ, ofZ};
+ghost use Rattle.words.specs.Words.{half, withHalf, word, withWord, long, withLong};
+ghost use Rattle.words.specs.Words.{signedAt, withSigned, floatAt, withFloat};
+ghost use Rattle.words.specs.Words.{wordsAt, withWords};
 
-fn wide(x: u8) -> u32
+fn wide(x: u8) -> u16
     ensures { λ r. ⌜ (r ≡ x) × (r < 256) ⌝ }
 {
-    x as u32
+    x as u16
+}
+
+pub fn u16_at(s: &[u8], at: usize) -> u16
+    requires { ⌜ at + 2 ≤ length (now s) ⌝ }
+    ensures { λ r. ⌜ r ≡ half (now (s .entry)) at ⌝ }
+{
+    let low = s[at];
+    let high = s[at + 1];
+    wide(low) + wide(high) * 256
 }
 
 pub fn u32_at(s: &[u8], at: usize) -> u32
     requires { ⌜ at + 4 ≤ length (now s) ⌝ }
     ensures { λ r. ⌜ r ≡ word (now (s .entry)) at ⌝ }
 {
-    wide(s[at]) + wide(s[at + 1]) * 256 + wide(s[at + 2]) * 65536 + wide(s[at + 3]) * 16777216
+    u16_at(s, at) as u32 + (u16_at(s, at + 2) as u32) * 65536
+}
+
+pub fn u64_at(s: &[u8], at: usize) -> u64
+    requires { ⌜ at + 8 ≤ length (now s) ⌝ }
+    ensures { λ r. ⌜ r ≡ long (now (s .entry)) at ⌝ }
+{
+    u32_at(s, at) as u64 + (u32_at(s, at + 4) as u64) * 4294967296
+}
+
+pub fn put_u16(s: &mut [u8], at: usize, n: u16)
+    requires { ⌜ at + 2 ≤ length (now s) ⌝ }
+    ensures { λ _. ⌜ now (s .exit) ≡ withHalf (now (s .entry)) at n ⌝ }
+{
+    s[at] = (n % 256) as u8;
+    s[at + 1] = (n / 256) as u8;
+}
+
+pub fn put_u32(s: &mut [u8], at: usize, n: u32)
+    requires { ⌜ at + 4 ≤ length (now s) ⌝ }
+    ensures { λ _. ⌜ now (s .exit) ≡ withWord (now (s .entry)) at n ⌝ }
+{
+    put_u16(s, at, (n % 65536) as u16);
+    put_u16(s, at + 2, (n / 65536) as u16);
+}
+
+pub fn put_u64(s: &mut [u8], at: usize, n: u64)
+    requires { ⌜ at + 8 ≤ length (now s) ⌝ }
+    ensures { λ _. ⌜ now (s .exit) ≡ withLong (now (s .entry)) at n ⌝ }
+{
+    put_u32(s, at, (n % 4294967296) as u32);
+    put_u32(s, at + 4, (n / 4294967296) as u32);
+}
+
+// The signed number of a pattern of 64 bits.
+pub fn signed_of(n: u64) -> i64
+    ensures { λ r. ⌜ r ≡ toZ w64 n ⌝ }
+{
+    if n < 9223372036854775808 {
+        return n as i64;
+    }
+    let m = 18446744073709551615 - n;
+    -1 - (m as i64)
+}
+
+// The pattern of a signed number.
+pub fn bits_of_signed(z: i64) -> u64
+    ensures { λ r. ⌜ r ≡ ofZ w64 z ⌝ }
+{
+    if z >= 0 {
+        return z as u64;
+    }
+    let m = -1 - z;
+    18446744073709551615 - (m as u64)
+}
+
+pub fn i64_at(s: &[u8], at: usize) -> i64
+    requires { ⌜ at + 8 ≤ length (now s) ⌝ }
+    ensures { λ r. ⌜ r ≡ signedAt (now (s .entry)) at ⌝ }
+{
+    signed_of(u64_at(s, at))
+}
+
+pub fn put_i64(s: &mut [u8], at: usize, z: i64)
+    requires { ⌜ at + 8 ≤ length (now s) ⌝ }
+    ensures { λ _. ⌜ now (s .exit) ≡ withSigned (now (s .entry)) at z ⌝ }
+{
+    put_u64(s, at, bits_of_signed(z));
 }
 
 // The float of a bit pattern; every NaN pattern gives a NaN.
@@ -45,19 +127,45 @@ pub fn f32_at(s: &[u8], at: usize) -> f32
     f32_of(u32_at(s, at))
 }
 
-pub fn put_u32(s: &mut [u8], at: usize, n: u32)
-    requires { ⌜ at + 4 ≤ length (now s) ⌝ }
-    ensures { λ _. ⌜ now (s .exit) ≡ withWord (now (s .entry)) at n ⌝ }
-{
-    s[at] = (n % 256) as u8;
-    s[at + 1] = (n / 256 % 256) as u8;
-    s[at + 2] = (n / 65536 % 256) as u8;
-    s[at + 3] = (n / 16777216 % 256) as u8;
-}
-
 pub fn put_f32(s: &mut [u8], at: usize, x: f32)
     requires { ⌜ at + 4 ≤ length (now s) ⌝ }
     ensures { λ _. ⌜ now (s .exit) ≡ withFloat (now (s .entry)) at x ⌝ }
 {
     put_u32(s, at, bits_of(x));
+}
+
+// The words from `at` on, as many as `ws` has.
+pub fn get_words(s: &[u8], at: usize, ws: &mut [u32])
+    requires { ⌜ at + 4 * length (now ws) ≤ length (now s) ⌝ }
+    ensures { λ _. ⌜ now (ws .exit) ≡ wordsAt (now (s .entry)) at (length (now (ws .entry))) ⌝ }
+{
+    let mut i = 0usize;
+    while i < ws.len() {
+        ws[i] = u32_at(s, at + 4 * i);
+        i += 1;
+    }
+}
+
+// The words of `ws` from `at` on.
+pub fn put_words(s: &mut [u8], at: usize, ws: &[u32])
+    requires { ⌜ at + 4 * length (now ws) ≤ length (now s) ⌝ }
+    ensures { λ _. ⌜ now (s .exit) ≡ withWords (now (s .entry)) at (now (ws .entry)) ⌝ }
+{
+    let mut i = 0usize;
+    while i < ws.len() {
+        put_u32(s, at + 4 * i, ws[i]);
+        i += 1;
+    }
+}
+
+// The bytes of `src` at the front of `dst`.
+pub fn copy_bytes(src: &[u8], dst: &mut [u8])
+    requires { ⌜ length (now src) ≤ length (now dst) ⌝ }
+    ensures { λ _. ⌜ now (dst .exit) ≡ now (src .entry) ++ drop (length (now (src .entry))) (now (dst .entry)) ⌝ }
+{
+    let mut i = 0usize;
+    while i < src.len() {
+        dst[i] = src[i];
+        i += 1;
+    }
 }

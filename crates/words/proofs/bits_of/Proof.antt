@@ -1,5 +1,6 @@
+-- `bits_of` is `toBits`: what differs from itself is the NaN. Assumes nothing.
 use borrow.Author.Needs.{needs}
-use mathlib.Core.Path.{sym, subst, ap, refl}
+use mathlib.Core.Path.{sym, subst, ap}
 use lib.Dec.{T}
 use lib.Ieee.{toBits, binary32}
 use lib.Ieee.Compare.{differs-from-itself}

@@ -1,3 +1,4 @@
+-- `f32_of` is `ofBits`: the patterns above an infinity's are the NaNs. Assumes nothing.
 use borrow.Author.Needs.{needs}
 use lib.Ieee.{ofBits, div}
 use Rattle.words.proofs.Nan.{above, not-above}

@@ -1,80 +1,40 @@
+-- `put_u32`: two halves. Assumes nothing.
+use Rattle.words.proofs.Numbers.{written-joined}
 use borrow.Author.Needs.{needs}
-use native.Mathlib.Omega.{arith}
-use mathlib.Core.Path.{refl}
-use lib.ListN.{length-set}
-use Rattle.words.specs.Words.{withWord}
 use Rattle.words.proofs.put_u32.Statement.{statement}
 use Rattle.words.proofs.put_u32.Tie as tie
-use Rattle.words.proofs.put_u32.Reads as reads
-use Rattle.words.proofs.put_u32.Lts as lts
 
--- src/lib.rt:52:13
-cast-s : tie.Need-cast-s
-cast-s c = search needs
+cast-put-u16 : tie.Need-cast-put-u16
+cast-put-u16 c = search needs
 
--- src/lib.rt:52:5
-slice-write-s : tie.Need-slice-write-s
-slice-write-s c = search needs
+put-u16-requires : tie.Need-put-u16-requires
+put-u16-requires c κs = search needs
 
--- src/lib.rt:53:17
-cast-s-2 : tie.Need-cast-s-2
-cast-s-2 c = search needs
+add-put-u16 : tie.Need-add-put-u16
+add-put-u16 c = search needs
 
--- src/lib.rt:53:7
-add-s : tie.Need-add-s
-add-s c = search needs
+cast-put-u16-2 : tie.Need-cast-put-u16-2
+cast-put-u16-2 c = search needs
 
--- src/lib.rt:53:5
-slice-write-s-2 : tie.Need-slice-write-s-2
-slice-write-s-2 c = simp length-set (omega arith)
+put-u16-requires-2 : tie.Need-put-u16-requires-2
+put-u16-requires-2 c κs = search needs
 
--- src/lib.rt:54:17
-cast-s-3 : tie.Need-cast-s-3
-cast-s-3 c = search needs
-
--- src/lib.rt:54:7
-add-s-2 : tie.Need-add-s-2
-add-s-2 c = search needs
-
--- src/lib.rt:54:5
-slice-write-s-3 : tie.Need-slice-write-s-3
-slice-write-s-3 c = simp length-set (omega arith)
-
--- src/lib.rt:55:17
-cast-s-4 : tie.Need-cast-s-4
-cast-s-4 c = search needs
-
--- src/lib.rt:55:7
-add-s-3 : tie.Need-add-s-3
-add-s-3 c = search needs
-
--- src/lib.rt:55:5
-slice-write-s-4 : tie.Need-slice-write-s-4
-slice-write-s-4 c = simp length-set (omega arith)
-
--- src/lib.rt:48:1
 same-length : tie.Need-same-length
 same-length c = search needs
 
--- src/lib.rt:48:1
 returns : tie.Need-returns
-unfolding withWord
-returns c = refl
+returns c =
+    let a = c .before .before .before .before .before .before .before .before .before .args in
+    cc (written-joined (a .s .now) (a .at) 2 2 (a .n))
 
 pub put-u32-spec : {M : Type 1} → statement M
 put-u32-spec =
     tie.close
     (tie.spec
-    cast-s
-    slice-write-s
-    cast-s-2
-    add-s
-    slice-write-s-2
-    cast-s-3
-    add-s-2
-    slice-write-s-3
-    cast-s-4
-    add-s-3
-    slice-write-s-4
+    cast-put-u16
+    put-u16-requires
+    add-put-u16
+    cast-put-u16-2
+    put-u16-requires-2
     same-length
     returns)
