@@ -1,0 +1,7 @@
+pub mod Parts
+pub mod Leaves
+pub mod Mix
+pub mod Samples
+pub mod Refusals
+pub mod Calls
+pub mod Block
