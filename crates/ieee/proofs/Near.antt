@@ -1,20 +1,20 @@
 -- The error of a sum, a difference and a product of f32 values, over ℤ: the bridge from `Rounds` to `ring` and `NN`. `val x` is the exact value of a finite f32 in units of
 -- 2 ^ -149. To follow a computation, give each result its integer `val`, take its error from `add-near`, `sub-near` (`Sum`: one part in 2 ^ 24) or `mul-near` (`Near`: that and half a
 -- unit), and its size from `sum-size`, `near-size`; each asks that the exact result is at most `most` and then also says that the result is finite. Assumes nothing.
-use mathlib.Core.Path.{_≡_, refl, sym, ap, ap₂, _∙_, subst}
-use mathlib.Core.List.{List, [], _∷_}
+use mathlib.Core.Path.{_≡_, refl, sym, ap, _∙_, subst}
+use mathlib.Core.List.{[], _∷_}
 use mathlib.Core.Bool.{Bool, true, false, cond}
-use Prim.Native.Nat.{ℕ, zero, suc, _+_, _*_, _^_, _≤_, _<_}
-use native.Mathlib.Nat.{le-trans, le-of-eq, mul-le-mul-left, mul-le-mul-right, le-of-mul-le-mul-right, mul-comm, mul-assoc, mul-one, mul-pos}
+use Prim.Native.Nat.{ℕ, _+_, _*_, _^_, _≤_, _<_}
+use native.Mathlib.Nat.{le-trans, le-of-eq, mul-le-mul-left, mul-le-mul-right, le-of-mul-le-mul-right, mul-comm, mul-one}
 use native.Mathlib.Omega.{arith}
 use lib.Dec.{lit<}
-use lib.IntN.{ℤ, pos, negsuc, negℤ, natAbs, _+ℤ_, _-ℤ_, _*ℤ_, +ℤ-idl}
+use lib.IntN.{ℤ, pos, negℤ, natAbs, _+ℤ_, _-ℤ_, _*ℤ_, +ℤ-idl}
 use lib.Ieee.{Float, binary32, add, sub, mul}
-use Rattle.ieee.proofs.Grid.{OnGrid, grid-pow, Within}
+use Rattle.ieee.proofs.Grid.{grid-pow, Within}
 use Rattle.ieee.proofs.Value.{One, Top, F32, sign, mag, P, N, one-pos}
 use Rattle.ieee.proofs.Ops.{Rounds, Small, small, add-rounds, sub-rounds, mul-rounds}
 use Rattle.ieee.proofs.Signed.{near, near-whole}
-use Rattle.ieee.proofs.Ring.{R, var, con, _⊕_, _⊖_, _⊗_, ring}
+use Rattle.ieee.proofs.Ring.{var, con, _⊕_, _⊖_, _⊗_, ring}
 use Rattle.ieee.proofs.NotNegative.{abs-mul, abs-neg, abs-from, gap-above, gap-below, gap-of}
 
 -- the value of a finite f32, in units

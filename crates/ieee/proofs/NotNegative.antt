@@ -2,15 +2,15 @@
 -- `ring`) as a sum of products of squares and of numbers that are not negative, after multiplying by a positive number (`nn-cancel`). Then the sizes of integers, `natAbs`:
 -- of products, the triangle inequality, and the way between |a| ≤ n and n² - a² (`nn-of-abs`, `abs-of-nn`). Assumes nothing.
 use mathlib.Core.Path.{_≡_, refl, sym, _∙_, ap, ap₂, subst}
-use mathlib.Core.List.{List, [], _∷_}
-use mathlib.Core.Bool.{Bool, true, false, not, _&&_, cond}
+use mathlib.Core.List.{[], _∷_}
+use mathlib.Core.Bool.{Bool, true, false, not, cond}
 use Prim.Native.Nat.{ℕ, zero, suc, _+_, _*_, _-_, _≤_, _<_}
 use native.Mathlib.Nat.{le-trans, mul-le-mul-left, mul-le-mul-right}
 use native.Mathlib.Omega.{arith}
 use lib.Dec.{T, ltb, leb, ltb→lt, nltb→le, leb→le, nleb→lt}
 use lib.IntN.{ℤ, pos, negsuc, negℤ, natAbs, _+ℤ_, _-ℤ_, _*ℤ_, pos-ne-negsuc}
-use lib.Signed.{nonNeg, leZ, _≤ℤ_}
-use Rattle.ieee.proofs.Ring.{R, var, con, _⊕_, _⊖_, _⊗_, neg, ring}
+use lib.Signed.{nonNeg}
+use Rattle.ieee.proofs.Ring.{var, _⊕_, _⊖_, _⊗_, neg, ring}
 
 pub record NN (z : ℤ) : Type 0 where
   pub size : ℕ

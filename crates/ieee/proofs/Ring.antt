@@ -7,8 +7,8 @@ use mathlib.Core.List.{List, [], _∷_}
 use mathlib.Core.Bool.{Bool, true, false, _&&_}
 use Prim.Native.Nat.{ℕ, zero, suc}
 use lib.Dec.{T, eqb, eqb→eq}
-use lib.IntN.{ℤ, pos, negsuc, negℤ, _+ℤ_, _-ℤ_, _*ℤ_, +ℤ-assoc, +ℤ-comm, +ℤ-idl, +ℤ-idr, zero-*ℤ, *ℤ-zero, *ℤ-comm}
-use Rattle.ieee.proofs.Integers.{+ℤ-swap4, add-*ℤ, *ℤ-add, *ℤ-assoc, neg-*ℤ, neg-as-mul, one-*ℤ, eq-of-sub}
+use lib.IntN.{ℤ, pos, negsuc, negℤ, _+ℤ_, _-ℤ_, _*ℤ_, +ℤ-idl, +ℤ-idr, zero-*ℤ, *ℤ-zero, *ℤ-comm}
+use Rattle.ieee.proofs.Integers.{+ℤ-swap4, add-*ℤ, *ℤ-add, *ℤ-assoc, neg-as-mul, one-*ℤ, eq-of-sub}
 
 infixl 26 _⊕_ _⊖_
 infixl 27 _⊗_

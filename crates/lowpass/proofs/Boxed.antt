@@ -1,11 +1,11 @@
 -- A step keeps the ellipse, in whole numbers: the coefficients a1 = -A / M and a2 = α / M of a rate N lie in the box, M = 2 ^ 24. What drives a step is its residue
 -- M (y + a1 y1 + a2 y2). Assumes nothing.
 use mathlib.Core.Path.{_≡_, _∙_, ap, sym, subst}
-use mathlib.Core.List.{List, [], _∷_}
+use mathlib.Core.List.{[], _∷_}
 use Prim.Native.Nat.{ℕ, _+_, _*_, _-_, _≤_}
 use native.Mathlib.Nat.{add-sub-of-le}
-use lib.IntN.{ℤ, pos, negℤ, natAbs, _+ℤ_, _-ℤ_, _*ℤ_, +ℤ-negℤ-cancel}
-use Rattle.ieee.proofs.Ring.{R, var, con, _⊕_, _⊖_, _⊗_, ring}
+use lib.IntN.{ℤ, pos, natAbs, _+ℤ_, _-ℤ_, _*ℤ_, +ℤ-negℤ-cancel}
+use Rattle.ieee.proofs.Ring.{var, _⊕_, _⊖_, _⊗_, ring}
 use Rattle.ieee.proofs.NotNegative.{nn-by, nn-sub, nn-of-abs, abs-mul}
 use Rattle.lowpass.proofs.Ellipse.{Inside}
 use Rattle.lowpass.proofs.Kept.{step-kept}

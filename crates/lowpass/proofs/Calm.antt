@@ -1,12 +1,12 @@
 -- The low-pass cannot run away. `Calm X f` is what holds of a filter between two samples, X bounding the samples: a new filter has it (`calm-new`), a sample of size at most X
 -- keeps it (`calm-next`, `calm-all`), it holds for every larger X (`calm-more`), and with it every output is finite and at most 2 X (`output-bounded`, `filtered-bounded`).
 -- X is in units, from 2 ^ -100 to 2 ^ 20 (`Range`). Assumes nothing.
-use mathlib.Core.Path.{_≡_, refl, _∙_, ap, sym, subst}
+use mathlib.Core.Path.{sym}
 use mathlib.Core.List.{List, [], _∷_}
-use Prim.Native.Nat.{ℕ, _+_, _*_, _^_, _≤_, _<_, zero-le}
+use Prim.Native.Nat.{ℕ, _*_, _≤_, zero-le}
 use native.Mathlib.Nat.{le-trans, le-of-eq, mul-le-mul-left, one-mul}
 use lib.Dec.{T, lit≤}
-use lib.IntN.{ℤ, pos, natAbs, _-ℤ_}
+use lib.IntN.{natAbs, _-ℤ_}
 use lib.Ieee.{Float, fits}
 use Rattle.angles.specs.declared.Lowpass.{Lowpass}
 use Rattle.ieee.specs.Units.{One, F32, mag}

@@ -1,16 +1,15 @@
 -- What the test `passes` gives: the coefficients as fractions of whole numbers, in the box, with bounds on their size. Assumes nothing.
-use mathlib.Core.Path.{_≡_, refl, _∙_, ap, sym, subst}
+use mathlib.Core.Path.{_≡_, refl, _∙_, ap, sym}
 use mathlib.Core.List.{List, [], _∷_}
-use mathlib.Core.Bool.{Bool, true, false, _&&_, cond, Bool·beq}
-use Prim.Native.Nat.{ℕ, zero, suc, _+_, _-_, _*_, _≤_, _<_}
-use native.Mathlib.Nat.{le-trans, mul-le-mul-left, mul-le-mul-right, mul-le-mul, le-of-mul-le-mul-right}
+use mathlib.Core.Bool.{Bool, true, false, cond, Bool·beq}
+use Prim.Native.Nat.{ℕ, zero, suc, _+_, _-_, _*_, _≤_}
+use native.Mathlib.Nat.{le-trans, mul-le-mul, le-of-mul-le-mul-right}
 use native.Mathlib.Omega.{arith}
-use lib.Dec.{T, leb, eqb, leb→le, eqb→eq, lit<, lit≤}
-use lib.IntN.{ℤ, pos, negℤ, _-ℤ_, _*ℤ_, +ℤ-idl}
-use lib.Ieee.{Float, binary32, fits}
-use lib.Ieee.Scale.{finite}
-use Rattle.ieee.specs.Units.{One, F32, sign, mag, P, N}
-use Rattle.ieee.proofs.Ring.{R, var, con, _⊖_, _⊗_, neg, ring}
+use lib.Dec.{T, leb, eqb, leb→le, eqb→eq, lit≤}
+use lib.IntN.{ℤ, pos, negℤ, _-ℤ_, _*ℤ_}
+use lib.Ieee.{Float}
+use Rattle.ieee.specs.Units.{One, sign, mag}
+use Rattle.ieee.proofs.Ring.{var, con, _⊖_, _⊗_, neg, ring}
 use Rattle.ieee.proofs.Near.{Ratio}
 use Rattle.lowpass.specs.Bound.{every, steps, whole, boxed, tests, passes}
 use Rattle.lowpass.specs.Lowpass.{BiquadLowpassState}

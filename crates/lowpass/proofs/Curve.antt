@@ -1,15 +1,15 @@
 -- Forms that are not negative on a box, by its corners. In ρ = γ - χ y - σ ε the form bends down, so it is not negative between two values of σ, or of χ, at which it is
 -- not: four corners decide for all σ and χ between them, and at a corner three leading minors do. Assumes nothing.
 use mathlib.Core.Path.{_≡_, ap}
-use mathlib.Core.List.{List, [], _∷_}
-use mathlib.Core.Bool.{Bool, _&&_}
+use mathlib.Core.List.{[], _∷_}
+use mathlib.Core.Bool.{Bool}
 use lib.Dec.{T}
-use lib.IntN.{ℤ, pos, negsuc, negℤ, _+ℤ_, _-ℤ_, _*ℤ_}
+use lib.IntN.{ℤ, pos, negℤ, _+ℤ_, _-ℤ_, _*ℤ_}
 use lib.Signed.{nonNeg}
 use Rattle.ieee.proofs.Integers.{+ℤ-swap}
 use Rattle.ieee.proofs.Ring.{R, var, con, _⊕_, _⊖_, _⊗_, ring}
-use Rattle.ieee.proofs.NotNegative.{NN, nn, nn-test, nn-add, nn-mul, nn-sq, nn-by, posZ, nn-of-pos, nn-cancel}
-use Rattle.lowpass.proofs.Form.{form, formR, minors, definite, both}
+use Rattle.ieee.proofs.NotNegative.{NN, nn-test, nn-add, nn-mul, nn-sq, nn-by, posZ, nn-of-pos, nn-cancel}
+use Rattle.lowpass.proofs.Form.{form, formR, minors, definite}
 
 -- ---- a curve in ρ, and one between its values at p - s₀ e and p - s₁ e
 abbrev bend : (a b g ρ : ℤ) → ℤ

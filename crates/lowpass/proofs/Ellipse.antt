@@ -1,7 +1,7 @@
 -- The set of filter states that is kept: an ellipse E ≤ 11 X² in the output y and its last step d. With n = N / 754 and e = n d, E is 3 y² + 2 y e + 4 e²; here it is
 -- times 754², so that its numbers are whole. N is the rate, X bounds the samples. The ellipse lies within |y| ≤ 2 X. Assumes nothing.
 use mathlib.Core.Path.{_≡_}
-use mathlib.Core.List.{List, [], _∷_}
+use mathlib.Core.List.{[], _∷_}
 use Prim.Native.Nat.{ℕ, _*_, _≤_}
 use lib.IntN.{ℤ, pos, natAbs, _+ℤ_, _-ℤ_, _*ℤ_}
 use Rattle.ieee.proofs.Ring.{R, var, con, _⊕_, _⊖_, _⊗_, ring}

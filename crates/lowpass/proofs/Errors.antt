@@ -2,12 +2,12 @@
 -- |y1|, |y2| ≤ 2 X its residue is at most 1.15 * 754² M X / N². Values are whole numbers of units; a1 = -A / 2^24, a2 = α / 2^24, b0, b1, b2 in steps of 2^-48.
 -- Assumes nothing.
 use mathlib.Core.Path.{_≡_}
-use mathlib.Core.List.{List, [], _∷_}
+use mathlib.Core.List.{[], _∷_}
 use Prim.Native.Nat.{ℕ, _+_, _*_, _≤_}
 use native.Mathlib.Nat.{le-trans, mul-le-mul-left, mul-le-mul-right, le-refl, add-le-add}
 use native.Mathlib.Omega.{arith}
 use lib.IntN.{ℤ, pos, negℤ, natAbs, _+ℤ_, _-ℤ_, _*ℤ_}
-use Rattle.ieee.proofs.Ring.{R, var, con, _⊕_, _⊖_, _⊗_, neg, ring}
+use Rattle.ieee.proofs.Ring.{var, _⊕_, _⊖_, _⊗_, neg, ring}
 use Rattle.ieee.proofs.NotNegative.{abs-add, abs-minus, abs-from, abs-mul, abs-neg-mul}
 use Rattle.ieee.proofs.Near.{Near, Sum}
 use Rattle.lowpass.proofs.Boxed.{residue}

@@ -1,13 +1,12 @@
 -- A form in three integers whose leading minors pass a test is never negative. Assumes nothing.
-use mathlib.Core.Path.{_≡_, refl, sym, _∙_, ap, ap₂, subst}
-use mathlib.Core.List.{List, [], _∷_}
+use mathlib.Core.Path.{_≡_}
+use mathlib.Core.List.{[], _∷_}
 use mathlib.Core.Bool.{Bool, true, false, _&&_}
-use Prim.Native.Nat.{ℕ, zero, suc}
 use lib.Dec.{T}
-use lib.IntN.{ℤ, pos, negsuc, negℤ, _+ℤ_, _-ℤ_, _*ℤ_}
+use lib.IntN.{ℤ, pos, _+ℤ_, _-ℤ_, _*ℤ_}
 use lib.Signed.{nonNeg}
 use Rattle.ieee.proofs.Ring.{R, var, con, _⊕_, _⊖_, _⊗_, ring}
-use Rattle.ieee.proofs.NotNegative.{NN, nn, nn-test, nn-add, nn-mul, nn-sq, nn-by, posZ, nn-of-pos, nn-cancel}
+use Rattle.ieee.proofs.NotNegative.{NN, nn-test, nn-add, nn-mul, nn-sq, nn-by, posZ, nn-of-pos, nn-cancel}
 
 -- a x² + d y² + f z² + 2 (b x y + c x z + e y z)
 abbrev pub form : (a b c d e f x y z : ℤ) → ℤ

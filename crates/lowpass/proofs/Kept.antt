@@ -6,16 +6,16 @@
 --
 -- with E times 754² as in Ellipse, φ = 1.15 * 754² M, and Q a form in y, ε, γ and ρ with weights that are cubic in N. About N = 7540 + t all four weights of the powers of t
 -- pass at the box's corners. Assumes nothing.
-use mathlib.Core.Path.{_≡_, _∙_, ap, sym, subst}
-use mathlib.Core.List.{List, [], _∷_}
-use Prim.Native.Nat.{ℕ, _+_, _*_, _-_, _≤_, _<_}
+use mathlib.Core.Path.{_≡_, _∙_, ap}
+use mathlib.Core.List.{[], _∷_}
+use Prim.Native.Nat.{ℕ, _+_, _*_, _<_}
 use native.Mathlib.Omega.{arith}
-use native.Mathlib.Nat.{mul-pos, add-sub-of-le}
+use native.Mathlib.Nat.{mul-pos}
 use lib.Dec.{lt→ltb, lit<}
-use lib.IntN.{ℤ, pos, negℤ, natAbs, _+ℤ_, _-ℤ_, _*ℤ_}
+use lib.IntN.{ℤ, pos, negℤ, _+ℤ_, _-ℤ_, _*ℤ_}
 use Rattle.ieee.proofs.Ring.{R, var, con, _⊕_, _⊖_, _⊗_, ring}
-use Rattle.ieee.proofs.NotNegative.{NN, nn, nn-add, nn-mul, nn-sq, nn-by, nn-cancel, nn-sub, nn-of-abs, abs-mul}
-use Rattle.lowpass.proofs.Ellipse.{Inside, energy, energyR, room, roomR}
+use Rattle.ieee.proofs.NotNegative.{NN, nn, nn-add, nn-mul, nn-sq, nn-by, nn-cancel}
+use Rattle.lowpass.proofs.Ellipse.{energy, energyR, room, roomR}
 use Rattle.lowpass.proofs.Curve.{Weights, curve, curveR, Box, Within, Corners, boxed}
 
 -- 1.30 * 754 M, 1.42 * 754 M, 0.92 * 754² M and 1.02 * 754² M

@@ -1,20 +1,16 @@
 -- The coefficients of the five rates pass: a new filter of a listed rate is calm, and stays so. Assumes nothing.
-use mathlib.Core.Path.{_≡_, refl, sym, ap₂, subst}
+use mathlib.Core.Path.{refl, ap₂, subst}
 use mathlib.Core.List.{List}
-use mathlib.Core.Bool.{false}
-use Prim.Native.Nat.{ℕ, _*_, zero-le}
-use lib.Dec.{T, eqb}
-use lib.IntN.{pos, negsuc}
-use lib.Ieee.{Float, fin, binary32, fits, add, sub, mul, div, round, neg}
+use Prim.Native.Nat.{ℕ, _*_}
+use lib.Dec.{T}
+use lib.Ieee.{Float, fits, add, sub, mul, div, round, neg}
 use Rattle.angles.specs.Angle.{Listed, r32000, r44100, r48000, r88200, r96000, w0, cosine, sine}
 use Rattle.angles.specs.Filter.{coefficientsOf}
 use Rattle.angles.specs.declared.Lowpass.{Lowpass}
 use Rattle.angles.proofs.Table.{At, at32000, at44100, at48000, at88200, at96000}
-use Rattle.ieee.specs.Units.{One, F32, mag}
-use Rattle.lowpass.specs.Lowpass.{BiquadLowpassState, plusZero, fresh, new, filtered}
-use Rattle.lowpass.specs.Bound.{AtMost, AllAtMost, Range, passes}
-use Rattle.lowpass.proofs.Ellipse.{start}
-use Rattle.lowpass.proofs.Coefficients.{coefficients}
+use Rattle.ieee.specs.Units.{One, mag}
+use Rattle.lowpass.specs.Lowpass.{fresh, new, filtered}
+use Rattle.lowpass.specs.Bound.{AllAtMost, Range, passes}
 use Rattle.lowpass.proofs.Calm.{Calm, calm-new, filtered-bounded}
 
 -- worked out from the cosine and the sine

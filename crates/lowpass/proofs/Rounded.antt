@@ -1,10 +1,10 @@
 -- The filter's operations in f32, one after another: each result is finite, with its size as a multiple of X and its error. Assumes nothing.
-use mathlib.Core.Path.{_≡_, _∙_, ap, sym, subst}
+use mathlib.Core.Path.{_≡_, _∙_, ap, sym}
 use Prim.Native.Nat.{ℕ, suc, _+_, _*_, _≤_, _<_}
-use native.Mathlib.Nat.{le-trans, le-of-eq, mul-le-mul, mul-le-mul-left, mul-le-mul-right, mul-mul-mul-comm, mul-assoc, one-mul, add-le-add, add-mul, mul-comm}
+use native.Mathlib.Nat.{le-trans, le-of-eq, mul-le-mul, mul-le-mul-right, mul-mul-mul-comm, mul-assoc, one-mul, add-le-add, add-mul, mul-comm}
 use native.Mathlib.Omega.{arith}
 use lib.Dec.{lit<, lit≤}
-use lib.IntN.{ℤ, pos, negℤ, natAbs, _+ℤ_, _-ℤ_, _*ℤ_}
+use lib.IntN.{ℤ, pos, natAbs, _+ℤ_, _-ℤ_, _*ℤ_}
 use lib.Ieee.{Float, binary32, add, sub, mul}
 use Rattle.ieee.specs.Units.{F32}
 use Rattle.ieee.proofs.NotNegative.{abs-add, abs-minus, abs-times, abs-neg}

@@ -2,14 +2,11 @@
 use mathlib.Core.List.{[], append-nil}
 use lib.ListN.{drop-of-length-le}
 use lib.Seq.{take-all}
-use borrow.Author.Needs.{needs, scaled-fits}
+use borrow.Author.Needs.{needs}
 use native.Mathlib.Omega.{arith}
-use mathlib.Core.Path.{_≡_, refl, sym, ap, subst, _∙_}
-use Prim.Native.Nat.{ℕ, _+_, _-_, _*_, _≤_, _<_}
-use lib.ListN.{length, getD, set, take, drop, length-set}
-use denote.Ref.{now}
-use mir.Syntax.{w64}
-use mir.Val.{Fits}
+use mathlib.Core.Path.{_≡_, sym, _∙_}
+use Prim.Native.Nat.{_+_, _-_, _≤_, _<_}
+use lib.ListN.{length, take, drop, length-set}
 use mathlib.Core.List.{_++_}
 use Rattle.lowpass.specs.Lowpass.{filtered, afterAll}
 use Rattle.lowpass.proofs.Laws.{state-more, list-more}
