@@ -5,7 +5,8 @@ use mathlib.Core.List.{List, [], _∷_, _++_}
 use lib.Dec.{leb, eqb}
 use lib.ListN.{take, length}
 use lib.Ieee.{Float}
-use Rattle.lowpass.specs.Lowpass.{BiquadLowpassState, plusZero, output, next, new}
+use Rattle.lowpass.specs.Lowpass.{plusZero, output, next, new}
+use Rattle.lowpass.specs.declared.BiquadLowpassState.{BiquadLowpassState}
 use Rattle.limiter.specs.Limiter.{blockGain, scaled, grown}
 use Rattle.rules.specs.Parts.{1·0, Channels, none, joined, twelve, Places, floats, laid, zeros}
 use Rattle.rules.specs.Leaves.{Leaves, Panned, Feed, started}
