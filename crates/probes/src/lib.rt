@@ -1,4 +1,5 @@
 // Leaf functions under C names, for the comparisons of rust/compare: a file `probe_NAME.rt` for
 // each crate NAME (a module cannot have a crate's name).
 mod probe_lowpass;
+mod probe_panning;
 mod probe_words;

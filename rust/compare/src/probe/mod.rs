@@ -2,4 +2,5 @@
 //! pointer and its length.
 
 pub mod lowpass;
+pub mod panning;
 pub mod words;

@@ -1,0 +1,9 @@
+pub mod Tables
+pub mod Shares
+pub mod Corners
+pub mod Sum
+pub mod Weighing
+pub mod Once
+pub mod Audible
+pub mod Coefficients
+pub mod Facts

@@ -1,0 +1,46 @@
+-- The 7.1.4 hall: `RENDER_714_CHANNEL_POSITIONS`. Assumes nothing.
+use Prim.Native.Nat.{ℕ}
+use mathlib.Core.Bool.{Bool, true, false}
+use mathlib.Core.List.{List, [], _∷_, map}
+use lib.IntN.{pos, negsuc}
+use lib.Ieee.{Float, fin}
+use Rattle.vectors.specs.declared.Vec3.{Vec3}
+use Rattle.panning.specs.Choice.{0·0}
+use Rattle.panning.specs.Arrays.{places}
+
+-- 0.70710677, 0.48368952 and 1, with a sign
+abbrev diagonal : Bool → Float
+diagonal s = fin s 11863283 (negsuc 23)
+
+abbrev surround : Bool → Float
+surround s = fin s 16229927 (negsuc 24)
+
+abbrev one : Bool → Float
+one s = fin s 1 (pos 0)
+
+unfoldable pub positions714 : List Vec3
+positions714 =
+    record { x = diagonal true; y = 0·0; z = one false } ∷
+    record { x = diagonal false; y = 0·0; z = one false } ∷
+    record { x = 0·0; y = 0·0; z = one false } ∷
+    record { x = 0·0; y = 0·0; z = one false } ∷
+    record { x = diagonal true; y = 0·0; z = one true } ∷
+    record { x = diagonal false; y = 0·0; z = one true } ∷
+    record { x = one true; y = 0·0; z = surround true } ∷
+    record { x = one false; y = 0·0; z = surround true } ∷
+    record { x = one true; y = one false; z = surround false } ∷
+    record { x = one false; y = one false; z = surround false } ∷
+    record { x = diagonal true; y = one false; z = one true } ∷
+    record { x = diagonal false; y = one false; z = one true } ∷ []
+
+unfoldable pub hall714 : ℕ → Vec3
+unfolding positions714
+hall714 = places (map (λ v. v .x) positions714) (map (λ v. v .y) positions714) (map (λ v. v .z) positions714)
+
+-- the channels but the bass channel, 3
+abbrev pub fullRange : List ℕ
+fullRange = 0 ∷ 1 ∷ 2 ∷ 4 ∷ 5 ∷ 6 ∷ 7 ∷ 8 ∷ 9 ∷ 10 ∷ 11 ∷ []
+
+-- how many channels there are, the bass channel too: what a size is divided by
+abbrev pub 12·0 : Float
+12·0 = fin false 3 (pos 2)
