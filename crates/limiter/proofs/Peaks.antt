@@ -88,7 +88,10 @@ lanes-start xs = record { a-level = zero-level; b-level = zero-level; c-level = 
 pub lanes-next : {a b c d x y z w a' b' c' d' : Float} {rest whole : List Float} → Lanes a b c d (x ∷ y ∷ z ∷ w ∷ rest) whole
     → Raised a x a' → Raised b y b' → Raised c z c' → Raised d w d' → Lanes a' b' c' d' rest whole
 lanes-next h p q r s = record {
-  a-level = p .level; b-level = q .level; c-level = r .level; d-level = s .level;
+  a-level = p .level;
+  b-level = q .level;
+  c-level = r .level;
+  d-level = s .level;
   same = same-as (record {
     to = λ k u. (le-trans (p .first) (u .0), (le-trans (q .first) (u .1 .0), (le-trans (r .first) (u .1 .1 .0), (le-trans (s .first) (u .1 .1 .1 .0), (le-trans (p .second) (u .0), (le-trans (q .second) (u .1 .0), (le-trans (r .second) (u .1 .1 .0), (le-trans (s .second) (u .1 .1 .1 .0), u .1 .1 .1 .1))))))));
     from = λ k u. (p .least k (u .0) (u .1 .1 .1 .1 .0), (q .least k (u .1 .0) (u .1 .1 .1 .1 .1 .0), (r .least k (u .1 .1 .0) (u .1 .1 .1 .1 .1 .1 .0), (s .least k (u .1 .1 .1 .0) (u .1 .1 .1 .1 .1 .1 .1 .0), u .1 .1 .1 .1 .1 .1 .1 .1))));

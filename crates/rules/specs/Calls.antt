@@ -6,8 +6,8 @@ use lib.Dec.{eqb}
 use lib.ListN.{length}
 use Rattle.rules.specs.Parts.{Channels, none}
 use Rattle.rules.specs.Leaves.{Leaves}
-use Rattle.rules.specs.Mix.{Frame}
-use Rattle.rules.specs.Samples.{Renderer, Moment, State, After, fresh, pushed, flushed}
+use Rattle.rules.specs.Mix.{Moment}
+use Rattle.rules.specs.Samples.{Frame, Renderer, State, After, fresh, pushed, flushed}
 use Rattle.rules.specs.Refusals.{Args, Found, clear, stop, _then_, room, early, later, Sent}
 
 -- A call, with all that the host lends besides the state block. Later requests add their calls here.

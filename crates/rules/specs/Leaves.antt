@@ -1,19 +1,20 @@
--- What the timed state, the metadata, the beds and the panning give to the rules: the interface of the crates below, of which crate `claim` gives the one instance. Assumes nothing.
+-- What the timed state and the metadata give to the rules: the interface of the crates `timed` and `records`, of which `claim` gives the one instance. Assumes nothing.
 use Prim.Native.Nat.{ℕ}
 use mathlib.Core.Bool.{Bool}
 use mathlib.Core.List.{List}
 use lib.Ieee.{Float}
+use Rattle.vectors.specs.declared.Vec3.{Vec3}
 
--- A dynamic object as it is panned: its gain and size, and the coefficients that it adds on each channel, in the order of addition.
-pub record Panned : Type 0 where
+-- a dynamic object: gain, size, and the place where it is panned
+pub record Source : Type 0 where
   pub gain : Float
   pub size : Float
-  pub adds : ℕ → List Float
+  pub place : Vec3
 
--- A bed: the input that feeds it, and the coefficients that it adds on each channel, in the order of addition.
-pub record Feed : Type 0 where
-  pub input : ℕ
-  pub adds : ℕ → List Float
+-- a bed channel of the last applied update
+pub record Bed : Type 0 where
+  pub code : ℕ
+  pub gain : Float
 
 -- What refusals 10 to 14 look at: whether an update was applied, the number of dynamic objects, the bed codes.
 pub record Shape : Type 0 where
@@ -30,16 +31,16 @@ pub record Leaves : Type 1 where
   -- an update applied at a stream position; the start of a slot at a stream position
   pub apply : ℕ → Update → Meta → Meta
   pub slot : ℕ → Meta → Meta
-  -- what is heard: the beds, fed from inputs with these codes, and the dynamic objects
-  pub feeds : Meta → List ℕ → List Feed
-  pub objects : Meta → List Panned
+  -- what is heard: beds and dynamic objects, in order
+  pub beds : Meta → List Bed
+  pub objects : Meta → List Source
   pub shape : Meta → Shape
   -- the sample offset of an update, and its shape
   pub offset : Update → ℕ
   pub sent : Update → Shape
   -- the updates of metadata bytes, in the order sent
   pub updates : List ℕ → List Update
-  -- "records not as laid out .. or a count over its limit" and refusal 6's ranges, of metadata bytes
+  -- no refusal 5, and no refusal 6, for metadata bytes
   pub laidOut : List ℕ → Bool
   pub inRange : List ℕ → Bool
   -- refusal 7: an update keeps an element "that has flags for fewer dynamic objects than the update"

@@ -5,3 +5,4 @@ pub mod Samples
 pub mod Refusals
 pub mod Calls
 pub mod Block
+pub mod Claim

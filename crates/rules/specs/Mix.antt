@@ -2,20 +2,40 @@
 use Prim.Native.Nat.{ℕ, zero, suc, _+_, _*_}
 use mathlib.Core.Bool.{Bool, true, false, cond}
 use mathlib.Core.List.{List, [], _∷_, _++_}
+use lib.Dec.{eqb}
 use lib.Ieee.{Float}
-use Rattle.mixing.specs.Sums.{Term, total}
 use Rattle.words.specs.Words.{floatAt}
+use Rattle.mixing.specs.Sums as sums
+use Rattle.mixing.specs.Sums.{total}
+use Rattle.beds.specs.declared.Route.{Route}
+use Rattle.beds.specs.declared.Route.the-variants.{Bass, Folded, Direct, Unsupported}
+use Rattle.beds.specs.declared.Found.{Found}
+use Rattle.beds.specs.declared.Found.the-variants.{At, Nothing}
+use Rattle.beds.specs.Routes.{routeOf, bassGain}
+use Rattle.beds.specs.Positions.{bedPosition}
+use Rattle.beds.specs.Matching.{matching}
+use Rattle.panning.specs.Hall.{hall714, fullRange, 12·0}
+use Rattle.panning.specs.Terms.{Term, term, terms, panned}
 use Rattle.rules.specs.Parts.{0·0}
-use Rattle.rules.specs.Leaves.{Panned, Feed}
+use Rattle.rules.specs.Leaves.{Source, Bed}
 
--- A frame that no refusal turned away: its rate, how many samples it has, its bed codes, the number of its objects, its PCM as bytes, and its updates.
-pub record Frame (U : Type 0) : Type 0 where
-  pub rate : ℕ
-  pub samples : ℕ
-  pub codes : List ℕ
-  pub objects : ℕ
-  pub pcm : List ℕ
-  pub updates : List U
+-- ---- coefficients
+
+-- the terms of an object, in the order of addition
+unfoldable pub objectTerms : Source → List Term
+objectTerms s = terms fullRange (panned hall714 fullRange 12·0 (s .place) (s .gain) (s .size))
+
+-- the terms of a bed: document 01, item 3
+unfoldable pub routeTerms : Route → ℕ → Float → List Term
+routeTerms Bass code gain = term 3 (bassGain gain) ∷ []
+routeTerms Folded code gain = terms fullRange (panned hall714 fullRange 12·0 (bedPosition code) gain 0·0)
+routeTerms (Direct k) code gain = term k gain ∷ []
+routeTerms Unsupported code gain = []
+
+abbrev pub bedTerms : Bed → List Term
+bedTerms b = routeTerms (routeOf (b .code)) (b .code) (b .gain)
+
+-- ---- samples
 
 -- Document 01: "PCM comes channel after channel, beds then objects"; "a sample is four bytes, little-endian": channel i at sample t, of n samples a channel
 abbrev pub sampleAt : List ℕ → ℕ → ℕ → ℕ → Float
@@ -26,20 +46,42 @@ abbrev pub samplesAt : List ℕ → ℕ → ℕ → ℕ → ℕ → List Float
 samplesAt pcm n zero i t = []
 samplesAt pcm n (suc k) i t = sampleAt pcm n i t ∷ samplesAt pcm n k (suc i) t
 
--- the sample scaled by each coefficient
-abbrev pub terms : List Float → Float → List Term
-terms [] x = []
-terms (w ∷ ws) x = record { coef = w; sample = x } ∷ terms ws x
+-- ---- sums
 
-abbrev pub bedTerms : ℕ → List Feed → (ℕ → Float) → List Term
-bedTerms c [] x = []
-bedTerms c (f ∷ fs) x = terms (f .adds c) (x (f .input)) ++ bedTerms c fs x
+-- the terms on channel c, each with the sample x
+abbrev pub scaledOn : ℕ → List Term → Float → List sums.Term
+scaledOn c [] x = []
+scaledOn c (t ∷ ts) x = cond (eqb c (t .channel)) (record { coef = t .coefficient; sample = x } ∷ scaledOn c ts x) (scaledOn c ts x)
 
-abbrev pub objectTerms : ℕ → List Panned → List Float → List Term
-objectTerms c [] xs = []
-objectTerms c (o ∷ os) [] = []
-objectTerms c (o ∷ os) (x ∷ xs) = terms (o .adds c) x ++ objectTerms c os xs
+-- a bed takes the input that matches it; without one, which refusal 13 keeps out, it adds nothing
+abbrev pub fedBy : ℕ → List Term → Found → (ℕ → Float) → List sums.Term
+fedBy c ts (At i) inputs = scaledOn c ts (inputs i)
+fedBy c ts Nothing inputs = []
+
+-- the beds in order; `codes` are the frame's, and `inputs` its bed channels' samples
+abbrev pub bedsOn : ℕ → List Bed → List ℕ → (ℕ → Float) → List sums.Term
+bedsOn c [] codes inputs = []
+bedsOn c (b ∷ bs) codes inputs = fedBy c (bedTerms b) (matching (b .code) codes) inputs ++ bedsOn c bs codes inputs
+
+-- the objects in order, each with its own sample
+abbrev pub objectsOn : ℕ → List Source → List Float → List sums.Term
+objectsOn c [] own = []
+objectsOn c (s ∷ ss) [] = []
+objectsOn c (s ∷ ss) (x ∷ own) = scaledOn c (objectTerms s) x ++ objectsOn c ss own
+
+-- What is heard at one sample: the beds and the objects, the frame's bed codes, and the samples of the frame's beds and objects. Silence has neither beds nor objects.
+pub record Moment : Type 0 where
+  pub beds : List Bed
+  pub objects : List Source
+  pub codes : List ℕ
+  pub inputs : ℕ → Float
+  pub own : List Float
 
 -- the sum of channel c: +0.0, then the beds' terms, then the objects'
-unfoldable pub sumAt : ℕ → List Feed → List Panned → (ℕ → Float) → List Float → Float
-sumAt c fs os beds own = total 0·0 (bedTerms c fs beds ++ objectTerms c os own)
+unfoldable pub heard : Moment → ℕ → Float
+unfolding objectTerms routeTerms
+heard m c = total 0·0 (bedsOn c (m .beds) (m .codes) (m .inputs) ++ objectsOn c (m .objects) (m .own))
+
+-- what enters the low-pass
+abbrev pub fed : Moment → Float
+fed m = heard m 3

@@ -9,8 +9,17 @@ use Rattle.lowpass.specs.Lowpass.{plusZero, output, next, new}
 use Rattle.lowpass.specs.declared.BiquadLowpassState.{BiquadLowpassState}
 use Rattle.limiter.specs.Limiter.{blockGain, scaled, grown}
 use Rattle.rules.specs.Parts.{1·0, Channels, none, joined, twelve, Places, floats, laid, zeros}
-use Rattle.rules.specs.Leaves.{Leaves, Panned, Feed, started}
-use Rattle.rules.specs.Mix.{Frame, sampleAt, samplesAt, sumAt}
+use Rattle.rules.specs.Leaves.{Leaves, started}
+use Rattle.rules.specs.Mix.{sampleAt, samplesAt, Moment, heard, fed}
+
+-- A frame that no refusal turned away: its rate, how many samples it has, its bed codes, the number of its objects, its PCM as bytes, and its updates.
+pub record Frame (U : Type 0) : Type 0 where
+  pub rate : ℕ
+  pub samples : ℕ
+  pub codes : List ℕ
+  pub objects : ℕ
+  pub pcm : List ℕ
+  pub updates : List U
 
 -- ---- the renderer
 
@@ -40,23 +49,6 @@ limited g f c = scaled (blockGain g (twelve f)) (f c)
 
 abbrev pub gainAfter : ℕ → ℕ → Float → Channels → Float
 gainAfter n rate g f = grown n rate (blockGain g (twelve f))
-
--- ---- a moment
-
--- What is heard at one sample: the beds and the objects as panned, the beds' samples and the objects' own. Silence has neither beds nor objects.
-pub record Moment : Type 0 where
-  pub feeds : List Feed
-  pub objects : List Panned
-  pub beds : ℕ → Float
-  pub own : List Float
-
--- the sum of channel c
-abbrev pub heard : Moment → ℕ → Float
-heard m c = sumAt c (m .feeds) (m .objects) (m .beds) (m .own)
-
--- what enters the low-pass
-abbrev pub fed : Moment → Float
-fed m = heard m 3
 
 -- the twelve channels at one sample, channel 3 through the low-pass
 abbrev pub row : Moment → BiquadLowpassState → Channels
@@ -113,9 +105,10 @@ module _ (L : Leaves) where
   abbrev pub moment : Frame (L .Update) → ℕ → L .Meta → Moment
   moment f t m =
       record {
-        feeds = cond (started L m) (L .feeds m (f .codes)) [];
+        beds = cond (started L m) (L .beds m) [];
         objects = cond (started L m) (L .objects m) [];
-        beds = λ i. sampleAt (f .pcm) (f .samples) i t;
+        codes = f .codes;
+        inputs = λ i. sampleAt (f .pcm) (f .samples) i t;
         own = samplesAt (f .pcm) (f .samples) (f .objects) (length (f .codes)) t;
       }
 

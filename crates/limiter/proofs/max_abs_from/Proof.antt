@@ -42,10 +42,11 @@ loop-again : tie.Need-loop-again Inv-loop μ-loop
 loop-again c =
     let at = c .before .before .before .loop in
     let xs = c .before .before .before .before .before .args .samples .now in
-    let x = getD xs (at .i) nan in
-    (omega arith,
-     raised-by (at .m) x (c .raise .result) (at .inv .1) (c .before .shared-slice-known2 .given (at .i)) (c .raise .ensures) .level,
-     from-next (at .m) (c .raise .result) xs (at .i) (c .before .before .loop-test .taken) (c .raise .ensures) ∙ at .inv .2)
+    let x = getD xs (at .i) nan in (
+      omega arith,
+      raised-by (at .m) x (c .raise .result) (at .inv .1) (c .before .shared-slice-known2 .given (at .i)) (c .raise .ensures) .level,
+      from-next (at .m) (c .raise .result) xs (at .i) (c .before .before .loop-test .taken) (c .raise .ensures) ∙ at .inv .2,
+    )
 
 returns : tie.Need-returns Inv-loop μ-loop
 returns c = from-end (c .before .loop .m) (c .before .before .before .args .samples .now) (c .before .loop .i) (c .loop-test .left) ∙ c .before .loop .inv .2
