@@ -2,4 +2,5 @@
 // each crate NAME (a module cannot have a crate's name).
 mod probe_lowpass;
 mod probe_panning;
+mod probe_vectors;
 mod probe_words;

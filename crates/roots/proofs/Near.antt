@@ -1,4 +1,4 @@
--- Where r - 1 / 2 is below the root and r + 1 / 2 is not, r is the nearest whole number. s stands for r + 1. Assumes nothing.
+-- Where r - 1 / 2 is below the root and r + 1 / 2 is not, r is the nearest whole number. Assumes nothing.
 use mathlib.Core.Path.{_≡_, sym, subst}
 use mathlib.Core.Logic.{inl, inr}
 use Prim.Native.Nat.{ℕ, _+_, _-_, _*_, _/_, _^_, _≤_, _<_}
@@ -9,19 +9,26 @@ use Rattle.roots.specs.Whole.{NearSquare, topFourth, NearFourth}
 use Rattle.roots.proofs.Closest.{le-or-lt}
 
 -- ---- the square root
-pub large-square : (m s : ℕ) → 2 ^ 46 ≤ m → m + s ≤ s * s → 8388608 < s
-large-square m s M h = elim (le-or-lt s 8388608) [ inr l ↦ l | inl l ↦ let k : s * s ≤ 8388608 * s = mul-le-mul-right s l in absurd (omega arith) ]
+pub large-square : (m r : ℕ) → 2 ^ 46 ≤ m → m ≤ r * r + r → 8388608 ≤ r
+large-square m r M h = elim (le-or-lt 8388608 r) [ inl l ↦ l | inr l ↦ let k : r * r ≤ 8388607 * r = mul-le-mul-right r (omega arith) in absurd (omega arith) ]
 
-pub near-square : (m r s : ℕ) → s ≡ r + 1 → 2 ^ 46 ≤ m → m + 2 ^ 24 ≤ 2 ^ 48 → r * r < m + r → m + s ≤ s * s → NearSquare m r
-near-square m r s e M H under over = record { low = omega (arith, large-square m s M over); high = high; under = under; over = next m r (subst (λ (x : ℕ). m + x ≤ x * x) e over) }
+pub near-square : (m r : ℕ) → 2 ^ 46 ≤ m → m + 2 ^ 24 ≤ 2 ^ 48 → r * r < m + r → m ≤ r * r + r → NearSquare m r
+near-square m r M H under over = record { low = large-square m r M over; high = high; under = under; over = over }
   where
-    next : (m r : ℕ) → m + (r + 1) ≤ (r + 1) * (r + 1) → m ≤ r * r + r
-    next m r h = omega arith
-
     high : r < 16777216
     high = elim (le-or-lt 16777216 r) [ inr l ↦ l | inl l ↦ let k : 16777216 * r ≤ r * r = mul-le-mul-right r l in absurd (omega arith) ]
 
--- ---- the fourth root
+-- what the test at one of two neighbours says of the other
+pub next-under : (m r : ℕ) → r * r + r < m → (r + 1) * (r + 1) < m + (r + 1)
+next-under m r h = omega arith
+
+pub last-over : (m r : ℕ) → 0 < r → m + r ≤ r * r → m ≤ (r - 1) * (r - 1) + (r - 1)
+last-over m r R h = let e : r - 1 + 1 ≡ r = omega arith in back m (r - 1) (subst (λ (x : ℕ). m + x ≤ x * x) (sym e) h)
+  where
+    back : (m q : ℕ) → m + (q + 1) ≤ (q + 1) * (q + 1) → m ≤ q * q + q
+    back m q h = omega arith
+
+-- ---- the fourth root; s stands for r + 1
 top-mono : {r s : ℕ} → r ≤ s → topFourth r ≤ topFourth s
 unfolding topFourth
 top-mono {r} {s} h = let x : 2 * r - 1 ≤ 2 * s - 1 = omega arith in upper (mul-le-mul (mul-le-mul x x) (mul-le-mul x x))

@@ -80,8 +80,7 @@ pub fn fourth_bits(b: u32) -> u32
     ensures { λ r. ⌜ (r < 0x7f80_0000) × (rootUnits 4 (unitsOf b) ≡ ofBits binary32 r) ⌝ }
 {
     let p = parts(b);
-    let m = p.m;
     let e = p.e;
-    let r = nearest_fourth(fourth_rest(m, e), near_fourth(m, e));
+    let r = nearest_fourth(fourth_rest(p.m, e), near_fourth(b as u64));
     ((e + 355) / 4 * 8388608 + r) as u32
 }

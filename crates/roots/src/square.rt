@@ -23,6 +23,14 @@ fn below_root(m: u64, r: u64) -> bool
     squared(r) < m + r
 }
 
+// Whether r + 1/2 is below it.
+fn under_root(m: u64, r: u64) -> bool
+    requires { ⌜ (m < 2 ^ 48) × (r ≤ 2 ^ 26) ⌝ }
+    ensures { λ t. ⌜ t ≡ ltb (r * r + r) m ⌝ }
+{
+    squared(r) + r < m
+}
+
 // The whole number nearest to the square root of m, by halving the range.
 fn root_by_halves(m: u64) -> u64
     requires { ⌜ (2 ^ 46 ≤ m) × (m + 2 ^ 24 ≤ 2 ^ 48) ⌝ }
@@ -46,8 +54,8 @@ fn nearest_root(m: u64, r: u64) -> u64
     requires { ⌜ (2 ^ 46 ≤ m) × (m + 2 ^ 24 ≤ 2 ^ 48) × (r < 2 ^ 25) ⌝ }
     ensures { λ r. ⌜ NearSquare m r ⌝ }
 {
-    if below_root(m, r + 1) {
-        if below_root(m, r + 2) {
+    if under_root(m, r) {
+        if under_root(m, r + 1) {
             return root_by_halves(m);
         }
         return r + 1;
@@ -75,8 +83,7 @@ pub fn root_bits(b: u32) -> u32
     ensures { λ r. ⌜ (r < 0x7f80_0000) × (rootUnits 2 (unitsOf b) ≡ ofBits binary32 r) ⌝ }
 {
     let p = parts(b);
-    let m = p.m;
     let e = p.e;
-    let r = nearest_root(even_rest(m, e), near_root(m, e));
+    let r = nearest_root(even_rest(p.m, e), near_root(b as u64));
     ((e + 103) / 2 * 8388608 + r) as u32
 }

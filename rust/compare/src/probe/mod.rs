@@ -3,4 +3,5 @@
 
 pub mod lowpass;
 pub mod panning;
+pub mod vectors;
 pub mod words;

@@ -1,0 +1,43 @@
+-- `vectors::update_source_position`: by whether the position is valid and the anchor moves. Assumes nothing.
+use borrow.Author.Needs.{needs}
+use borrow.Author.Tests.{not-true, not-false}
+use mathlib.Core.Path.{_∙_}
+use Rattle.vectors.specs.Target.{placed}
+use Rattle.vectors.proofs.update_source_position.Statement.{statement}
+use Rattle.vectors.proofs.update_source_position.Tie as tie
+
+kept-requires : tie.Need-kept-requires
+kept-requires c κs = search needs
+
+returns : tie.Need-returns
+unfolding placed
+returns c = c .kept .ensures ∙ rw (not-true (c .before .before .before .args .block .valid) (c .before .if1 .taken))
+
+movable-requires : tie.Need-movable-requires
+movable-requires c κs = search needs
+
+moved-requires : tie.Need-moved-requires
+moved-requires c κs = search needs
+
+returns-2 : tie.Need-returns-2
+unfolding placed
+returns-2 c = c .moved .ensures ∙ rw (not-false (c .before .before .before .before .before .args .block .valid) (c .before .before .before .if1 .left), ← c .before .before .movable .ensures, c .before .if2 .taken)
+
+kept-requires-2 : tie.Need-kept-requires-2
+kept-requires-2 c κs = search needs
+
+returns-3 : tie.Need-returns-3
+unfolding placed
+returns-3 c = c .kept2 .ensures ∙ rw (not-false (c .before .before .before .before .before .args .block .valid) (c .before .before .before .if1 .left), ← c .before .before .movable .ensures, c .before .if2 .left)
+
+pub update-source-position-spec : {M : Type 1} → statement M
+update-source-position-spec =
+    tie.close
+    (tie.spec
+    kept-requires
+    returns
+    movable-requires
+    moved-requires
+    returns-2
+    kept-requires-2
+    returns-3)

@@ -1,0 +1,4 @@
+pub mod Vectors
+pub mod Anchors
+pub mod Target
+pub mod Fit
