@@ -1,8 +1,0 @@
-// The coefficients of the source's `BiquadLowpassState`.
-pub struct Coefficients {
-    pub a1: f32,
-    pub a2: f32,
-    pub b0: f32,
-    pub b1: f32,
-    pub b2: f32,
-}
