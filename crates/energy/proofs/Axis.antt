@@ -7,11 +7,12 @@ use Prim.Native.Nat.{ℕ, _+_, _≤_, _<_}
 use native.Mathlib.Nat.{le-refl, le-of-lt, le-of-eq, le-antisymm}
 use native.Mathlib.Omega.{arith}
 use lib.Dec.{T, leb, leb→le, nleb→lt}
-use lib.Ieee.{Float, nan, inf, fin, binary32, fits, le, eq}
+use lib.Ieee.{Float, binary32, fits, le, eq}
 use Rattle.ieee.specs.Units.{F32, P, N}
 use Rattle.ieee.proofs.Compare.{le→, →le, →eq, eq→}
+use Rattle.panning.proofs.Corners714.{eq-finite}
 use Rattle.panning.specs.Choice.{keep, every, first, orElse, ge, last, below, above, end}
-use Rattle.panning.proofs.Lists.{In, Some, Each, keep→, →keep, every→, →every, first-in, orElse→, Filled, filled}
+use Rattle.energy.proofs.Lists.{In, Some, Each, keep→, →keep, every→, →every, first-in, orElse→, Filled, filled}
 
 -- ---- `le` and `ge` order the finite values
 pub record Order (r : Float → Float → Bool) : Type 0 where
@@ -142,15 +143,6 @@ module _ (c : ℕ → Float) (v : Float) (l : List ℕ) where
       one false h k = inr (last-some ge ge-order c (keep (λ s. not (le (c s) v)) l) (fine (λ s. not (le (c s) v))) (kept (λ s. not (le (c s) v)) (k tt)))
 
 -- ---- left and right of a row
--- a value that equals a finite one is finite
-pub eq-finite : (a v : Float) → F32 a → T (fits binary32 v) → T (eq a v) → F32 v
-unfolding eq
-eq-finite nan v f g h = absurd (f .fine)
-eq-finite (inf s) v f g h = absurd (f .fine)
-eq-finite (fin s m e) nan f g h = absurd h
-eq-finite (fin s m e) (inf t) f g h = absurd h
-eq-finite (fin s m e) (fin t n d) f g h = record { fine = tt; fit = g }
-
 orElse-left : (k l : List ℕ) {a : ℕ} → Some k → In a (orElse k l) → In a k
 unfolding orElse
 orElse-left [] l s m = absurd (List·Memᴰ·not-nil (s .1))
