@@ -2,5 +2,7 @@
 // each crate NAME (a module cannot have a crate's name).
 mod probe_lowpass;
 mod probe_panning;
+mod probe_ieee;
+mod probe_limiter;
 mod probe_vectors;
 mod probe_words;

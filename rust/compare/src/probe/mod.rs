@@ -3,5 +3,7 @@
 
 pub mod lowpass;
 pub mod panning;
+pub mod ieee;
+pub mod limiter;
 pub mod vectors;
 pub mod words;
