@@ -1,6 +1,6 @@
 -- What the test `passes` gives: the coefficients as fractions of whole numbers, in the box, with bounds on their size. Assumes nothing.
 use mathlib.Core.Path.{_≡_, refl, _∙_, ap, sym}
-use mathlib.Core.List.{List, [], _∷_}
+use mathlib.Core.List.{[], _∷_}
 use mathlib.Core.Bool.{Bool, true, false, cond, Bool·beq}
 use Prim.Native.Nat.{ℕ, zero, suc, _+_, _-_, _*_, _≤_}
 use native.Mathlib.Nat.{le-trans, mul-le-mul, le-of-mul-le-mul-right}
@@ -11,12 +11,12 @@ use lib.Ieee.{Float}
 use Rattle.ieee.specs.Units.{One, sign, mag}
 use Rattle.ieee.proofs.Ring.{var, con, _⊖_, _⊗_, neg, ring}
 use Rattle.ieee.proofs.Near.{Ratio}
-use Rattle.lowpass.specs.Bound.{every, steps, whole, boxed, tests, passes}
+use Rattle.lowpass.specs.Bound.{steps, whole, boxed, tests, passes}
 use Rattle.lowpass.specs.Lowpass.{BiquadLowpassState}
-use Rattle.lowpass.proofs.Form.{both}
+use Rattle.lowpass.proofs.Tests.{every, Every, parts}
 use Rattle.lowpass.proofs.Boxed.{InBox}
 
-pub record Coefficients (rate : ℕ) (a1 a2 b0 b1 b2 : Float) : Type 0 where
+pub record Passing (rate : ℕ) (a1 a2 b0 b1 b2 : Float) : Type 0 where
   pub α : ℕ
   pub A : ℕ
   pub k : ℕ
@@ -45,15 +45,6 @@ module _ {rate α A k : ℕ} (h : InBox rate α A k) where
     where
       fit : 7540 * 7540 * β ≤ 169624139315235782656 → β ≤ 281474976710656
       fit h = omega arith
-
--- ---- the tests, one by one
-abbrev Every : List Bool → Type 0
-Every [] = Unit
-Every (b ∷ bs) = T b × Every bs
-
-parts : (bs : List Bool) → T (every bs) → Every bs
-parts [] t = tt
-parts (b ∷ bs) t = let p : T b × T (every bs) = both b (every bs) t in (p .0, parts bs (p .1))
 
 -- ---- a coefficient
 abbrev signed : Bool → ℕ → ℤ
@@ -100,9 +91,9 @@ in-box rate α A β t =
     sum zero n h e = absurd (omega arith)
     sum (suc k) n h e = omega arith
 
-pub coefficients : (rate : ℕ) (f : BiquadLowpassState) → T (passes rate f) → Coefficients rate (f .a1) (f .a2) (f .b0) (f .b1) (f .b2)
+pub passing : (rate : ℕ) (f : BiquadLowpassState) → T (passes rate f) → Passing rate (f .a1) (f .a2) (f .b0) (f .b1) (f .b2)
 unfolding passes
-coefficients rate f t =
+passing rate f t =
     let p : Every (tests rate f) = parts (tests rate f) t in
     let α = steps 16777216 (f .a2) in
     let A = steps 16777216 (f .a1) in
