@@ -1,0 +1,8 @@
+// The coefficients of the source's `BiquadLowpassState`.
+pub struct Coefficients {
+    pub a1: f32,
+    pub a2: f32,
+    pub b0: f32,
+    pub b1: f32,
+    pub b2: f32,
+}
