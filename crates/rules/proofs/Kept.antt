@@ -12,7 +12,7 @@ use lib.ListN.{length, take, replicate, length-append}
 use lib.Seq.{length-take-le}
 use lib.Ieee.{Float, binary32, fits, toBits, ofBits}
 use lib.Ieee.Bits.{ofBits-toBits}
-use Rattle.ieee.specs.Units.{One, F32, P, N, Gain}
+use Rattle.ieee.specs.Units.{One, F32, Gain, Tame}
 use Rattle.ieee.specs.Bounds.{Bounded, All}
 use Rattle.ieee.proofs.Value.{one-pos}
 use Rattle.ieee.proofs.Constants.{one-f32, one-P, zero-f32}
@@ -20,7 +20,7 @@ use Rattle.lowpass.specs.Lowpass.{output, next, new}
 use Rattle.lowpass.proofs.Calm.{Calm, calm-next, output-bounded}
 use Rattle.lowpass.proofs.Rates.{calm-listed}
 use Rattle.angles.specs.Angle.{Listed}
-use Rattle.rules.specs.Parts.{1·0, Tame, Channels, none, joined, Places, floats, laid, zeros}
+use Rattle.rules.specs.Parts.{1·0, Channels, none, joined, Places, floats, laid, zeros}
 use Rattle.rules.specs.Leaves.{Leaves, Source, Bed, started}
 use Rattle.rules.specs.Mix.{sampleAt, Moment, heard, fed}
 use Rattle.rules.specs.Samples.{Frame, State, fresh, limited, row, applied, updated, slotted, moment, After, passed, sampled, framed, opened, pushed, flushed}
@@ -48,7 +48,7 @@ zeros-finite : (c : ℕ) → All Finite (zeros c)
 zeros-finite c = either (All Finite) (ltb c 12) (all-same Finite 64 0 zero-finite) tt
 
 zeros-long : (c : ℕ) → c < 12 → length (zeros c) ≡ 64
-zeros-long c h = ap (λ (b : Bool). length (cond b (replicate 64 0) [])) (borrow.Author.Tests.lt-ltb c 12 h)
+zeros-long c h = ap (λ (b : Bool). length {A = ℕ} (cond b (replicate 64 0) [])) (borrow.Author.Tests.lt-ltb c 12 h)
 
 module _ (L : Leaves) (B : Layout L) (F : Facts L B) where
   -- what refusals 3, 5, 6 and 8 leave of a frame

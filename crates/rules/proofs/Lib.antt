@@ -6,3 +6,7 @@ pub mod Sums
 pub mod Judged
 pub mod Limited
 pub mod Kept
+pub mod Frames
+pub mod Written
+pub mod Erased
+pub mod Blocks

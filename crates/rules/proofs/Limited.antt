@@ -24,17 +24,13 @@ use Rattle.rules.specs.Samples.{limited, gainAfter}
 use Rattle.rules.proofs.Judged.{rate-low, rate-high}
 
 -- the two ways of saying it
-tame : (x : Float) → units.Tame x → Tame x
+pub tame : (x : Float) → units.Tame x → Tame x
 tame x t =
     let p = one-P in
     record {
       low = →le (lib.Ieee.neg 1·0) x (neg-f32 1·0 one-f32) (t .f32) (omega (arith, neg-P 1·0 one-f32, neg-N 1·0 one-f32, t .deep));
       high = →le x 1·0 (t .f32) one-f32 (omega (arith, t .high));
     }
-
-all-tame : (xs : List Float) → All units.Tame xs → All Tame xs
-all-tame [] h = tt
-all-tame (x ∷ xs) h = (tame x (h .0), all-tame xs (h .1))
 
 module _ (f : Channels) (h : (c : ℕ) → All F32 (f c)) where
   all-twelve : All (All F32) (twelve f)
@@ -44,9 +40,9 @@ module _ (f : Channels) (h : (c : ℕ) → All F32 (f c)) where
     block : InRange g n rate (twelve f)
     block = limiter-in-range g n rate (twelve f) k all-twelve (le-trans few (rate-low l)) (lt-of-lt-of-le (lit< tt) (rate-low l)) (rate-high l)
 
-    pub limited-tame : (c : ℕ) → c < 12 → All Tame (limited g f c)
+    pub limited-tame : (c : ℕ) → c < 12 → All units.Tame (limited g f c)
     unfolding scaledBlock
-    limited-tame c q = all-tame (limited g f c) (between (λ c. All units.Tame (scaled (blockGain g (twelve f)) (f c))) 0 12 (block .samples) c zero-le (omega arith))
+    limited-tame c q = between (λ c. All units.Tame (scaled (blockGain g (twelve f)) (f c))) 0 12 (block .samples) c zero-le (omega arith)
 
     pub gain-kept : Gain (gainAfter n rate g f)
     gain-kept = block .next
