@@ -10,3 +10,6 @@ pub mod Frames
 pub mod Written
 pub mod Erased
 pub mod Blocks
+pub mod Moments
+pub mod Shapes
+pub mod Bass
