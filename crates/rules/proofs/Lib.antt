@@ -13,3 +13,6 @@ pub mod Blocks
 pub mod Moments
 pub mod Shapes
 pub mod Bass
+pub mod Clock
+pub mod Energy
+pub mod Pushes
