@@ -81,6 +81,21 @@ is-roomy stride bytes e =
     let c = and-true (eqb (stride % 64) 0) (leb 64 stride) (b .0) in
     record { whole = eqb-true (stride % 64) 0 (c .0); some = leb-true 64 stride (c .1); long = leb-true (48 * stride) bytes (a .1) }
 
+-- ---- the frame's length
+pub samples-fit : (a : Args) → sized a ≡ true → a .samples ≤ a .stride
+samples-fit a e =
+    let channels = length (a .codes) + a .objects in
+    let x1 = leb (a .samples) (a .stride) in
+    let x2 = leb (length (a .codes)) 18 in
+    let x3 = leb (a .objects) 16 in
+    let x4 = every (λ c. leb c 17) (a .codes) in
+    let x5 = eqb (length (a .pcm)) (4 * (channels * a .samples)) in
+    let y5 = and-true (x1 && x2 && x3 && x4 && x5) (eqb (a .samples) 0 || not (eqb channels 0)) e in
+    let y4 = and-true (x1 && x2 && x3 && x4) x5 (y5 .0) in
+    let y3 = and-true (x1 && x2 && x3) x4 (y4 .0) in
+    let y2 = and-true (x1 && x2) x3 (y3 .0) in
+    leb-true (a .samples) (a .stride) (and-true x1 x2 (y2 .0) .0)
+
 -- ---- a push
 module _ (L : Leaves) where
   -- the updates as 9 to 14 see them

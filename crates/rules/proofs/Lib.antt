@@ -16,3 +16,5 @@ pub mod Bass
 pub mod Clock
 pub mod Energy
 pub mod Pushes
+pub mod Called
+pub mod Theorem

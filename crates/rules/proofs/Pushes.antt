@@ -2,12 +2,12 @@
 use mathlib.Core.Path.{_≡_, refl, sym, ap, _∙_, subst}
 use mathlib.Core.Logic.{inl, inr}
 use mathlib.Core.Bool.{cond}
-use mathlib.Core.List.{List, [], _∷_}
-use Prim.Native.Nat.{ℕ, zero, suc, _+_, _≤_, _<_}
-use native.Mathlib.Nat.{le-trans, le-of-eq, not-suc-le-zero, zero-add}
+use mathlib.Core.List.{List, []}
+use Prim.Native.Nat.{ℕ, _+_, _≤_, _<_}
+use native.Mathlib.Nat.{le-trans, le-of-eq, zero-add}
 use native.Mathlib.Omega.{arith}
 use lib.Dec.{T}
-use lib.ListN.{length, getD}
+use lib.ListN.{length, List·getD-eq-default}
 use lib.Ieee.{eq}
 use Rattle.ieee.specs.Bounds.{All}
 use Rattle.words.specs.Words.{Bytes}
@@ -30,11 +30,6 @@ use Rattle.rules.proofs.Moments.{momentOf, moments-count, enters, each-
 use Rattle.rules.proofs.Shapes.{objects-match}
 use Rattle.rules.proofs.Bass.{Akin, same-bass, row-before, still-clear}
 use Rattle.rules.proofs.Energy.{squared, stilled}
-
-past : {A : Type 0} (xs : List A) (i : ℕ) (d : A) → length xs ≤ i → getD xs i d ≡ d
-past [] i d h = refl
-past (x ∷ xs) zero d h = absurd (not-suc-le-zero h)
-past (x ∷ xs) (suc i) d h = past xs i d (omega arith)
 
 module _ (L : Leaves) (B : Layout L) (F : Facts L B) (r : State L) (a : Args) (b : Bytes (a .pcm)) (m : Bytes (a .meta)) (rest : Rest L B F r) (e : found L r a ≡ clear) where
   abbrev f : Frame (L .Update)
@@ -75,7 +70,7 @@ module _ (L : Leaves) (B : Layout L) (F : Facts L B) (r : State L) (a : Args) (b
 
   hall : (t : ℕ) → All InHall (momentAt L r a t .objects)
   hall t = elim (le-or-lt (a .samples) t) [
-    | inl l ↦ subst (λ (x : Moment). All InHall (x .objects)) (sym (past (pushed L f r .moments) t silent (le-trans (le-of-eq count) l))) tt
+    | inl l ↦ subst (λ (x : Moment). All InHall (x .objects)) (sym (List·getD-eq-default (pushed L f r .moments) silent (le-trans (le-of-eq count) l))) tt
     | inr h ↦ hall-within t h
   ]
 
