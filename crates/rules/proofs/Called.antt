@@ -4,7 +4,7 @@ use mathlib.Core.Logic.{_⊎_, inl, inr}
 use mathlib.Core.Bool.{Bool, true, false}
 use mathlib.Core.List.{List, []}
 use Prim.Native.Nat.{ℕ, zero, suc, _+_, _*_, _%_, _/_, _≤_, _<_, zero-le}
-use native.Mathlib.Nat.{le-trans, le-of-eq, le-of-lt, not-suc-le-zero, eq-zero-or-pos}
+use native.Mathlib.Nat.{le-trans, le-of-eq, le-of-lt, not-suc-le-zero}
 use native.Mathlib.Omega.{arith}
 use borrow.Author.Tests.{eqb-false}
 use lib.Dec.{eqb, lit<}
@@ -19,10 +19,11 @@ use Rattle.rules.specs.Refusals.{Args, Found, clear, stop, room}
 use Rattle.rules.specs.Calls.{Call, push, flush, reset, Answer, refused, rendered, nothing, cleared, frameOf, found, Result, asked, drained, step}
 use Rattle.rules.specs.Block.{Layout, Outcome, left, outOf, strideOf, written}
 use Rattle.rules.specs.Claim.{ready, InRange, Lent}
-use Rattle.rules.proofs.Facts.{Facts}
+use Rattle.rules.proofs.Facts.{Facts, InRanges}
 use Rattle.rules.proofs.Judged.{Passed, is-passed, Roomy, is-roomy, samples-fit}
 use Rattle.rules.proofs.Kept.{Steady, Good, Idle, Rest, Fine, fresh-rest}
 use Rattle.rules.proofs.Frames.{Drained, pushed-fine, flushed-fine}
+use Rattle.rules.proofs.Ranged.{fresh-ranged, pushed-ranged, flushed-ranged}
 use Rattle.rules.proofs.Written.{written-tame, length-written}
 
 -- whole blocks of what was pending, below a block, and of at most a stride of samples
@@ -47,14 +48,14 @@ module _ (L : Leaves) (B : Layout L) (F : Facts L B) where
 
   pub record Called (c : Call) (x : Result L) : Type 0 where
     pub rest : Rest L B F (x .next)
-    pub ranged : F .Ranged (x .next)
+    pub ranged : InRanges F (x .next)
     pub range : (b : List ℕ) → InRange (strideOf c) (outOf c) (left L B (x .answer) (x .next) (outOf c) (strideOf c) b)
 
   steady : {r : State L} → Rest L B F r → Steady L B F r
   steady (inl g) = g .steady
   steady (inr g) = g .steady
 
-  module _ (r : State L) (rest : Rest L B F r) (ranged : F .Ranged r) where
+  module _ (r : State L) (rest : Rest L B F r) (ranged : InRanges F r) where
     asked-called : (a : Args) → Lent (push a) → (v : Found) → found L r a ≡ v → Called (push a) (asked L v a r)
     asked-called a h (stop n x y) e = record { rest = rest; ranged = ranged; range = λ b. quiet (a .stride) (a .out) (left L B (refused n x y) r (a .out) (a .stride) b) refl refl }
     asked-called a h clear e =
@@ -64,7 +65,7 @@ module _ (L : Leaves) (B : Layout L) (F : Facts L B) where
         let y = pushed L (frameOf L a) r in
         record {
           rest = inr (d .next);
-          ranged = F .push r a (h .0) (h .1) (h .3) ranged e;
+          ranged = pushed-ranged L B F r a (h .1) p ranged;
           range = λ b. given-range (y .given) (64 * d .blocks) (a .stride) (y .next) (a .out) b (blocks-fit (d .blocks) (y .next .pending) (r .pending) (a .samples) (a .stride) (d .all) (steady rest .few) (samples-fit a (p .sized)) (q .whole)) (q .long) (d .given) (d .length);
         }
 
@@ -86,14 +87,11 @@ module _ (L : Leaves) (B : Layout L) (F : Facts L B) where
         let y = flushed L r in
         record {
           rest = inr (d .next);
-          ranged = F .flush r ranged (some (eqb-false (r .pending) 0 q));
+          ranged = flushed-ranged L B F r ranged;
           range = λ b. given-range (y .given) (r .pending) stride (y .next) out b (le-trans (le-of-lt (g .steady .few)) (w .some)) (w .long) (d .given) (d .length);
         }
-      where
-        some : (r .pending ≡ 0 → ⊥) → 0 < r .pending
-        some n = elim (eq-zero-or-pos (r .pending)) [ inl z ↦ absurd (n z) | inr p ↦ p ]
 
     pub called : (c : Call) → Lent c → Called c (step L r c)
     called (push a) h = asked-called a h (found L r a) refl
     called (flush out stride) h = drained-called out stride (room stride (length out)) (eqb (r .pending) 0) refl refl
-    called reset h = record { rest = fresh-rest L B F; ranged = F .new; range = λ b. quiet 0 [] (left L B cleared (fresh L) [] 0 b) refl refl }
+    called reset h = record { rest = fresh-rest L B F; ranged = fresh-ranged L B F; range = λ b. quiet 0 [] (left L B cleared (fresh L) [] 0 b) refl refl }

@@ -83,13 +83,13 @@ module _ (L : Leaves) (B : Layout L) (F : Facts L B) where
   Rest r = Idle r ⊎ Good r
 
   pub fresh-rest : Rest (fresh L)
-  fresh-rest = inl (record { rate = refl; none = refl; steady = record { meta = F .blank; gain = one-gain; places = zeros-finite; long = zeros-long; few = lit< tt } })
+  fresh-rest = inl (record { rate = refl; none = refl; steady = record { meta = F .sound-blank; gain = one-gain; places = zeros-finite; long = zeros-long; few = lit< tt } })
 
   -- ---- updates, slots, a rate
   applied-good : (t : ℕ) (u : L .Update) (r : State L) → F .Checked u → Good r → Good (applied L t u r)
   applied-good t u r k g =
       let s = g .steady in
-      record { rate = g .rate; calm = g .calm; steady = record { meta = F .apply (r .position) u (r .meta) k (s .meta); gain = s .gain; places = s .places; long = s .long; few = s .few } }
+      record { rate = g .rate; calm = g .calm; steady = record { meta = F .sound-apply (r .position) u (r .meta) k (s .meta); gain = s .gain; places = s .places; long = s .long; few = s .few } }
 
   updated-good : (t : ℕ) (us : List (L .Update)) (r : State L) → All (F .Checked) us → Good r → Good (updated L t us r)
   updated-good t [] r k g = g
@@ -102,7 +102,7 @@ module _ (L : Leaves) (B : Layout L) (F : Facts L B) where
         rate = g .rate;
         calm = g .calm;
         steady = record {
-          meta = either (F .Sound) (started L (r .meta) && eqb (r .phase) 0) (F .slot (r .start) (r .meta) (s .meta)) (s .meta);
+          meta = either (F .Sound) (started L (r .meta) && eqb (r .phase) 0) (F .sound-slot (r .start) (r .meta) (s .meta)) (s .meta);
           gain = s .gain;
           places = s .places;
           long = s .long;

@@ -7,13 +7,15 @@ pub mod Judged
 pub mod Limited
 pub mod Kept
 pub mod Frames
+pub mod Fitting
+pub mod Ranged
 pub mod Written
 pub mod Erased
 pub mod Blocks
 pub mod Moments
 pub mod Shapes
-pub mod Bass
 pub mod Clock
+pub mod Bass
 pub mod Energy
 pub mod Pushes
 pub mod Called

@@ -9,8 +9,9 @@ use Rattle.rules.specs.Samples.{State, fresh}
 use Rattle.rules.specs.Calls.{Call, push, flush, reset, step, final}
 use Rattle.rules.specs.Block.{Layout, Outcome, outOf, strideOf, left, made, finalOn, Seen, seen, seenOn, told}
 use Rattle.rules.specs.Claim.{InRange, Lent, AllLent, CallHolds, AllHold, AllInRange, Demand3, EveryList}
-use Rattle.rules.proofs.Facts.{Facts}
+use Rattle.rules.proofs.Facts.{Facts, InRanges}
 use Rattle.rules.proofs.Kept.{Rest, fresh-rest}
+use Rattle.rules.proofs.Ranged.{fresh-ranged}
 use Rattle.rules.proofs.Called.{called}
 use Rattle.rules.proofs.Pushes.{push-holds}
 use Rattle.rules.proofs.Erased.{forgotten, same}
@@ -29,7 +30,7 @@ module _ (L : Leaves) (B : Layout L) (F : Facts L B) where
     block : finalOn L B (B .encode r) cs ≡ B .encode (final L r cs)
     pushes : AllHold L r cs
 
-  runs : (cs : List Call) (r : State L) → Rest L B F r → F .Ranged r → AllLent cs → Run r cs
+  runs : (cs : List Call) (r : State L) → Rest L B F r → InRanges F r → AllLent cs → Run r cs
   runs [] r g k h = record { range = tt; seen = refl; block = refl; pushes = tt }
   runs (c ∷ cs) r g k h =
       let x = step L r c in
@@ -47,7 +48,7 @@ module _ (L : Leaves) (B : Layout L) (F : Facts L B) where
 
   from-fresh : (cs : List Call) → AllLent cs → Demand3 L B (B .encode (fresh L)) cs
   from-fresh cs h =
-      let n = runs cs (fresh L) (fresh-rest L B F) (F .new) h in
+      let n = runs cs (fresh L) (fresh-rest L B F) (fresh-ranged L B F) h in
       record {
         start = refl;
         range = n .range;
