@@ -19,4 +19,5 @@ pub mod Bass
 pub mod Energy
 pub mod Pushes
 pub mod Called
+pub mod Keeps
 pub mod Theorem
