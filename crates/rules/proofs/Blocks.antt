@@ -1,6 +1,6 @@
 -- On the block of a renderer a call is what the rules say of the renderer, and leaves the next renderer's block; refused calls count as never sent, to the byte. Assumes nothing beyond `Facts`.
 use Prim.Native.Nat.{ℕ}
-use mathlib.Core.Path.{_≡_, refl, sym, ap, ap₂, _∙_, subst}
+use mathlib.Core.Path.{_≡_, refl, sym, ap, _∙_, subst}
 use mathlib.Core.Bool.{Bool, true, false, cond}
 use mathlib.Core.List.{List, [], _∷_}
 use lib.Dec.{T, eqb}
@@ -10,7 +10,7 @@ use Rattle.rules.specs.Leaves.{Leaves}
 use Rattle.rules.specs.Samples.{State, fresh}
 use Rattle.rules.specs.Refusals.{Args, Found, clear, stop, room}
 use Rattle.rules.specs.Calls.{Call, push, flush, reset, Answer, refused, rendered, nothing, cleared, found, Result, isRefused, asked, drained, step}
-use Rattle.rules.specs.Block.{Layout, Outcome, left, outOf, strideOf, takes, made, runOn, finalOn, keptOn, acceptedOn, Seen, seen}
+use Rattle.rules.specs.Block.{Layout, Outcome, left, outOf, strideOf, takes, made, runOn, finalOn, keptOn, acceptedOn, seen}
 use Rattle.rules.proofs.Facts.{Facts, InRanges}
 
 -- what an answer says of the renderer after it

@@ -1,5 +1,5 @@
 -- What the theorem over every list of calls takes from the crates `timed`, `records` and `store`. All else is taken from the proofs of the crates below. Assumes nothing.
-use Prim.Native.Nat.{ℕ, _≤_, _<_}
+use Prim.Native.Nat.{ℕ, _≤_}
 use mathlib.Core.Path.{_≡_}
 use mathlib.Core.Bool.{true, false}
 use mathlib.Core.List.{List}

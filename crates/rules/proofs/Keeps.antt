@@ -1,7 +1,7 @@
 -- Every block that an accepted call leaves lies within its ranges, whatever bytes the block before it was. Assumes nothing beyond `Facts`.
-use mathlib.Core.Path.{_≡_, refl, sym, ap, _∙_, subst}
+use mathlib.Core.Path.{_≡_, refl, subst}
 use mathlib.Core.Bool.{Bool, true, false, cond}
-use mathlib.Core.List.{List, []}
+use mathlib.Core.List.{List}
 use Prim.Native.Nat.{ℕ}
 use lib.Dec.{T, eqb}
 use lib.ListN.{length}
@@ -10,7 +10,7 @@ use Rattle.rules.specs.Leaves.{Leaves}
 use Rattle.rules.specs.Samples.{State, fresh}
 use Rattle.rules.specs.Refusals.{Args, Found, clear, stop, room}
 use Rattle.rules.specs.Calls.{Call, push, flush, reset, Answer, refused, rendered, nothing, cleared, isRefused, found, Result, asked, drained, step}
-use Rattle.rules.specs.Block.{Layout, Outcome, left, outOf, strideOf, takes, made}
+use Rattle.rules.specs.Block.{Layout, Outcome, left, outOf, strideOf, takes}
 use Rattle.rules.specs.Claim.{Lent, Keeps}
 use Rattle.rules.proofs.Facts.{Facts, InRanges}
 use Rattle.rules.proofs.Judged.{is-passed}

@@ -5,6 +5,7 @@ pub mod Terms
 pub mod Sums
 pub mod Judged
 pub mod Limited
+pub mod Clock
 pub mod Kept
 pub mod Frames
 pub mod Fitting
@@ -14,7 +15,6 @@ pub mod Erased
 pub mod Blocks
 pub mod Moments
 pub mod Shapes
-pub mod Clock
 pub mod Bass
 pub mod Energy
 pub mod Pushes

@@ -3,24 +3,22 @@ use mathlib.Core.Path.{_≡_, refl, sym, ap, _∙_, subst}
 use mathlib.Core.Logic.{inl, inr}
 use mathlib.Core.Bool.{Bool, true, false, cond, _||_}
 use mathlib.Core.List.{List, []}
-use Prim.Native.Nat.{ℕ, _+_, _≤_, _<_}
+use Prim.Native.Nat.{ℕ, _+_, _<_}
 use native.Mathlib.Nat.{le-trans, le-of-eq, zero-add}
 use native.Mathlib.Omega.{arith}
 use borrow.Author.Tests.{eqb-true}
-use lib.Dec.{T, eqb}
+use lib.Dec.{eqb}
 use lib.ListN.{length, List·getD-eq-default}
-use lib.Ieee.{eq}
 use Rattle.ieee.specs.Bounds.{All}
 use Rattle.words.specs.Words.{Bytes}
 use Rattle.roots.proofs.Closest.{le-or-lt}
-use Rattle.rules.specs.Parts.{0·0}
-use Rattle.rules.specs.Leaves.{Leaves, Source, started}
+use Rattle.rules.specs.Leaves.{Leaves, started}
 use Rattle.rules.specs.Mix.{Moment, samplesAt, fed}
 use Rattle.rules.specs.Samples.{Frame, State, slotted, updated, sampled, opened, pushed}
 use Rattle.rules.specs.Refusals.{Args, clear, unless}
 use Rattle.rules.specs.Calls.{frameOf, found}
 use Rattle.rules.specs.Block.{Layout}
-use Rattle.rules.specs.Claim.{silent, nobody, Squares, Replaced, withPcm, momentAt, objectAt, PushHolds}
+use Rattle.rules.specs.Claim.{silent, nobody, Replaced, withPcm, momentAt, objectAt, PushHolds}
 use Rattle.rules.proofs.Lists.{all-at}
 use Rattle.rules.proofs.Facts.{InHall, Facts}
 use Rattle.rules.proofs.Judged.{Passed, is-passed, then-clear, unless-clear}
@@ -29,7 +27,7 @@ use Rattle.rules.proofs.Frames.{admitted, sampled-fine}
 use Rattle.rules.proofs.Clock.{Alike, alike-self, met-alike, passed-alike}
 use Rattle.rules.proofs.Moments.{momentOf, moments-count, rate-kept, enters, each-moment, each-pair}
 use Rattle.rules.proofs.Shapes.{objects-match}
-use Rattle.rules.proofs.Bass.{Akin, same-bass, row-before, still-clear}
+use Rattle.rules.proofs.Bass.{same-bass, row-before, still-clear}
 use Rattle.rules.proofs.Energy.{squared, stilled}
 
 module _ (L : Leaves) (B : Layout L) (F : Facts L B) (r : State L) (a : Args) (b : Bytes (a .pcm)) (m : Bytes (a .meta)) (rest : Rest L B F r) (e : found L r a ≡ clear) where

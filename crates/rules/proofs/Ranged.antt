@@ -5,9 +5,9 @@ use mathlib.Core.Bool.{Bool, true, false, cond, not, _&&_, _||_}
 use mathlib.Core.List.{List, [], _∷_}
 use Prim.Native.Nat.{ℕ, zero, suc, _+_, _≤_, _<_, zero-le}
 use native.Mathlib.Omega.{arith}
-use borrow.Author.Tests.{leb-true, leb-false, eqb-false, lt-ltb, le-ltb}
+use borrow.Author.Tests.{leb-true, leb-false, eqb-false, le-ltb}
 use lib.Dec.{T, eqb, leb, ltb, lit≤, lit<, eqb·suc-zero}
-use lib.ListN.{length, replicate}
+use lib.ListN.{replicate}
 use lib.Ieee.{binary32, fits}
 use lib.Ieee.Fits.{sub-fits}
 use Rattle.ieee.specs.Bounds.{All}
@@ -20,10 +20,11 @@ use Rattle.rules.specs.Refusals.{Args, listed, lacking, metaAfter, lacki
 use Rattle.rules.specs.Ranges.{Fits, FilterFits, Ranged}
 use Rattle.rules.specs.Calls.{frameOf}
 use Rattle.rules.specs.Block.{Layout}
-use Rattle.rules.proofs.Lists.{either, length-laid}
+use Rattle.rules.proofs.Lists.{either, length-laid, zeros-long, few-left}
 use Rattle.rules.proofs.Facts.{Facts}
 use Rattle.rules.proofs.Fitting.{heard-fits, grown-fits, new-fits, laid-words, laid-none, same-words, row-fits}
 use Rattle.rules.proofs.Judged.{Passed}
+use Rattle.rules.proofs.Clock.{untouched}
 
 module _ (L : Leaves) (B : Layout L) (F : Facts L B) where
   abbrev R : State L → Type 0
@@ -41,7 +42,7 @@ module _ (L : Leaves) (B : Layout L) (F : Facts L B) where
     meta = F .within-blank;
     pending = lit< tt;
     idle = λ e. refl;
-    long = λ c h. ap (λ (b : Bool). length {A = ℕ} (cond b (replicate 64 0) [])) (lt-ltb c 12 h);
+    long = zeros-long;
     words = λ c. either Words (ltb c 12) (same-words 64 0 (lit< tt)) tt;
     none = λ c h. ap (λ (b : Bool). cond b (replicate 64 0) []) (le-ltb c 12 h);
   }
@@ -99,17 +100,13 @@ module _ (L : Leaves) (B : Layout L) (F : Facts L B) where
         gain = either Fits (leb 64 (suc (r .pending))) (grown-fits 64 (r .rate) _) (g .gain);
         filter = record { a1 = g .filter .a1; a2 = g .filter .a2; b0 = g .filter .b0; b1 = g .filter .b1; b2 = g .filter .b2; x1 = heard-fits m 3; x2 = g .filter .x1; y1 = sub-fits binary32 _ _; y2 = g .filter .y1 };
         meta = F .within-later (r .position) (suc (r .position)) (r .meta) (omega arith) (g .meta);
-        pending = few-left (leb 64 (suc (r .pending))) refl;
+        pending = few-left (r .pending) (leb 64 (suc (r .pending))) refl;
         idle = λ e. absurd (subst T (sym l ∙ ap listed e) tt);
         long = λ c k. length-laid (r .pending) (row m (r .filter) c) (r .places c) ∙ g .long c k;
         words = λ c. laid-words (r .pending) (row m (r .filter) c) (r .places c) (row-fits m (r .filter) c) (g .words c);
         none = λ c k. ap (laid (r .pending) (row m (r .filter) c)) (g .none c k) ∙ laid-none (r .pending) (row m (r .filter) c);
       }
     where
-      few-left : (b : Bool) → leb 64 (suc (r .pending)) ≡ b → cond b 0 (suc (r .pending)) < 64
-      few-left true e = lit< tt
-      few-left false e = leb-false 64 (suc (r .pending)) e
-
       slot-kept : (run last : Bool) → leb 64 (suc (r .phase)) ≡ last
           → (cond run (cond last 0 (suc (r .phase))) (r .phase) < 64) × (cond (run && last) (r .start + 64) (r .start) + cond run (cond last 0 (suc (r .phase))) (r .phase) ≤ suc (r .position))
       slot-kept true true e = let p = g .phase in let s = g .start in let k = leb-true 64 (suc (r .phase)) e in (lit< tt, omega arith)
@@ -140,14 +137,6 @@ module _ (L : Leaves) (B : Layout L) (F : Facts L B) where
   slotted-met : (m : L .Meta) (r : State L) → Met m r → Met m (slotted L r)
   slotted-met m r g = (slotted-ranged r (g .0), either (F .Like m) (started L (r .meta) && eqb (r .phase) 0) (F .like-slot (r .start) m (r .meta) (g .1)) (g .1))
 
-  updated-rate : (t : ℕ) (us : List (L .Update)) (r : State L) → (updated L t us r .rate ≡ r .rate) × (updated L t us r .position ≡ r .position)
-  updated-rate t [] r = (refl, refl)
-  updated-rate t (u ∷ us) r =
-      let s = cond (eqb (L .offset u) t) (applied L t u r) r in
-      let h = updated-rate t us s in
-      let k : (s .rate ≡ r .rate) × (s .position ≡ r .position) = either (λ (s : State L). (s .rate ≡ r .rate) × (s .position ≡ r .position)) (eqb (L .offset u) t) (refl, refl) (refl, refl) in
-      (h .0 ∙ k .0, h .1 ∙ k .1)
-
   -- ---- a frame
   framed-ranged : (f : Frame (L .Update)) → All (F .Checked) (f .updates) → (n t : ℕ) (r : State L) (m : L .Meta) → lackingFrom L n t (f .updates) m ≡ false → listed (r .rate) ≡ true → r .position + n ≤ 1099511627776 → Met m r → R (framed L f n t r .next)
   framed-ranged f k zero t r m e l h g = g .0
@@ -155,27 +144,30 @@ module _ (L : Leaves) (B : Layout L) (F : Facts L B) where
       let p = or-false (lacking L t (f .updates) m) (lackingFrom L n (suc t) (f .updates) (metaAfter L t (f .updates) m)) e in
       let s = slotted L (updated L t (f .updates) r) in
       let i = slotted-met (metaAfter L t (f .updates) m) (updated L t (f .updates) r) (updated-ranged t (f .updates) r m k (p .0) g) in
-      let u = updated-rate t (f .updates) r in
-      let w : listed (s .rate) ≡ true = ap listed (u .0) ∙ l in
-      let v = u .1 in
+      let u = untouched L t (f .updates) r in
+      let w : listed (s .rate) ≡ true = ap listed (u .rate) ∙ l in
+      let v = u .position in
       framed-ranged f k n (suc t) (sampled L f t r .next) (metaAfter L t (f .updates) m) (p .1) w (omega arith)
       (passed-ranged (moment L f t (s .meta)) s w (omega arith) (i .0), i .1)
 
   opened-ranged : (rate : ℕ) (r : State L) → listed rate ≡ true → R r → R (opened L rate r) × (listed (opened L rate r .rate) ≡ true)
-  opened-ranged rate r l g = (record {
-    rate = inr now;
-    position = g .position;
-    phase = g .phase;
-    start = g .start;
-    gain = g .gain;
-    filter = either FilterFits (eqb (r .rate) 0) (new-fits rate) (g .filter);
-    meta = g .meta;
-    pending = g .pending;
-    idle = λ e. absurd (subst T (sym now ∙ ap listed e) tt);
-    long = g .long;
-    words = g .words;
-    none = g .none;
-  }, now)
+  opened-ranged rate r l g = (
+    record {
+      rate = inr now;
+      position = g .position;
+      phase = g .phase;
+      start = g .start;
+      gain = g .gain;
+      filter = either FilterFits (eqb (r .rate) 0) (new-fits rate) (g .filter);
+      meta = g .meta;
+      pending = g .pending;
+      idle = λ e. absurd (subst T (sym now ∙ ap listed e) tt);
+      long = g .long;
+      words = g .words;
+      none = g .none;
+    },
+    now,
+  )
     where
       at : (b : Bool) → eqb (r .rate) 0 ≡ b → (r .rate ≡ 0) ⊎ (listed (r .rate) ≡ true) → listed (cond b rate (r .rate)) ≡ true
       at true e w = l

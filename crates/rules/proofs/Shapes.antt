@@ -2,17 +2,17 @@
 use mathlib.Core.Path.{_≡_, refl, sym, ap, _∙_, subst}
 use mathlib.Core.Logic.{_⊎_, inl, inr}
 use mathlib.Core.Bool.{Bool, true, false, cond, not, _&&_, _||_}
-use mathlib.Core.List.{List, [], _∷_, map}
-use Prim.Native.Nat.{ℕ, zero, suc, _+_, _≤_, _<_}
+use mathlib.Core.List.{List, [], _∷_}
+use Prim.Native.Nat.{ℕ, zero, suc, _+_, _<_}
 use native.Mathlib.Nat.{not-suc-le-zero}
 use native.Mathlib.Omega.{arith}
 use borrow.Author.Tests.{eqb-true}
 use lib.Dec.{T, eqb}
 use lib.ListN.{length}
-use Rattle.rules.specs.Leaves.{Leaves, Source, Shape, started}
+use Rattle.rules.specs.Leaves.{Leaves, Shape, started}
 use Rattle.rules.specs.Mix.{Moment}
-use Rattle.rules.specs.Samples.{Frame, State, applied, updated, slotted, moment, sampled, framed, opened, pushed}
-use Rattle.rules.specs.Refusals.{Args, Found, clear, stop, _then_, unless, Sent, objectsMatch, countsAt, shapeAt, mixes, walk, later, none}
+use Rattle.rules.specs.Samples.{Frame, State, applied, updated, slotted, sampled, opened, pushed}
+use Rattle.rules.specs.Refusals.{Args, clear, _then_, unless, Sent, objectsMatch, countsAt, shapeAt, mixes, walk, later, none}
 use Rattle.rules.specs.Calls.{frameOf}
 use Rattle.rules.specs.Block.{Layout}
 use Rattle.rules.specs.Claim.{momentAt}

@@ -1,22 +1,21 @@
 -- Demand 3: one claim about a whole list of calls, from a block that reset has filled. Assumes nothing.
-use Prim.Native.Nat.{ℕ, zero, suc, _+_, _*_, _≤_, _<_}
+use Prim.Native.Nat.{ℕ, suc, _+_, _*_, _≤_, _<_}
 use mathlib.Core.Path.{_≡_}
 use mathlib.Core.Logic.{_⊎_}
 use mathlib.Core.Bool.{true, false}
 use mathlib.Core.List.{List, [], _∷_}
 use lib.Dec.{T}
 use lib.ListN.{length, getD}
-use lib.Ieee.{Float, eq}
+use lib.Ieee.{eq}
 use Rattle.words.specs.Words.{Bytes, floatAt}
 use Rattle.mixing.specs.Samples.{allPass}
 use Rattle.energy.specs.Facts.{squareSum, AddsUp, apart, Each}
-use Rattle.panning.specs.Terms.{Term}
 use Rattle.panning.specs.Table.{between, 8·0}
 use Rattle.rules.specs.Parts.{0·0, Tame}
 use Rattle.rules.specs.Leaves.{Leaves, Source}
 use Rattle.rules.specs.Mix.{Moment, objectTerms, samplesAt, fed}
-use Rattle.rules.specs.Samples.{Frame, State, fresh, opened, framed, pushed}
-use Rattle.rules.specs.Refusals.{Args, Found, clear}
+use Rattle.rules.specs.Samples.{State, fresh, opened, framed, pushed}
+use Rattle.rules.specs.Refusals.{Args, clear}
 use Rattle.rules.specs.Calls.{Call, push, flush, reset, Answer, refused, rendered, nothing, cleared, isRefused, frameOf, found, step, run, final, kept, accepted}
 use Rattle.rules.specs.Block.{Layout, Outcome, strideOf, outOf, made, runOn, finalOn, keptOn, acceptedOn, seenOn, told}
 

@@ -1,10 +1,10 @@
 -- The ranges of a renderer between calls. Document 01: "Stream positions lie from 0 to 2^40, .. pending samples and slot phase below 64, the slot's start plus phase at most the stream's
 -- position, .. nothing pending without a rate, other fields as in frames; every block that an accepted call leaves lies within these." Assumes nothing.
-use Prim.Native.Nat.{ℕ, _+_, _^_, _≤_, _<_}
+use Prim.Native.Nat.{ℕ, _+_, _≤_, _<_}
 use mathlib.Core.Path.{_≡_}
 use mathlib.Core.Logic.{_⊎_}
 use mathlib.Core.Bool.{true}
-use mathlib.Core.List.{List, []}
+use mathlib.Core.List.{[]}
 use lib.Dec.{T}
 use lib.ListN.{length}
 use lib.Ieee.{Float, binary32, fits}
