@@ -39,21 +39,21 @@ pub record Facts (L : Leaves) (B : Layout L) : Type 1 where
   pub sound-slot : (n : ℕ) (m : L .Meta) → Sound m → Sound (L .slot n m)
   pub mixable : (m : L .Meta) → Sound m → Mixable (L .beds m) (L .objects m)
   -- the shape after an update is the update's; a slot keeps it; it counts the objects
-  pub shape-apply : (n : ℕ) (u : L .Update) (m : L .Meta) → L .shape (L .apply n u m) ≡ L .sent u
-  pub shape-slot : (n : ℕ) (m : L .Meta) → L .shape (L .slot n m) ≡ L .shape m
-  pub shape-objects : (m : L .Meta) → started L m ≡ true → length (L .objects m) ≡ L .shape m .objects
-  -- two timed states whose elements have as many blocks, objects and flags: refusal 7 and updates go by these counts alone, and a slot keeps them
-  pub Like : L .Meta → L .Meta → Type 0
-  pub like-self : (m : L .Meta) → Like m m
-  pub like-apply : (n k : ℕ) (u : L .Update) (m o : L .Meta) → Like m o → Like (L .apply n u m) (L .apply k u o)
-  pub like-slot : (n : ℕ) (m o : L .Meta) → Like m o → Like m (L .slot n o)
-  pub like-lacks : (u : L .Update) (m o : L .Meta) → Like m o → L .lacks u m ≡ L .lacks u o
+  pub shape-apply : (n : ℕ) (u : L .Update) (m : L .Meta) → Checked u → Sound m → L .shape (L .apply n u m) ≡ L .sent u
+  pub shape-slot : (n : ℕ) (m : L .Meta) → Sound m → L .shape (L .slot n m) ≡ L .shape m
+  pub shape-objects : (m : L .Meta) → Sound m → started L m ≡ true → length (L .objects m) ≡ L .shape m .objects
   -- the timed state's ranges at a stream position, gains of any bits
   pub Within : ℕ → L .Meta → Type 0
   pub within-blank : Within 0 (L .blank)
   pub within-later : (n k : ℕ) (m : L .Meta) → n ≤ k → Within n m → Within k m
   pub within-apply : (n : ℕ) (u : L .Update) (m : L .Meta) → n ≤ 1099511627776 → Checked u → L .lacks u m ≡ false → Within n m → Within n (L .apply n u m)
   pub within-slot : (n start : ℕ) (m : L .Meta) → start ≤ n → n ≤ 1099511627776 → Within n m → Within n (L .slot start m)
+  -- two timed states whose elements have as many blocks, objects and flags: refusal 7 and updates go by these counts alone, and a slot keeps them
+  pub Like : L .Meta → L .Meta → Type 0
+  pub like-self : (n : ℕ) (m : L .Meta) → Within n m → Like m m
+  pub like-apply : (n k : ℕ) (u : L .Update) (m o : L .Meta) → Checked u → Like m o → Like (L .apply n u m) (L .apply k u o)
+  pub like-slot : (n : ℕ) (m o : L .Meta) → Like m o → Like m (L .slot n o)
+  pub like-lacks : (u : L .Update) (m o : L .Meta) → Checked u → Like m o → L .lacks u m ≡ L .lacks u o
   -- the block of a renderer in its ranges is as long as it should be, valid, and gives the renderer back; a valid block holds a renderer in its ranges
   pub size : (r : State L) → Ranged L Within r → length (B .encode r) ≡ B .size
   pub valid : (r : State L) → Ranged L Within r → B .valid (B .encode r) ≡ true

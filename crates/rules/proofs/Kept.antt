@@ -86,7 +86,7 @@ module _ (L : Leaves) (B : Layout L) (F : Facts L B) where
       let s = g .steady in
       record { rate = g .rate; calm = g .calm; steady = record { meta = F .sound-apply (r .position) u (r .meta) k (s .meta); gain = s .gain; places = s .places; long = s .long; few = s .few } }
 
-  updated-good : (t : ℕ) (us : List (L .Update)) (r : State L) → All (F .Checked) us → Good r → Good (updated L t us r)
+  pub updated-good : (t : ℕ) (us : List (L .Update)) (r : State L) → All (F .Checked) us → Good r → Good (updated L t us r)
   updated-good t [] r k g = g
   updated-good t (u ∷ us) r k g = updated-good t us (cond (eqb (L .offset u) t) (applied L t u r) r) (k .1) (either Good (eqb (L .offset u) t) (applied-good t u r (k .0) g) g)
 

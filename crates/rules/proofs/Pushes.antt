@@ -117,7 +117,7 @@ module _ (L : Leaves) (B : Layout L) (F : Facts L B) (r : State L) (a : Args) (b
     moments = count;
     rate = at-rate;
     own = own;
-    objects = objects-match L B F r a passes;
+    objects = objects-match L B F r a passes k good;
     enters = λ t h. enters L f (a .samples) 0 t start h;
     bass = λ t j h l z qcm p. (still-clear L r a (length (a .codes) + j) qcm p e, fed-same j qcm p t h);
     squares = λ t j h z. squared (objectAt L r a t j) (in-hall t j h) z;

@@ -131,7 +131,7 @@ module _ (L : Leaves) (B : Layout L) (F : Facts L B) where
       go true e rec =
           let p = or-false (L .lacks u m) (lacking L t us (L .apply 0 u m)) e in
           rec (applied L t u r) (L .apply 0 u m) (p .1)
-          (applied-ranged t u r (k .0) (sym (F .like-lacks u m (r .meta) (g .1)) ∙ p .0) (g .0), F .like-apply 0 (r .position) u m (r .meta) (g .1))
+          (applied-ranged t u r (k .0) (sym (F .like-lacks u m (r .meta) (k .0) (g .1)) ∙ p .0) (g .0), F .like-apply 0 (r .position) u m (r .meta) (k .0) (g .1))
       go false e rec = rec r m e g
 
   slotted-met : (m : L .Meta) (r : State L) → Met m r → Met m (slotted L r)
@@ -188,7 +188,7 @@ module _ (L : Leaves) (B : Layout L) (F : Facts L B) where
       go zero e h = o .0
       go (suc n) e h =
           framed-ranged (frameOf L a) (F .checked (a .meta) b (p .laidOut) (p .inRange)) (suc n) 0 (opened L (a .rate) r) (r .meta)
-          (ap (λ (t : Bool). lackingFrom L (cond t 1 (suc n)) 0 (L .updates (a .meta)) (r .meta)) (sym (eqb·suc-zero n)) ∙ e) (o .1) h (o .0, F .like-self (r .meta))
+          (ap (λ (t : Bool). lackingFrom L (cond t 1 (suc n)) 0 (L .updates (a .meta)) (r .meta)) (sym (eqb·suc-zero n)) ∙ e) (o .1) h (o .0, F .like-self (r .position) (r .meta) (g .meta))
 
   pub flushed-ranged : (r : State L) → R r → R (flushed L r .next)
   unfolding flushed
