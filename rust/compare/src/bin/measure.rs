@@ -48,8 +48,101 @@ fn lowpass() {
     );
 }
 
+/// Places at a cache line.
+#[repr(align(64))]
+struct Places([f32; 1_536]);
+
+/// Rows of `length` samples, each mixed four times.
+fn mix(rows: &[f32], length: usize, mix_segment: impl Fn(&[f32], &mut [f32], usize, f32)) {
+    let mut places = Places([0.0; 1_536]);
+    for row in rows.chunks(length) {
+        for _ in 0..4 {
+            mix_segment(row, black_box(&mut places.0), 0, 0.01);
+        }
+    }
+}
+
+/// Rows of 64 samples out of bytes.
+fn read(bytes: &[u8], read_row: impl Fn(&[u8], &mut [f32])) {
+    let mut places = Places([0.0; 1_536]);
+    for pcm in bytes.chunks(256) {
+        read_row(pcm, black_box(&mut places.0[..64]));
+    }
+}
+
+fn mixing() {
+    let mut inputs = Generator::new(4);
+    let rows: Vec<f32> = (0..768_000).map(|_| inputs.between(-1.0, 1.0)).collect();
+    for length in [64, 1_536] {
+        compare_times(
+            &format!("mix_segment, 3,072,000 samples in rows of {length}"),
+            || mix(&rows, length, probe::mixing::mix_segment),
+            || mix(&rows, length, mix_segment),
+        );
+    }
+    let bytes: Vec<u8> = rows.iter().flat_map(|x| x.to_le_bytes()).collect();
+    compare_times(
+        "samples_pass and read_row, 768,000 samples in rows of 64",
+        || read(&bytes, probe::mixing::read_row),
+        || read(&bytes, read_row),
+    );
+}
+
+#[inline(never)]
+fn mix_segment(input: &[f32], output: &mut [f32], offset: usize, gain: f32) {
+    oracle::leaf::mix_segment(input, output, offset, gain);
+}
+
+/// No function of the source: what a Rust host would write.
+#[inline(never)]
+fn read_row(pcm: &[u8], row: &mut [f32]) {
+    let words = pcm.as_chunks().0;
+    if words
+        .iter()
+        .all(|&word| f32::from_le_bytes(word).abs() <= 16.0)
+    {
+        for (x, &word) in row.iter_mut().zip(words) {
+            *x = f32::from_le_bytes(word);
+        }
+    }
+}
+
+/// Objects at random places above the floor, each panned and mixed over a slot.
+fn panning() {
+    let mut inputs = Generator::new(5);
+    let samples: Vec<f32> = (0..64).map(|_| inputs.between(-1.0, 1.0)).collect();
+    let mut coordinate = |low| inputs.between(low, 1.0);
+    let places: Vec<_> = (0..20_000)
+        .map(|_| [coordinate(-1.0), coordinate(0.0), coordinate(-1.0)])
+        .collect();
+    let mut output = vec![vec![0.0; 64]; 12];
+    let mut mixed = output.clone();
+    compare_times(
+        "pan and mix_segment, 20,000 slots of 64 samples",
+        || {
+            for &place in &places {
+                for (channel, gain) in probe::panning::pan(place, 0.7, 0.0).terms() {
+                    probe::mixing::mix_segment(&samples, &mut mixed[channel], 0, gain);
+                }
+            }
+        },
+        || {
+            for &place in &places {
+                let source = oracle::state::Source {
+                    gain: 0.7,
+                    size: 0.0,
+                    cubical_position: place,
+                    position_valid: true,
+                };
+                oracle::leaf::render_object_timeslot_to_714(&samples, &mut output, 0, &source);
+            }
+        },
+    );
+}
+
 fn main() {
     lowpass();
+    panning();
     let mut inputs = Generator::new(1);
     let floats: Vec<f32> = (0..1_000_000).map(|_| inputs.float()).collect();
     compare_times(
@@ -65,13 +158,32 @@ fn main() {
     limiter("limiter, loud", &mut inputs, 3.0);
 }
 
-/// 10,000 blocks of 12 channels by 64 samples, each copied first, since scaling is in place.
+const BLOCKS: usize = 10_000;
+
+/// 10,000 blocks of 12 channels by 64 samples, from bytes to bytes and in place. In place each
+/// block is copied first.
 fn limiter(name: &str, inputs: &mut Generator, size: f32) {
-    const BLOCKS: usize = 10_000;
     let block = [(); 768].map(|()| inputs.between(-size, size));
     let channels: Vec<Vec<f32>> = block.chunks(64).map(<[f32]>::to_vec).collect();
+    let mut bytes = [0u8; 3072];
+    for (to, x) in bytes.chunks_mut(4).zip(block) {
+        to.copy_from_slice(&x.to_bits().to_le_bytes());
+    }
+    let mut out = [0u8; 3072];
     compare_times(
-        &format!("{name}, {BLOCKS} blocks"),
+        &format!("{name}, {BLOCKS} blocks from bytes to bytes"),
+        || {
+            let mut gain = 1.0;
+            for _ in 0..BLOCKS {
+                gain = probe::limiter::limit_into(gain, &bytes, 64, 48_000, &mut out, 256, 0);
+                black_box(&out);
+            }
+            black_box(gain);
+        },
+        || rust_limiter(&channels),
+    );
+    compare_times(
+        &format!("{name}, {BLOCKS} blocks in place"),
         || {
             let (mut gain, mut places) = (1.0, block);
             for _ in 0..BLOCKS {
@@ -81,16 +193,19 @@ fn limiter(name: &str, inputs: &mut Generator, size: f32) {
             }
             black_box(gain);
         },
-        || {
-            let (mut gain, mut places) = (1.0, channels.clone());
-            for _ in 0..BLOCKS {
-                for (to, from) in places.iter_mut().zip(&channels) {
-                    to.copy_from_slice(from);
-                }
-                leaf::apply_output_limiter_block(&mut places, &mut gain, 48_000, 0, 64);
-                black_box(&places);
-            }
-            black_box(gain);
-        },
+        || rust_limiter(&channels),
     );
+}
+
+fn rust_limiter(channels: &[Vec<f32>]) {
+    let (mut gain, mut places) = (1.0, channels.to_vec());
+    for _ in 0..BLOCKS {
+        for (to, from) in places.iter_mut().zip(channels) {
+            to.copy_from_slice(from);
+        }
+        leaf::apply_output_limiter_block(&mut places, &mut gain, 48_000, 0, 64);
+        black_box(&places);
+    }
+    black_box(gain);
+    mixing();
 }

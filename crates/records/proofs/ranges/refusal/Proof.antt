@@ -1,0 +1,29 @@
+-- `records::ranges::refusal`: 5 before 6. Assumes nothing.
+use mathlib.Core.Path.{sym, _∙_}
+use borrow.Author.Needs.{needs}
+use borrow.Author.Tests.{not-true, not-false}
+use Rattle.records.specs.Ranges.{refusal}
+use Rattle.records.proofs.ranges.refusal.Statement.{statement}
+use Rattle.records.proofs.ranges.refusal.Tie as tie
+
+layout-of-requires : tie.Need-layout-of-requires
+layout-of-requires c κs = search needs
+
+returns : tie.Need-returns
+unfolding refusal
+returns c = simp (sym (c .before .before .layout-of .ensures .fits) ∙ not-true _ (c .if1 .taken))
+
+in-range-requires : tie.Need-in-range-requires
+in-range-requires c κs = search needs
+
+returns-2 : tie.Need-returns-2
+unfolding refusal
+returns-2 c = simp (sym (c .before .before .before .before .layout-of .ensures .fits) ∙ not-false _ (c .before .before .if1 .left), sym (c .before .in-range .ensures) ∙ not-true _ (c .if2 .taken))
+
+returns-3 : tie.Need-returns-3
+unfolding refusal
+returns-3 c = simp (sym (c .before .before .before .before .layout-of .ensures .fits) ∙ not-false _ (c .before .before .if1 .left), sym (c .before .in-range .ensures) ∙ not-false _ (c .if2 .left))
+
+pub refusal-spec : {M : Type 1} → statement M
+refusal-spec =
+    tie.close (tie.spec layout-of-requires returns in-range-requires returns-2 returns-3)
