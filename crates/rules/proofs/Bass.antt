@@ -106,7 +106,7 @@ module _ (L : Leaves) (r : State L) (a : Args) where
       then unless (leb (r .position + a .samples) 1099511627776) 4 0 0
       then unless (L .laidOut (a .meta)) 5 0 0
       then unless (L .inRange (a .meta)) 6 0 0
-      then unless (not (lackingFrom L (offsets L (a .samples)) 0 (L .updates (a .meta)) (r .meta))) 7 0 0
+      then unless (not (lackingFrom L (offsets L (a .samples)) 0 (L .updates (a .meta)) (L .counts (r .meta)))) 7 0 0
       then unless pass 8 0 0)
       then later (sentOf L (L .updates (a .meta))) (a .objects) (a .codes) (a .samples) (a .rate) (r .rate) (L .shape (r .meta))
 
