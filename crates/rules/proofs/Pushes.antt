@@ -52,7 +52,9 @@ module _ (L : Leaves) (B : Layout L) (F : Facts L B) (r : State L) (a : Args) (b
 
   at-rate : pushed L f r .next .rate ≡ a .rate
   unfolding pushed
-  at-rate = rate-kept L f (a .samples) 0 start ∙ go (eqb (r .rate) 0) (unless-clear (eqb (r .rate) 0 || eqb (r .rate) (a .rate)) 9 (r .rate) (a .rate) (then-clear (unless (eqb (r .rate) 0 || eqb (r .rate) (a .rate)) 9 (r .rate) (a .rate)) _ (passes .later) .0))
+  at-rate =
+      let x = eqb (r .rate) 0 || eqb (r .rate) (a .rate) in
+      rate-kept L f (a .samples) 0 start ∙ go (eqb (r .rate) 0) (unless-clear x 9 (r .rate) (a .rate) (then-clear (unless x 9 (r .rate) (a .rate)) _ (passes .later) .0))
     where
       go : (first : Bool) → (first || eqb (r .rate) (a .rate)) ≡ true → cond first (a .rate) (r .rate) ≡ a .rate
       go true e = refl
@@ -93,7 +95,10 @@ module _ (L : Leaves) (B : Layout L) (F : Facts L B) (r : State L) (a : Args) (b
     R s u = Good L B F s × Alike L s u
 
     keep : (t : ℕ) (s u : State L) → t < a .samples → R s u → R (sampled L f t s .next) (sampled L g t u .next)
-    keep t s u h i = (sampled-fine L B F f k t h s (i .0) .next, passed-alike L (momentOf L f t s) (momentOf L g t u) (slotted L (updated L t (f .updates) s)) (slotted L (updated L t (f .updates) u)) (met-alike L t (f .updates) s u (i .1)))
+    keep t s u h i =
+        let v = slotted L (updated L t (f .updates) s) in
+        let w = slotted L (updated L t (f .updates) u) in
+        (sampled-fine L B F f k t h s (i .0) .next, passed-alike L (momentOf L f t s) (momentOf L g t u) v w (met-alike L t (f .updates) s u (i .1)))
 
     here : (t : ℕ) (s u : State L) → t < a .samples → R s u → fed (momentOf L f t s) ≡ fed (momentOf L g t u)
     here t s u h i =
