@@ -7,7 +7,7 @@ use Prim.Native.Nat.{ℕ, _+_, _<_}
 use native.Mathlib.Nat.{le-trans, le-of-eq, zero-add}
 use native.Mathlib.Omega.{arith}
 use borrow.Author.Tests.{eqb-true}
-use lib.Dec.{eqb}
+use lib.Dec.{eqb, lit<}
 use lib.ListN.{length, List·getD-eq-default}
 use Rattle.ieee.specs.Bounds.{All}
 use Rattle.words.specs.Words.{Bytes}
@@ -22,8 +22,8 @@ use Rattle.rules.specs.Claim.{silent, nobody, Replaced, withPcm, momentA
 use Rattle.rules.proofs.Lists.{all-at}
 use Rattle.rules.proofs.Facts.{InHall, Facts}
 use Rattle.rules.proofs.Judged.{Passed, is-passed, then-clear, unless-clear}
-use Rattle.rules.proofs.Kept.{Good, Rest, Admitted, before-good, opened-good, moment-hearable}
-use Rattle.rules.proofs.Frames.{admitted, sampled-fine}
+use Rattle.rules.proofs.Kept.{Good, Rest, Admitted, Fine, before-good, opened-good, moment-hearable}
+use Rattle.rules.proofs.Frames.{admitted, sampled-fine, pushed-fine}
 use Rattle.rules.proofs.Clock.{Alike, alike-self, met-alike, passed-alike}
 use Rattle.rules.proofs.Moments.{momentOf, moments-count, rate-kept, enters, each-moment, each-pair}
 use Rattle.rules.proofs.Shapes.{objects-match}
@@ -45,6 +45,9 @@ module _ (L : Leaves) (B : Layout L) (F : Facts L B) (r : State L) (a : Args) (b
 
   good : Good L B F start
   good = opened-good L B F (a .rate) r (k .rate) rest
+
+  fine : Fine L B F (r .pending) (a .samples) (pushed L f r)
+  fine = pushed-fine L B F r a b m passes rest
 
   count : length (pushed L f r .moments) ≡ a .samples
   unfolding pushed
@@ -119,6 +122,8 @@ module _ (L : Leaves) (B : Layout L) (F : Facts L B) (r : State L) (a : Args) (b
   pub push-holds : PushHolds L r a
   unfolding pushed
   push-holds = record {
+    ready = ap (λ (n : ℕ). n + pushed L f r .next .pending) (fine .length 0 (lit< tt)) ∙ fine .all;
+    waits = fine .next .steady .few;
     moments = count;
     rate = at-rate;
     own = own;
