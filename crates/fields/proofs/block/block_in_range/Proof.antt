@@ -1,0 +1,80 @@
+-- `fields::block::block_in_range`: offset, then ramp. Assumes nothing.
+use mathlib.Core.Path.{_≡_, sym, ap, _∙_}
+use mathlib.Core.Bool.{Bool, _&&_}
+use borrow.Author.Tests.{not-true, not-false}
+use mir.Syntax.{w64}
+use mir.Val.{toZ, ofZ}
+use Prim.Native.Nat.{_+_, _*_}
+use Rattle.words.specs.Words.{signedAt}
+use Rattle.fields.specs.Block.{within}
+use borrow.Author.Needs.{needs}
+use Rattle.fields.proofs.block.block_in_range.Statement.{statement}
+use Rattle.fields.proofs.block.block_in_range.Tie as tie
+use Rattle.fields.proofs.block.block_in_range.Reads as reads
+use Rattle.fields.proofs.block.block_in_range.Lts as lts
+use Rattle.fields.proofs.block.within.Reads as within-reads
+use Rattle.words.proofs.i64_at.Reads as i64-at-reads
+
+-- src/block.rt:78:14
+mul-at : tie.Need-mul-at
+mul-at c = search needs
+
+-- src/block.rt:79:36
+add-i64-at : tie.Need-add-i64-at
+add-i64-at c = search needs
+
+-- src/block.rt:79:16
+i64-at-requires : tie.Need-i64-at-requires
+i64-at-requires c κs = search needs
+
+-- src/block.rt:79:9
+within-requires : tie.Need-within-requires
+within-requires c κs = search needs
+
+-- src/block.rt:80:9
+returns : tie.Need-returns
+returns c =
+    let i = c .before .before .i64-at in
+    let a = c .before .before .before .before .args in
+    let k : toZ w64 (ofZ w64 (i .result)) ≡ i .result = search needs in
+    let e = c .before .within .ensures ∙ ap within (k ∙ i .ensures) in
+    sym (ap (λ (b : Bool). b && within (signedAt (a .meta .now) (40 * a .r + 16))) (sym e ∙ not-true _ (c .if1 .taken)))
+
+-- src/block.rt:82:32
+add-i64-at-2 : tie.Need-add-i64-at-2
+add-i64-at-2 c = search needs
+
+-- src/block.rt:82:12
+i64-at-requires-2 : tie.Need-i64-at-requires-2
+i64-at-requires-2 c κs = search needs
+
+-- src/block.rt:82:5
+within-requires-2 : tie.Need-within-requires-2
+within-requires-2 c κs = search needs
+
+-- src/block.rt:74:1
+returns-2 : tie.Need-returns-2
+returns-2 c =
+    let t = c .before .before in
+    let i = t .before .before .i64-at in
+    let j = c .before .i64-at2 in
+    let a = t .before .before .before .before .args in
+    let k : toZ w64 (ofZ w64 (i .result)) ≡ i .result = search needs in
+    let l : toZ w64 (ofZ w64 (j .result)) ≡ j .result = search needs in
+    let e = t .before .within .ensures ∙ ap within (k ∙ i .ensures) in
+    let f = c .within2 .ensures ∙ ap within (l ∙ j .ensures) in
+    f ∙ sym (ap (λ (b : Bool). b && within (signedAt (a .meta .now) (40 * a .r + 16))) (sym e ∙ not-false _ (t .if1 .left)))
+
+pub block-in-range-spec : {M : Type 1} → statement M
+block-in-range-spec =
+    tie.close
+    (tie.spec
+    mul-at
+    add-i64-at
+    i64-at-requires
+    within-requires
+    returns
+    add-i64-at-2
+    i64-at-requires-2
+    within-requires-2
+    returns-2)

@@ -1,0 +1,4 @@
+pub mod Bytes
+pub mod Update
+pub mod Block
+pub mod Object

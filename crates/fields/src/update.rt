@@ -1,0 +1,122 @@
+// Kind 1, update.
+ghost use mathlib.Core.Path.{_≡_};
+ghost use Prim.Native.Nat.{_+_, _-_, _*_, _<_, _≤_};
+ghost use lib.ListN.{length};
+ghost use Rattle.fields.specs.Update.{offset, headerOf, code, countsFit, mostAt, codesFit, isUpdate};
+use crate::bytes::byte_at;
+use crate::bytes::zeros;
+
+pub struct Header {
+    pub offset: usize,
+    pub objects: usize,
+    pub bed_or_isf: usize,
+    pub beds: usize,
+    pub elements: usize,
+}
+
+// The sample offset.
+pub fn offset_at(meta: &[u8], u: usize) -> usize
+    requires { ⌜ 40 * u + 40 ≤ length (now meta) ⌝ }
+    ensures { λ r. ⌜ r ≡ offset (now (meta .entry)) u ⌝ }
+{
+    words::u16_at(meta, 40 * u + 2) as usize
+}
+
+// What the record says, but for the codes.
+pub fn header_at(meta: &[u8], u: usize) -> Header
+    requires { ⌜ 40 * u + 40 ≤ length (now meta) ⌝ }
+    ensures { λ r. ⌜ r ≡ headerOf (now (meta .entry)) u ⌝ }
+{
+    let at = 40 * u;
+    Header {
+        offset: offset_at(meta, u),
+        objects: byte_at(meta, at + 4),
+        bed_or_isf: byte_at(meta, at + 5),
+        beds: byte_at(meta, at + 6),
+        elements: byte_at(meta, at + 7),
+    }
+}
+
+// The code of bed channel k.
+pub fn code_at(meta: &[u8], u: usize, k: usize) -> usize
+    requires { ⌜ (40 * u + 40 ≤ length (now meta)) × (k < 18) ⌝ }
+    ensures { λ r. ⌜ r ≡ code (now (meta .entry)) u k ⌝ }
+{
+    byte_at(meta, 40 * u + (8 + k))
+}
+
+// How many objects are dynamic.
+pub fn dynamic(objects: usize, bed_or_isf: usize) -> usize
+    ensures { λ r. ⌜ r ≡ objects - «bed_or_isf» ⌝ }
+{
+    if bed_or_isf < objects {
+        return objects - bed_or_isf;
+    }
+    0
+}
+
+// Whether the counts are within their limits.
+fn counts_fit(objects: usize, bed_or_isf: usize, beds: usize, elements: usize) -> bool
+    ensures { λ r. ⌜ r ≡ countsFit objects «bed_or_isf» beds elements ⌝ }
+{
+    if objects > 32 {
+        return false;
+    }
+    if dynamic(objects, bed_or_isf) > 16 {
+        return false;
+    }
+    if beds > 18 {
+        return false;
+    }
+    if beds > objects {
+        return false;
+    }
+    elements <= 2
+}
+
+// The largest byte that may stand at place k of the codes.
+fn most_at(k: usize, beds: usize) -> u8
+    ensures { λ r. ⌜ r ≡ mostAt k beds ⌝ }
+{
+    if k < beds {
+        return 17;
+    }
+    0
+}
+
+// Whether the 18 places from `at` on hold a listed code for each bed and zero past them.
+fn codes_fit(meta: &[u8], at: usize, beds: usize) -> bool
+    requires { ⌜ at + 18 ≤ length (now meta) ⌝ }
+    ensures { λ r. ⌜ r ≡ codesFit (now (meta .entry)) at beds ⌝ }
+{
+    let mut k = 0usize;
+    while k < 18 {
+        if meta[at + k] > most_at(k, beds) {
+            return false;
+        }
+        k += 1;
+    }
+    true
+}
+
+// Whether record r is an update as laid out.
+pub fn is_update(meta: &[u8], r: usize) -> bool
+    requires { ⌜ 40 * r + 40 ≤ length (now meta) ⌝ }
+    ensures { λ b. ⌜ b ≡ isUpdate (now (meta .entry)) r ⌝ }
+{
+    let at = 40 * r;
+    if meta[at] != 1 {
+        return false;
+    }
+    if meta[at + 1] != 0 {
+        return false;
+    }
+    let h = header_at(meta, r);
+    if !counts_fit(h.objects, h.bed_or_isf, h.beds, h.elements) {
+        return false;
+    }
+    if !codes_fit(meta, at + 8, h.beds) {
+        return false;
+    }
+    zeros(meta, at + 26, 14)
+}

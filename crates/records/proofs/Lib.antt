@@ -1,0 +1,10 @@
+pub mod Runs
+pub mod Past
+pub mod Within
+pub mod Ends
+pub mod Updates
+pub mod Walked
+pub mod Times
+pub mod Reached
+pub mod Each
+pub mod Cases

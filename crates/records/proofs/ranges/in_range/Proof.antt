@@ -1,0 +1,56 @@
+-- `records::ranges::in_range` meets its contract. Assumes nothing.
+use Prim.Native.Nat.{_-_, _/_, _≤_}
+use mathlib.Core.Path.{_≡_, sym, _∙_}
+use mathlib.Core.Bool.{true}
+use native.Mathlib.Omega.{arith}
+use lib.ListN.{length}
+use borrow.Author.Needs.{needs}
+use borrow.Author.Tests.{not-true, not-false}
+use Rattle.fields.specs.Bytes.{all}
+use Rattle.records.specs.Ranges.{recordInRange, inRange}
+use Rattle.fields.proofs.All.{all-none, all-more, all-fails, all-passed}
+use Rattle.records.proofs.ranges.in_range.Statement.{statement}
+use Rattle.records.proofs.ranges.in_range.Tie as tie
+
+abbrev Inv-loop : tie.InvT-loop
+Inv-loop meta records r₀ r = (r ≤ length meta / 40) × (all (recordInRange meta) r ≡ true)
+
+abbrev μ-loop : tie.MeasureT-loop
+μ-loop meta records r₀ r = length meta / 40 - r
+
+loop-holds : tie.Need-loop-holds Inv-loop μ-loop
+loop-holds c = (search needs, all-none _)
+
+record-in-range-requires : tie.Need-record-in-range-requires Inv-loop μ-loop
+record-in-range-requires c κs = search needs
+
+returns : tie.Need-returns Inv-loop μ-loop
+unfolding inRange
+returns c = sym (all-fails _ _ _ (omega arith) (sym (c .before .record-in-range .ensures) ∙ not-true _ (c .if1 .taken)))
+
+add-r : tie.Need-add-r Inv-loop μ-loop
+add-r c = search needs
+
+loop-less : tie.Need-loop-less Inv-loop μ-loop
+loop-less c = search needs
+
+loop-again : tie.Need-loop-again Inv-loop μ-loop
+loop-again c = (search needs, all-more _ _ (c .before .before .before .loop .inv .1) (sym (c .before .record-in-range .ensures) ∙ not-false _ (c .if1 .left)))
+
+returns-2 : tie.Need-returns-2 Inv-loop μ-loop
+unfolding inRange
+returns-2 c = sym (all-passed _ _ _ (omega arith) (omega arith) (c .before .loop .inv .1))
+
+pub in-range-spec : {M : Type 1} → statement M
+in-range-spec =
+    tie.close
+    (tie.spec
+    Inv-loop
+    μ-loop
+    loop-holds
+    record-in-range-requires
+    returns
+    add-r
+    loop-less
+    loop-again
+    returns-2)

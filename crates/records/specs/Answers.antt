@@ -1,0 +1,24 @@
+-- What the functions that read a layout answer. Assumes nothing.
+use Prim.Native.Nat.{ℕ, _≤_, _<_}
+use mathlib.Core.Path.{_≡_}
+use mathlib.Core.Bool.{Bool, true, false}
+use mathlib.Core.List.{List}
+use lib.ListN.{getD}
+use Rattle.fields.specs.Update.{offset}
+use Rattle.records.specs.Laid.{updateAt, laidOut, count}
+use Rattle.records.specs.declared.layout.End.{End}
+use Rattle.records.specs.declared.layout.End.the-variants.{At, Broken}
+use Rattle.records.specs.declared.layout.Layout.{Layout}
+
+-- the record after a part that is whole
+unfoldable pub endIf : Bool → ℕ → End
+endIf true r = At r
+endIf false r = Broken
+
+-- l is the layout of m
+pub record IsLayout (m : List ℕ) (l : Layout) : Type 0 where
+  pub fits : l .laid ≡ laidOut m
+  pub counted : l .count ≡ count m
+  pub few : count m ≤ 16
+  pub firsts : (i : ℕ) → i < count m → getD (l .first) i 0 ≡ updateAt m i
+  pub offsets : (i : ℕ) → i < count m → getD (l .offset) i 0 ≡ offset m (updateAt m i)
