@@ -1,5 +1,5 @@
 -- Which input feeds a bed. Assumes nothing.
-use Prim.Native.Nat.{ℕ, zero, suc, _+_}
+use Prim.Native.Nat.{ℕ, suc, _+_}
 use mathlib.Core.Bool.{Bool, cond, _&&_, _||_}
 use mathlib.Core.List.{List, [], _∷_}
 use lib.Dec.{eqb}
@@ -27,7 +27,6 @@ orElse Nothing other = other
 
 -- Document 01, item 3: "The two LFE codes match each other when no exact match exists".
 unfoldable pub matching : ℕ → List ℕ → Found
-unfolding firstOf
 matching code inputs = orElse (firstOf code code inputs) (cond (lowFrequency code) (firstOf 3 17 inputs) Nothing)
 
 -- how many of the codes match a bed: the counts of refusal 13

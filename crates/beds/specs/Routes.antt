@@ -37,5 +37,4 @@ routeOf code = getD routes code Unsupported
 
 -- gain × 0.31622776
 abbrev pub bassGain : Float → Float
-unfolding round
 bassGain gain = mul binary32 gain (round binary32 false 31_622_776 100_000_000)

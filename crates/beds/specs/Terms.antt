@@ -23,5 +23,4 @@ routed pan position Unsupported gain c = []
 
 -- The coefficients that a bed adds on channel c. One that is zero is not mixed.
 unfoldable pub bedAdds : (Vec3 → Float → ℕ → List Float) → ℕ → Float → ℕ → List Float
-unfolding routeOf bedPosition
 bedAdds pan code gain c = routed pan (bedPosition code) (routeOf code) gain c

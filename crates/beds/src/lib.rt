@@ -2,8 +2,9 @@
 ghost use mathlib.Core.Path.{_≡_};
 ghost use Prim.Native.Nat.{_≤_};
 ghost use lib.ListN.{length};
+ghost use Rattle.vectors.specs.Vectors.{vec3};
 ghost use Rattle.beds.specs.Routes.{routeOf, bassGain};
-ghost use Rattle.beds.specs.Positions.{point, bedPosition};
+ghost use Rattle.beds.specs.Positions.{bedPosition};
 ghost use Rattle.beds.specs.Matching.{lowFrequency, matches, firstOf, matching, counted};
 use vectors::Vec3;
 
@@ -44,8 +45,8 @@ pub fn bass_gain(gain: f32) -> f32
     gain * 0.316_227_76
 }
 
-fn vec3(x: f32, y: f32, z: f32) -> Vec3
-    ensures { λ r. ⌜ r ≡ point x y z ⌝ }
+fn point(x: f32, y: f32, z: f32) -> Vec3
+    ensures { λ r. ⌜ r ≡ vec3 x y z ⌝ }
 {
     Vec3 { x: x, y: y, z: z }
 }
@@ -55,25 +56,25 @@ pub fn bed_channel_position(code: u8) -> Vec3
     ensures { λ r. ⌜ r ≡ bedPosition code ⌝ }
 {
     match code {
-        0 => vec3(-1.0, 0.0, 1.0),
-        1 => vec3(1.0, 0.0, 1.0),
-        2 => vec3(0.0, 0.0, 1.0),
-        3 => vec3(-1.0, -1.0, 1.0),
-        4 => vec3(-1.0, 0.0, 0.0),
-        5 => vec3(1.0, 0.0, 0.0),
-        6 => vec3(0.0, 0.0, -1.0),
-        7 => vec3(-1.0, 0.0, -1.0),
-        8 => vec3(1.0, 0.0, -1.0),
-        9 => vec3(-1.0, 1.0, 1.0),
-        10 => vec3(1.0, 1.0, 1.0),
-        11 => vec3(-1.0, 1.0, 0.0),
-        12 => vec3(1.0, 1.0, 0.0),
-        13 => vec3(-1.0, 1.0, -1.0),
-        14 => vec3(1.0, 1.0, -1.0),
-        15 => vec3(-1.0, 0.0, 0.677_419),
-        16 => vec3(1.0, 0.0, 0.677_419),
-        17 => vec3(-1.0, -1.0, 1.0),
-        _ => vec3(0.0, 0.0, 0.0),
+        0 => point(-1.0, 0.0, 1.0),
+        1 => point(1.0, 0.0, 1.0),
+        2 => point(0.0, 0.0, 1.0),
+        3 => point(-1.0, -1.0, 1.0),
+        4 => point(-1.0, 0.0, 0.0),
+        5 => point(1.0, 0.0, 0.0),
+        6 => point(0.0, 0.0, -1.0),
+        7 => point(-1.0, 0.0, -1.0),
+        8 => point(1.0, 0.0, -1.0),
+        9 => point(-1.0, 1.0, 1.0),
+        10 => point(1.0, 1.0, 1.0),
+        11 => point(-1.0, 1.0, 0.0),
+        12 => point(1.0, 1.0, 0.0),
+        13 => point(-1.0, 1.0, -1.0),
+        14 => point(1.0, 1.0, -1.0),
+        15 => point(-1.0, 0.0, 0.677_419),
+        16 => point(1.0, 0.0, 0.677_419),
+        17 => point(-1.0, -1.0, 1.0),
+        _ => point(0.0, 0.0, 0.0),
     }
 }
 

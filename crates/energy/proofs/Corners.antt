@@ -11,8 +11,8 @@ use Rattle.vectors.specs.declared.Vec3.{Vec3}
 use Rattle.panning.specs.Choice.{keep, first, orElse, level, end, flank, layer, row, side, corner}
 use Rattle.panning.specs.Terms.{at, up, ahead, across}
 use Rattle.panning.specs.Table.{Table, Position}
-use Rattle.panning.proofs.Lists.{In, Some, Each, keep→, first-in, orElse→, orElse-some, some-of}
-use Rattle.panning.proofs.Axis.{end→, Ends, ends, level-with}
+use Rattle.energy.proofs.Lists.{In, Some, Each, keep→, first-in, orElse→, orElse-some, some-of}
+use Rattle.energy.proofs.Axis.{end→, Ends, ends, level-with}
 use Rattle.energy.proofs.Tables.{Tame3, all-tame}
 use Rattle.energy.proofs.Shares.{Beside, Part, eq-self, ratio-part}
 

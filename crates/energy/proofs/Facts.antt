@@ -10,11 +10,12 @@ use lib.Dec.{T}
 use lib.Ieee.{Float, binary32, fits, mul, sub, le, eq, ne}
 use lib.Ieee.Fits.{and-i}
 use Rattle.ieee.specs.Units.{One, F32, mag, P, N}
-use Rattle.ieee.specs.Nearest.{Root, Nearest}
+use Rattle.ieee.specs.Nearest.{Root}
 use Rattle.ieee.proofs.Compare.{→le, →eq, eq→}
 use Rattle.ieee.proofs.Signed.{mag-is}
 use Rattle.ieee.proofs.Share.{one-f32, one-P}
 use Rattle.roots.specs.Root.{root}
+use Rattle.roots.proofs.Laws.{root-nearest}
 use Rattle.vectors.specs.declared.Vec3.{Vec3}
 use Rattle.panning.specs.declared.Panned.{Panned}
 use Rattle.panning.specs.Choice.{Corner, differ, corner, corners, 0·0, 1·0}
@@ -126,14 +127,14 @@ corners-differ : T (Differ corners)
 unfolding Differ differs
 corners-differ = tt
 
-module _ (near : Nearest root) (sp : ℕ → Vec3) (l : List ℕ) (t : Table sp l) (p : Vec3) (q : Position p) where
+module _ (sp : ℕ → Vec3) (l : List ℕ) (t : Table sp l) (p : Vec3) (q : Position p) where
   module _ (g : Float) (G : Gain8 g) where
     abbrev x : Corner → Float
     x = coefficient sp (corner sp l p) p g
 
     silent : (c : Corner) → P (weight sp l p g (c .top) (c .front) (c .right)) ≡ 0 → T (eq (x c) 0·0)
     silent c z =
-        let r = corner-rooted near sp l t p q g G c in
+        let r = corner-rooted root-nearest sp l t p q g G c in
         let e : P (weight sp l p g (c .top) (c .front) (c .right)) * One ≡ 0 = ap (λ (k : ℕ). k * One) z ∙ zero-mul One in
         let i : P (x c) ≡ 0 = root-zero (P (x c)) (subst (λ (k : ℕ). Root (P (x c)) k) e (r .root)) in
         →eq (x c) 0·0 (r .f32) zero-f32 (omega (arith, i, r .plus, zero-P))
@@ -155,7 +156,7 @@ module _ (near : Nearest root) (sp : ℕ → Vec3) (l : List ℕ) (t : Table sp 
       gain = G .most;
       coefs = λ b c d.
           let w = weights sp l t p q g G b c d in
-          let r = corner-rooted near sp l t p q g G (record { top = b; front = c; right = d }) in
+          let r = corner-rooted root-nearest sp l t p q g G (record { top = b; front = c; right = d }) in
           let k : Corner = record { top = b; front = c; right = d } in
           record {
             p = P (mul binary32 (part c (ahead sp (corner sp l p) p b)) (part b (up sp (corner sp l p) p)));
@@ -171,7 +172,7 @@ module _ (near : Nearest root) (sp : ℕ → Vec3) (l : List ℕ) (t : Table sp 
     corner-squares : squareSum (audible (map (λ c. term (corner sp l p c) (x c)) corners)) ≡ eight (λ b c d. M b c d * M b c d)
     unfolding squareSum M
     corner-squares =
-        square-audible (map (λ c. term (corner sp l p c) (x c)) corners) (λ u m. let i = map-in (λ c. term (corner sp l p c) (x c)) corners m in subst (λ (v : Term). F32 (v .coefficient)) (sym (i .2)) (corner-rooted near sp l t p q g G (i .0) .f32))
+        square-audible (map (λ c. term (corner sp l p c) (x c)) corners) (λ u m. let i = map-in (λ c. term (corner sp l p c) (x c)) corners m in subst (λ (v : Term). F32 (v .coefficient)) (sym (i .2)) (corner-rooted root-nearest sp l t p q g G (i .0) .f32))
         ∙ omega arith
 
   add-up : (n g s : Float) → T (between 0·0 8·0 g) → T (eq s 0·0) → AddsUp (squareSum (cornerTerms (panned sp l n p g s))) g
@@ -189,9 +190,9 @@ module _ (near : Nearest root) (sp : ℕ → Vec3) (l : List ℕ) (t : Table sp 
           let k : P g * One ≡ 0 = ap (λ (m : ℕ). m * One) j ∙ zero-mul One in
           subst (λ (ts : List Term). AddsUp (squareSum ts) g) (sym nothing-corners) (record { above = omega arith; below = omega (arith, k) })
 
-  pub pans-near : (n : Float) → F32 n → T (le 1·0 n) → Pans sp l n p
+  pub pans : (n : Float) → F32 n → T (le 1·0 n) → Pans sp l n p
   unfolding apart paired
-  pans-near n f o = record {
+  pans n f o = record {
     corners = λ c. corner-in sp l t p (c .top) (c .front) (c .right);
     up = part-between _ (up-part sp l t p q);
     ahead = λ b. part-between _ (ahead-part sp l t p q b);
@@ -203,7 +204,7 @@ module _ (near : Nearest root) (sp : ℕ → Vec3) (l : List ℕ) (t : Table sp 
         let a = gain8 g G in
         let b = size1 s S in
         by-gain sp l n p g s (λ r. Each (λ u. T (between 0·0 8·0 (u .coefficient))) (terms l r)) (λ z. of-none (λ u. T (between 0·0 8·0 (u .coefficient))) (nothing-terms l))
-        (terms-each (λ u. T (between 0·0 8·0 (u .coefficient))) sp l n p g s (λ k m. plus-between _ (extra-plus near n g s f o a b)) (λ c. plus-between _ (corner-plus near sp l t p q (innerGain g s) (inner-gain8 g s a b) c)));
+        (terms-each (λ u. T (between 0·0 8·0 (u .coefficient))) sp l n p g s (λ k m. plus-between _ (extra-plus root-nearest n g s f o a b)) (λ c. plus-between _ (corner-plus root-nearest sp l t p q (innerGain g s) (inner-gain8 g s a b) c)));
     once = λ g s G S. by-gain sp l n p g s (λ r. T (apart (cornerTerms r))) (λ z. subst (λ (ts : List Term). T (apart ts)) (sym nothing-corners) tt) (apart-corners (innerGain g s) (inner-gain8 g s (gain8 g G) (size1 s S)));
     plain = λ g s. plain-terms sp l n p g s;
     squares = λ g s G z. subst (λ (ts : List Term). AddsUp (squareSum ts) g) (sym (plain-terms sp l n p g s z)) (add-up n g s G z);

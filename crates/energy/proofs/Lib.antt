@@ -1,3 +1,5 @@
+pub mod Lists
+pub mod Axis
 pub mod Tables
 pub mod Shares
 pub mod Corners
@@ -7,3 +9,4 @@ pub mod Once
 pub mod Audible
 pub mod Coefficients
 pub mod Facts
+pub mod Hall

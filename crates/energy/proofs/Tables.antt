@@ -16,7 +16,7 @@ use Rattle.ieee.proofs.Share.{one-f32, one-P}
 use Rattle.vectors.specs.declared.Vec3.{Vec3}
 use Rattle.panning.specs.Choice.{every, 0·0, 1·0}
 use Rattle.panning.specs.Table.{minus-one, 8·0, between, placed, distinct, alike, occupied}
-use Rattle.panning.proofs.Lists.{In, Some, Each, every→}
+use Rattle.energy.proofs.Lists.{In, Some, Each, every→}
 
 -- ---- what lies between two finite values is finite
 finite-between : (lo hi x : Float) → T (finite lo) → T (finite hi) → T (le lo x) → T (le x hi) → T (finite x)

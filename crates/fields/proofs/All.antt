@@ -54,3 +54,8 @@ module _ (p : ℕ → Bool) where
   -- all numbers below n are passed when the count has reached n
   pub all-passed : (n i : ℕ) → i ≤ n → n ≤ i → all p i ≡ true → all p n ≡ true
   all-passed n i a b e = ap (all p) (let q : n ≡ i = omega arith in q) ∙ e
+
+  pub all-true : (n : ℕ) → ((i : ℕ) → i < n → p i ≡ true) → all p n ≡ true
+  unfolding all
+  all-true zero f = refl
+  all-true (suc n) f = rw (all-true n (λ i h. f i (omega arith))) (f n (omega arith))

@@ -1,1 +1,3 @@
 pub mod All
+pub mod Raised
+pub mod Infos

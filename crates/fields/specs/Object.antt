@@ -1,10 +1,10 @@
 -- "4, object in a block: 1 anchor (0 room, 1 screen, 2 speaker); 2 flags (1 position valid, 2 differential, 4 gain, 8 position, 16 distance, 32 size
 -- present); f32 at 4 gain, 8, 12, 16 position, 20 distance, 24 size, 28 screen factor, 32 depth factor. An absent value is zero." Assumes nothing.
-use Prim.Native.Nat.{ℕ, _+_, _*_}
+use Prim.Native.Nat.{ℕ, _+_, _*_, _/_, _%_}
 use mathlib.Core.Bool.{Bool, true, false, _&&_, _||_, cond}
 use mathlib.Core.List.{List}
 use lib.Dec.{eqb, leb, ltb}
-use lib.Ieee.{Float, fin, eq, le}
+use lib.Ieee.{Float, binary32, ofBits, fin, eq, le}
 use lib.IntN.{pos, negsuc}
 use Rattle.words.specs.Words.{word, floatAt}
 use Rattle.vectors.specs.declared.Maybe.{Maybe}
@@ -80,6 +80,27 @@ infoOf m r =
       y = word m (40 * r + 12);
       z = word m (40 * r + 16);
     }
+
+-- the object of an info, by its flags, its anchor and its depth
+abbrev pub valueOf : ℕ → ℕ → ℕ → Maybe
+valueOf flags bit n = cond (has flags bit) (Value (ofBits binary32 n)) Absent
+
+abbrev pub objectFrom : ℕ → ℕ → ℕ → Info → Object
+objectFrom flags anchor depth i =
+    record {
+      anchor = anchorOf anchor;
+      valid = has flags 1;
+      differential = has flags 2;
+      gain = valueOf flags 4 (i .gain);
+      position = cond (has flags 8) (At (record { x = ofBits binary32 (i .x); y = ofBits binary32 (i .y); z = ofBits binary32 (i .z) })) Same;
+      distance = valueOf flags 16 (i .distance);
+      size = valueOf flags 32 (i .size);
+      screen = ofBits binary32 (i .screen);
+      depth = depth;
+    }
+
+abbrev pub objectOfInfo : Info → Object
+objectOfInfo i = objectFrom (i .head % 256) (i .head / 256 % 256) (i .head / 65536) i
 
 -- ---- refusal 6 does not arise
 

@@ -10,6 +10,7 @@ use native.Mathlib.Omega.{arith}
 use lib.Dec.{lit<}
 use lib.IntN.{ℤ, pos, negℤ, natAbs, _+ℤ_, _-ℤ_, _*ℤ_, +ℤ-idl}
 use lib.Ieee.{Float, binary32, add, sub, mul}
+use Rattle.ieee.specs.Bounds.{Bounded}
 use Rattle.ieee.proofs.Grid.{grid-pow, Within}
 use Rattle.ieee.proofs.Value.{One, Top, F32, sign, mag, P, N, one-pos}
 use Rattle.ieee.proofs.Ops.{Rounds, Small, small, add-rounds, sub-rounds, mul-rounds}
@@ -27,6 +28,12 @@ abs-val x = go (sign x)
     go : (s : Bool) → natAbs (pos (cond s 0 (mag x)) -ℤ pos (cond s (mag x) 0)) ≡ mag x
     go true = ap natAbs (+ℤ-idl (negℤ (pos (mag x)))) ∙ abs-neg (pos (mag x))
     go false = omega arith
+
+pub abs-most : {b : ℕ} {x : Float} → Bounded b x → natAbs (val x) ≤ b
+abs-most {b} {x} h = le-trans (le-of-eq (abs-val x)) (h .most)
+
+pub bounded-abs : {b : ℕ} {x : Float} → F32 x → natAbs (val x) ≤ b → Bounded b x
+bounded-abs {b} {x} f h = record { f32 = f; most = le-trans (le-of-eq (sym (abs-val x))) h }
 
 -- v is z / c, but for one part in 2 ^ 24 and half a unit
 pub record Near (v z : ℤ) (c : ℕ) : Type 0 where

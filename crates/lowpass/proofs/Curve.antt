@@ -1,7 +1,7 @@
 -- Forms that are not negative on a box, by its corners. In ρ = γ - χ y - σ ε the form bends down, so it is not negative between two values of σ, or of χ, at which it is
 -- not: four corners decide for all σ and χ between them, and at a corner three leading minors do. Assumes nothing.
 use mathlib.Core.Path.{_≡_, ap}
-use mathlib.Core.List.{[], _∷_}
+use mathlib.Core.List.{List, [], _∷_}
 use mathlib.Core.Bool.{Bool}
 use lib.Dec.{T}
 use lib.IntN.{ℤ, pos, negℤ, _+ℤ_, _-ℤ_, _*ℤ_}
@@ -9,6 +9,7 @@ use lib.Signed.{nonNeg}
 use Rattle.ieee.proofs.Integers.{+ℤ-swap}
 use Rattle.ieee.proofs.Ring.{R, var, con, _⊕_, _⊖_, _⊗_, ring}
 use Rattle.ieee.proofs.NotNegative.{NN, nn-test, nn-add, nn-mul, nn-sq, nn-by, posZ, nn-of-pos, nn-cancel}
+use Rattle.lowpass.proofs.Tests.{every, Every, parts}
 use Rattle.lowpass.proofs.Form.{form, formR, minors, definite}
 
 -- ---- a curve in ρ, and one between its values at p - s₀ e and p - s₁ e
@@ -103,19 +104,21 @@ pub record Within (o : Box) (σ χ : ℤ) : Type 0 where
   pub χ-low : NN (χ -ℤ o .χ₀)
   pub χ-high : NN (o .χ₁ -ℤ χ)
 
-pub record Corners (o : Box) (k : Weights) : Type 0 where
-  pub bends : T (nonNeg (k .g))
-  pub wide : T (posZ (o .σ₁ -ℤ o .σ₀))
-  pub high : T (posZ (o .χ₁ -ℤ o .χ₀))
-  pub low-low : T (corner k (o .σ₀) (o .χ₀))
-  pub low-high : T (corner k (o .σ₀) (o .χ₁))
-  pub high-low : T (corner k (o .σ₁) (o .χ₀))
-  pub high-high : T (corner k (o .σ₁) (o .χ₁))
+abbrev pub corners : Box → Weights → List Bool
+corners o k =
+    nonNeg (k .g) ∷ posZ (o .σ₁ -ℤ o .σ₀) ∷ posZ (o .χ₁ -ℤ o .χ₀)
+    ∷ corner k (o .σ₀) (o .χ₀) ∷ corner k (o .σ₀) (o .χ₁) ∷ corner k (o .σ₁) (o .χ₀) ∷ corner k (o .σ₁) (o .χ₁) ∷ []
 
-pub boxed : (o : Box) (k : Weights) → Corners o k → (σ χ : ℤ) → Within o σ χ → (y ε γ : ℤ) → NN (curve k y ε γ ((γ -ℤ χ *ℤ y) -ℤ σ *ℤ ε))
+pub boxed : (o : Box) (k : Weights) → T (every (corners o k)) → (σ χ : ℤ) → Within o σ χ → (y ε γ : ℤ) → NN (curve k y ε γ ((γ -ℤ χ *ℤ y) -ℤ σ *ℤ ε))
 boxed o k t σ χ i y ε γ =
-    between (flat k y ε γ) (lean k y ε) (k .g) (γ -ℤ χ *ℤ y) ε σ (o .σ₀) (o .σ₁) (nn-test (k .g) (t .bends)) (t .wide) (i .σ-low) (i .σ-high) (side (o .σ₀) (t .low-low) (t .low-high)) (side (o .σ₁) (t .high-low) (t .high-high))
+    let c = p .1 .1 .1 in
+    between (flat k y ε γ) (lean k y ε) (k .g) (γ -ℤ χ *ℤ y) ε σ (o .σ₀) (o .σ₁) (nn-test (k .g) (p .0)) (p .1 .0) (i .σ-low) (i .σ-high)
+    (side (o .σ₀) (c .0) (c .1 .0)) (side (o .σ₁) (c .1 .1 .0) (c .1 .1 .1 .0))
   where
+    p : Every (corners o k)
+    p = parts (corners o k) t
+
     side : (σ : ℤ) → T (corner k σ (o .χ₀)) → T (corner k σ (o .χ₁)) → NN (curve k y ε γ ((γ -ℤ χ *ℤ y) -ℤ σ *ℤ ε))
     side σ u v = nn-by (ap (curve k y ε γ) (+ℤ-swap γ (negℤ (χ *ℤ y)) (negℤ (σ *ℤ ε))))
-        (between (flat k y ε γ) (lean k y ε) (k .g) (γ -ℤ σ *ℤ ε) y χ (o .χ₀) (o .χ₁) (nn-test (k .g) (t .bends)) (t .high) (i .χ-low) (i .χ-high) (at-corner k σ (o .χ₀) u y ε γ) (at-corner k σ (o .χ₁) v y ε γ))
+        (between (flat k y ε γ) (lean k y ε) (k .g) (γ -ℤ σ *ℤ ε) y χ (o .χ₀) (o .χ₁) (nn-test (k .g) (p .0)) (p .1 .1 .0) (i .χ-low) (i .χ-high)
+        (at-corner k σ (o .χ₀) u y ε γ) (at-corner k σ (o .χ₁) v y ε γ))

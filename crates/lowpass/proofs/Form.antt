@@ -1,10 +1,11 @@
 -- A form in three integers whose leading minors pass a test is never negative. Assumes nothing.
 use mathlib.Core.Path.{_≡_}
 use mathlib.Core.List.{[], _∷_}
-use mathlib.Core.Bool.{Bool, true, false, _&&_}
+use mathlib.Core.Bool.{Bool, _&&_}
 use lib.Dec.{T}
 use lib.IntN.{ℤ, pos, _+ℤ_, _-ℤ_, _*ℤ_}
 use lib.Signed.{nonNeg}
+use Rattle.lowpass.proofs.Tests.{both}
 use Rattle.ieee.proofs.Ring.{R, var, con, _⊕_, _⊖_, _⊗_, ring}
 use Rattle.ieee.proofs.NotNegative.{NN, nn-test, nn-add, nn-mul, nn-sq, nn-by, posZ, nn-of-pos, nn-cancel}
 
@@ -22,11 +23,6 @@ minors a b c d e f =
     let E = a *ℤ e -ℤ b *ℤ c in
     let G = a *ℤ f -ℤ c *ℤ c in
     posZ a && (posZ D && nonNeg (D *ℤ G -ℤ E *ℤ E))
-
-pub both : (a b : Bool) → T (a && b) → T a × T b
-both true true w = (tt, tt)
-both true false w = absurd w
-both false b w = absurd w
 
 pub definite : (a b c d e f : ℤ) → T (minors a b c d e f) → (x y z : ℤ) → NN (form a b c d e f x y z)
 definite a b c d e f t x y z =

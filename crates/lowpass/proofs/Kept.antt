@@ -2,10 +2,10 @@
 -- what drives the step is at most 1.15 X / n². Coefficients are in steps of 1 / M, M = 2 ^ 24: a2 = α / M, 1 + a1 + a2 = k / M. With ε = N d, γ = N² F, σ = (M - α) N,
 -- χ = k N² and ρ = γ - χ y - σ ε, a step M d' = α d - k y + F is N² M d' = N M ε + ρ, and
 --
---     50,000 N⁵ M² (11 X² - E') = N Q + 50,000 (N - 301.6) N⁴ M² (11 X² - E) + 220 N⁴ (φ² X² - γ²) + (rest) N⁴ X²
+--     50,000 N⁵ M² (11 X² - E') = N Q + 50,000 (N - 301.6) N⁴ M² (11 X² - E) + 220 N⁴ (φ² X² - γ²) + c N⁴ X²
 --
--- with E times 754² as in Ellipse, φ = 1.15 * 754² M, and Q a form in y, ε, γ and ρ with weights that are cubic in N. About N = 7540 + t all four weights of the powers of t
--- pass at the box's corners. Assumes nothing.
+-- with E and 11 X² times 754² as in Ellipse, φ = 1.15 * 754² M, c = 15,080,000 * 11 * 754² M² - 220 φ², and Q a form in y, ε, γ and ρ whose weights are cubic in N. Written in
+-- powers of t = N - 7540, all four forms pass at the box's corners. Assumes nothing.
 use mathlib.Core.Path.{_≡_, _∙_, ap}
 use mathlib.Core.List.{[], _∷_}
 use Prim.Native.Nat.{ℕ, _+_, _*_, _<_}
@@ -16,7 +16,7 @@ use lib.IntN.{ℤ, pos, negℤ, _+ℤ_, _-ℤ_, _*ℤ_}
 use Rattle.ieee.proofs.Ring.{R, var, con, _⊕_, _⊖_, _⊗_, ring}
 use Rattle.ieee.proofs.NotNegative.{NN, nn, nn-add, nn-mul, nn-sq, nn-by, nn-cancel}
 use Rattle.lowpass.proofs.Ellipse.{energy, energyR, room, roomR}
-use Rattle.lowpass.proofs.Curve.{Weights, curve, curveR, Box, Within, Corners, boxed}
+use Rattle.lowpass.proofs.Curve.{Weights, curve, curveR, Box, Within, boxed}
 
 -- 1.30 * 754 M, 1.42 * 754 M, 0.92 * 754² M and 1.02 * 754² M
 abbrev box : Box
@@ -74,18 +74,6 @@ c₁ = mix (3 * 7540 * 7540) w₃ (mix (2 * 7540) w₂ w₁)
 abbrev c₀ : Weights
 c₀ = mix (7540 * 7540 * 7540) w₃ (mix (7540 * 7540) w₂ (mix 7540 w₁ w₀))
 
-corners₃ : Corners box w₃
-corners₃ = record { bends = tt; wide = tt; high = tt; low-low = tt; low-high = tt; high-low = tt; high-high = tt }
-
-corners₂ : Corners box c₂
-corners₂ = record { bends = tt; wide = tt; high = tt; low-low = tt; low-high = tt; high-low = tt; high-high = tt }
-
-corners₁ : Corners box c₁
-corners₁ = record { bends = tt; wide = tt; high = tt; low-low = tt; low-high = tt; high-low = tt; high-high = tt }
-
-corners₀ : Corners box c₀
-corners₀ = record { bends = tt; wide = tt; high = tt; low-low = tt; low-high = tt; high-low = tt; high-high = tt }
-
 -- Q at N = 7540 + t
 abbrev quad : (t y ε γ ρ : ℤ) → ℤ
 quad t y ε γ ρ = curve c₀ y ε γ ρ +ℤ t *ℤ (curve c₁ y ε γ ρ +ℤ t *ℤ (curve c₂ y ε γ ρ +ℤ t *ℤ curve w₃ y ε γ ρ))
@@ -98,8 +86,8 @@ quadR t y ε γ ρ = weightsR c₀ y ε γ ρ ⊕ t ⊗ (weightsR c₁ y ε γ �
 
 quad-positive : (t : ℕ) (σ χ : ℤ) → Within box σ χ → (y ε γ : ℤ) → NN (quad (pos t) y ε γ ((γ -ℤ χ *ℤ y) -ℤ σ *ℤ ε))
 quad-positive t σ χ i y ε γ =
-    nn-add (boxed box c₀ corners₀ σ χ i y ε γ)
-    (nn-mul (nn t) (nn-add (boxed box c₁ corners₁ σ χ i y ε γ) (nn-mul (nn t) (nn-add (boxed box c₂ corners₂ σ χ i y ε γ) (nn-mul (nn t) (boxed box w₃ corners₃ σ χ i y ε γ))))))
+    nn-add (boxed box c₀ tt σ χ i y ε γ)
+    (nn-mul (nn t) (nn-add (boxed box c₁ tt σ χ i y ε γ) (nn-mul (nn t) (nn-add (boxed box c₂ tt σ χ i y ε γ) (nn-mul (nn t) (boxed box w₃ tt σ χ i y ε γ))))))
 
 -- ---- a step at N = 7540 + t
 abbrev fourth : ℤ → ℤ

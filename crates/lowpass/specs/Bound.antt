@@ -1,22 +1,14 @@
 -- What is shown of the low-pass: a new filter whose coefficients pass a test for their rate, fed samples of size at most X, gives outputs of size at most 2 X, for ever.
--- Sizes are whole numbers of units of 2 ^ -149. Assumes nothing.
+-- Sizes are whole numbers of units of 2 ^ -149: `Bounded X x`, x is finite and of size at most X. Assumes nothing.
 use Prim.Native.Nat.{ℕ, _+_, _-_, _*_, _/_, _^_, _≤_}
 use mathlib.Core.Bool.{Bool, true, false, _&&_, Bool·beq}
 use mathlib.Core.List.{List, [], _∷_}
 use lib.Dec.{eqb, leb}
 use lib.Ieee.{Float, binary32, fits}
 use lib.Ieee.Scale.{finite}
-use Rattle.ieee.specs.Units.{One, F32, sign, mag}
+use Rattle.ieee.specs.Units.{One, sign, mag}
+pub use Rattle.ieee.specs.Bounds.{Bounded, All}
 use Rattle.lowpass.specs.Lowpass.{BiquadLowpassState}
-
--- a finite f32 of size at most X
-pub record AtMost (X : ℕ) (x : Float) : Type 0 where
-  pub f32 : F32 x
-  pub size : mag x ≤ X
-
-abbrev pub AllAtMost : ℕ → List Float → Type 0
-AllAtMost X [] = Unit
-AllAtMost X (x ∷ xs) = AtMost X x × AllAtMost X xs
 
 -- from 2 ^ -100 to 2 ^ 20
 pub record Range (X : ℕ) : Type 0 where

@@ -7,15 +7,15 @@ use lib.IntN.{pos}
 use lib.Ieee.{Float, fin, add, sub, mul, binary32}
 use Rattle.angles.specs.Angle.{w0, cosine, sine}
 use Rattle.angles.specs.Filter.{coefficientsOf}
-use Rattle.angles.specs.declared.Lowpass.{Lowpass}
+use Rattle.angles.specs.declared.filter.Coefficients.{Coefficients}
 pub use Rattle.lowpass.specs.declared.BiquadLowpassState.{BiquadLowpassState}
 
-abbrev pub plusZero : Float
-plusZero = fin false 0 (pos 0)
+abbrev pub 0·0 : Float
+0·0 = fin false 0 (pos 0)
 
 -- nothing fed yet
-abbrev pub fresh : Lowpass → BiquadLowpassState
-fresh c = record { a1 = c .a1; a2 = c .a2; b0 = c .b0; b1 = c .b1; b2 = c .b2; x1 = plusZero; x2 = plusZero; y1 = plusZero; y2 = plusZero }
+abbrev pub fresh : Coefficients → BiquadLowpassState
+fresh c = record { a1 = c .a1; a2 = c .a2; b0 = c .b0; b1 = c .b1; b2 = c .b2; x1 = 0·0; x2 = 0·0; y1 = 0·0; y2 = 0·0 }
 
 -- Document 01, item 1: "`BiquadLowpassState::new` gives the coefficients from them", the cosine and the sine of w0
 unfoldable pub new : ℕ → BiquadLowpassState

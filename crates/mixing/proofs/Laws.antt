@@ -6,7 +6,7 @@ use Prim.Native.Nat.{ℕ, zero, suc, _+_, _*_, _<_, _≤_}
 use native.Mathlib.Nat.{not-suc-le-zero, le-of-suc-le-suc}
 use native.Mathlib.Omega.{arith}
 use native.Mathlib.Numerals.{add-one}
-use lib.ListN.{length, getD, set, take, drop, length-append}
+use lib.ListN.{length, getD, set, take, drop}
 use lib.Seq.{set-at, drop-cons, drop-length}
 use lib.Ieee.{Float, nan, binary32, add, mul, eq}
 use Rattle.words.specs.Words.{floatAt}

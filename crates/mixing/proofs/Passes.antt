@@ -1,14 +1,13 @@
 -- Refusal 8's test of a run of samples: one word more, and what passes is no NaN. Assumes nothing.
-use mathlib.Core.Logic.{_⊎_, ⊎-elim}
 use mathlib.Core.Path.{_≡_, refl, sym, ap, subst, _∙_}
 use mathlib.Core.Bool.{Bool, true, false, _&&_}
 use mathlib.Core.List.{List}
-use Prim.Native.Nat.{ℕ, zero, suc, _+_, _*_, _%_, _<_, _≤_}
+use Prim.Native.Nat.{ℕ, zero, suc, _+_, _*_, _<_, _≤_}
 use native.Mathlib.Omega.{arith}
 use native.Mathlib.Nat.{not-suc-le-zero, le-of-suc-le-suc}
 use native.Mathlib.Numerals.{add-one}
-use borrow.Author.Tests.{leb-true, le-leb}
-use lib.Dec.{T, leb}
+use borrow.Author.Tests.{leb-true}
+use lib.Dec.{T}
 use Rattle.words.specs.Words.{word}
 use Rattle.mixing.specs.Samples.{Plain, passes, allPass}
 
@@ -16,26 +15,17 @@ and-assoc : (a b c : Bool) → (a && (b && c)) ≡ ((a && b) && c)
 and-assoc true b c = refl
 and-assoc false b c = refl
 
-and-true : (a : Bool) → a ≡ (a && true)
+pub and-true : (a : Bool) → a ≡ (a && true)
 and-true true = refl
 and-true false = refl
 
-and-swap : (a b : Bool) → (a && b) ≡ (b && a)
-and-swap true b = and-true b
-and-swap false true = refl
-and-swap false false = refl
+pub and-false : (a : Bool) → false ≡ (a && false)
+and-false true = refl
+and-false false = refl
 
 both : (a b : Bool) → (a && b) ≡ true → (a ≡ true) × (b ≡ true)
 both true b e = (refl, e)
 both false b e = absurd (subst T (sym e) tt)
-
--- a bound on the larger of two is one on both
-larger : (a b n : ℕ) → a ≤ b → leb b n ≡ (leb a n && leb b n)
-larger a b n h = go (leb b n) refl
-  where
-    go : (t : Bool) → leb b n ≡ t → t ≡ (leb a n && t)
-    go true e = let l = leb-true b n e in rw (le-leb a n (omega arith))
-    go false e = and-swap false (leb a n)
 
 module _ (s : List ℕ) where
   more : (at n : ℕ) → allPass s at (suc n) ≡ (allPass s at n && passes (word s (at + 4 * n)))
@@ -44,16 +34,9 @@ module _ (s : List ℕ) where
       ap (λ (b : Bool). passes (word s at) && b) (more (at + 4) n ∙ ap (λ (k : ℕ). allPass s (at + 4) n && passes (word s k)) (omega arith))
       ∙ and-assoc (passes (word s at)) (allPass s (at + 4) n) (passes (word s (at + 4 * suc n)))
 
-  -- one word more, with the largest so far
-  pub pass-step : (at i l m : ℕ) (k : ℕ) → leb l 0x4180_0000 ≡ allPass s at i → m ≡ word s (at + 4 * i) % 0x8000_0000
-      → ((l < m) × (k ≡ m)) ⊎ ((m ≤ l) × (k ≡ l)) → leb k 0x4180_0000 ≡ allPass s at (i + 1)
-  pass-step at i l m k e p w = ⊎-elim up stays w ∙ ap (λ (b : Bool). b && leb m 0x4180_0000) e ∙ ap (λ (n : ℕ). allPass s at i && leb n 0x4180_0000) p ∙ sym (more at i) ∙ ap (allPass s at) (sym (add-one i))
-    where
-      up : ((l < m) × (k ≡ m)) → leb k 0x4180_0000 ≡ (leb l 0x4180_0000 && leb m 0x4180_0000)
-      up w = ap (λ (n : ℕ). leb n 0x4180_0000) (w .1) ∙ larger l m 0x4180_0000 (omega (arith, w .0))
-
-      stays : ((m ≤ l) × (k ≡ l)) → leb k 0x4180_0000 ≡ (leb l 0x4180_0000 && leb m 0x4180_0000)
-      stays w = ap (λ (n : ℕ). leb n 0x4180_0000) (w .1) ∙ larger m l 0x4180_0000 (w .0) ∙ and-swap (leb m 0x4180_0000) (leb l 0x4180_0000)
+  -- one word more, that passes or does not
+  pub pass-step : (at i : ℕ) {t : Bool} → t ≡ allPass s at i → (u v : Bool) → passes (word s (at + 4 * i)) ≡ v → u ≡ (t && v) → u ≡ allPass s at (i + 1)
+  pass-step at i e u v p q = q ∙ rw (e, ← p) (sym (more at i)) ∙ ap (allPass s at) (sym (add-one i))
 
   -- each of them passes
   pub pass-at : (at n : ℕ) → allPass s at n ≡ true → (k : ℕ) → k < n → passes (word s (at + 4 * k)) ≡ true

@@ -1,8 +1,8 @@
 -- Source by source over a row is sample by sample over the sources: at each place a mixed row holds the left fold of the terms there. Assumes nothing.
-use mathlib.Core.Path.{_≡_, refl, sym, ap, _∙_}
+use mathlib.Core.Path.{_≡_, refl, ap, _∙_}
 use mathlib.Core.Bool.{Bool, true, false, cond}
-use mathlib.Core.List.{List, [], _∷_}
-use Prim.Native.Nat.{ℕ, zero, suc, _<_, _≤_}
+use mathlib.Core.List.{List, [], _∷_, _++_}
+use Prim.Native.Nat.{ℕ, _<_, _≤_}
 use native.Mathlib.Omega.{arith}
 use lib.ListN.{length, getD}
 use lib.Ieee.{Float, nan, binary32, add, mul, eq}
@@ -37,3 +37,13 @@ all-at (t ∷ ts) os l i h =
     let p = l .0 in
     all-at ts (mixedFull (t .row) (t .coef) os) (rw e (l .1)) i (omega arith)
     ∙ ap (λ (s : Float). total s (termsAt ts i)) (full-at (t .row) (t .coef) os i (omega arith) h)
+
+-- terms after terms
+
+pub all-append : (ts us : List RowTerm) (os : List Float) → mixedAll (ts ++ us) os ≡ mixedAll us (mixedAll ts os)
+all-append [] us os = refl
+all-append (t ∷ ts) us os = all-append ts us (mixedFull (t .row) (t .coef) os)
+
+pub total-append : (ts us : List Term) (s : Float) → total s (ts ++ us) ≡ total (total s ts) us
+total-append [] us s = refl
+total-append (t ∷ ts) us s = total-append ts us (plus s t)

@@ -39,21 +39,20 @@ pub fn mix_segment(input: &[f32], output: &mut [f32], offset: usize, gain: f32)
     mix_full_channel(input, &mut output[offset..end], gain);
 }
 
-// Refusal 8: whether each of `count` samples from `at` on is finite and within ±16.
+// Refusal 8: whether each of `count` samples from `at` on is finite and within ±16. All are looked at, so that the loop is vectorised.
 pub fn samples_pass(pcm: &[u8], at: usize, count: usize) -> bool
     requires { ⌜ at + 4 * count ≤ length (now pcm) ⌝ }
     ensures { λ r. ⌜ r ≡ allPass (now (pcm .entry)) at count ⌝ }
 {
-    let mut largest = 0u32;
+    let mut pass = true;
     let mut i = 0usize;
     while i < count {
-        let size = words::u32_at(pcm, at + 4 * i) % 0x8000_0000;
-        if size > largest {
-            largest = size;
+        if words::u32_at(pcm, at + 4 * i) % 0x8000_0000 > 0x4180_0000 {
+            pass = false;
         }
         i += 1;
     }
-    largest <= 0x4180_0000
+    pass
 }
 
 // The samples whose words stand from `at` on, as many as `row` has. None is a NaN's pattern, so that the loop has no branch.

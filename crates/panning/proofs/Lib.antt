@@ -1,6 +1,3 @@
-pub mod Lists
-pub mod Axis
-pub mod Choose
-pub mod Levels
 pub mod Rows
+pub mod Corners714
 pub mod Cases

@@ -1,5 +1,5 @@
 -- The code's rows are the definition's: the two coefficients of a row, and the eight of the corners that the code has chosen. Assumes nothing.
-use mathlib.Core.Path.{_≡_, refl, sym, ap, _∙_, subst, fun-ext}
+use mathlib.Core.Path.{_≡_, refl, sym, ap, _∙_, subst}
 use mathlib.Core.Bool.{Bool, true, false, cond}
 use mathlib.Core.List.{List, [], _∷_, map}
 use Prim.Native.Nat.{ℕ}
@@ -8,7 +8,9 @@ use Rattle.roots.specs.Root.{root}
 use Rattle.vectors.specs.declared.Vec3.{Vec3}
 use Rattle.panning.specs.Choice.{Corner, corner, corners, 0·0, 1·0}
 use Rattle.panning.specs.Terms.{ratio, up, ahead, across, rowWeight, sideCoefficient, coefficient, innerGain, extra, nothing, panned}
-use Rattle.panning.specs.Arrays.{coord, places, RowIs, chosen, CubeIs}
+use Rattle.panning.specs.Found.{RowIs, chosen}
+use Rattle.panning.specs.declared.Ends.{Ends}
+use Rattle.panning.specs.declared.Layer.{Layer}
 use Rattle.panning.specs.declared.Cube.{Cube}
 use Rattle.panning.specs.declared.Pair.{Pair}
 use Rattle.panning.specs.declared.Panned.{Panned}
@@ -26,6 +28,17 @@ row-no {a} {b} {v} {w} t = record {
   right-is = sym (ap (λ (y : Bool). cond y (root (mul binary32 w (ratio a b v))) 0·0) t);
 }
 
+-- ---- structs of the code
+pub ends-of : {l h l' h' : ℕ} → l ≡ l' → h ≡ h' → _≡_ {A = Ends} (record { low = l; high = h }) (record { low = l'; high = h' })
+ends-of p q = cc
+
+pub layer-of : {f r f' r' : Ends} → f ≡ f' → r ≡ r' → _≡_ {A = Layer} (record { front = f; rear = r }) (record { front = f'; rear = r' })
+layer-of p q = cc
+
+pub cube-of : {b t b' t' : Layer} → b ≡ b' → t ≡ t' → _≡_ {A = Cube} (record { bottom = b; top = t }) (record { bottom = b'; top = t' })
+cube-of p q = cc
+
+-- ---- the eight coefficients
 row-moved : {a b v w u : Float} {r : Pair} → w ≡ u → RowIs a b v w r → RowIs a b v u r
 row-moved {a} {b} {v} {r = r} e h = subst (λ (y : Float). RowIs a b v y r) e h
 
@@ -33,21 +46,30 @@ eight : {A : Type 0} {a b c d e f g h a' b' c' d' e' f' g' h' : A} → a ≡ a' 
     → a ∷ b ∷ c ∷ d ∷ e ∷ f ∷ g ∷ h ∷ [] ≡ a' ∷ b' ∷ c' ∷ d' ∷ e' ∷ f' ∷ g' ∷ h' ∷ []
 eight i j k l m n o p = cc
 
-module _ (x y z : List Float) (c : Cube) (p : Vec3) (g : Float) {u b t : Float} {bf br tf tr : Pair}
-    (up-is : u ≡ ratio (coord y (c .bottom .front .low)) (coord y (c .top .front .low)) (p .y))
-    (bottom-is : b ≡ ratio (coord z (c .bottom .rear .low)) (coord z (c .bottom .front .low)) (p .z))
-    (top-is : t ≡ ratio (coord z (c .top .rear .low)) (coord z (c .top .front .low)) (p .z)) where
-  pub coefficients-are : RowIs (coord x (c .bottom .front .low)) (coord x (c .bottom .front .high)) (p .x) (mul binary32 (mul binary32 b (sub binary32 1·0 u)) g) bf
-      → RowIs (coord x (c .bottom .rear .low)) (coord x (c .bottom .rear .high)) (p .x) (mul binary32 (mul binary32 (sub binary32 1·0 b) (sub binary32 1·0 u)) g) br
-      → RowIs (coord x (c .top .front .low)) (coord x (c .top .front .high)) (p .x) (mul binary32 (mul binary32 t u) g) tf
-      → RowIs (coord x (c .top .rear .low)) (coord x (c .top .rear .high)) (p .x) (mul binary32 (mul binary32 (sub binary32 1·0 t) u) g) tr
-      → bf .left ∷ bf .right ∷ br .left ∷ br .right ∷ tf .left ∷ tf .right ∷ tr .left ∷ tr .right ∷ [] ≡ map (coefficient (places x y z) (chosen c) p g) corners
+weigh : (g : Float) {a a' v v' : Float} → a ≡ a' → v ≡ v' → mul binary32 (mul binary32 a v) g ≡ mul binary32 (mul binary32 a' v') g
+weigh g h i = cc
+
+less : {a a' : Float} → a ≡ a' → sub binary32 1·0 a ≡ sub binary32 1·0 a'
+less h = cc
+
+pub ratio-of : (v : Float) {a b a' b' r : Float} → a ≡ a' → b ≡ b' → r ≡ ratio a b v → r ≡ ratio a' b' v
+ratio-of v h i e = cc
+
+module _ (sp : ℕ → Vec3) (c : Cube) (p : Vec3) (g : Float) {u b t : Float} {bf br tf tr : Pair}
+    (up-is : u ≡ ratio (sp (c .bottom .front .low) .y) (sp (c .top .front .low) .y) (p .y))
+    (bottom-is : b ≡ ratio (sp (c .bottom .rear .low) .z) (sp (c .bottom .front .low) .z) (p .z))
+    (top-is : t ≡ ratio (sp (c .top .rear .low) .z) (sp (c .top .front .low) .z) (p .z)) where
+  pub coefficients-are : RowIs (sp (c .bottom .front .low) .x) (sp (c .bottom .front .high) .x) (p .x) (mul binary32 (mul binary32 b (sub binary32 1·0 u)) g) bf
+      → RowIs (sp (c .bottom .rear .low) .x) (sp (c .bottom .rear .high) .x) (p .x) (mul binary32 (mul binary32 (sub binary32 1·0 b) (sub binary32 1·0 u)) g) br
+      → RowIs (sp (c .top .front .low) .x) (sp (c .top .front .high) .x) (p .x) (mul binary32 (mul binary32 t u) g) tf
+      → RowIs (sp (c .top .rear .low) .x) (sp (c .top .rear .high) .x) (p .x) (mul binary32 (mul binary32 (sub binary32 1·0 t) u) g) tr
+      → bf .left ∷ bf .right ∷ br .left ∷ br .right ∷ tf .left ∷ tf .right ∷ tr .left ∷ tr .right ∷ [] ≡ map (coefficient sp (chosen c) p g) corners
   unfolding coefficient rowWeight up ahead across
   coefficients-are h i j k =
-      let h' = row-moved (ap (λ (v : Float). mul binary32 (mul binary32 v (sub binary32 1·0 u)) g) bottom-is ∙ ap (λ (v : Float). mul binary32 (mul binary32 (ahead (places x y z) (chosen c) p false) (sub binary32 1·0 v)) g) up-is) h in
-      let i' = row-moved (ap (λ (v : Float). mul binary32 (mul binary32 (sub binary32 1·0 v) (sub binary32 1·0 u)) g) bottom-is ∙ ap (λ (v : Float). mul binary32 (mul binary32 (sub binary32 1·0 (ahead (places x y z) (chosen c) p false)) (sub binary32 1·0 v)) g) up-is) i in
-      let j' = row-moved (ap (λ (v : Float). mul binary32 (mul binary32 v u) g) top-is ∙ ap (λ (v : Float). mul binary32 (mul binary32 (ahead (places x y z) (chosen c) p true) v) g) up-is) j in
-      let k' = row-moved (ap (λ (v : Float). mul binary32 (mul binary32 (sub binary32 1·0 v) u) g) top-is ∙ ap (λ (v : Float). mul binary32 (mul binary32 (sub binary32 1·0 (ahead (places x y z) (chosen c) p true)) v) g) up-is) k in
+      let h' = row-moved (weigh g bottom-is (less up-is)) h in
+      let i' = row-moved (weigh g (less bottom-is) (less up-is)) i in
+      let j' = row-moved (weigh g top-is up-is) j in
+      let k' = row-moved (weigh g (less top-is) up-is) k in
       eight (h' .left-is) (h' .right-is) (i' .left-is) (i' .right-is) (j' .left-is) (j' .right-is) (k' .left-is) (k' .right-is)
 
 -- ---- the whole
@@ -56,26 +78,13 @@ module _ (sp : ℕ → Vec3) (l : List ℕ) (n : Float) (p : Vec3) (g s : Float)
   unfolding panned
   pan-none t e = e ∙ sym (ap (λ (b : Bool). cond b nothing (record { corners = map (corner sp l p) corners; coefficients = map (coefficient sp (corner sp l p) p (innerGain g s)) corners; extra = extra n g s })) t)
 
-  chosen-is : {r : Cube} → CubeIs sp l p r → chosen r ≡ corner sp l p
-  chosen-is {r} h = fun-ext (λ c. go (c .top) (c .front) (c .right))
-    where
-      go : (top front right : Bool) → chosen r (record { top = top; front = front; right = right }) ≡ corner sp l p (record { top = top; front = front; right = right })
-      go false true false = h .bottom-front .left-is
-      go false true true = h .bottom-front .right-is
-      go false false false = h .bottom-rear .left-is
-      go false false true = h .bottom-rear .right-is
-      go true true false = h .top-front .left-is
-      go true true true = h .top-front .right-is
-      go true false false = h .top-rear .left-is
-      go true false true = h .top-rear .right-is
-
-  pub pan-some : {r : Cube} {i e : Float} {ks : List ℕ} {cs : List Float} → eq g 0·0 ≡ false → CubeIs sp l p r → i ≡ innerGain g s → cs ≡ map (coefficient sp (chosen r) p i) corners → ks ≡ map (chosen r) corners → e ≡ extra n g s
+  pub pan-some : {r : Cube} {i e : Float} {ks : List ℕ} {cs : List Float} → eq g 0·0 ≡ false → chosen r ≡ corner sp l p → i ≡ innerGain g s → cs ≡ map (coefficient sp (chosen r) p i) corners → ks ≡ map (chosen r) corners → e ≡ extra n g s
       → (record { corners = ks; coefficients = cs; extra = e }) ≡ panned sp l n p g s
   unfolding panned
   pan-some {r} {i} {e} {ks} {cs} t h gi ci ki ei =
-      let k : ks ≡ map (corner sp l p) corners = ki ∙ ap (λ (ch : Corner → ℕ). map ch corners) (chosen-is h) in
+      let k : ks ≡ map (corner sp l p) corners = ki ∙ ap (λ (ch : Corner → ℕ). map ch corners) h in
       let c : cs ≡ map (coefficient sp (corner sp l p) p (innerGain g s)) corners =
-      ci ∙ ap (λ (ch : Corner → ℕ). map (coefficient sp ch p i) corners) (chosen-is h) ∙ ap (λ (v : Float). map (coefficient sp (corner sp l p) p v) corners) gi in
+      ci ∙ ap (λ (ch : Corner → ℕ). map (coefficient sp ch p i) corners) h ∙ ap (λ (v : Float). map (coefficient sp (corner sp l p) p v) corners) gi in
       joined k c ei ∙ sym (ap (λ (b : Bool). cond b nothing (record { corners = map (corner sp l p) corners; coefficients = map (coefficient sp (corner sp l p) p (innerGain g s)) corners; extra = extra n g s })) t)
     where
       joined : {k k' : List ℕ} {c c' : List Float} {e e' : Float} → k ≡ k' → c ≡ c' → e ≡ e' → _≡_ {A = Panned} (record { corners = k; coefficients = c; extra = e }) (record { corners = k'; coefficients = c'; extra = e' })

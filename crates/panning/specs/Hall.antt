@@ -1,21 +1,21 @@
 -- The 7.1.4 hall: `RENDER_714_CHANNEL_POSITIONS`. Assumes nothing.
 use Prim.Native.Nat.{ℕ}
 use mathlib.Core.Bool.{Bool, true, false}
-use mathlib.Core.List.{List, [], _∷_, map}
+use mathlib.Core.List.{List, [], _∷_}
 use lib.IntN.{pos, negsuc}
-use lib.Ieee.{Float, fin}
+use lib.ListN.{getD}
+use lib.Ieee.{Float, nan, fin}
 use Rattle.vectors.specs.declared.Vec3.{Vec3}
 use Rattle.panning.specs.Choice.{0·0}
-use Rattle.panning.specs.Arrays.{places}
 
 -- 0.70710677, 0.48368952 and 1, with a sign
-abbrev diagonal : Bool → Float
+abbrev pub diagonal : Bool → Float
 diagonal s = fin s 11863283 (negsuc 23)
 
-abbrev surround : Bool → Float
+abbrev pub surround : Bool → Float
 surround s = fin s 16229927 (negsuc 24)
 
-abbrev one : Bool → Float
+abbrev pub one : Bool → Float
 one s = fin s 1 (pos 0)
 
 unfoldable pub positions714 : List Vec3
@@ -35,7 +35,7 @@ positions714 =
 
 unfoldable pub hall714 : ℕ → Vec3
 unfolding positions714
-hall714 = places (map (λ v. v .x) positions714) (map (λ v. v .y) positions714) (map (λ v. v .z) positions714)
+hall714 k = getD positions714 k (record { x = nan; y = nan; z = nan })
 
 -- the channels but the bass channel, 3
 abbrev pub fullRange : List ℕ

@@ -1,6 +1,7 @@
 pub mod Choice
 pub mod Terms
 pub mod Table
-pub mod Arrays
 pub mod Hall
+pub mod Corners714
+pub mod Found
 pub mod Cases

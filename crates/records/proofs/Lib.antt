@@ -5,6 +5,9 @@ pub mod Ends
 pub mod Updates
 pub mod Walked
 pub mod Times
+pub mod Stable
 pub mod Reached
+pub mod Placed
+pub mod Meant
 pub mod Each
 pub mod Cases

@@ -1,4 +1,4 @@
--- Laws of a record's kind: nothing stands past the end. Assumes nothing.
+-- Laws of a record's kind: nothing stands past the end, and a record that is laid out has its own. Assumes nothing.
 use Prim.Native.Nat.{ℕ, _*_, _/_, _%_, _<_, _≤_}
 use mathlib.Core.Path.{_≡_}
 use mathlib.Core.Bool.{Bool, true, false, _&&_}
@@ -7,7 +7,7 @@ use native.Mathlib.Nat.{lt-of-not-le}
 use native.Mathlib.Omega.{arith}
 use lib.Dec.{eqb, leb}
 use lib.ListN.{length, List·getD-eq-default}
-use borrow.Author.Tests.{ne-eqb, leb-true}
+use borrow.Author.Tests.{ne-eqb, leb-true, eqb-true}
 use Rattle.fields.specs.Bytes.{kind}
 use Rattle.fields.specs.Block.{blocks, isElement, isBlock}
 use Rattle.fields.specs.Update.{isUpdate}
@@ -54,3 +54,20 @@ module _ (m : List ℕ) (whole : length m % 40 ≡ 0) (r : ℕ) where
   pub few-blocks : isElement m r ≡ true → blocks m r ≤ 8
   unfolding isElement
   few-blocks e = leb-true _ _ (and-right (eqb (kind m r) 2) _ (and-left (eqb (kind m r) 2 && leb (blocks m r) 8) _ e))
+
+  -- ---- the kind of a record that is laid out
+  pub update-kind : isUpdate m r ≡ true → kind m r ≡ 1
+  unfolding isUpdate
+  update-kind e = eqb-true (kind m r) 1 (and-left _ _ (and-left _ _ (and-left _ _ (and-left _ _ e))))
+
+  pub element-kind : isElement m r ≡ true → kind m r ≡ 2
+  unfolding isElement
+  element-kind e = eqb-true (kind m r) 2 (and-left _ _ (and-left _ _ e))
+
+  pub block-kind : isBlock m r ≡ true → kind m r ≡ 3
+  unfolding isBlock
+  block-kind e = eqb-true (kind m r) 3 (and-left _ _ (and-left _ _ e))
+
+  pub object-kind : isObject m r ≡ true → kind m r ≡ 4
+  unfolding isObject
+  object-kind e = eqb-true (kind m r) 4 (and-left _ _ (and-left _ _ (and-left _ _ (and-left _ _ (and-left _ _ e)))))

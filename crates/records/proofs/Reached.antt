@@ -1,24 +1,18 @@
--- What a caller may rely on where a list is laid out: each update, element, block and object is there, with counts within their limits, and where the list is in range so is each block and object. Assumes nothing.
-use Prim.Native.Nat.{ℕ, suc, _+_, _-_, _*_, _/_, _%_, _<_, _≤_}
-use mathlib.Core.Path.{_≡_, sym, ap, _∙_}
-use mathlib.Core.Bool.{true, false, _&&_}
+-- What a caller may rely on where a list is laid out: each update, element, block and object is there, with counts within their limits. Assumes nothing.
+use Prim.Native.Nat.{ℕ, suc, _+_, _-_, _*_, _%_, _<_, _≤_}
+use mathlib.Core.Path.{_≡_, ap}
+use mathlib.Core.Bool.{true, _&&_}
 use mathlib.Core.List.{List}
 use native.Mathlib.Nat.{mul-le-mul-right, suc-mul}
 use native.Mathlib.Omega.{arith}
 use lib.Dec.{eqb, leb}
 use lib.ListN.{length, getD}
-use borrow.Author.Tests.{leb-true, lt-ltb, ne-eqb, eqb-true}
-use Rattle.fields.specs.Bytes.{all, byte, zeros}
-use Rattle.fields.specs.Bytes.{kind}
+use borrow.Author.Tests.{leb-true, lt-ltb}
+use Rattle.fields.specs.Bytes.{all, byte, kind}
 use Rattle.fields.specs.Update.{objects, bedOrIsf, beds, elements, countsFit, mostAt, codesFit, isUpdate}
 use Rattle.fields.specs.Block.{blocks, isElement, isBlock}
 use Rattle.fields.specs.Object.{isObject}
 use Rattle.records.specs.Laid.{blockAt, objectAt, elementAt, updateAt, isWholeElement, isWholeUpdate, isUpdates, laidOut, count}
-use Rattle.fields.specs.Block.{blockOf}
-use Rattle.fields.specs.Object.{objectOf}
-use Rattle.fields.specs.Block.{blockInRange}
-use Rattle.fields.specs.Object.{objectInRange}
-use Rattle.records.specs.Ranges.{recordInRange, inRange}
 use Rattle.fields.proofs.All.{and-left, and-right, all-at}
 use Rattle.records.proofs.Runs.{some-last}
 use Rattle.records.proofs.Past.{there-update, there-element, there-block, there-object, few-blocks}
@@ -104,36 +98,9 @@ module _ (m : List ℕ) (whole : length m % 40 ≡ 0) where
     pub object-place : (o b : ℕ) → o < n → b < blocks m e → 40 * objectAt m e (o * blocks m e + b) + 40 ≤ length m
     object-place o b h k = let l = there-object m whole (objectAt m e (o * blocks m e + b)) (object-is o b h k) in omega arith
 
-  -- ---- refusal 6 has not arisen
-  module _ (ranges : inRange m ≡ true) (r : ℕ) where
-    passes : r < length m / 40 → recordInRange m r ≡ true
-    unfolding inRange
-    passes h = all-at (recordInRange m) (length m / 40) r h ranges
-
-    of-block : eqb (kind m r) 3 ≡ true → recordInRange m r ≡ blockInRange (blockOf m r)
-    unfolding recordInRange
-    of-block k = simp k
-
-    of-object : eqb (kind m r) 3 ≡ false → eqb (kind m r) 4 ≡ true → recordInRange m r ≡ objectInRange (objectOf m r)
-    unfolding recordInRange
-    of-object k l = simp (k, l)
-
-    pub block-ranges : isBlock m r ≡ true → blockInRange (blockOf m r) ≡ true
-    unfolding isBlock
-    block-ranges e =
-        let k = and-left (eqb (kind m r) 3) _ (and-left (eqb (kind m r) 3 && zeros m (40 * r + 1) 7) _ e) in
-        sym (of-block k) ∙ passes (there-block m whole r e)
-
-    pub object-ranges : isObject m r ≡ true → objectInRange (objectOf m r) ≡ true
-    unfolding isObject
-    object-ranges e =
-        let k : eqb (kind m r) 4 ≡ true = and-left _ _ (and-left _ _ (and-left _ _ (and-left _ _ (and-left _ _ e)))) in
-        let q = eqb-true (kind m r) 4 k in
-        sym (of-object (ne-eqb (kind m r) 3 (λ t. omega arith)) k) ∙ passes (there-object m whole r e)
-
 -- ---- a list that is laid out
 module _ (m : List ℕ) (laid : laidOut m ≡ true) where
-  found : isUpdates m (count m) ≡ true
+  pub found : isUpdates m (count m) ≡ true
   unfolding laidOut count
   found = some-last (isUpdates m) 17 laid
 

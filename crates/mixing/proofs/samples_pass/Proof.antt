@@ -1,21 +1,20 @@
--- `samples_pass`: the largest of the first i sizes passes exactly where each of them does.
+-- `samples_pass`: after i words it holds what the first i pass.
 use borrow.Author.Needs.{needs}
-use mathlib.Core.Logic.{⊎-elim, inl, inr}
-use mathlib.Core.Path.{_≡_, ap, _∙_}
+use borrow.Author.Tests.{le-leb, lt-leb}
+use mathlib.Core.Logic.{⊎-elim}
+use mathlib.Core.Path.{_≡_, sym, ap, _∙_}
 use native.Mathlib.Omega.{arith}
-use Prim.Native.Nat.{ℕ, _+_, _*_, _-_, _%_, _≤_}
-use Rattle.words.specs.Words.{word}
-use lib.Dec.{leb}
-use Rattle.mixing.specs.Samples.{allPass}
-use Rattle.mixing.proofs.Passes.{pass-step}
+use Prim.Native.Nat.{_-_, _≤_}
+use Rattle.mixing.specs.Samples.{passes, allPass}
+use Rattle.mixing.proofs.Passes.{pass-step, and-true, and-false}
 use Rattle.mixing.proofs.samples_pass.Statement.{statement}
 use Rattle.mixing.proofs.samples_pass.Tie as tie
 
 abbrev Inv-loop : tie.InvT-loop
-Inv-loop pcm at count largest₀ i₀ largest i = (i ≤ count) × (leb largest 0x4180_0000 ≡ allPass pcm at i)
+Inv-loop pcm at count pass₀ i₀ pass i = (i ≤ count) × (pass ≡ allPass pcm at i)
 
 abbrev μ-loop : tie.MeasureT-loop
-μ-loop pcm at count largest₀ i₀ largest i = count - i
+μ-loop pcm at count pass₀ i₀ pass i = count - i
 
 loop-holds : tie.Need-loop-holds Inv-loop μ-loop
 loop-holds c = search needs
@@ -39,8 +38,12 @@ loop-again : tie.Need-loop-again Inv-loop μ-loop
 loop-again c =
     let l = c .before .before .before in
     let a = l .before .before .args in
-    let m : c .before .u32-at .result % 0x8000_0000 ≡ word (a .pcm .now) (a .at + 4 * l .loop .i) % 0x8000_0000 = ap (λ (n : ℕ). n % 0x8000_0000) (c .before .u32-at .ensures) in
-    (search needs, pass-step (a .pcm .now) (a .at) (l .loop .i) (l .loop .largest) _ _ (l .loop .inv .1) m (⊎-elim (λ w. inl (w .0 .taken, w .1)) (λ w. inr (w .0 .left, w .1)) (c .if1 .came)))
+    let m = ap passes (sym (c .before .u32-at .ensures)) in
+    let step = pass-step (a .pcm .now) (a .at) (l .loop .i) (l .loop .inv .1) in
+    ⊎-elim
+    (λ w. (search needs, step _ _ (m ∙ lt-leb _ _ (w .0 .taken)) (w .1 ∙ and-false (l .loop .pass))))
+    (λ w. (search needs, step _ _ (m ∙ le-leb _ _ (w .0 .left)) (w .1 ∙ and-true (l .loop .pass))))
+    (c .if1 .came)
 
 returns : tie.Need-returns Inv-loop μ-loop
 returns c =

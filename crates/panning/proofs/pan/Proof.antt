@@ -1,20 +1,53 @@
--- `panning::pan` meets its contract: its arrays are finite, and they are the 7.1.4 hall, by computation. Assumes nothing.
-use mathlib.Core.List.{map}
-use lib.Ieee.{ofBits, fits}
-use Rattle.panning.specs.Choice.{keep, every}
-use Rattle.panning.specs.Arrays.{from, marked}
-use Rattle.panning.specs.Hall.{positions714, hall714}
-use Rattle.panning.proofs.Levels.{finite-table}
+-- `panning::pan` meets its contract. Assumes nothing.
+use borrow.Author.Needs.{needs}
+use lib.Ieee.{ofBits, binary32, fits}
+use mathlib.Core.Path.{ap, _∙_, subst⁻¹}
+use lib.Dec.{T}
+use Rattle.panning.specs.Hall.{hall714, fullRange, 12·0}
+use Rattle.panning.specs.Found.{chosen, Inside}
+use Rattle.panning.proofs.Corners714.{chosen-is, inside}
+use Rattle.panning.proofs.Rows.{pan-none, pan-some}
 use Rattle.panning.proofs.pan.Statement.{statement}
 use Rattle.panning.proofs.pan.Tie as tie
 
-pan-in-requires : tie.Need-pan-in-requires
-unfolding ofBits fits keep every from marked positions714
-pan-in-requires c κs = (finite-table (map (λ v. v .x) positions714) tt, (finite-table (map (λ v. v .y) positions714) tt, (finite-table (map (λ v. v .z) positions714) tt, tt)))
+silent-requires : tie.Need-silent-requires
+silent-requires c κs = search needs
 
 returns : tie.Need-returns
-unfolding ofBits keep from marked positions714 hall714
-returns c = c .pan-in .ensures
+unfolding ofBits
+returns c = let s = c .before .before .args in pan-none hall714 fullRange 12·0 (s .place) (s .gain) (s .size) (c .before .if1 .taken) (c .silent .ensures)
+
+cube-714-requires : tie.Need-cube-714-requires
+cube-714-requires c κs = search needs
+
+inner-gain-requires : tie.Need-inner-gain-requires
+inner-gain-requires c κs = search needs
+
+coefficients-requires : tie.Need-coefficients-requires
+coefficients-requires c κs = let s = c .before .before .before in subst⁻¹ Inside (c .before .cube-714 .ensures) (inside (s .args .place))
+
+channels-requires : tie.Need-channels-requires
+channels-requires c κs = search needs
+
+extra-requires : tie.Need-extra-requires
+extra-requires c κs = search needs
+
+returns-2 : tie.Need-returns-2
+unfolding ofBits
+returns-2 c =
+    let s = c .before .before .before .before .before .before in
+    let w : T (fits binary32 (s .args .place .x)) = search (needs, s .good .0) in
+    pan-some hall714 fullRange 12·0 (s .args .place) (s .args .gain) (s .args .size) (c .before .before .before .before .before .if1 .left) (ap chosen (c .before .before .before .before .cube-714 .ensures) ∙ chosen-is (s .args .place) w) (c .before .before .before .inner-gain .ensures) (c .before .before .coefficients .ensures) (c .before .channels .ensures) (c .extra .ensures)
 
 pub pan-spec : {M : Type 1} → statement M
-pan-spec = tie.close (tie.spec pan-in-requires returns)
+pan-spec =
+    tie.close
+    (tie.spec
+    silent-requires
+    returns
+    cube-714-requires
+    inner-gain-requires
+    coefficients-requires
+    channels-requires
+    extra-requires
+    returns-2)

@@ -28,6 +28,7 @@ fn to_bits(x: f32) -> u32 {
     x.to_bits()
 }
 
+<<<<<<< HEAD
 /// A filter over 300 rows of 1,536 samples, the largest frame.
 fn lowpass() {
     let mut inputs = Generator::new(2);
@@ -47,6 +48,67 @@ fn lowpass() {
     );
 }
 
+=======
+/// Places at a cache line.
+#[repr(align(64))]
+struct Places([f32; 1_536]);
+
+/// Rows of `length` samples, each mixed four times.
+fn mix(rows: &[f32], length: usize, mix_segment: impl Fn(&[f32], &mut [f32], usize, f32)) {
+    let mut places = Places([0.0; 1_536]);
+    for row in rows.chunks(length) {
+        for _ in 0..4 {
+            mix_segment(row, black_box(&mut places.0), 0, 0.01);
+        }
+    }
+}
+
+/// Rows of 64 samples out of bytes.
+fn read(bytes: &[u8], read_row: impl Fn(&[u8], &mut [f32])) {
+    let mut places = Places([0.0; 1_536]);
+    for pcm in bytes.chunks(256) {
+        read_row(pcm, black_box(&mut places.0[..64]));
+    }
+}
+
+fn mixing() {
+    let mut inputs = Generator::new(4);
+    let rows: Vec<f32> = (0..768_000).map(|_| inputs.between(-1.0, 1.0)).collect();
+    for length in [64, 1_536] {
+        compare_times(
+            &format!("mix_segment, 3,072,000 samples in rows of {length}"),
+            || mix(&rows, length, probe::mixing::mix_segment),
+            || mix(&rows, length, mix_segment),
+        );
+    }
+    let bytes: Vec<u8> = rows.iter().flat_map(|x| x.to_le_bytes()).collect();
+    compare_times(
+        "samples_pass and read_row, 768,000 samples in rows of 64",
+        || read(&bytes, probe::mixing::read_row),
+        || read(&bytes, read_row),
+    );
+}
+
+#[inline(never)]
+fn mix_segment(input: &[f32], output: &mut [f32], offset: usize, gain: f32) {
+    oracle::leaf::mix_segment(input, output, offset, gain);
+}
+
+/// No function of the source: what a Rust host would write.
+#[inline(never)]
+fn read_row(pcm: &[u8], row: &mut [f32]) {
+    let words = pcm.as_chunks().0;
+    if words
+        .iter()
+        .all(|&word| f32::from_le_bytes(word).abs() <= 16.0)
+    {
+        for (x, &word) in row.iter_mut().zip(words) {
+            *x = f32::from_le_bytes(word);
+        }
+    }
+}
+
+>>>>>>> beds
 fn main() {
     lowpass();
     let mut inputs = Generator::new(1);
@@ -60,4 +122,5 @@ fn main() {
         },
         || floats.iter().for_each(|&x| _ = black_box(to_bits(x))),
     );
+    mixing();
 }

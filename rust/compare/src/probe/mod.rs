@@ -2,6 +2,8 @@
 //! pointer and its length.
 
 pub mod lowpass;
+pub mod beds;
+pub mod mixing;
 pub mod panning;
 pub mod vectors;
 pub mod words;

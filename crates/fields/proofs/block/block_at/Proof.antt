@@ -6,31 +6,22 @@ use mir.Val.{toZ, ofZ}
 use borrow.Author.Needs.{needs}
 use Rattle.fields.proofs.block.block_at.Statement.{statement}
 use Rattle.fields.proofs.block.block_at.Tie as tie
-use Rattle.fields.proofs.block.block_at.Reads as reads
-use Rattle.fields.proofs.block.block_at.Lts as lts
-use Rattle.words.proofs.i64_at.Reads as i64-at-reads
 
--- src/block.rt:57:14
 mul-at : tie.Need-mul-at
 mul-at c = search needs
 
--- src/block.rt:59:37
 add-i64-at : tie.Need-add-i64-at
 add-i64-at c = search needs
 
--- src/block.rt:59:17
 i64-at-requires : tie.Need-i64-at-requires
 i64-at-requires c κs = search needs
 
--- src/block.rt:60:35
 add-i64-at-2 : tie.Need-add-i64-at-2
 add-i64-at-2 c = search needs
 
--- src/block.rt:60:15
 i64-at-requires-2 : tie.Need-i64-at-requires-2
 i64-at-requires-2 c κs = search needs
 
--- src/block.rt:53:1
 returns : tie.Need-returns
 returns c =
     let a : toZ w64 (ofZ w64 (c .before .i64-at .result)) ≡ c .before .i64-at .result = search needs in

@@ -10,28 +10,19 @@ use Rattle.fields.specs.Block.{within}
 use borrow.Author.Needs.{needs}
 use Rattle.fields.proofs.block.block_in_range.Statement.{statement}
 use Rattle.fields.proofs.block.block_in_range.Tie as tie
-use Rattle.fields.proofs.block.block_in_range.Reads as reads
-use Rattle.fields.proofs.block.block_in_range.Lts as lts
-use Rattle.fields.proofs.block.within.Reads as within-reads
-use Rattle.words.proofs.i64_at.Reads as i64-at-reads
 
--- src/block.rt:78:14
 mul-at : tie.Need-mul-at
 mul-at c = search needs
 
--- src/block.rt:79:36
 add-i64-at : tie.Need-add-i64-at
 add-i64-at c = search needs
 
--- src/block.rt:79:16
 i64-at-requires : tie.Need-i64-at-requires
 i64-at-requires c κs = search needs
 
--- src/block.rt:79:9
 within-requires : tie.Need-within-requires
 within-requires c κs = search needs
 
--- src/block.rt:80:9
 returns : tie.Need-returns
 returns c =
     let i = c .before .before .i64-at in
@@ -40,19 +31,15 @@ returns c =
     let e = c .before .within .ensures ∙ ap within (k ∙ i .ensures) in
     sym (ap (λ (b : Bool). b && within (signedAt (a .meta .now) (40 * a .r + 16))) (sym e ∙ not-true _ (c .if1 .taken)))
 
--- src/block.rt:82:32
 add-i64-at-2 : tie.Need-add-i64-at-2
 add-i64-at-2 c = search needs
 
--- src/block.rt:82:12
 i64-at-requires-2 : tie.Need-i64-at-requires-2
 i64-at-requires-2 c κs = search needs
 
--- src/block.rt:82:5
 within-requires-2 : tie.Need-within-requires-2
 within-requires-2 c κs = search needs
 
--- src/block.rt:74:1
 returns-2 : tie.Need-returns-2
 returns-2 c =
     let t = c .before .before in

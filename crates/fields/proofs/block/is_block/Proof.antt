@@ -1,49 +1,37 @@
 -- `fields::block::is_block`: each test of the definition in turn. Assumes nothing.
 use mathlib.Core.Path.{sym, _∙_}
-use borrow.Author.Tests.{eq-eqb, ne-eqb, le-leb, lt-leb, not-true, not-false}
+use borrow.Author.Tests.{eq-eqb, ne-eqb, not-true, not-false}
 use Rattle.fields.specs.Block.{isBlock}
 use borrow.Author.Needs.{needs}
 use Rattle.fields.proofs.block.is_block.Statement.{statement}
 use Rattle.fields.proofs.block.is_block.Tie as tie
-use Rattle.fields.proofs.block.is_block.Reads as reads
-use Rattle.fields.proofs.block.is_block.Lts as lts
-use Rattle.fields.proofs.bytes.zeros.Reads as zeros-reads
 
--- src/block.rt:37:14
 mul-at : tie.Need-mul-at
 mul-at c = search needs
 
--- src/block.rt:38:8
 shared-slice-read-if1 : tie.Need-shared-slice-read-if1
 shared-slice-read-if1 c = search needs
 
--- src/block.rt:39:9
 returns : tie.Need-returns
 unfolding isBlock
 returns c = simp (ne-eqb _ _ (c .if1 .taken))
 
--- src/block.rt:41:21
 add-zeros : tie.Need-add-zeros
 add-zeros c = search needs
 
--- src/block.rt:41:9
 zeros-requires : tie.Need-zeros-requires
 zeros-requires c κs = search needs
 
--- src/block.rt:42:9
 returns-2 : tie.Need-returns-2
 unfolding isBlock
 returns-2 c = simp (eq-eqb _ _ (c .before .before .if1 .left), sym (c .before .zeros .ensures) ∙ not-true _ (c .if2 .taken))
 
--- src/block.rt:44:17
 add-zeros-2 : tie.Need-add-zeros-2
 add-zeros-2 c = search needs
 
--- src/block.rt:44:5
 zeros-requires-2 : tie.Need-zeros-requires-2
 zeros-requires-2 c κs = search needs
 
--- src/block.rt:33:1
 returns-3 : tie.Need-returns-3
 unfolding isBlock
 returns-3 c = simp (eq-eqb _ _ (c .before .before .before .if1 .left), sym (c .before .before .zeros .ensures) ∙ not-false _ (c .before .if2 .left)) (c .zeros2 .ensures)

@@ -1,49 +1,36 @@
 -- `fields::block::is_element`: each test of the definition in turn. Assumes nothing.
-use mathlib.Core.Path.{sym, _∙_}
-use borrow.Author.Tests.{eq-eqb, ne-eqb, le-leb, lt-leb, not-true, not-false}
+use borrow.Author.Tests.{eq-eqb, ne-eqb, le-leb, lt-leb}
 use Rattle.fields.specs.Block.{isElement}
 use borrow.Author.Needs.{needs}
 use Rattle.fields.proofs.block.is_element.Statement.{statement}
 use Rattle.fields.proofs.block.is_element.Tie as tie
-use Rattle.fields.proofs.block.is_element.Reads as reads
-use Rattle.fields.proofs.block.is_element.Lts as lts
-use Rattle.fields.proofs.bytes.zeros.Reads as zeros-reads
 
--- src/block.rt:22:14
 mul-at : tie.Need-mul-at
 mul-at c = search needs
 
--- src/block.rt:23:8
 shared-slice-read-if1 : tie.Need-shared-slice-read-if1
 shared-slice-read-if1 c = search needs
 
--- src/block.rt:24:9
 returns : tie.Need-returns
 unfolding isElement
 returns c = simp (ne-eqb _ _ (c .if1 .taken))
 
--- src/block.rt:26:13
 add-if2 : tie.Need-add-if2
 add-if2 c = search needs
 
--- src/block.rt:26:8
 shared-slice-read-if2 : tie.Need-shared-slice-read-if2
 shared-slice-read-if2 c = search needs
 
--- src/block.rt:27:9
 returns-2 : tie.Need-returns-2
 unfolding isElement
 returns-2 c = simp (eq-eqb _ _ (c .before .before .if1 .left), lt-leb _ _ (c .if2 .taken))
 
--- src/block.rt:29:17
 add-zeros : tie.Need-add-zeros
 add-zeros c = search needs
 
--- src/block.rt:29:5
 zeros-requires : tie.Need-zeros-requires
 zeros-requires c κs = search needs
 
--- src/block.rt:18:1
 returns-3 : tie.Need-returns-3
 unfolding isElement
 returns-3 c = simp (eq-eqb _ _ (c .before .before .before .if1 .left), le-leb _ _ (c .before .if2 .left)) (c .zeros .ensures)

@@ -2,18 +2,14 @@
 use mir.Facts.{toZ-ofZ}
 use Rattle.fields.proofs.block.within.Statement.{statement}
 use Rattle.fields.proofs.block.within.Tie as tie
-use Rattle.fields.proofs.block.within.Reads as reads
-use Rattle.fields.proofs.block.within.Lts as lts
 
--- src/block.rt:68:9
 returns : tie.Need-returns
-returns c = 
+returns c =
     let f = toZ-ofZ (c .before .fits .z) in
     simp (f, simp f at (c .if1 .taken))
 
--- src/block.rt:64:1
 returns-2 : tie.Need-returns-2
-returns-2 c = 
+returns-2 c =
     let f = toZ-ofZ (c .before .fits .z) in
     simp (simp f at (c .if1 .left))
 

@@ -1,19 +1,14 @@
 -- `fields::object::anchor_of`: by the code. Assumes nothing.
-use borrow.Author.Tests.{eq-eqb, ne-eqb, le-leb, lt-leb, not-true, not-false}
+use borrow.Author.Tests.{eq-eqb, ne-eqb}
 use Rattle.fields.proofs.object.anchor_of.Statement.{statement}
 use Rattle.fields.proofs.object.anchor_of.Tie as tie
-use Rattle.fields.proofs.object.anchor_of.Reads as reads
-use Rattle.fields.proofs.object.anchor_of.Lts as lts
 
--- src/object.rt:89:9
 returns : tie.Need-returns
 returns c = simp (eq-eqb _ _ (c .if1 .taken))
 
--- src/object.rt:92:9
 returns-2 : tie.Need-returns-2
 returns-2 c = simp (ne-eqb _ _ (c .before .if1 .left), eq-eqb _ _ (c .if2 .taken))
 
--- src/object.rt:85:1
 returns-3 : tie.Need-returns-3
 returns-3 c = simp (ne-eqb _ _ (c .before .if1 .left), ne-eqb _ _ (c .if2 .left))
 

@@ -2,106 +2,76 @@
 use borrow.Author.Needs.{needs}
 use Rattle.fields.proofs.object.info_at.Statement.{statement}
 use Rattle.fields.proofs.object.info_at.Tie as tie
-use Rattle.fields.proofs.object.info_at.Reads as reads
-use Rattle.fields.proofs.object.info_at.Lts as lts
-use Rattle.fields.proofs.object.depth_of.Reads as depth-of-reads
-use Rattle.fields.proofs.object.head_of.Reads as head-of-reads
-use Rattle.words.proofs.f32_at.Reads as f32-at-reads
-use Rattle.words.proofs.u32_at.Reads as u32-at-reads
 
--- src/object.rt:212:14
 mul-at : tie.Need-mul-at
 mul-at c = search needs
 
--- src/object.rt:213:46
 add-f32-at : tie.Need-add-f32-at
 add-f32-at c = search needs
 
--- src/object.rt:213:26
 f32-at-requires : tie.Need-f32-at-requires
 f32-at-requires c κs = search needs
 
--- src/object.rt:213:9
 depth-of-requires : tie.Need-depth-of-requires
 depth-of-requires c κs = search needs
 
--- src/object.rt:215:28
 add-head-of : tie.Need-add-head-of
 add-head-of c = search needs
 
--- src/object.rt:215:23
 shared-slice-read-head-of : tie.Need-shared-slice-read-head-of
 shared-slice-read-head-of c = search needs
 
--- src/object.rt:215:42
 add-head-of-2 : tie.Need-add-head-of-2
 add-head-of-2 c = search needs
 
--- src/object.rt:215:37
 shared-slice-read-head-of-2 : tie.Need-shared-slice-read-head-of-2
 shared-slice-read-head-of-2 c = search needs
 
--- src/object.rt:215:15
 head-of-requires : tie.Need-head-of-requires
 head-of-requires c κs = search needs
 
--- src/object.rt:216:35
 add-u32-at : tie.Need-add-u32-at
 add-u32-at c = search needs
 
--- src/object.rt:216:15
 u32-at-requires : tie.Need-u32-at-requires
 u32-at-requires c κs = search needs
 
--- src/object.rt:217:35
 add-u32-at-2 : tie.Need-add-u32-at-2
 add-u32-at-2 c = search needs
 
--- src/object.rt:217:15
 u32-at-requires-2 : tie.Need-u32-at-requires-2
 u32-at-requires-2 c κs = search needs
 
--- src/object.rt:218:39
 add-u32-at-3 : tie.Need-add-u32-at-3
 add-u32-at-3 c = search needs
 
--- src/object.rt:218:19
 u32-at-requires-3 : tie.Need-u32-at-requires-3
 u32-at-requires-3 c κs = search needs
 
--- src/object.rt:219:37
 add-u32-at-4 : tie.Need-add-u32-at-4
 add-u32-at-4 c = search needs
 
--- src/object.rt:219:17
 u32-at-requires-4 : tie.Need-u32-at-requires-4
 u32-at-requires-4 c κs = search needs
 
--- src/object.rt:220:32
 add-u32-at-5 : tie.Need-add-u32-at-5
 add-u32-at-5 c = search needs
 
--- src/object.rt:220:12
 u32-at-requires-5 : tie.Need-u32-at-requires-5
 u32-at-requires-5 c κs = search needs
 
--- src/object.rt:221:32
 add-u32-at-6 : tie.Need-add-u32-at-6
 add-u32-at-6 c = search needs
 
--- src/object.rt:221:12
 u32-at-requires-6 : tie.Need-u32-at-requires-6
 u32-at-requires-6 c κs = search needs
 
--- src/object.rt:222:32
 add-u32-at-7 : tie.Need-add-u32-at-7
 add-u32-at-7 c = search needs
 
--- src/object.rt:222:12
 u32-at-requires-7 : tie.Need-u32-at-requires-7
 u32-at-requires-7 c κs = search needs
 
--- src/object.rt:208:1
 returns : tie.Need-returns
 returns c = cc
 

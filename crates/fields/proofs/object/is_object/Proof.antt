@@ -5,81 +5,60 @@ use Rattle.fields.specs.Object.{isObject}
 use borrow.Author.Needs.{needs}
 use Rattle.fields.proofs.object.is_object.Statement.{statement}
 use Rattle.fields.proofs.object.is_object.Tie as tie
-use Rattle.fields.proofs.object.is_object.Reads as reads
-use Rattle.fields.proofs.object.is_object.Lts as lts
-use Rattle.fields.proofs.bytes.zeros.Reads as zeros-reads
-use Rattle.fields.proofs.object.values_fit.Reads as values-fit-reads
 
--- src/object.rt:46:14
 mul-at : tie.Need-mul-at
 mul-at c = search needs
 
--- src/object.rt:47:8
 shared-slice-read-if1 : tie.Need-shared-slice-read-if1
 shared-slice-read-if1 c = search needs
 
--- src/object.rt:48:9
 returns : tie.Need-returns
 unfolding isObject
 returns c = simp (ne-eqb _ _ (c .if1 .taken))
 
--- src/object.rt:50:13
 add-if2 : tie.Need-add-if2
 add-if2 c = search needs
 
--- src/object.rt:50:8
 shared-slice-read-if2 : tie.Need-shared-slice-read-if2
 shared-slice-read-if2 c = search needs
 
--- src/object.rt:51:9
 returns-2 : tie.Need-returns-2
 unfolding isObject
 returns-2 c = simp (eq-eqb _ _ (c .before .before .if1 .left), lt-leb _ _ (c .if2 .taken))
 
--- src/object.rt:53:22
 add-flags : tie.Need-add-flags
 add-flags c = search needs
 
--- src/object.rt:53:17
 shared-slice-read-flags : tie.Need-shared-slice-read-flags
 shared-slice-read-flags c = search needs
 
--- src/object.rt:55:9
 returns-3 : tie.Need-returns-3
 unfolding isObject
 returns-3 c = simp (eq-eqb _ _ (c .before .before .before .before .if1 .left), le-leb _ _ (c .before .before .if2 .left), lt-leb _ _ (c .if3 .taken))
 
--- src/object.rt:57:13
 add-if4 : tie.Need-add-if4
 add-if4 c = search needs
 
--- src/object.rt:57:8
 shared-slice-read-if4 : tie.Need-shared-slice-read-if4
 shared-slice-read-if4 c = search needs
 
--- src/object.rt:58:9
 returns-4 : tie.Need-returns-4
 unfolding isObject
 returns-4 c = simp (eq-eqb _ _ (c .before .before .before .before .before .before .if1 .left), le-leb _ _ (c .before .before .before .before .if2 .left), le-leb _ _ (c .before .before .if3 .left), ne-eqb _ _ (c .if4 .taken))
 
--- src/object.rt:60:9
 values-fit-requires : tie.Need-values-fit-requires
 values-fit-requires c κs = search needs
 
--- src/object.rt:61:9
 returns-5 : tie.Need-returns-5
 unfolding isObject
 returns-5 c = simp (eq-eqb _ _ (c .before .before .before .before .before .before .before .before .if1 .left), le-leb _ _ (c .before .before .before .before .before .before .if2 .left), le-leb _ _ (c .before .before .before .before .if3 .left), eq-eqb _ _ (c .before .before .if4 .left), sym (c .before .values-fit .ensures) ∙ not-true _ (c .if5 .taken))
 
--- src/object.rt:63:17
 add-zeros : tie.Need-add-zeros
 add-zeros c = search needs
 
--- src/object.rt:63:5
 zeros-requires : tie.Need-zeros-requires
 zeros-requires c κs = search needs
 
--- src/object.rt:42:1
 returns-6 : tie.Need-returns-6
 unfolding isObject
 returns-6 c = simp (eq-eqb _ _ (c .before .before .before .before .before .before .before .before .before .if1 .left), le-leb _ _ (c .before .before .before .before .before .before .before .if2 .left), le-leb _ _ (c .before .before .before .before .before .if3 .left), eq-eqb _ _ (c .before .before .before .if4 .left), sym (c .before .before .values-fit .ensures) ∙ not-false _ (c .before .if5 .left)) (c .zeros .ensures)

@@ -4,41 +4,29 @@ use Rattle.fields.specs.Object.{positionOf}
 use borrow.Author.Needs.{needs}
 use Rattle.fields.proofs.object.position_at.Statement.{statement}
 use Rattle.fields.proofs.object.position_at.Tie as tie
-use Rattle.fields.proofs.object.position_at.Reads as reads
-use Rattle.fields.proofs.object.position_at.Lts as lts
-use Rattle.fields.proofs.bytes.has.Reads as has-reads
-use Rattle.words.proofs.f32_at.Reads as f32-at-reads
 
--- src/object.rt:112:8
 has-requires : tie.Need-has-requires
 has-requires c κs = search needs
 
--- src/object.rt:114:16
 f32-at-requires : tie.Need-f32-at-requires
 f32-at-requires c κs = search needs
 
--- src/object.rt:115:36
 add-f32-at : tie.Need-add-f32-at
 add-f32-at c = search needs
 
--- src/object.rt:115:16
 f32-at-requires-2 : tie.Need-f32-at-requires-2
 f32-at-requires-2 c κs = search needs
 
--- src/object.rt:116:36
 add-f32-at-2 : tie.Need-add-f32-at-2
 add-f32-at-2 c = search needs
 
--- src/object.rt:116:16
 f32-at-requires-3 : tie.Need-f32-at-requires-3
 f32-at-requires-3 c κs = search needs
 
--- src/object.rt:113:9
 returns : tie.Need-returns
 unfolding positionOf
 returns c = simp (sym (c .before .before .before .before .has .ensures) ∙ c .before .before .before .if1 .taken) (cc)
 
--- src/object.rt:108:1
 returns-2 : tie.Need-returns-2
 unfolding positionOf
 returns-2 c = simp (sym (c .before .has .ensures) ∙ c .if1 .left)

@@ -1,78 +1,57 @@
 -- `fields::update::is_update`: each test of the definition in turn. Assumes nothing.
 use mathlib.Core.Path.{sym, _∙_}
-use borrow.Author.Tests.{eq-eqb, ne-eqb, le-leb, lt-leb, not-true, not-false}
+use borrow.Author.Tests.{eq-eqb, ne-eqb, not-true, not-false}
 use Rattle.fields.specs.Update.{isUpdate}
 use borrow.Author.Needs.{needs}
 use Rattle.fields.proofs.update.is_update.Statement.{statement}
 use Rattle.fields.proofs.update.is_update.Tie as tie
-use Rattle.fields.proofs.update.is_update.Reads as reads
-use Rattle.fields.proofs.update.is_update.Lts as lts
-use Rattle.fields.proofs.bytes.zeros.Reads as zeros-reads
-use Rattle.fields.proofs.update.codes_fit.Reads as codes-fit-reads
-use Rattle.fields.proofs.update.counts_fit.Reads as counts-fit-reads
-use Rattle.fields.proofs.update.header_at.Reads as header-at-reads
 
--- src/update.rt:107:14
 mul-at : tie.Need-mul-at
 mul-at c = search needs
 
--- src/update.rt:108:8
 shared-slice-read-if1 : tie.Need-shared-slice-read-if1
 shared-slice-read-if1 c = search needs
 
--- src/update.rt:109:9
 returns : tie.Need-returns
 unfolding isUpdate
 returns c = simp (ne-eqb _ _ (c .if1 .taken))
 
--- src/update.rt:111:13
 add-if2 : tie.Need-add-if2
 add-if2 c = search needs
 
--- src/update.rt:111:8
 shared-slice-read-if2 : tie.Need-shared-slice-read-if2
 shared-slice-read-if2 c = search needs
 
--- src/update.rt:112:9
 returns-2 : tie.Need-returns-2
 unfolding isUpdate
 returns-2 c = simp (eq-eqb _ _ (c .before .before .if1 .left), ne-eqb _ _ (c .if2 .taken))
 
--- src/update.rt:114:9
 header-at-requires : tie.Need-header-at-requires
 header-at-requires c κs = search needs
 
--- src/update.rt:115:9
 counts-fit-requires : tie.Need-counts-fit-requires
 counts-fit-requires c κs = search needs
 
--- src/update.rt:116:9
 returns-3 : tie.Need-returns-3
 unfolding isUpdate
 returns-3 c = simp (eq-eqb _ _ (c .before .before .before .before .before .if1 .left), eq-eqb _ _ (c .before .before .before .if2 .left), sym (rw (c .before .before .header-at .ensures) at (c .before .counts-fit .ensures)) ∙ not-true _ (c .if3 .taken))
 
--- src/update.rt:118:25
 add-codes-fit : tie.Need-add-codes-fit
 add-codes-fit c = search needs
 
--- src/update.rt:118:9
 codes-fit-requires : tie.Need-codes-fit-requires
 codes-fit-requires c κs = search needs
 
--- src/update.rt:119:9
 returns-4 : tie.Need-returns-4
 unfolding isUpdate
 returns-4 c = let a = c .before .before in simp (eq-eqb _ _ (a .before .before .before .before .before .if1 .left), eq-eqb _ _ (a .before .before .before .if2 .left), sym (rw (a .before .before .header-at .ensures) at (a .before .counts-fit .ensures)) ∙ not-false _ (a .if3 .left), sym (rw (a .before .before .header-at .ensures) at (c .before .codes-fit .ensures)) ∙ not-true _ (c .if4 .taken))
 
--- src/update.rt:121:17
 add-zeros : tie.Need-add-zeros
 add-zeros c = search needs
 
--- src/update.rt:121:5
 zeros-requires : tie.Need-zeros-requires
 zeros-requires c κs = search needs
 
--- src/update.rt:103:1
 returns-5 : tie.Need-returns-5
 unfolding isUpdate
 returns-5 c = let a = c .before .before .before in simp (eq-eqb _ _ (a .before .before .before .before .before .if1 .left), eq-eqb _ _ (a .before .before .before .if2 .left), sym (rw (a .before .before .header-at .ensures) at (a .before .counts-fit .ensures)) ∙ not-false _ (a .if3 .left), sym (rw (a .before .before .header-at .ensures) at (c .before .before .codes-fit .ensures)) ∙ not-false _ (c .before .if4 .left)) (c .zeros .ensures)

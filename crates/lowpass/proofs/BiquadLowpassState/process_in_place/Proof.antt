@@ -1,13 +1,11 @@
 -- `process_in_place` meets its contract: what is done and what is left, filtered, are the whole filtered, and the filter left runs to the same end. Assumes nothing.
-use mathlib.Core.List.{[], append-nil}
-use lib.ListN.{drop-of-length-le}
+use mathlib.Core.Path.{_≡_, sym, _∙_}
+use mathlib.Core.List.{[], _++_, append-nil}
+use Prim.Native.Nat.{_-_, _≤_, _<_}
+use native.Mathlib.Omega.{arith}
+use lib.ListN.{length, take, drop, length-set, drop-of-length-le}
 use lib.Seq.{take-all}
 use borrow.Author.Needs.{needs}
-use native.Mathlib.Omega.{arith}
-use mathlib.Core.Path.{_≡_, sym, _∙_}
-use Prim.Native.Nat.{_+_, _-_, _≤_, _<_}
-use lib.ListN.{length, take, drop, length-set}
-use mathlib.Core.List.{_++_}
 use Rattle.lowpass.specs.Lowpass.{filtered, afterAll}
 use Rattle.lowpass.proofs.Laws.{state-more, list-more}
 use Rattle.lowpass.proofs.BiquadLowpassState.process_in_place.Statement.{statement}

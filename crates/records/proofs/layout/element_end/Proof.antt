@@ -1,6 +1,6 @@
 -- `records::layout::element_end`: the tests of an element in turn. Assumes nothing.
 use Prim.Native.Nat.{_≤_}
-use mathlib.Core.Path.{_≡_, sym, ap, _∙_}
+use mathlib.Core.Path.{_≡_, sym, _∙_}
 use mathlib.Core.Bool.{true}
 use native.Mathlib.Omega.{arith}
 use borrow.Author.Tests.{not-true, not-false}
@@ -11,29 +11,18 @@ use Rattle.records.proofs.Within.{too-long, no-element, end-is, no-bloc
 use borrow.Author.Needs.{needs}
 use Rattle.records.proofs.layout.element_end.Statement.{statement}
 use Rattle.records.proofs.layout.element_end.Tie as tie
-use Rattle.records.proofs.layout.element_end.Reads as reads
-use Rattle.records.proofs.layout.element_end.Lts as lts
-use Rattle.fields.proofs.block.blocks_at.Reads as blocks-at-reads
-use Rattle.fields.proofs.block.is_element.Reads as is-element-reads
-use Rattle.records.proofs.layout.are_blocks.Reads as are-blocks-reads
-use Rattle.records.proofs.layout.are_objects.Reads as are-objects-reads
-use Rattle.records.proofs.layout.cells.Reads as cells-reads
 
--- src/layout.rt:71:9
 returns : tie.Need-returns
-returns c = 
+returns c =
     let a = c .before .before .args in
     broken-if _ _ (too-long (a .meta .now) (c .before .before .pre .0) (a .objects) (a .e) (omega arith))
 
--- src/layout.rt:73:9
 is-element-requires : tie.Need-is-element-requires
 is-element-requires c κs = search needs
 
--- src/layout.rt:74:9
 returns-2 : tie.Need-returns-2
 returns-2 c = broken-if _ _ (no-element _ _ _ (sym (c .before .is-element .ensures) ∙ not-true _ (c .if2 .taken)))
 
--- src/layout.rt:76:9
 -- an element's record stands at e
 held : (c : tie.Else2) → isElement (c .before .before .before .before .args .meta .now) (c .before .before .before .before .args .e) ≡ true
 held c = sym (c .before .is-element .ensures) ∙ not-false _ (c .if2 .left)
@@ -44,23 +33,18 @@ few c = few-blocks _ (c .before .before .before .before .pre .0) _ (held c)
 blocks-at-requires : tie.Need-blocks-at-requires
 blocks-at-requires c κs = search needs
 
--- src/layout.rt:77:17
 add-first : tie.Need-add-first
 add-first c = search needs
 
--- src/layout.rt:77:17
 add-first-2 : tie.Need-add-first-2
 add-first-2 c = search needs
 
--- src/layout.rt:78:9
 cells-requires : tie.Need-cells-requires
 cells-requires c κs = let k = few (c .before) in (c .before .before .before .before .before .pre .1, omega arith)
 
--- src/layout.rt:79:15
 add-end : tie.Need-add-end
 add-end c = search needs
 
--- src/layout.rt:81:9
 returns-3 : tie.Need-returns-3
 returns-3 c =
     let b = c .before .before in
@@ -68,25 +52,20 @@ returns-3 c =
     let q = end-is (s .args .meta .now) (s .args .objects) (s .args .e) (held (b .before)) _ (b .blocks-at .ensures .0) _ (c .before .cells .ensures .0) in
     broken-if _ _ (too-long (s .args .meta .now) (s .pre .0) (s .args .objects) (s .args .e) (omega arith))
 
--- src/layout.rt:83:26
 add-are-blocks : tie.Need-add-are-blocks
 add-are-blocks c = search needs
 
--- src/layout.rt:83:9
 are-blocks-requires : tie.Need-are-blocks-requires
 are-blocks-requires c κs = search needs
 
--- src/layout.rt:84:9
 returns-4 : tie.Need-returns-4
 returns-4 c =
     let b = c .before .before .before .before in
     broken-if _ _ (no-blocks _ _ _ (held (b .before)) _ (b .blocks-at .ensures .0) (sym (c .before .are-blocks .ensures) ∙ not-true _ (c .if4 .taken)))
 
--- src/layout.rt:86:9
 are-objects-requires : tie.Need-are-objects-requires
 are-objects-requires c κs = search needs
 
--- src/layout.rt:87:9
 returns-5 : tie.Need-returns-5
 returns-5 c =
     let k = c .before .before in
@@ -95,7 +74,6 @@ returns-5 c =
     let are = sym (k .before .are-blocks .ensures) ∙ not-false _ (k .if4 .left) in
     broken-if _ _ (no-objects _ _ _ (held (b .before)) _ (b .blocks-at .ensures .0) are _ (n .cells .ensures .0) (sym (c .before .are-objects .ensures) ∙ not-true _ (c .if5 .taken)))
 
--- src/layout.rt:65:1
 returns-6 : tie.Need-returns-6
 returns-6 c =
     let k = c .before .before in

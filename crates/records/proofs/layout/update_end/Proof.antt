@@ -1,5 +1,5 @@
 -- `records::layout::update_end` meets its contract. Assumes nothing.
-use Prim.Native.Nat.{_-_, _/_, _<_, _≤_}
+use Prim.Native.Nat.{_-_, _/_, _≤_}
 use mathlib.Core.Path.{_≡_, refl, sym, ap, _∙_}
 use mathlib.Core.Bool.{true, false}
 use native.Mathlib.Omega.{arith}
@@ -13,7 +13,6 @@ use Rattle.fields.specs.Update.{objects, elements, isUpdate}
 use Rattle.records.specs.Laid.{isWholeElement, isWholeUpdate, elementAt}
 use Rattle.fields.proofs.All.{all-none, all-more}
 use Rattle.records.proofs.Ends.{end-whole, end-at, end-broken}
-use Rattle.records.proofs.Past.{there-update}
 use Rattle.records.proofs.Reached.{update-counts}
 use Rattle.records.proofs.Within.{element-within, next-element, broken-element, whole-update}
 use Rattle.records.proofs.layout.update_end.Statement.{statement}

@@ -6,43 +6,30 @@ use Rattle.records.specs.Ranges.{recordInRange}
 use borrow.Author.Needs.{needs}
 use Rattle.records.proofs.ranges.record_in_range.Statement.{statement}
 use Rattle.records.proofs.ranges.record_in_range.Tie as tie
-use Rattle.records.proofs.ranges.record_in_range.Reads as reads
-use Rattle.records.proofs.ranges.record_in_range.Lts as lts
-use Rattle.fields.proofs.block.block_in_range.Reads as block-in-range-reads
-use Rattle.fields.proofs.object.object_at.Reads as object-at-reads
-use Rattle.fields.proofs.object.object_in_range.Reads as object-in-range-reads
 
--- src/ranges.rt:15:21
 mul-kind : tie.Need-mul-kind
 mul-kind c = search needs
 
--- src/ranges.rt:15:16
 shared-slice-read-kind : tie.Need-shared-slice-read-kind
 shared-slice-read-kind c = search needs
 
--- src/ranges.rt:17:9
 block-in-range-requires : tie.Need-block-in-range-requires
 block-in-range-requires c κs = search needs
 
--- src/ranges.rt:17:9
 returns : tie.Need-returns
 unfolding recordInRange
 returns c = simp (eq-eqb _ _ (c .before .if1 .taken)) (c .block-in-range .ensures)
 
--- src/ranges.rt:20:32
 object-at-requires : tie.Need-object-at-requires
 object-at-requires c κs = search needs
 
--- src/ranges.rt:20:9
 object-in-range-requires : tie.Need-object-in-range-requires
 object-in-range-requires c κs = search needs
 
--- src/ranges.rt:20:9
 returns-2 : tie.Need-returns-2
 unfolding recordInRange
 returns-2 c = simp (ne-eqb _ _ (c .before .before .before .if1 .left), eq-eqb _ _ (c .before .before .if2 .taken)) (c .object-in-range .ensures ∙ ap objectInRange (c .before .object-at .ensures))
 
--- src/ranges.rt:11:1
 returns-3 : tie.Need-returns-3
 unfolding recordInRange
 returns-3 c = simp (ne-eqb _ _ (c .before .if1 .left), ne-eqb _ _ (c .if2 .left))

@@ -1,0 +1,25 @@
+-- A probe answers by the test of its lengths. Assumes nothing.
+use mathlib.Core.Path.{_≡_, sym}
+use mathlib.Core.Bool.{Bool, true, false, cond, _&&_}
+use Prim.Native.Nat.{ℕ, _≤_, _<_}
+use lib.Dec.{leb}
+use borrow.Author.Tests.{le-leb, lt-leb}
+
+module _ {A : Type 0} where
+  pub fits : {a b : ℕ} {r x : A} (y : A) → a ≤ b → r ≡ x → r ≡ cond (leb a b) x y
+  fits {a} {b} {r} {x} y h e = rw (le-leb a b h) e
+
+  pub unfit : {a b : ℕ} (x y : A) → b < a → y ≡ cond (leb a b) x y
+  unfit {a} {b} x y h = rw (lt-leb a b h)
+
+  pub chosen : {t : Bool} {r x : A} (y : A) → true ≡ t → r ≡ x → r ≡ cond t x y
+  chosen y h e = rw (sym h) e
+
+  pub passed-over : {t : Bool} (x y : A) → false ≡ t → y ≡ cond t x y
+  passed-over x y h = rw (sym h)
+
+pub fits-and : {a b : ℕ} {r t : Bool} → a ≤ b → r ≡ t → r ≡ (leb a b && t)
+fits-and {a} {b} h e = rw (le-leb a b h) e
+
+pub unfit-and : {a b : ℕ} (t : Bool) → b < a → false ≡ (leb a b && t)
+unfit-and {a} {b} t h = rw (lt-leb a b h)

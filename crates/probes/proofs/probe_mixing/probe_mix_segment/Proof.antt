@@ -1,0 +1,39 @@
+-- Mixed where the segment fits.
+use Rattle.probes.proofs.Cases.{fits, unfit}
+use native.Mathlib.Omega.{arith}
+use Prim.Native.Nat.{_+_, _≤_, _<_}
+use lib.ListN.{length}
+use borrow.Author.Needs.{needs}
+use Rattle.probes.proofs.probe_mixing.probe_mix_segment.Statement.{statement}
+use Rattle.probes.proofs.probe_mixing.probe_mix_segment.Tie as tie
+
+sub-if2 : tie.Need-sub-if2
+sub-if2 c = search needs
+
+mix-segment-requires : tie.Need-mix-segment-requires
+mix-segment-requires c κs = search needs
+
+same-length : tie.Need-same-length
+same-length c = search needs
+
+returns : tie.Need-returns
+returns c =
+    let a = c .before .before .before .before .before .before .before .before .args in
+    let h : a .offset + length (a .input .now) ≤ length (a .output .now) = omega arith in
+    fits _ h (c .before .before .mix-segment .ensures)
+
+returns-2 : tie.Need-returns-2
+returns-2 c =
+    let a = c .before .before .before .before .args in
+    let h : length (a .output .now) < a .offset + length (a .input .now) = omega arith in
+    unfit _ _ h
+
+returns-3 : tie.Need-returns-3
+returns-3 c =
+    let a = c .before .before .before .args in
+    let h : length (a .output .now) < a .offset + length (a .input .now) = omega arith in
+    unfit _ _ h
+
+pub probe-mix-segment-spec : {M : Type 1} → statement M
+probe-mix-segment-spec =
+    tie.close (tie.spec sub-if2 mix-segment-requires same-length returns returns-2 returns-3)
