@@ -2,21 +2,19 @@
 -- in which its samples are taken. Assumes nothing.
 use mathlib.Core.Path.{_≡_, refl, sym, ap, _∙_, subst}
 use mathlib.Core.Bool.{Bool, true, false, not, cond, true≢false}
-use mathlib.Core.List.{List, [], _∷_}
-use Prim.Native.Nat.{ℕ, zero, suc, _+_, _≤_, _<_}
-use native.Mathlib.Nat.{le-refl, le-trans, le-of-eq, le-of-lt, le-antisymm, lt-irrefl, lt-of-lt-of-le}
+use mathlib.Core.List.{[]}
+use Prim.Native.Nat.{ℕ, zero, suc, _≤_, _<_}
+use native.Mathlib.Nat.{le-refl, le-trans, le-of-eq, le-of-lt, lt-irrefl}
 use native.Mathlib.Omega.{arith}
 use lib.Dec.{T}
 use lib.IntN.{ℤ}
 use lib.Ieee.{Float, nan, inf, fin, binary32, fits, isNan, lt}
-use Rattle.ieee.specs.Units.{Top, F32, sign, mag, P, N}
-use Rattle.ieee.specs.Bounds.{All}
+use Rattle.ieee.specs.Units.{Top, mag}
 use Rattle.ieee.specs.Small.{absolute, larger}
 use Rattle.ieee.proofs.Value.{shape}
 use Rattle.ieee.proofs.Unique.{unique}
 use Rattle.ieee.proofs.Exact.{fine}
 use Rattle.ieee.proofs.Compare.{lt→, nlt→}
-use Rattle.limiter.specs.Limiter.{0·0, peakFrom, peak, blockPeak}
 pub use Rattle.limiter.specs.Level.{Level}
 
 unfoldable pub rank : Float → ℕ
@@ -127,6 +125,9 @@ raised m x p f = subst (λ (b : Bool). Raised m x (cond b (absolute x) (cond (lt
     by-nan : (b : Bool) → isNan x ≡ b → Raised m x (cond (lt m (absolute x)) (absolute x) m)
     by-nan true e = subst (λ (b : Bool). Raised m x (cond b (absolute x) m)) (sym (passed x e .0)) (under (le-trans (le-of-eq (passed x e .1)) (omega arith)))
     by-nan false e = by-test e (lt m (absolute x)) (λ t. t) (λ t. t)
+
+pub raised-by : (m x r : Float) → Level m → Fit x → r ≡ larger m (absolute x) → Raised m x r
+raised-by m x r p f e = subst (Raised m x) (sym e) (raised m x p f)
 
 -- the test that finds it
 pub raise-taken : (m x a : Float) → Level m → a ≡ absolute x → lt m a ≡ true → a ≡ larger m (absolute x)

@@ -1,6 +1,6 @@
 -- The peak of a list, by ranks: a bound on the peak is a bound on each sample. So lists with the same bounds have the same peak, in whatever order or number of running maxima it is taken. Assumes nothing.
 use mathlib.Core.Path.{_≡_, refl, sym, ap, _∙_, subst}
-use mathlib.Core.List.{List, [], _∷_, _++_}
+use mathlib.Core.List.{List, [], _∷_}
 use Prim.Native.Nat.{ℕ, suc, _+_, _-_, _≤_, _<_, zero-le}
 use native.Mathlib.Numerals.{add-one}
 use native.Mathlib.Omega.{arith}
@@ -12,7 +12,7 @@ use Rattle.ieee.specs.Units.{mag}
 use Rattle.ieee.specs.Bounds.{All}
 use Rattle.ieee.specs.Small.{absolute, larger}
 use Rattle.limiter.specs.Limiter.{0·0, peakFrom, peak, blockPeak}
-use Rattle.limiter.proofs.Levels.{Level, Fit, rank, level-unique, level-abs, Raised, raised}
+use Rattle.limiter.proofs.Levels.{Level, Fit, rank, level-unique, level-abs, Raised, raised, raised-by}
 
 -- each rank is at most k
 abbrev pub Under : ℕ → List Float → Type 0
@@ -44,6 +44,9 @@ zero-rank : rank 0·0 ≡ 0
 unfolding rank mag
 zero-rank = refl
 
+pub zero-under : (k : ℕ) → rank 0·0 ≤ k
+zero-under k = subst (λ (z : ℕ). z ≤ k) (sym zero-rank) zero-le
+
 -- a sample taken in
 pub taken-in : {m x r : Float} {xs : List Float} → Raised m x r → Same (r ∷ xs) (m ∷ x ∷ xs)
 taken-in h = record { to = λ k u. (le-trans (h .first) (u .0), (le-trans (h .second) (u .0), u .1)); from = λ k u. (h .least k (u .0) (u .1 .0), u .1 .1) }
@@ -67,9 +70,6 @@ from-next m r xs i h e = ap (λ (v : Float). peakFrom v (drop (i + 1) xs)) e ∙
 pub from-end : (m : Float) (xs : List Float) (i : ℕ) → length xs ≤ i → m ≡ peakFrom m (drop i xs)
 from-end m xs i h = sym (ap (peakFrom m) (drop-of-length-le xs h))
 
-pub raised-by : (m x r : Float) → Level m → Fit x → r ≡ larger m (absolute x) → Raised m x r
-raised-by m x r p f e = subst (Raised m x) (sym e) (raised m x p f)
-
 -- ---- four running maxima
 pub record Lanes (a b c d : Float) (rest whole : List Float) : Type 0 where
   pub a-level : Level a
@@ -79,10 +79,7 @@ pub record Lanes (a b c d : Float) (rest whole : List Float) : Type 0 where
   pub same : Same (a ∷ b ∷ c ∷ d ∷ rest) whole
 
 pub lanes-start : (xs : List Float) → Lanes 0·0 0·0 0·0 0·0 xs xs
-lanes-start xs = record { a-level = zero-level; b-level = zero-level; c-level = zero-level; d-level = zero-level; same = record { to = λ k u. u .1 .1 .1 .1; from = λ k u. (low k, (low k, (low k, (low k, u)))) } }
-  where
-    low : (k : ℕ) → rank 0·0 ≤ k
-    low k = subst (λ (z : ℕ). z ≤ k) (sym zero-rank) zero-le
+lanes-start xs = record { a-level = zero-level; b-level = zero-level; c-level = zero-level; d-level = zero-level; same = record { to = λ k u. u .1 .1 .1 .1; from = λ k u. (zero-under k, (zero-under k, (zero-under k, (zero-under k, u)))) } }
 
 -- four samples taken in
 pub lanes-next : {a b c d x y z w a' b' c' d' : Float} {rest whole : List Float} → Lanes a b c d (x ∷ y ∷ z ∷ w ∷ rest) whole
@@ -105,7 +102,7 @@ lanes-end {a} {b} {c} {d} {p} {q} {r} {rest} {whole} h i j l f g =
     let right = peak-from 0·0 whole zero-level g in
     only (peakFrom r rest) (peak whole) (left .0) (right .0)
     (same-as (left .1) (same-as (taken-in l) (same-as (taken-in j) (same-as (taken-in i) (h .same)))))
-    (same-as (right .1) (record { to = λ k u. u .1; from = λ k u. (subst (λ (z : ℕ). z ≤ k) (sym zero-rank) zero-le, u) }))
+    (same-as (right .1) (record { to = λ k u. u .1; from = λ k u. (zero-under k, u) }))
 
 four : (xs : List Float) (i : ℕ) → i + 4 ≤ length xs → drop i xs ≡ getD xs i nan ∷ getD xs (i + 1) nan ∷ getD xs (i + 2) nan ∷ getD xs (i + 3) nan ∷ drop (i + 4) xs
 four xs i h =
@@ -130,3 +127,26 @@ pub lanes-rest : (xs : List Float) (i : ℕ) {a b c d p q r : Float} → ((k : �
 lanes-rest xs i {r = r} f l u v w =
     ap (peakFrom r) (take-all (length xs - i) (drop i xs) (le-of-eq (length-drop i xs)))
     ∙ lanes-end l u v w (all-fit (drop i xs) (λ k. subst Fit (sym (getD-drop i xs k nan)) (f (i + k)))) (all-fit xs f)
+
+-- ---- a block
+-- p bounds each channel, and is the least such level from m on
+pub record Block (m p : Float) (cs : List (List Float)) : Type 0 where
+  pub level : Level p
+  pub first : rank m ≤ rank p
+  pub each : All (Under (rank p)) cs
+  pub least : (k : ℕ) → rank m ≤ k → All (Under k) cs → rank p ≤ k
+
+pub block-peak : (m : Float) (cs : List (List Float)) → Level m → All (All Fit) cs → Block m (blockPeak m cs) cs
+unfolding blockPeak
+block-peak m [] p f = record { level = p; first = le-refl (rank m); each = tt; least = λ k a b. a }
+block-peak m (c ∷ cs) p f =
+    let one = peak-from 0·0 c zero-level (f .0) in
+    let h = subst (λ (v : Float). Raised m (peak c) (larger m v)) (level-abs (peak c) (one .0)) (raised m (peak c) p (one .0 .fit)) in
+    let r = block-peak (larger m (peak c)) cs (h .level) (f .1) in
+    let top = rank (blockPeak (larger m (peak c)) cs) in
+    record {
+      level = r .level;
+      first = le-trans (h .first) (r .first);
+      each = (one .1 .to top (le-trans (h .second) (r .first), tt) .1, r .each);
+      least = λ k a b. r .least k (h .least k a (one .1 .from k (zero-under k, b .0) .0)) (b .1);
+    }

@@ -7,7 +7,7 @@ use lib.ListN.{length, drop, getD}
 use lib.Ieee.{nan}
 use Rattle.limiter.specs.Limiter.{peakFrom}
 use Rattle.limiter.proofs.Levels.{Level}
-use Rattle.limiter.proofs.Peaks.{raised-by, from-next, from-end}
+use Rattle.limiter.proofs.Peaks.{from-next, from-end}
 use Rattle.limiter.proofs.max_abs_from.Statement.{statement}
 use Rattle.limiter.proofs.max_abs_from.Tie as tie
 use Rattle.limiter.proofs.max_abs_from.Reads as reads
@@ -42,14 +42,10 @@ loop-again : tie.Need-loop-again Inv-loop μ-loop
 loop-again c =
     let at = c .before .before .before .loop in
     let xs = c .before .before .before .before .before .args .samples .now in
-    let x = getD xs (at .i) nan in (
-      omega arith,
-      raised-by (at .m) x (c .raise .result) (at .inv .1) (c .before .shared-slice-known2 .given (at .i)) (c .raise .ensures) .level,
-      from-next (at .m) (c .raise .result) xs (at .i) (c .before .before .loop-test .taken) (c .raise .ensures) ∙ at .inv .2,
-    )
+    (omega arith, c .raise .ensures .1, from-next (at .m) (c .raise .result) xs (at .i) (c .before .before .loop-test .taken) (c .raise .ensures .0) ∙ at .inv .2)
 
 returns : tie.Need-returns Inv-loop μ-loop
-returns c = from-end (c .before .loop .m) (c .before .before .before .args .samples .now) (c .before .loop .i) (c .loop-test .left) ∙ c .before .loop .inv .2
+returns c = (from-end (c .before .loop .m) (c .before .before .before .args .samples .now) (c .before .loop .i) (c .loop-test .left) ∙ c .before .loop .inv .2, c .before .loop .inv .1)
 
 pub max-abs-from-spec : {M : Type 1} → statement M
 max-abs-from-spec =
