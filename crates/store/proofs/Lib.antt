@@ -1,0 +1,4 @@
+pub mod Bytes
+pub mod Tables
+pub mod Back
+pub mod Whole
