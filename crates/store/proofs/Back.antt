@@ -192,15 +192,19 @@ module _ (s : MetadataRendererState) (h : StateFull s) where
   unfolding tableWords
   gains-back = rw (drop-at C (G ++ (S ++ E)) 18 c-long) (entries gains-entry 18 .back (s .gains) (h .gains) (S ++ E))
 
-  sources-back : table sourceOf 6 16 (drop 36 (tableWords s)) ≡ s .sources
+  pub drop-sources : drop 36 (tableWords s) ≡ S ++ E
   unfolding tableWords
-  sources-back = rw (past C (G ++ (S ++ E)) 18 18 c-long, drop-at G (S ++ E) 18 g-long) (entries sources-entry 16 .back (s .sources) (h .sources) E)
+  drop-sources = past C (G ++ (S ++ E)) 18 18 c-long ∙ drop-at G (S ++ E) 18 g-long
+
+  pub drop-states : drop 132 (tableWords s) ≡ E
+  unfolding tableWords
+  drop-states = past C (G ++ (S ++ E)) 18 114 c-long ∙ past G (S ++ E) 18 96 g-long ∙ drop-at S E 96 s-long
+
+  sources-back : table sourceOf 6 16 (drop 36 (tableWords s)) ≡ s .sources
+  sources-back = rw drop-sources (entries sources-entry 16 .back (s .sources) (h .sources) E)
 
   states-back : table elementOf 92 2 (drop 132 (tableWords s)) ≡ s .states
-  unfolding tableWords
-  states-back =
-      rw (past C (G ++ (S ++ E)) 18 114 c-long, past G (S ++ E) 18 96 g-long, drop-at S E 96 s-long)
-      (rw (append-nil E) at (entries elements-entry 2 .back (s .states) (h .states) []))
+  states-back = rw drop-states (rw (append-nil E) at (entries elements-entry 2 .back (s .states) (h .states) []))
 
   state-back : stateOf (countWords s ++ tableWords s) ≡ s
   unfolding stateOf countWords

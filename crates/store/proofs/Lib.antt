@@ -2,3 +2,4 @@ pub mod Bytes
 pub mod Tables
 pub mod Back
 pub mod Whole
+pub mod Valid

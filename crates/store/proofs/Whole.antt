@@ -45,7 +45,7 @@ rate-most n =
     (either (eqb n 32000 || eqb n 44100) (eqb n 48000) (either (eqb n 32000) (eqb n 44100) (one 32000 (lit≤ tt)) (one 44100 (lit≤ tt))) (one 48000 (lit≤ tt))) (one 88200 (lit≤ tt)))
     (one 96000 (lit≤ tt)))
 
-element-full : (position least : ℕ) (e : ElementRendererState) → InRange position e → ElementRanged least e → ElementFull e
+pub element-full : (position least : ℕ) (e : ElementRendererState) → InRange position e → ElementRanged least e → ElementFull e
 element-full position least e r h =
     let a = r .blocks in
     let b = h .flags in
@@ -58,7 +58,7 @@ element-full position least e r h =
       tracks = record { count = h .tracks; each = h .targets };
     }
 
-state-full : (position : ℕ) (s : MetadataRendererState) → StateRanged position s → StateFull s
+pub state-full : (position : ℕ) (s : MetadataRendererState) → StateRanged position s → StateFull s
 state-full position s h =
     let w = h .within in
     let a = w .payload in
@@ -136,7 +136,7 @@ module _ (r : Renderer Timed) (h : Ranged r) where
   front-long : length (bytesOf W) ≡ 1360
   front-long = bytes-length W ∙ ap (λ (n : ℕ). 4 * n) (small-long (small r) (small-full r h))
 
-  words-back : wordsAt (encode r) 0 340 ≡ W
+  pub words-back : wordsAt (encode r) 0 340 ≡ W
   unfolding encode
   words-back =
       ap (λ (n : ℕ). wordsAt (encode r) 0 n) (sym (small-long (small r) (small-full r h))) ∙ bytes-back W (r .meta .infos ++ R) (small-words (small r) (small-full r h))
@@ -145,7 +145,7 @@ module _ (r : Renderer Timed) (h : Ranged r) where
   unfolding encode
   rest-back = drop-at (bytesOf W) (r .meta .infos ++ R) 1360 front-long
 
-  infos-back : infosOf (encode r) ≡ r .meta .infos
+  pub infos-back : infosOf (encode r) ≡ r .meta .infos
   infos-back = rw rest-back (take-at (r .meta .infos) R 22528 (h .infos .length))
 
   rows-at : drop 23888 (encode r) ≡ R
@@ -168,3 +168,21 @@ module _ (r : Renderer Timed) (h : Ranged r) where
   unfolding encode
   encode-long =
       length-append (bytesOf W) (r .meta .infos ++ R) ∙ ap₂ (λ (m n : ℕ). m + n) front-long (length-append (r .meta .infos) R ∙ ap₂ (λ (m n : ℕ). m + n) (h .infos .length) (rows-long (r .places) (h .places) 12 0 (lit≤ tt)))
+
+-- ---- bytes
+
+bytes-append : (a b : List ℕ) → Bytes a → Bytes b → Bytes (a ++ b)
+bytes-append [] b p q i = q i
+bytes-append (x ∷ a) b p q zero = p 0
+bytes-append (x ∷ a) b p q (suc i) = bytes-append a b (λ j. p (suc j)) q i
+
+rows-bytes : (p : Places) (n k : ℕ) → Bytes (rows n k p)
+unfolding rows
+rows-bytes p zero k = bytes-bytes []
+rows-bytes p (suc n) k = bytes-append (bytesOf (p k)) (rows n (suc k) p) (bytes-bytes (p k)) (rows-bytes p n (suc k))
+
+pub encode-bytes : (r : Renderer Timed) → Bytes (r .meta .infos) → Bytes (encode r)
+unfolding encode
+encode-bytes r h =
+    bytes-append (bytesOf (smallWords (small r))) (r .meta .infos ++ rows 12 0 (r .places)) (bytes-bytes (smallWords (small r)))
+    (bytes-append (r .meta .infos) (rows 12 0 (r .places)) h (rows-bytes (r .places) 12 0))

@@ -65,7 +65,7 @@ pub record StateRanged (position : ℕ) (s : MetadataRendererState) : Type 0 whe
   pub sources : length (s .sources) ≡ 16
   pub objects : All SourceSingles (s .sources)
   pub states : length (s .states) ≡ 2
-  pub elements : (i : ℕ) → i < 2 → ElementRanged (leastFlags i (s .elements) (s .objects) (s .isf)) (elementOf s i)
+  pub elements : (i : ℕ) → i < 2 → ElementRanged (leastFlags i s) (elementOf s i)
 
 pub record InfosRanged (is : List ℕ) : Type 0 where
   pub length : length is ≡ 22528
