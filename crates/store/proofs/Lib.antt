@@ -3,3 +3,4 @@ pub mod Tables
 pub mod Back
 pub mod Whole
 pub mod Valid
+pub mod Decoded
