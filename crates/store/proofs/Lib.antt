@@ -4,3 +4,4 @@ pub mod Back
 pub mod Whole
 pub mod Valid
 pub mod Decoded
+pub mod Fresh

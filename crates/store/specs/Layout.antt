@@ -4,7 +4,7 @@ use mathlib.Core.Bool.{false, cond}
 use mathlib.Core.List.{List, [], _∷_, _++_}
 use lib.Dec.{ltb}
 use lib.ListN.{take, drop, replicate}
-use Rattle.words.specs.Words.{wordsAt}
+use Rattle.words.specs.Words.{wordsAt, withWord, withLong}
 use Rattle.vectors.specs.declared.Vec3.{Vec3}
 use Rattle.timed.specs.Slot.{middle}
 use Rattle.timed.specs.State.{Timed}
@@ -104,3 +104,10 @@ blank =
 unfoldable pub fresh : Renderer Timed
 unfolding blank
 fresh = record { rate = 0; position = 0; phase = 0; start = 0; gain = 1·0; filter = idle; meta = blank; pending = 0; places = zeros }
+
+-- its block: zeros, but for the limiter gain 1.0 and the two remaining ramps 0, which stand plus 2^47
+abbrev pub marked : List ℕ → List ℕ
+marked s = withLong (withLong (withWord s 24 0x3f80_0000) 632 middle) 1000 middle
+
+unfoldable pub filled : List ℕ
+filled = marked (replicate size 0)
