@@ -7,3 +7,4 @@ pub mod Decoded
 pub mod Fresh
 pub mod Loops
 pub mod Answers
+pub mod Stores

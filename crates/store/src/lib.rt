@@ -9,6 +9,7 @@ use timed::state::MetadataRendererState;
 
 pub mod ranges;
 pub mod read;
+pub mod write;
 
 // Bytes of a block.
 pub const SIZE: usize = 26960;
