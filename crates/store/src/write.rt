@@ -6,9 +6,13 @@ ghost use Rattle.words.specs.Words.{withWords};
 ghost use Rattle.store.specs.Table as table;
 ghost use Rattle.store.specs.Table.{each};
 ghost use Rattle.store.specs.Fields.{codeWords, gainWords, sourceWords, blockWords, trackWords, elementWords};
+ghost use Rattle.store.specs.Fields.{filterWords, clockWords, countWords, smallWords};
+use crate::Small;
+use lowpass::BiquadLowpassState;
 use timed::state::BlockState;
 use timed::state::DynamicSourceState;
 use timed::state::ElementRendererState;
+use timed::state::MetadataRendererState;
 use timed::state::Track;
 
 fn bit(b: bool) -> u32
@@ -151,4 +155,72 @@ fn put_tracks(s: &mut [u8], at: usize, xs: [Track; 16])
         put_track(s, at + 16 * i, x);
         i += 1;
     }
+}
+
+// ---- the whole
+
+fn put_element(s: &mut [u8], at: usize, x: ElementRendererState)
+    requires { ⌜ at + 368 ≤ length (now s) ⌝ }
+    ensures { λ _. ⌜ now (s .exit) ≡ withWords (now (s .entry)) at (elementWords x) ⌝ }
+{
+    let w = [count(x.blocks), count(x.flags), low(x.remaining), high(x.remaining)];
+    words::put_words(s, at, &w);
+    let schedule = x.schedule;
+    put_schedule(s, at + 16, schedule);
+    let tracks = x.tracks;
+    put_tracks(s, at + 112, tracks);
+}
+
+fn put_filter(s: &mut [u8], at: usize, f: BiquadLowpassState)
+    requires { ⌜ at + 36 ≤ length (now s) ⌝ }
+    ensures { λ _. ⌜ now (s .exit) ≡ withWords (now (s .entry)) at (filterWords f) ⌝ }
+{
+    let w = [
+        words::bits_of(f.a1),
+        words::bits_of(f.a2),
+        words::bits_of(f.b0),
+        words::bits_of(f.b1),
+        words::bits_of(f.b2),
+        words::bits_of(f.x1),
+        words::bits_of(f.x2),
+        words::bits_of(f.y1),
+        words::bits_of(f.y2),
+    ];
+    words::put_words(s, at, &w);
+}
+
+fn put_clock(s: &mut [u8], x: Small)
+    requires { ⌜ 68 ≤ length (now s) ⌝ }
+    ensures { λ _. ⌜ now (s .exit) ≡ withWords (now (s .entry)) 0 (clockWords x) ⌝ }
+{
+    let w = [
+        x.rate,
+        x.phase,
+        low(x.position),
+        high(x.position),
+        low(x.start),
+        high(x.start),
+        words::bits_of(x.gain),
+    ];
+    words::put_words(s, 0, &w);
+    let filter = x.filter;
+    put_filter(s, 28, filter);
+    words::put_u32(s, 64, x.pending);
+}
+
+fn put_counts(s: &mut [u8], at: usize, x: MetadataRendererState)
+    requires { ⌜ at + 28 ≤ length (now s) ⌝ }
+    ensures { λ _. ⌜ now (s .exit) ≡ withWords (now (s .entry)) at (countWords x) ⌝ }
+{
+    let payload = x.payload;
+    let w = [
+        bit(x.initialized),
+        low(payload.0),
+        high(payload.0),
+        count(x.objects),
+        count(x.isf),
+        count(x.beds),
+        count(x.elements),
+    ];
+    words::put_words(s, at, &w);
 }
