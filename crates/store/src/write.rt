@@ -1,8 +1,10 @@
 // The small part's fields as words in a block.
 ghost use mathlib.Core.Path.{_≡_};
 ghost use Prim.Native.Nat.{_+_, _≤_};
+ghost use mathlib.Core.List.{_++_};
 ghost use lib.ListN.{length};
 ghost use Rattle.words.specs.Words.{withWords};
+ghost use Rattle.store.specs.Layout.{size};
 ghost use Rattle.store.specs.Table as table;
 ghost use Rattle.store.specs.Table.{each};
 ghost use Rattle.store.specs.Fields.{codeWords, gainWords, sourceWords, blockWords, trackWords, elementWords};
@@ -159,11 +161,17 @@ fn put_tracks(s: &mut [u8], at: usize, xs: [Track; 16])
 
 // ---- the whole
 
+// An element has 92 words.
 fn put_element(s: &mut [u8], at: usize, x: ElementRendererState)
     requires { ⌜ at + 368 ≤ length (now s) ⌝ }
-    ensures { λ _. ⌜ now (s .exit) ≡ withWords (now (s .entry)) at (elementWords x) ⌝ }
+    ensures { λ _. ⌜ (now (s .exit) ≡ withWords (now (s .entry)) at (elementWords x)) × (length (elementWords x) ≡ 92) ⌝ }
 {
-    let w = [count(x.blocks), count(x.flags), low(x.remaining), high(x.remaining)];
+    let w = [
+        count(x.blocks),
+        count(x.flags),
+        low(x.remaining),
+        high(x.remaining),
+    ];
     words::put_words(s, at, &w);
     let schedule = x.schedule;
     put_schedule(s, at + 16, schedule);
@@ -223,4 +231,39 @@ fn put_counts(s: &mut [u8], at: usize, x: MetadataRendererState)
         count(x.elements),
     ];
     words::put_words(s, at, &w);
+}
+
+fn put_tables(
+    s: &mut [u8],
+    at: usize,
+    codes: [u8; 18],
+    gains: [f32; 18],
+    sources: [DynamicSourceState; 16],
+    states: [ElementRendererState; 2],
+)
+    requires { ⌜ at + 1264 ≤ length (now s) ⌝ }
+    ensures { λ _. ⌜ now (s .exit) ≡ withWords (now (s .entry)) at (each codeWords codes ++ (each gainWords gains ++ (each sourceWords sources ++ each elementWords states))) ⌝ }
+{
+    put_codes(s, at, codes);
+    put_gains(s, at + 72, gains);
+    put_sources(s, at + 144, sources);
+    let first = states[0];
+    put_element(s, at + 528, first);
+    let second = states[1];
+    put_element(s, at + 896, second);
+}
+
+// The small part of a block, whole; the rest of the block is kept.
+pub fn save(state: &mut [u8], x: Small)
+    requires { ⌜ length (now state) ≡ size ⌝ }
+    ensures { λ _. ⌜ now (state .exit) ≡ withWords (now (state .entry)) 0 (smallWords x) ⌝ }
+{
+    put_clock(state, x);
+    let timed = x.state;
+    put_counts(state, 68, timed);
+    let codes = timed.codes;
+    let gains = timed.gains;
+    let sources = timed.sources;
+    let states = timed.states;
+    put_tables(state, 96, codes, gains, sources, states);
 }

@@ -41,14 +41,14 @@ same-length : tie.Need-same-length
 same-length c = search needs
 
 returns : tie.Need-returns
-returns c = 
+returns c =
     let t = c .before .before in
     let u = t .before .before .before .before in
     let p = u .before .before .before .before .before in
     let h = p .before .before .before in
     let a = h .before .before .before .before .before .before .args in
     let q : p .put-words .last .0 ≡ withWords (a .s .now) 0 (clockHead (a .x)) =
-        p .put-words .ensures ∙ rw (h .bits-of .ensures, h .before .high2 .ensures, h .before .before .low2 .ensures, h .before .before .before .high .ensures, h .before .before .before .before .low .ensures) in
+    p .put-words .ensures ∙ rw (h .bits-of .ensures, h .before .high2 .ensures, h .before .before .low2 .ensures, h .before .before .before .high .ensures, h .before .before .before .before .low .ensures) in
     t .put-u32 .ensures
     ∙ ap (λ (s : List ℕ). withWords s 64 (a .x .pending ∷ [])) (u .put-filter .ensures ∙ ap (λ (s : List ℕ). withWords s 28 (filterWords (a .x .filter))) q)
     ∙ clock-stored (a .s .now) (a .x)

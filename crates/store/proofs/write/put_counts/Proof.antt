@@ -37,7 +37,7 @@ same-length c = search needs
 
 returns : tie.Need-returns
 unfolding countWords
-returns c = 
+returns c =
     let p = c .before .before in
     let b = p .before .before .before in
     p .put-words .ensures

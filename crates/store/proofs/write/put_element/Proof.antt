@@ -8,7 +8,7 @@ use lib.ListN.{length, length-map}
 use Rattle.words.specs.Words.{withWords}
 use Rattle.store.specs.Table.{each}
 use Rattle.store.specs.Fields.{blockWords, trackWords}
-use Rattle.store.proofs.Stores.{elementHead, element-stored}
+use Rattle.store.proofs.Stores.{elementHead, element-stored, element-long}
 use Rattle.store.proofs.write.put_element.Statement.{statement}
 use Rattle.store.proofs.write.put_element.Tie as tie
 
@@ -46,7 +46,7 @@ same-length : tie.Need-same-length
 same-length c = search needs
 
 returns : tie.Need-returns
-returns c = 
+returns c =
     let t = c .before .before in
     let u = t .before .before .before .before .before in
     let p = u .before .before .before .before .before in
@@ -54,9 +54,12 @@ returns c =
     let a = h .before .before .before .before .before .args in
     let n : length (a .x .schedule) ≡ 8 = sym (length-map (a .x .schedule) _) ∙ h .before .before .before .before .before .good .1 .1 .0 .1 .1 .1 .1 .1 .0 .1 .0 .1 in
     let q : p .put-words .last .0 ≡ withWords (a .s .now) (a .at) (elementHead (a .x)) = p .put-words .ensures ∙ rw (h .high .ensures, h .before .low .ensures, h .before .before .count2 .ensures, h .before .before .before .count .ensures) in
-    t .put-tracks .ensures
-    ∙ ap (λ (s : List ℕ). withWords s (a .at + 112) (each trackWords (a .x .tracks))) (u .put-schedule .ensures ∙ ap (λ (s : List ℕ). withWords s (a .at + 16) (each blockWords (a .x .schedule))) q)
-    ∙ element-stored (a .s .now) (a .at) (a .x) n
+    let m : length (a .x .tracks) ≡ 16 = sym (length-map (a .x .tracks) _) ∙ h .before .before .before .before .before .good .1 .1 .0 .1 .1 .1 .1 .1 .1 .0 .1 .0 .1 in (
+      t .put-tracks .ensures
+          ∙ ap (λ (s : List ℕ). withWords s (a .at + 112) (each trackWords (a .x .tracks))) (u .put-schedule .ensures ∙ ap (λ (s : List ℕ). withWords s (a .at + 16) (each blockWords (a .x .schedule))) q)
+          ∙ element-stored (a .s .now) (a .at) (a .x) n,
+      element-long (a .s .now) (a .at) (a .x) n m,
+    )
 
 pub put-element-spec : {M : Type 1} → statement M
 put-element-spec =

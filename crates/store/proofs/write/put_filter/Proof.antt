@@ -43,7 +43,7 @@ same-length c = search needs
 
 returns : tie.Need-returns
 unfolding filterWords
-returns c = 
+returns c =
     let p = c .before .before in
     let b = p .before .before .before in
     p .put-words .ensures ∙ rw (b .bits-of9 .ensures, b .before .bits-of8 .ensures, b .before .before .bits-of7 .ensures, b .before .before .before .bits-of6 .ensures, b .before .before .before .before .bits-of5 .ensures, b .before .before .before .before .before .bits-of4 .ensures, b .before .before .before .before .before .before .bits-of3 .ensures, b .before .before .before .before .before .before .before .bits-of2 .ensures, b .before .before .before .before .before .before .before .before .bits-of .ensures)
