@@ -1,0 +1,78 @@
+use borrow.Author.Needs.{needs}
+use Prim.Native.Nat.{_≤_, _-_}
+use mathlib.Core.Path.{_≡_, refl, sym, _∙_}
+use native.Mathlib.Omega.{arith}
+use native.Mathlib.Numerals.{unary-clauses}
+use Rattle.timed.proofs.Laws.{turn, ended}
+use Rattle.timed.specs.Turns.{times}
+use denote.Ref.{now}
+use lib.ListN.{length}
+use Rattle.updates.specs.Stored.{infoGiven, objectStored}
+use Rattle.updates.specs.Said.{elementOf}
+use Rattle.updates.proofs.element.put_object.Statement.{statement}
+use Rattle.updates.proofs.element.put_object.Tie as tie
+
+abbrev Inv-loop : tie.InvT-loop
+Inv-loop infos₀ meta p n first o fresh bed b₀ infos b = (b ≤ n) × ((length infos ≡ 22528) × (times (n - b) b (infoGiven fresh bed (elementOf meta p) first o) infos ≡ times n 0 (infoGiven fresh bed (elementOf meta p) first o) infos₀))
+
+abbrev μ-loop : tie.MeasureT-loop
+μ-loop infos₀ meta p n first o fresh bed b₀ infos b = n - b
+
+loop-holds : tie.Need-loop-holds Inv-loop μ-loop
+loop-holds c = (search needs, (search needs, simp unary-clauses))
+
+object-place-requires : tie.Need-object-place-requires Inv-loop μ-loop
+object-place-requires c κs = search needs
+
+info-at-requires : tie.Need-info-at-requires Inv-loop μ-loop
+info-at-requires c κs = rw (c .object-place .ensures) (c .before .before .before .before .before .pre .6 (c .before .before .loop .b) (search needs))
+
+add-put-info : tie.Need-add-put-info Inv-loop μ-loop
+add-put-info c = search needs
+
+mul-put-info : tie.Need-mul-put-info Inv-loop μ-loop
+mul-put-info c = search needs
+
+put-info-requires : tie.Need-put-info-requires Inv-loop μ-loop
+put-info-requires c κs = search needs
+
+add-b : tie.Need-add-b Inv-loop μ-loop
+add-b c = search needs
+
+loop-less : tie.Need-loop-less Inv-loop μ-loop
+loop-less c = search needs
+
+loop-again : tie.Need-loop-again Inv-loop μ-loop
+loop-again c =
+    let l = c .before .before .before .before .before .before .before .loop in
+    let s = c .before .before .before .before .before .before .before .before .before .before .args in
+    (search needs, (omega (arith, c .before .before .put-info .kept), rw (c .before .before .put-info .ensures, c .before .before .before .before .info-at .ensures, c .before .before .before .before .before .object-place .ensures) (sym (turn (s .n) (l .b) (infoGiven (s .fresh) (s .bed) (elementOf (now (s .meta)) (s .p)) (s .first) (s .o)) (l .infos) (search needs)) ∙ l .inv .1 .1)))
+
+same-length : tie.Need-same-length Inv-loop μ-loop
+same-length c = search needs
+
+returns : tie.Need-returns Inv-loop μ-loop
+unfolding objectStored
+returns c =
+    let l = c .before .loop in
+    let s = c .before .before .before .before .args in
+    let a = sym (ended (s .n) (l .b) (infoGiven (s .fresh) (s .bed) (elementOf (now (s .meta)) (s .p)) (s .first) (s .o)) (l .infos) (omega arith)) ∙ l .inv .1 .1 in
+    a ∙ rw (c .before .before .before .before .pre .1)
+
+pub put-object-spec : {M : Type 1} → statement M
+put-object-spec =
+    tie.close
+    (tie.spec
+    Inv-loop
+    μ-loop
+    loop-holds
+    object-place-requires
+    info-at-requires
+    add-put-info
+    mul-put-info
+    put-info-requires
+    add-b
+    loop-less
+    loop-again
+    same-length
+    returns)

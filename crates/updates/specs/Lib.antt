@@ -1,0 +1,5 @@
+pub mod Whole
+pub mod Said
+pub mod Stored
+pub mod Applied
+pub mod Shape
