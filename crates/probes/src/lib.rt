@@ -7,6 +7,8 @@ mod probe_limiter;
 mod probe_lowpass;
 mod probe_mixing;
 mod probe_panning;
+mod probe_ieee;
+mod probe_limiter;
 mod probe_records;
 mod probe_roots;
 mod probe_beds;
