@@ -4,5 +4,7 @@ mod probe_lowpass;
 mod probe_beds;
 mod probe_mixing;
 mod probe_panning;
+mod probe_ieee;
+mod probe_limiter;
 mod probe_vectors;
 mod probe_words;

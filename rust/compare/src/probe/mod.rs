@@ -5,5 +5,7 @@ pub mod lowpass;
 pub mod beds;
 pub mod mixing;
 pub mod panning;
+pub mod ieee;
+pub mod limiter;
 pub mod vectors;
 pub mod words;
