@@ -2,6 +2,7 @@ pub mod Levels
 pub mod Peaks
 pub mod Laws
 pub mod Rows
+pub mod Runs
 pub mod Lowered
 pub mod Growth
 pub mod Theorem

@@ -1,4 +1,6 @@
 // The output limiter: the peak of a block, the gain that it leaves, scaling, and the gain's growth.
+pub mod places;
+
 ghost use mathlib.Core.Path.{_≡_};
 ghost use Prim.Native.Nat.{_≤_};
 ghost use lib.ListN.{length};
@@ -87,12 +89,12 @@ fn scale_block(block: &mut [f32], samples: usize, gain: f32)
     ensures { λ _. ⌜ now (block .exit) ≡ laid (scaledBlock gain (channels 12 samples (now (block .entry)))) (now (block .entry)) ⌝ }
 {
     let mut at: usize = 0;
-    let mut left: usize = 12;
-    while left > 0 {
+    let mut unscaled: usize = 12;
+    while unscaled > 0 {
         let end = at + samples;
         scale_slice_in_place(&mut block[at..end], gain);
         at += 64;
-        left -= 1;
+        unscaled -= 1;
     }
 }
 

@@ -16,10 +16,10 @@ use Rattle.limiter.proofs.scale_block.Lts as lts
 use Rattle.limiter.proofs.scale_slice_in_place.Reads as scale-slice-in-place-reads
 
 abbrev Inv-loop : tie.InvT-loop
-Inv-loop block₀ samples gain at₀ left₀ block at left = (at + 64 * left ≡ 768) × (length block ≡ 768) × (take at block ++ laid (scaledBlock gain (channels left samples (drop at block))) (drop at block) ≡ laid (scaledBlock gain (channels 12 samples block₀)) block₀)
+Inv-loop block₀ samples gain at₀ unscaled₀ block at unscaled = (at + 64 * unscaled ≡ 768) × (length block ≡ 768) × (take at block ++ laid (scaledBlock gain (channels unscaled samples (drop at block))) (drop at block) ≡ laid (scaledBlock gain (channels 12 samples block₀)) block₀)
 
 abbrev μ-loop : tie.MeasureT-loop
-μ-loop block₀ samples gain at₀ left₀ block at left = left
+μ-loop block₀ samples gain at₀ unscaled₀ block at unscaled = unscaled
 
 loop-holds : tie.Need-loop-holds Inv-loop μ-loop
 loop-holds c = (refl, c .before .pre .0, refl)
@@ -45,8 +45,8 @@ scale-slice-in-place-requires c κs = search needs
 add-at : tie.Need-add-at Inv-loop μ-loop
 add-at c = search needs
 
-sub-left : tie.Need-sub-left Inv-loop μ-loop
-sub-left c = search needs
+sub-unscaled : tie.Need-sub-unscaled Inv-loop μ-loop
+sub-unscaled c = search needs
 
 loop-less : tie.Need-loop-less Inv-loop μ-loop
 loop-less c = search needs
@@ -56,7 +56,7 @@ loop-again c =
     let l = c .before .before .before .before .before .loop in
     let a = c .before .before .before .before .before .before .before .args in
     let z = c .before .before .scale-slice-in-place in
-    (omega arith, same-len-mid (l .at) (l .at + a .samples - l .at) (l .block) (z .last .0) (ap length (z .ensures) ∙ length-scaled (a .gain) (take (l .at + a .samples - l .at) (drop (l .at) (l .block)))) ∙ l .inv .1, laid-next (a .gain) (l .left) (a .samples) (l .at) (l .block) (z .last .0) (omega arith) (omega arith) (omega arith) (z .ensures) ∙ l .inv .2)
+    (omega arith, same-len-mid (l .at) (l .at + a .samples - l .at) (l .block) (z .last .0) (ap length (z .ensures) ∙ length-scaled (a .gain) (take (l .at + a .samples - l .at) (drop (l .at) (l .block)))) ∙ l .inv .1, laid-next (a .gain) (l .unscaled) (a .samples) (l .at) (l .block) (z .last .0) (omega arith) (omega arith) (omega arith) (z .ensures) ∙ l .inv .2)
 
 same-length : tie.Need-same-length Inv-loop μ-loop
 same-length c = search needs
@@ -65,7 +65,7 @@ returns : tie.Need-returns Inv-loop μ-loop
 returns c =
     let l = c .before .loop in
     let a = c .before .before .before .args in
-    laid-end (a .gain) (l .left) (a .samples) (l .at) (l .block) (c .loop-test .left) ∙ l .inv .2
+    laid-end (a .gain) (l .unscaled) (a .samples) (l .at) (l .block) (c .loop-test .left) ∙ l .inv .2
 
 pub scale-block-spec : {M : Type 1} → statement M
 scale-block-spec =
@@ -81,7 +81,7 @@ scale-block-spec =
     part-scale-slice-in-place-end
     scale-slice-in-place-requires
     add-at
-    sub-left
+    sub-unscaled
     loop-less
     loop-again
     same-length
