@@ -36,8 +36,8 @@ units-most b h = elim (le-or-lt 8388608 b) [
     | inl k ↦ top (omega arith)
     | inr k ↦
         let u : 8388608 + b % 8388608 ≤ 16777216 = omega arith in
-        let v : 2 ^ (b / 8388608 - 1) ≤ 2 ^ 129 = pow-mono (omega arith) in
-        le-trans (mul-le-mul u v) (lit≤ tt)
+        let v : b / 8388608 - 1 ≤ 129 = omega arith in
+        le-trans (mul-le-mul u (pow-mono v)) (lit≤ tt)
   ])
 ]
   where

@@ -1,7 +1,7 @@
 -- What objects and beds add to the twelve channels: an object only on the eleven that are not 3, each coefficient is finite and at most 8, and there are at most 19. Assumes nothing.
 use mathlib.Core.Path.{_≡_, refl, sym, ap, _∙_, subst}
 use mathlib.Core.Bool.{Bool, true, false, cond}
-use mathlib.Core.List.{List, [], _∷_, _++_, map, List·Memᴰ, List·Memᴰ·head}
+use mathlib.Core.List.{List, [], _∷_, _++_, map, List·Memᴰ, List·Memᴰ·head, List·Memᴰ·tail}
 use Prim.Native.Nat.{ℕ, zero, suc, _+_, _*_, _≤_, _<_}
 use native.Mathlib.Nat.{le-trans, le-of-eq, le-refl}
 use native.Mathlib.Omega.{arith}
@@ -11,7 +11,6 @@ use lib.Ieee.{Float, binary32, fits, round, mul, le, lt, eq, ne}
 use Rattle.ieee.specs.Units.{One, F32, mag, P, N}
 use Rattle.ieee.specs.Bounds.{Bounded, All}
 use Rattle.ieee.proofs.Signed.{mag-is}
-use Rattle.roots.proofs.Laws.{root-nearest}
 use Rattle.vectors.specs.declared.Vec3.{Vec3}
 use Rattle.panning.specs.declared.Panned.{Panned}
 use Rattle.panning.specs.Choice.{every, 0·0, 1·0}
@@ -19,27 +18,12 @@ use Rattle.panning.specs.Table.{Table, Position, between, distinct, 8·0}
 use Rattle.panning.specs.Hall.{hall714, positions714, fullRange, 12·0}
 use Rattle.panning.specs.Terms.{Term, term, terms, panned, audible, paired, spread, nothing}
 use Rattle.energy.specs.Facts.{Pans, Each}
-use Rattle.energy.proofs.Facts.{pans-near}
+use Rattle.energy.proofs.Hall.{pans714}
 use Rattle.energy.proofs.Tables.{gain8}
 use Rattle.rules.specs.Leaves.{Source}
 use Rattle.rules.specs.Mix.{objectTerms}
+use Rattle.rules.proofs.Lists.{either}
 use Rattle.rules.proofs.Facts.{InHall}
-
--- ---- the hall
-hall-table : Table hall714 fullRange
-unfolding every distinct between hall714 positions714 Rattle.panning.specs.Arrays.places fits le lt eq
-hall-table = record { some = tt; placed = tt; distinct = tt }
-
-twelve-f32 : F32 12·0
-unfolding fits
-twelve-f32 = record { fine = tt; fit = tt }
-
-one-twelve : T (le 1·0 12·0)
-unfolding le lt eq
-one-twelve = tt
-
-pub pans : (p : Vec3) → Position p → Pans hall714 fullRange 12·0 p
-pans p q = pans-near root-nearest hall714 fullRange hall-table p q 12·0 twelve-f32 one-twelve
 
 -- ---- sizes
 pub eight-bounded : (x : Float) → T (between 0·0 8·0 x) → Bounded (8 * One) x
@@ -48,7 +32,7 @@ eight-bounded x h = let g = gain8 x h in record { f32 = g .f32; most = omega (ar
 -- each, as `All` has it
 pub each-all : (Q : Term → Type 0) (ts : List Term) → Each Q ts → All Q ts
 each-all Q [] h = tt
-each-all Q (t ∷ ts) h = (h t (List·Memᴰ·head), each-all Q ts (λ u m. h u (mathlib.Core.List.List·Memᴰ·tail m)))
+each-all Q (t ∷ ts) h = (h t (List·Memᴰ·head refl), each-all Q ts (λ u m. h u (List·Memᴰ·tail m)))
 
 -- ---- how many
 audible-few : (ts : List Term) → length (audible ts) ≤ length ts
@@ -68,11 +52,7 @@ paired-few (k ∷ ks) (c ∷ cs) = let h = paired-few ks cs in omega arith
 
 eight-corners : (p : Vec3) (g s : Float) → length (panned hall714 fullRange 12·0 p g s .corners) ≤ 8
 unfolding panned
-eight-corners p g s = go (eq g 0·0)
-  where
-    go : (b : Bool) → length (cond b nothing (record { corners = map (Rattle.panning.specs.Choice.corner hall714 fullRange p) Rattle.panning.specs.Choice.corners; coefficients = []; extra = 0·0 }) .corners) ≤ 8
-    go true = lit≤ tt
-    go false = lit≤ tt
+eight-corners p g s = either (λ (r : Panned). length (r .corners) ≤ 8) (eq g 0·0) (lit≤ tt) (lit≤ tt)
 
 pub terms-few : (p : Vec3) (g s : Float) → length (terms fullRange (panned hall714 fullRange 12·0 p g s)) ≤ 19
 terms-few p g s =
@@ -88,7 +68,7 @@ terms-few p g s =
 module _ (s : Source) (h : InHall s) where
   pub object-bounded : Each (λ t. T (between 0·0 8·0 (t .coefficient))) (objectTerms s)
   unfolding objectTerms
-  object-bounded = pans (s .place) (h .place) .bounded (s .gain) (s .size) (h .gain) (h .size)
+  object-bounded = pans714 (s .place) (h .place) .bounded (s .gain) (s .size) (h .gain) (h .size)
 
   pub object-few : length (objectTerms s) ≤ 19
   unfolding objectTerms
@@ -96,4 +76,4 @@ module _ (s : Source) (h : InHall s) where
 
   pub object-named : Each (λ t. List·Memᴰ (t .channel) fullRange) (objectTerms s)
   unfolding objectTerms
-  object-named = pans (s .place) (h .place) .named (s .gain) (s .size)
+  object-named = pans714 (s .place) (h .place) .named (s .gain) (s .size)

@@ -5,10 +5,10 @@ use mathlib.Core.List.{List, [], _∷_, _++_}
 use lib.Dec.{leb, eqb}
 use lib.ListN.{take, length}
 use lib.Ieee.{Float}
-use Rattle.lowpass.specs.Lowpass.{plusZero, output, next, new}
+use Rattle.lowpass.specs.Lowpass.{output, next, new}
 use Rattle.lowpass.specs.declared.BiquadLowpassState.{BiquadLowpassState}
 use Rattle.limiter.specs.Limiter.{blockGain, scaled, grown}
-use Rattle.rules.specs.Parts.{1·0, Channels, none, joined, twelve, Places, floats, laid, zeros}
+use Rattle.rules.specs.Parts.{0·0, 1·0, Channels, none, joined, twelve, Places, floats, laid, zeros}
 use Rattle.rules.specs.Leaves.{Leaves, started}
 use Rattle.rules.specs.Mix.{sampleAt, samplesAt, Moment, heard, fed}
 
@@ -40,7 +40,7 @@ pub record Renderer (M : Type 0) : Type 0 where
 
 -- no rate yet: no coefficients and nothing fed
 abbrev pub idle : BiquadLowpassState
-idle = record { a1 = plusZero; a2 = plusZero; b0 = plusZero; b1 = plusZero; b2 = plusZero; x1 = plusZero; x2 = plusZero; y1 = plusZero; y2 = plusZero }
+idle = record { a1 = 0·0; a2 = 0·0; b0 = 0·0; b1 = 0·0; b2 = 0·0; x1 = 0·0; x2 = 0·0; y1 = 0·0; y2 = 0·0 }
 
 -- ---- the limiter on twelve channels
 
