@@ -1,2 +1,3 @@
 // One run of samples: the beds and the objects mixed into twelve rows.
+pub mod sources;
 pub mod terms;
