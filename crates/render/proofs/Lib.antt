@@ -2,3 +2,4 @@ pub mod Mixed
 pub mod Corners
 pub mod Channels
 pub mod Routes
+pub mod Loops

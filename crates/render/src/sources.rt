@@ -75,3 +75,27 @@ fn mix_source(rows: &mut [f32], pcm: &[u8], i: usize, source: DynamicSourceState
     let place = source.place;
     crate::terms::mix_object(rows, &row[..k], place, source.gain, source.size);
 }
+
+// The beds in order: the first `count` of a table of codes and gains.
+pub fn mix_beds(rows: &mut [f32], pcm: &[u8], codes: &[u8], wanted: [u8; 18], gains: [f32; 18], count: usize, n: usize, t: usize, k: usize)
+    requires { ⌜ Framed (now pcm) (length (now codes)) n t k × (length (now rows) ≡ 768) × (count ≤ 18) ⌝ }
+    ensures { λ _. ⌜ now (rows .exit) ≡ mixedBeds (now (pcm .entry)) n t k (now (codes .entry)) (bedsOf count wanted gains) (now (rows .entry)) ⌝ }
+{
+    let mut j = 0usize;
+    while j < count {
+        mix_bed(rows, pcm, codes, wanted[j], gains[j], n, t, k);
+        j += 1;
+    }
+}
+
+// The objects in order: the first `count` of a table, fed by the channels from `first` on.
+pub fn mix_sources(rows: &mut [f32], pcm: &[u8], first: usize, sources: [DynamicSourceState; 16], count: usize, n: usize, t: usize, k: usize)
+    requires { ⌜ Framed (now pcm) (first + count) n t k × (length (now rows) ≡ 768) × (first ≤ 18) × (count ≤ 16) ⌝ }
+    ensures { λ _. ⌜ now (rows .exit) ≡ mixedObjects (now (pcm .entry)) n t k first (sourcesOf count sources) (now (rows .entry)) ⌝ }
+{
+    let mut j = 0usize;
+    while j < count {
+        mix_source(rows, pcm, first + j, sources[j], n, t, k);
+        j += 1;
+    }
+}
