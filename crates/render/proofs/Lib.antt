@@ -3,3 +3,5 @@ pub mod Corners
 pub mod Channels
 pub mod Routes
 pub mod Loops
+pub mod Adds
+pub mod Moments

@@ -1,3 +1,8 @@
+use mathlib.Core.Path.{ap, _∙_}
+use lib.ListN.{length}
+use Rattle.render.specs.Sources.{bedsOf, sourcesOf, mixedBeds, mixedObjects}
+use Rattle.render.proofs.Channels.{fewer}
+use Rattle.render.proofs.Moments.{run-heard}
 use borrow.Author.Needs.{needs}
 use Rattle.render.proofs.run.mix_run.Statement.{statement}
 use Rattle.render.proofs.run.mix_run.Tie as tie
@@ -13,7 +18,7 @@ clear-requires c κs = search needs
 
 -- src/run.rt:26:5
 mix-beds-requires : tie.Need-mix-beds-requires
-mix-beds-requires c κs = ?
+mix-beds-requires c κs = let s = c .before .before .before .before .before .before .before .before in let a = s .args in (fewer (a .pcm .now) (length (a .codes .now)) (a .objects) (a .n) (a .t) (a .k) (s .pre .0), search needs, search needs)
 
 -- src/run.rt:27:5
 mix-sources-requires : tie.Need-mix-sources-requires
@@ -25,7 +30,14 @@ same-length c = search needs
 
 -- src/run.rt:21:1
 returns : tie.Need-returns
-returns c = ?
+returns c = 
+    let s = c .before .before .before .before .before .before .before .before .before .before .before .before .before .before .before in
+    let a = s .args in
+    let beds = bedsOf (a .beds) (a .wanted) (a .gains) in
+    let objects = sourcesOf (a .objects) (a .sources) in
+    run-heard (a .pcm .now) (a .n) (a .t) (a .k) (s .pre .0 .short) beds objects (a .codes .now) (length (a .rows .now)) (s .pre .1)
+    (c .before .before .mix-sources .ensures
+    ∙ ap (mixedObjects (a .pcm .now) (a .n) (a .t) (a .k) (length (a .codes .now)) objects) (c .before .before .before .before .before .before .mix-beds .ensures ∙ ap (mixedBeds (a .pcm .now) (a .n) (a .t) (a .k) (a .codes .now) beds) (c .before .before .before .before .before .before .before .before .before .before .clear .ensures)))
 
 pub mix-run-spec : {M : Type 1} → statement M
 mix-run-spec =
