@@ -112,8 +112,8 @@ module _ (pcm : List ℕ) (n t k : ℕ) (short : k ≤ 64) where
         let d : length (take k (drop (64 * c) rows)) ≡ k = length-take-le k (drop (64 * c) rows) m in
         ext-getD nan (take k (drop (64 * c) rows)) (column at c t k) (d ∙ sym (length-column at c t k))
         (λ i h.
-            let b : i < k = omega arith in
-            getD-take k (drop (64 * c) rows) i nan b ∙ getD-drop (64 * c) rows i nan ∙ run-at rows g c i l b ∙ sym (column-at at c t k i b))
+        let b : i < k = omega arith in
+        getD-take k (drop (64 * c) rows) i nan b ∙ getD-drop (64 * c) rows i nan ∙ run-at rows g c i l b ∙ sym (column-at at c t k i b))
 
     pub run-heard : {rows : List Float} → rows ≡ mixedObjects pcm n t k (length codes) objects (mixedBeds pcm n t k codes beds (replicate places 0·0)) → Heard at t k rows
     unfolding blank

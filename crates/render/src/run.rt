@@ -18,7 +18,19 @@ fn clear(rows: &mut [f32])
 }
 
 // The k samples from t on of a frame with n samples a channel: the beds' codes and gains and the objects are tables with counts beside them. Row c is rows[64 c..64 c + k].
-pub fn mix_run(rows: &mut [f32], pcm: &[u8], codes: &[u8], wanted: [u8; 18], gains: [f32; 18], beds: usize, sources: [DynamicSourceState; 16], objects: usize, n: usize, t: usize, k: usize)
+pub fn mix_run(
+    rows: &mut [f32],
+    pcm: &[u8],
+    codes: &[u8],
+    wanted: [u8; 18],
+    gains: [f32; 18],
+    beds: usize,
+    sources: [DynamicSourceState; 16],
+    objects: usize,
+    n: usize,
+    t: usize,
+    k: usize,
+)
     requires { ⌜ Framed (now pcm) (length (now codes) + objects) n t k × (length (now rows) ≡ 768) × (length (now codes) ≤ 18) × (beds ≤ 18) × (objects ≤ 16) ⌝ }
     ensures { λ _. ⌜ Heard (momentAt (bedsOf beds wanted gains) (sourcesOf objects sources) (now (codes .entry)) (now (pcm .entry)) n) t k (now (rows .exit)) ⌝ }
 {

@@ -54,7 +54,16 @@ fn mix_routed(rows: &mut [f32], samples: &[f32], code: u8, gain: f32)
 }
 
 // A bed, fed by the input that matches it.
-fn mix_bed(rows: &mut [f32], pcm: &[u8], codes: &[u8], code: u8, gain: f32, n: usize, t: usize, k: usize)
+fn mix_bed(
+    rows: &mut [f32],
+    pcm: &[u8],
+    codes: &[u8],
+    code: u8,
+    gain: f32,
+    n: usize,
+    t: usize,
+    k: usize,
+)
     requires { ⌜ Framed (now pcm) (length (now codes)) n t k × (length (now rows) ≡ 768) ⌝ }
     ensures { λ _. ⌜ now (rows .exit) ≡ mixedFound (now (pcm .entry)) n t k (bedTerms (bed code gain)) (matching code (now (codes .entry))) (now (rows .entry)) ⌝ }
 {
@@ -67,7 +76,15 @@ fn mix_bed(rows: &mut [f32], pcm: &[u8], codes: &[u8], code: u8, gain: f32, n: u
 }
 
 // An object, fed by channel i.
-fn mix_source(rows: &mut [f32], pcm: &[u8], i: usize, source: DynamicSourceState, n: usize, t: usize, k: usize)
+fn mix_source(
+    rows: &mut [f32],
+    pcm: &[u8],
+    i: usize,
+    source: DynamicSourceState,
+    n: usize,
+    t: usize,
+    k: usize,
+)
     requires { ⌜ Reached (now pcm) i n t k × (k ≤ 64) × (length (now rows) ≡ 768) ⌝ }
     ensures { λ _. ⌜ now (rows .exit) ≡ mixedTerms (channelRow (now (pcm .entry)) n t k i) (objectTerms (sourceOf source)) (now (rows .entry)) ⌝ }
 {
@@ -77,7 +94,17 @@ fn mix_source(rows: &mut [f32], pcm: &[u8], i: usize, source: DynamicSourceState
 }
 
 // The beds in order: the first `count` of a table of codes and gains.
-pub fn mix_beds(rows: &mut [f32], pcm: &[u8], codes: &[u8], wanted: [u8; 18], gains: [f32; 18], count: usize, n: usize, t: usize, k: usize)
+pub fn mix_beds(
+    rows: &mut [f32],
+    pcm: &[u8],
+    codes: &[u8],
+    wanted: [u8; 18],
+    gains: [f32; 18],
+    count: usize,
+    n: usize,
+    t: usize,
+    k: usize,
+)
     requires { ⌜ Framed (now pcm) (length (now codes)) n t k × (length (now rows) ≡ 768) × (count ≤ 18) ⌝ }
     ensures { λ _. ⌜ now (rows .exit) ≡ mixedBeds (now (pcm .entry)) n t k (now (codes .entry)) (bedsOf count wanted gains) (now (rows .entry)) ⌝ }
 {
@@ -89,13 +116,22 @@ pub fn mix_beds(rows: &mut [f32], pcm: &[u8], codes: &[u8], wanted: [u8; 18], ga
 }
 
 // The objects in order: the first `count` of a table, fed by the channels from `first` on.
-pub fn mix_sources(rows: &mut [f32], pcm: &[u8], first: usize, sources: [DynamicSourceState; 16], count: usize, n: usize, t: usize, k: usize)
+pub fn mix_sources(
+    rows: &mut [f32],
+    pcm: &[u8],
+    first: usize,
+    sources: [DynamicSourceState; 16],
+    count: usize,
+    n: usize,
+    t: usize,
+    k: usize,
+)
     requires { ⌜ Framed (now pcm) (first + count) n t k × (length (now rows) ≡ 768) × (first ≤ 18) × (count ≤ 16) ⌝ }
     ensures { λ _. ⌜ now (rows .exit) ≡ mixedObjects (now (pcm .entry)) n t k first (sourcesOf count sources) (now (rows .entry)) ⌝ }
 {
-    let mut j = 0usize;
-    while j < count {
-        mix_source(rows, pcm, first + j, sources[j], n, t, k);
-        j += 1;
+    let mut object = 0usize;
+    while object < count {
+        mix_source(rows, pcm, first + object, sources[object], n, t, k);
+        object += 1;
     }
 }

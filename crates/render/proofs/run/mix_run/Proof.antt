@@ -1,36 +1,27 @@
+-- `mix_run`: zeros, then the beds, then the objects are what is heard.
+use borrow.Author.Needs.{needs}
 use mathlib.Core.Path.{ap, _∙_}
 use lib.ListN.{length}
 use Rattle.render.specs.Sources.{bedsOf, sourcesOf, mixedBeds, mixedObjects}
 use Rattle.render.proofs.Channels.{fewer}
 use Rattle.render.proofs.Moments.{run-heard}
-use borrow.Author.Needs.{needs}
 use Rattle.render.proofs.run.mix_run.Statement.{statement}
 use Rattle.render.proofs.run.mix_run.Tie as tie
-use Rattle.render.proofs.run.mix_run.Reads as reads
-use Rattle.render.proofs.run.mix_run.Lts as lts
-use Rattle.render.proofs.run.clear.Reads as clear-reads
-use Rattle.render.proofs.sources.mix_beds.Reads as mix-beds-reads
-use Rattle.render.proofs.sources.mix_sources.Reads as mix-sources-reads
 
--- src/run.rt:25:5
 clear-requires : tie.Need-clear-requires
 clear-requires c κs = search needs
 
--- src/run.rt:26:5
 mix-beds-requires : tie.Need-mix-beds-requires
 mix-beds-requires c κs = let s = c .before .before .before .before .before .before .before .before in let a = s .args in (fewer (a .pcm .now) (length (a .codes .now)) (a .objects) (a .n) (a .t) (a .k) (s .pre .0), search needs, search needs)
 
--- src/run.rt:27:5
 mix-sources-requires : tie.Need-mix-sources-requires
 mix-sources-requires c κs = search needs
 
--- src/run.rt:21:1
 same-length : tie.Need-same-length
 same-length c = search needs
 
--- src/run.rt:21:1
 returns : tie.Need-returns
-returns c = 
+returns c =
     let s = c .before .before .before .before .before .before .before .before .before .before .before .before .before .before .before in
     let a = s .args in
     let beds = bedsOf (a .beds) (a .wanted) (a .gains) in

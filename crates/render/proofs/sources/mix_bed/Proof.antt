@@ -1,65 +1,51 @@
-use mathlib.Core.Path.{_≡_, refl, sym, ap, _∙_}
+-- `mix_bed`: by what was found.
+use borrow.Author.Needs.{needs}
+use mathlib.Core.Path.{refl, sym, ap, _∙_}
+use mathlib.Core.List.{List}
 use native.Mathlib.Omega.{arith}
 use lib.ListN.{length}
 use lib.Ieee.{Float}
-use mathlib.Core.List.{List}
-use Rattle.rules.specs.Mix.{bedTerms, objectTerms}
+use Rattle.rules.specs.Mix.{bedTerms}
 use Rattle.render.specs.Rows.{mixedTerms}
-use Rattle.render.specs.Sources.{bed, sourceOf}
-use Rattle.render.proofs.Channels.{reached, zeros-length, row-read, row-start, row-length}
+use Rattle.render.specs.Sources.{bed}
+use Rattle.render.proofs.Channels.{reached, row-start, row-length}
 use Rattle.render.proofs.Routes.{by-found, found-inside}
-use borrow.Author.Needs.{needs}
 use Rattle.render.proofs.sources.mix_bed.Statement.{statement}
 use Rattle.render.proofs.sources.mix_bed.Tie as tie
-use Rattle.render.proofs.sources.mix_bed.Reads as reads
-use Rattle.render.proofs.sources.mix_bed.Lts as lts
-use Rattle.beds.proofs.find_matching_input_bed_channel.Reads as find-matching-input-bed-channel-reads
-use Rattle.render.proofs.sources.mix_routed.Reads as mix-routed-reads
-use Rattle.render.proofs.sources.read_channel.Reads as read-channel-reads
 
--- src/sources.rt:61:9
 find-matching-input-bed-channel-requires : tie.Need-find-matching-input-bed-channel-requires
 find-matching-input-bed-channel-requires c κs = search needs
 
--- src/sources.rt:62:19
 enum-known-found : tie.Need-enum-known-found
 enum-known-found c = search needs
 
--- src/sources.rt:63:9
 enum-told : tie.Need-enum-told
 enum-told c = search needs
 
--- src/sources.rt:63:9
 returns : tie.Need-returns
 returns c = let a = c .before .before .before .before .before .before .args in by-found (a .pcm .now) (a .n) (a .t) (a .k) (bedTerms (bed (a .code) (a .gain))) (a .rows .now) (sym (c .before .before .find-matching-input-bed-channel .ensures) ∙ c .enum-told .given .1) refl
 
--- src/sources.rt:65:15
 read-channel-requires : tie.Need-read-channel-requires
-read-channel-requires c κs = 
+read-channel-requires c κs =
     let s = c .before .before .before .before .before .before .before in
     let a = s .args in
     let i = found-inside (a .code) (a .codes .now) (sym (c .before .before .before .find-matching-input-bed-channel .ensures) ∙ c .before .found .given .1) in
     (reached (a .pcm .now) _ (length (a .codes .now)) (a .n) (a .t) (a .k) (s .pre .0) i, s .pre .0 .short)
 
--- src/sources.rt:66:22
 array-share-prefix-row : tie.Need-array-share-prefix-row
 array-share-prefix-row c = search needs
 
--- src/sources.rt:66:22
 slice-aggregate-mix-routed : tie.Need-slice-aggregate-mix-routed
 slice-aggregate-mix-routed c = sym (row-length (c .before .before .before .before .before .before .before .before .before .before .args .pcm .now) (c .before .before .before .before .before .before .before .before .before .before .args .n) (c .before .before .before .before .before .before .before .before .before .before .args .t) (c .before .before .before .before .before .before .before .before .before .before .args .k) _ (c .before .before .read-channel .ensures))
 
--- src/sources.rt:66:5
 mix-routed-requires : tie.Need-mix-routed-requires
 mix-routed-requires c κs = record { short = omega (arith, row-length (c .before .before .before .before .before .before .before .before .before .before .args .pcm .now) (c .before .before .before .before .before .before .before .before .before .before .args .n) (c .before .before .before .before .before .before .before .before .before .before .args .t) (c .before .before .before .before .before .before .before .before .before .before .args .k) _ (c .before .before .read-channel .ensures)); whole = c .before .before .before .before .before .before .before .before .before .before .pre .1 }
 
--- src/sources.rt:57:1
 same-length : tie.Need-same-length
 same-length c = search needs
 
--- src/sources.rt:57:1
 returns-2 : tie.Need-returns-2
-returns-2 c = 
+returns-2 c =
     let a = c .before .before .before .before .before .before .before .before .before .before .before .before .before .args in
     let ts = bedTerms (bed (a .code) (a .gain)) in
     by-found (a .pcm .now) (a .n) (a .t) (a .k) ts (a .rows .now) (sym (c .before .before .before .before .before .before .before .before .before .find-matching-input-bed-channel .ensures) ∙ c .before .before .before .before .before .before .before .found .given .1)

@@ -1,4 +1,6 @@
-use mathlib.Core.Path.{_≡_, refl, sym, ap, _∙_}
+-- `mix_routed`: by the route.
+use borrow.Author.Needs.{needs}
+use mathlib.Core.Path.{refl, sym, ap, _∙_}
 use lib.Ieee.{Float, ofBits}
 use Rattle.vectors.specs.declared.Vec3.{Vec3}
 use Rattle.beds.proofs.Channels.{direct-channel}
@@ -8,102 +10,77 @@ use Rattle.rules.specs.Parts.{0·0}
 use Rattle.rules.specs.Mix.{routeTerms}
 use Rattle.render.specs.Rows.{mixedTerm, mixedTerms}
 use Rattle.render.proofs.Routes.{by-route}
-use borrow.Author.Needs.{needs}
 use Rattle.render.proofs.sources.mix_routed.Statement.{statement}
 use Rattle.render.proofs.sources.mix_routed.Tie as tie
-use Rattle.render.proofs.sources.mix_routed.Reads as reads
-use Rattle.render.proofs.sources.mix_routed.Lts as lts
-use Rattle.beds.proofs.bass_gain.Reads as bass-gain-reads
-use Rattle.beds.proofs.bed_channel_position.Reads as bed-channel-position-reads
-use Rattle.beds.proofs.route_of.Reads as route-of-reads
-use Rattle.render.proofs.terms.mix_object.Reads as mix-object-reads
-use Rattle.render.proofs.terms.mix_term.Reads as mix-term-reads
 
--- src/sources.rt:26:9
 route-of-requires : tie.Need-route-of-requires
 route-of-requires c κs = search needs
 
--- src/sources.rt:29:36
 enum-told : tie.Need-enum-told
 enum-told c = search needs
 
--- src/sources.rt:29:54
 bass-gain-requires : tie.Need-bass-gain-requires
 bass-gain-requires c κs = search needs
 
--- src/sources.rt:29:13
 mix-term-requires : tie.Need-mix-term-requires
 mix-term-requires c κs = search needs
 
--- src/sources.rt:30:13
 same-length : tie.Need-same-length
 same-length c = search needs
 
--- src/sources.rt:30:13
 returns : tie.Need-returns
 unfolding routeTerms
-returns c = 
+returns c =
     let a = c .before .before .before .before .before .before .before .before .before .before .args in
     let xs = a .samples .now in
     let os = a .rows .now in
     by-route xs os (a .code) (a .gain) (sym (c .before .before .before .before .before .before .before .route-of .ensures) ∙ c .before .before .before .before .before .enum-told .given .1)
     (c .before .before .mix-term .ensures ∙ ap (λ (g : Float). mixedTerm xs (term 3 g) os) (c .before .before .before .bass-gain .ensures))
 
--- src/sources.rt:33:38
 enum-told-2 : tie.Need-enum-told-2
 enum-told-2 c = search needs
 
--- src/sources.rt:33:53
 bed-channel-position-requires : tie.Need-bed-channel-position-requires
 bed-channel-position-requires c κs = search needs
 
--- src/sources.rt:33:13
 mix-object-requires : tie.Need-mix-object-requires
 mix-object-requires c κs = search needs
 
--- src/sources.rt:34:13
 same-length-2 : tie.Need-same-length-2
 same-length-2 c = search needs
 
--- src/sources.rt:34:13
 returns-2 : tie.Need-returns-2
 unfolding routeTerms ofBits
-returns-2 c = 
+returns-2 c =
     let a = c .before .before .before .before .before .before .before .before .before .before .args in
     let xs = a .samples .now in
     let os = a .rows .now in
     by-route xs os (a .code) (a .gain) (sym (c .before .before .before .before .before .before .before .route-of .ensures) ∙ c .before .before .before .before .before .enum-told2 .given .1)
     (c .before .before .mix-object .ensures ∙ ap (λ (p : Vec3). mixedTerms xs (terms fullRange (panned hall714 fullRange 12·0 p (a .gain) 0·0)) os) (c .before .before .before .bed-channel-position .ensures))
 
--- src/sources.rt:36:23
 enum-known-route : tie.Need-enum-known-route
 enum-known-route c = search needs
 
--- src/sources.rt:37:13
 mix-term-requires-2 : tie.Need-mix-term-requires-2
 mix-term-requires-2 c κs = (search needs, direct-channel (c .before .before .before .before .before .before .before .args .code) (sym (c .before .before .before .before .route-of .ensures) ∙ c .before .before .route .given .1) .0)
 
--- src/sources.rt:38:13
 same-length-3 : tie.Need-same-length-3
 same-length-3 c = search needs
 
--- src/sources.rt:38:13
 returns-3 : tie.Need-returns-3
 unfolding routeTerms
-returns-3 c = 
+returns-3 c =
     let a = c .before .before .before .before .before .before .before .before .before .before .args in
     let xs = a .samples .now in
     let os = a .rows .now in
     by-route xs os (a .code) (a .gain) (sym (c .before .before .before .before .before .before .before .route-of .ensures) ∙ c .before .before .before .before .before .route .given .1) (c .before .before .mix-term2 .ensures)
 
--- src/sources.rt:41:13
 enum-told-3 : tie.Need-enum-told-3
 enum-told-3 c = search needs
 
--- src/sources.rt:41:13
 returns-4 : tie.Need-returns-4
 unfolding routeTerms
-returns-4 c = 
+returns-4 c =
     let a = c .before .before .before .before .before .args in
     let xs = a .samples .now in
     let os = a .rows .now in

@@ -1,11 +1,9 @@
-use lib.Ieee.{ofBits}
+-- `silence`: by computation.
 use mathlib.Core.Path.{refl}
+use lib.Ieee.{ofBits}
 use Rattle.render.proofs.sources.silence.Statement.{statement}
 use Rattle.render.proofs.sources.silence.Tie as tie
-use Rattle.render.proofs.sources.silence.Reads as reads
-use Rattle.render.proofs.sources.silence.Lts as lts
 
--- src/sources.rt:15:1
 returns : tie.Need-returns
 unfolding ofBits
 returns c = refl

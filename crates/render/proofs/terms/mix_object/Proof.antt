@@ -1,43 +1,34 @@
-use Rattle.panning.specs.declared.Panned.{Panned}
-use mathlib.Core.Path.{_≡_, refl, sym, ap, subst⁻¹, _∙_}
+-- `mix_object`: the terms of what `pan` answers.
+use borrow.Author.Needs.{needs}
+use mathlib.Core.Path.{ap, subst⁻¹, _∙_}
 use lib.Dec.{T}
 use lib.Ieee.{binary32, fits}
-use Rattle.panning.specs.Hall.{hall714, fullRange, 12·0}
-use Rattle.panning.specs.Terms.{terms, paired, spread}
-use Rattle.render.specs.Rows.{Inside, upFrom, mixedTerm, mixedTerms}
-use Rattle.render.proofs.Mixed.{spread-none, mixed-panned}
+use Rattle.panning.specs.declared.Panned.{Panned}
+use Rattle.panning.specs.Hall.{fullRange}
+use Rattle.panning.specs.Terms.{terms, paired}
+use Rattle.render.specs.Rows.{Inside, mixedTerms}
+use Rattle.render.proofs.Mixed.{mixed-panned}
 use Rattle.render.proofs.Corners.{panned-inside}
-use borrow.Author.Needs.{needs}
 use Rattle.render.proofs.terms.mix_object.Statement.{statement}
 use Rattle.render.proofs.terms.mix_object.Tie as tie
-use Rattle.render.proofs.terms.mix_object.Reads as reads
-use Rattle.render.proofs.terms.mix_object.Lts as lts
-use Rattle.panning.proofs.pan.Reads as pan-reads
-use Rattle.render.proofs.terms.mix_corners.Reads as mix-corners-reads
-use Rattle.render.proofs.terms.mix_spread.Reads as mix-spread-reads
 
--- src/terms.rt:58:9
 pan-requires : tie.Need-pan-requires
 pan-requires c κs = search needs
 
--- src/terms.rt:61:5
 mix-spread-requires : tie.Need-mix-spread-requires
 mix-spread-requires c κs = search needs
 
--- src/terms.rt:62:5
 mix-corners-requires : tie.Need-mix-corners-requires
-mix-corners-requires c κs = 
+mix-corners-requires c κs =
     let s = c .before .before .before .before .before .before .before .before .before .before in
     let w : T (fits binary32 (s .args .place .x)) = search (needs, s .good .1 .1 .0) in
     (search needs, subst⁻¹ (λ (p : Panned). Inside (p .corners)) (c .before .before .before .before .before .before .before .pan .ensures) (panned-inside (s .args .place) w (s .args .gain) (s .args .size)))
 
--- src/terms.rt:54:1
 same-length : tie.Need-same-length
 same-length c = search needs
 
--- src/terms.rt:54:1
 returns : tie.Need-returns
-returns c = 
+returns c =
     let a = c .before .before .before .before .before .before .before .before .before .before .before .before .before .args in
     let p = c .before .before .before .before .before .before .before .before .before .before .pan .result in
     let xs = a .samples .now in

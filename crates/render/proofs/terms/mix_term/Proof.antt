@@ -1,24 +1,18 @@
-use Rattle.render.specs.Rows.{mixedTerm}
+-- `mix_term`: the part that was lent is the term's row.
 use borrow.Author.Needs.{needs}
+use Rattle.render.specs.Rows.{mixedTerm}
 use Rattle.render.proofs.terms.mix_term.Statement.{statement}
 use Rattle.render.proofs.terms.mix_term.Tie as tie
-use Rattle.render.proofs.terms.mix_term.Reads as reads
-use Rattle.render.proofs.terms.mix_term.Lts as lts
-use Rattle.mixing.proofs.mix_segment.Reads as mix-segment-reads
 
--- src/terms.rt:14:40
 mul-mix-segment : tie.Need-mul-mix-segment
 mul-mix-segment c = search needs
 
--- src/terms.rt:14:5
 mix-segment-requires : tie.Need-mix-segment-requires
 mix-segment-requires c κs = search needs
 
--- src/terms.rt:10:1
 same-length : tie.Need-same-length
 same-length c = search needs
 
--- src/terms.rt:10:1
 returns : tie.Need-returns
 unfolding mixedTerm
 returns c = c .before .before .mix-segment .ensures
