@@ -6,5 +6,7 @@ mod probe_mixing;
 mod probe_panning;
 mod probe_angles;
 mod probe_roots;
+mod probe_ieee;
+mod probe_limiter;
 mod probe_vectors;
 mod probe_words;

@@ -7,5 +7,7 @@ pub mod mixing;
 pub mod panning;
 pub mod angles;
 pub mod roots;
+pub mod ieee;
+pub mod limiter;
 pub mod vectors;
 pub mod words;

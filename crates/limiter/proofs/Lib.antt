@@ -1,0 +1,9 @@
+pub mod Levels
+pub mod Peaks
+pub mod Laws
+pub mod Rows
+pub mod Lowered
+pub mod Growth
+pub mod Theorem
+pub mod Cases
+pub mod Sums

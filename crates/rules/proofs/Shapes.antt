@@ -1,0 +1,123 @@
+-- Refusal 11: at each sample of an accepted push the objects are as many as the push brings, or there are none yet. Assumes nothing beyond `Facts`.
+use mathlib.Core.Path.{_≡_, refl, sym, ap, _∙_, subst}
+use mathlib.Core.Logic.{_⊎_, inl, inr}
+use mathlib.Core.Bool.{Bool, true, false, cond, not, _&&_, _||_}
+use mathlib.Core.List.{List, [], _∷_, map}
+use Prim.Native.Nat.{ℕ, zero, suc, _+_, _≤_, _<_}
+use native.Mathlib.Nat.{not-suc-le-zero}
+use native.Mathlib.Omega.{arith}
+use borrow.Author.Tests.{eqb-true}
+use lib.Dec.{T, eqb}
+use lib.ListN.{length}
+use Rattle.rules.specs.Leaves.{Leaves, Source, Shape, started}
+use Rattle.rules.specs.Mix.{Moment}
+use Rattle.rules.specs.Samples.{Frame, State, applied, updated, slotted, moment, sampled, framed, opened, pushed}
+use Rattle.rules.specs.Refusals.{Args, Found, clear, stop, _then_, unless, Sent, objectsMatch, countsAt, shapeAt, mixes, walk, later, none}
+use Rattle.rules.specs.Calls.{frameOf}
+use Rattle.rules.specs.Block.{Layout}
+use Rattle.rules.specs.Claim.{momentAt}
+use Rattle.rules.proofs.Facts.{Facts}
+use Rattle.rules.proofs.Judged.{then-clear, unless-clear, sentOf, Passed}
+use Rattle.rules.proofs.Moments.{momentOf, each-moment}
+
+module _ (all : List Sent) (objects : ℕ) (codes : List ℕ) where
+  -- as many objects as the push brings, once an update was applied
+  abbrev pub Matches : Shape → Type 0
+  Matches s = s .started ≡ true → s .objects ≡ objects
+
+  match-clear : (s : Shape) → objectsMatch all objects codes s ≡ clear → s .objects ≡ objects
+  match-clear s e = eqb-true (s .objects) objects (unless-clear (eqb (s .objects) objects) 11 (s .objects) objects e)
+
+  -- updates that passed 11 leave a shape that matches
+  matches-on : (t : ℕ) (vs : List Sent) (s : Shape) → countsAt all objects codes t vs ≡ clear → Matches s → Matches (shapeAt all objects codes t vs s)
+  matches-on t [] s e m = m
+  matches-on t (u ∷ vs) s e m =
+      let p = then-clear (cond (eqb (u .offset) t) (objectsMatch all objects codes (u .shape)) clear) (countsAt all objects codes t vs) e in
+      matches-on t vs (cond (eqb (u .offset) t) (u .shape) s) (p .1) (go (eqb (u .offset) t) (p .0))
+    where
+      go : (b : Bool) → cond b (objectsMatch all objects codes (u .shape)) clear ≡ clear → Matches (cond b (u .shape) s)
+      go true e st = match-clear (u .shape) e
+      go false e st = m st
+
+  -- 11 for the updates of every sample
+  walked : (n t k : ℕ) (s : Shape) → walk all objects codes n t s ≡ clear → k < n → countsAt all objects codes (t + k) all ≡ clear
+  walked zero t k s e h = absurd (not-suc-le-zero h)
+  walked (suc n) t zero s e h = ap (λ (u : ℕ). countsAt all objects codes u all) (let q : t + 0 ≡ t = omega arith in q) ∙ then-clear (countsAt all objects codes t all) (mixes all objects codes (shapeAt all objects codes t all s) then walk all objects codes n (suc t) (shapeAt all objects codes t all s)) e .0
+  walked (suc n) t (suc k) s e h =
+      let p = then-clear (countsAt all objects codes t all) (mixes all objects codes (shapeAt all objects codes t all s) then walk all objects codes n (suc t) (shapeAt all objects codes t all s)) e .1 in
+      ap (λ (u : ℕ). countsAt all objects codes u all) (let q : t + suc k ≡ suc t + k = omega arith in q)
+      ∙ walked n (suc t) k (shapeAt all objects codes t all s) (then-clear (mixes all objects codes (shapeAt all objects codes t all s)) (walk all objects codes n (suc t) (shapeAt all objects codes t all s)) p .1) (omega arith)
+
+  record Judged (n : ℕ) (s : Shape) : Type 0 where
+    first : Matches (shapeAt all objects codes 0 all s)
+    then-all : (k : ℕ) → k < n → countsAt all objects codes k all ≡ clear
+
+  judged : (n rate old : ℕ) (s : Shape) → later all objects codes n rate old s ≡ clear → Judged n s
+  judged n rate old s e =
+      let first = shapeAt all objects codes 0 all s in
+      let p1 = then-clear (unless (eqb old 0 || eqb old rate) 9 old rate) _ e .1 in
+      let p2 = then-clear (unless (s .started || not (none all objects codes all)) 10 0 0) _ p1 .1 in
+      let p3 = then-clear (countsAt all objects codes 0 all) _ p2 .1 in
+      let p4 = then-clear (unless (not (eqb n 0)) 12 0 0) _ p3 .1 in
+      let p5 = then-clear (cond (first .started) (objectsMatch all objects codes first) clear) (walk all objects codes n 0 s) p4 in
+      record { first = go (first .started) refl (p5 .0); then-all = λ k h. ap (λ (u : ℕ). countsAt all objects codes u all) (let q : k ≡ 0 + k = omega arith in q) ∙ walked n 0 k s (p5 .1) h }
+    where
+      go : (b : Bool) → shapeAt all objects codes 0 all s .started ≡ b → cond b (objectsMatch all objects codes (shapeAt all objects codes 0 all s)) clear ≡ clear → Matches (shapeAt all objects codes 0 all s)
+      go true q e st = match-clear (shapeAt all objects codes 0 all s) e
+      go false q e st = absurd (subst T (sym st ∙ q) tt)
+
+module _ (L : Leaves) (B : Layout L) (F : Facts L B) where
+  -- the shape that sample t is heard with
+  updated-shape : (all : List Sent) (objects : ℕ) (codes : List ℕ) (t : ℕ) (us : List (L .Update)) (r : State L) → L .shape (updated L t us r .meta) ≡ shapeAt all objects codes t (sentOf L us) (L .shape (r .meta))
+  updated-shape all objects codes t [] r = refl
+  updated-shape all objects codes t (u ∷ us) r =
+      updated-shape all objects codes t us (cond (eqb (L .offset u) t) (applied L t u r) r) ∙ ap (shapeAt all objects codes t (sentOf L us)) (go (eqb (L .offset u) t))
+    where
+      go : (b : Bool) → L .shape (cond b (applied L t u r) r .meta) ≡ cond b (L .sent u) (L .shape (r .meta))
+      go true = F .shape-apply (r .position) u (r .meta)
+      go false = refl
+
+  slotted-shape : (r : State L) → L .shape (slotted L r .meta) ≡ L .shape (r .meta)
+  slotted-shape r = go (started L (r .meta) && eqb (r .phase) 0)
+    where
+      go : (b : Bool) → L .shape (cond b (L .slot (r .start) (r .meta)) (r .meta)) ≡ L .shape (r .meta)
+      go true = F .shape-slot (r .start) (r .meta)
+      go false = refl
+
+  module _ (r : State L) (a : Args) (p : Passed L r a) where
+    abbrev f : Frame (L .Update)
+    f = frameOf L a
+
+    abbrev sent : List Sent
+    sent = sentOf L (f .updates)
+
+    abbrev Inv : ℕ → State L → Type 0
+    Inv t s = t < a .samples → Matches sent (a .objects) (a .codes) (shapeAt sent (a .objects) (a .codes) t sent (L .shape (s .meta)))
+
+    abbrev met : ℕ → State L → State L
+    met t s = slotted L (updated L t (f .updates) s)
+
+    met-shape : (t : ℕ) (s : State L) → L .shape (met t s .meta) ≡ shapeAt sent (a .objects) (a .codes) t sent (L .shape (s .meta))
+    met-shape t s = slotted-shape (updated L t (f .updates) s) ∙ updated-shape sent (a .objects) (a .codes) t (f .updates) s
+
+    j : Judged sent (a .objects) (a .codes) (a .samples) (L .shape (r .meta))
+    j = judged sent (a .objects) (a .codes) (a .samples) (a .rate) (r .rate) (L .shape (r .meta)) (p .later)
+
+    keep : (t : ℕ) (s : State L) → t < a .samples → Inv t s → Inv (suc t) (sampled L f t s .next)
+    keep t s h i l =
+        matches-on sent (a .objects) (a .codes) (suc t) sent (L .shape (met t s .meta)) (j .then-all (suc t) l)
+        (subst (Matches sent (a .objects) (a .codes)) (sym (met-shape t s)) (i h))
+
+    abbrev Q : Moment → Type 0
+    Q m = (m .objects ≡ []) ⊎ (length (m .objects) ≡ a .objects)
+
+    here : (t : ℕ) (s : State L) → t < a .samples → Inv t s → Q (momentOf L f t s)
+    here t s h i = go (started L (met t s .meta)) refl
+      where
+        go : (b : Bool) → started L (met t s .meta) ≡ b → (cond b (L .objects (met t s .meta)) [] ≡ []) ⊎ (length (cond b (L .objects (met t s .meta)) []) ≡ a .objects)
+        go true e = inr (F .shape-objects (met t s .meta) e ∙ subst (Matches sent (a .objects) (a .codes)) (sym (met-shape t s)) (i h) e)
+        go false e = inl refl
+
+    pub objects-match : (t : ℕ) → t < a .samples → Q (momentAt L r a t)
+    unfolding pushed
+    objects-match t h = each-moment L f Inv (λ u m. Q m) keep here (a .samples) 0 t (opened L (a .rate) r) (omega arith) h (λ l. j .first)
