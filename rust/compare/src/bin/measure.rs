@@ -2,7 +2,6 @@
 //! for each function; claims nothing.
 
 use compare::{Generator, probe};
-use oracle::leaf;
 use std::hint::black_box;
 use std::time::{Duration, Instant};
 
@@ -121,36 +120,4 @@ fn main() {
         || floats.iter().for_each(|&x| _ = black_box(to_bits(x))),
     );
     mixing();
-    limiter("limiter, quiet", &mut inputs, 0.9);
-    limiter("limiter, loud", &mut inputs, 3.0);
-}
-
-/// 10,000 blocks of 12 channels by 64 samples, each copied first, since scaling is in place.
-fn limiter(name: &str, inputs: &mut Generator, size: f32) {
-    const BLOCKS: usize = 10_000;
-    let block = [(); 768].map(|()| inputs.between(-size, size));
-    let channels: Vec<Vec<f32>> = block.chunks(64).map(<[f32]>::to_vec).collect();
-    compare_times(
-        &format!("{name}, {BLOCKS} blocks"),
-        || {
-            let (mut gain, mut places) = (1.0, block);
-            for _ in 0..BLOCKS {
-                places.copy_from_slice(&block);
-                gain = probe::limiter::apply_output_limiter_block(gain, &mut places, 64, 48_000);
-                black_box(&places);
-            }
-            black_box(gain);
-        },
-        || {
-            let (mut gain, mut places) = (1.0, channels.clone());
-            for _ in 0..BLOCKS {
-                for (to, from) in places.iter_mut().zip(&channels) {
-                    to.copy_from_slice(from);
-                }
-                leaf::apply_output_limiter_block(&mut places, &mut gain, 48_000, 0, 64);
-                black_box(&places);
-            }
-            black_box(gain);
-        },
-    );
 }

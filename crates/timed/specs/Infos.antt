@@ -1,0 +1,65 @@
+-- The object infos as bytes: 512 records of 44 bytes, info k at 44 * k. Words, in order: head (flags + 256 anchor + 65,536 depth code), gain, size, distance, screen factor,
+-- position x, y, z, last absolute position x, y, z. Assumes nothing.
+use Prim.Native.Nat.{ℕ, zero, suc, _+_, _*_, _/_, _%_}
+use mathlib.Core.Bool.{Bool, cond}
+use mathlib.Core.List.{List}
+use lib.Dec.{eqb}
+use Rattle.words.specs.Words.{word, floatAt, withFloat}
+use Rattle.roots.specs.declared.Depth.{Depth}
+use Rattle.roots.specs.declared.Depth.the-variants.{Fourth, Half, One, Two}
+use Rattle.vectors.specs.declared.Vec3.{Vec3}
+use Rattle.vectors.specs.declared.Anchor.{Anchor}
+use Rattle.vectors.specs.declared.Anchor.the-variants.{Room, Screen, Speaker}
+use Rattle.vectors.specs.declared.Maybe.{Maybe}
+use Rattle.vectors.specs.declared.Maybe.the-variants.{Absent, Value}
+use Rattle.vectors.specs.declared.BlockPosition.{BlockPosition}
+
+-- the info of object o in block b of element e
+abbrev pub infoOf : ℕ → ℕ → ℕ → ℕ
+infoOf e o b = e * 256 + o * 8 + b
+
+-- "1 anchor (0 room, 1 screen, 2 speaker)"
+abbrev pub anchorOf : ℕ → Anchor
+anchorOf n = cond (eqb n 0) Room (cond (eqb n 1) Screen Speaker)
+
+-- "y to the power 0.25, 0.5, 1 or 2": codes 0 to 3
+abbrev pub depthOf : ℕ → Depth
+depthOf n = cond (eqb n 0) Fourth (cond (eqb n 1) Half (cond (eqb n 2) One Two))
+
+-- "2 flags (1 position valid, 2 differential, 4 gain, 8 position, 16 distance, 32 size present)"
+abbrev pub flagOf : ℕ → ℕ → Bool
+flagOf head bit = eqb (head / bit % 2) 1
+
+abbrev pub headAt : List ℕ → ℕ → ℕ
+headAt is k = word is (44 * k)
+
+-- the value at a place of info k, present with `bit`
+unfoldable pub maybeAt : List ℕ → ℕ → ℕ → ℕ → Maybe
+maybeAt is k bit at = cond (flagOf (headAt is k) bit) (Value (floatAt is (44 * k + at))) Absent
+
+unfoldable pub vecAt : List ℕ → ℕ → Vec3
+vecAt is at = record { x = floatAt is at; y = floatAt is (at + 4); z = floatAt is (at + 8) }
+
+unfoldable pub withVec : List ℕ → ℕ → Vec3 → List ℕ
+withVec is at v = withFloat (withFloat (withFloat is at (v .x)) (at + 4) (v .y)) (at + 8) (v .z)
+
+abbrev pub gainAt : List ℕ → ℕ → Maybe
+gainAt is k = maybeAt is k 4 4
+
+abbrev pub sizeAt : List ℕ → ℕ → Maybe
+sizeAt is k = maybeAt is k 32 8
+
+-- what info k says of its object's position
+unfoldable pub blockPosition : List ℕ → ℕ → BlockPosition
+unfolding maybeAt vecAt
+blockPosition is k =
+    record {
+      valid = flagOf (headAt is k) 1;
+      differential = flagOf (headAt is k) 2;
+      anchor = anchorOf (headAt is k / 256 % 256);
+      position = vecAt is (44 * k + 20);
+      last = vecAt is (44 * k + 32);
+      distance = maybeAt is k 16 12;
+      screen = floatAt is (44 * k + 16);
+      depth = depthOf (headAt is k / 65536);
+    }

@@ -1,0 +1,5 @@
+pub mod Turns
+pub mod Infos
+pub mod Objects
+pub mod Slot
+pub mod State

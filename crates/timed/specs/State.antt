@@ -1,0 +1,85 @@
+-- A slot of the whole state: `update_timeslot`. Assumes nothing.
+use Prim.Native.Nat.{ℕ, zero, suc, _+_, _-_, _*_, _≤_, _<_}
+use mathlib.Core.Path.{_≡_}
+use mathlib.Core.Bool.{Bool, true, false, cond}
+use mathlib.Core.List.{List, []}
+use lib.Dec.{eqb}
+use lib.ListN.{getD, set}
+use Rattle.timed.specs.Slot.{Sourced, InRange, active, begins, updatedSources}
+use Rattle.timed.specs.declared.state.ElementRendererState.{ElementRendererState}
+use Rattle.timed.specs.declared.state.MetadataRendererState.{MetadataRendererState}
+use Rattle.timed.specs.declared.slot.Timing.{Timing}
+use Rattle.timed.specs.declared.slot.Reach.{Reach}
+
+-- what stands past a table's end
+abbrev pub noElement : ElementRendererState
+noElement = record { blocks = 0; flags = 0; remaining = 0; schedule = []; tracks = [] }
+
+abbrev pub elementOf : MetadataRendererState → ℕ → ElementRendererState
+elementOf s i = getD (s .states) i noElement
+
+-- what a state holds at a stream position, as document 01's ranges have it
+pub record Within (position : ℕ) (s : MetadataRendererState) : Type 0 where
+  pub payload : s .payload .0 ≤ 1099511627776
+  pub objects : s .objects ≤ 32
+  pub isf : s .isf ≤ 255
+  pub dynamic : s .objects - s .isf ≤ 16
+  pub beds : s .beds ≤ 18
+  pub channels : s .beds ≤ s .objects
+  pub elements : s .elements ≤ 2
+  pub states : (i : ℕ) → i < 2 → InRange position (elementOf s i)
+
+-- the state, and the infos
+pub record Timed : Type 0 where
+  pub state : MetadataRendererState
+  pub infos : List ℕ
+
+pub record IsTimed (t : Timed) (s : MetadataRendererState) (is : List ℕ) : Type 0 where
+  pub state : s ≡ t .state
+  pub infos : is ≡ t .infos
+
+-- Document 01, item 5: "take the last element whose first block offset is from 0 up to the timecode, ending the search there, else element 0"; i counts those not yet seen.
+unfoldable pub taken : Timing → List ElementRendererState → ℕ → ℕ
+unfolding begins
+taken w es zero = 0
+taken w es (suc i) = cond (begins w (getD es i noElement)) i (taken w es i)
+
+-- where element i finds its infos
+abbrev pub reachOf : MetadataRendererState → ℕ → Reach
+reachOf s i = record { beds = i * 256; channels = s .beds; first = i * 256 + 8 * s .isf; count = s .objects - s .isf }
+
+-- what a slot that moved beds and objects leaves
+abbrev pub slotLeft : MetadataRendererState → ℕ → Sourced → Timed
+slotLeft s i a =
+    record {
+      state = record {
+        initialized = s .initialized;
+        payload = s .payload;
+        objects = s .objects;
+        isf = s .isf;
+        beds = s .beds;
+        elements = s .elements;
+        codes = s .codes;
+        gains = a .updated .gains;
+        states = set (s .states) i (a .updated .element);
+        sources = a .updated .sources;
+      };
+      infos = a .infos;
+    }
+
+-- a slot of element i
+unfoldable pub slotOf : Timing → ℕ → Timed → Timed
+unfolding updatedSources
+slotOf w i t = slotLeft (t .state) i (updatedSources w (reachOf (t .state) i) (elementOf (t .state) i) (t .state .gains) (t .state .sources) (t .infos))
+
+-- "The timecode is the slot's start less the last applied update's stream position."
+abbrev pub timingOf : ℕ → MetadataRendererState → Timing
+timingOf start s = record { start = start; payload = s .payload .0 }
+
+-- "At the start of each 64-sample slot, take the last element .. An element with no blocks, or a first offset below 0, does nothing."
+unfoldable pub slotAt : ℕ → Timed → Timed
+unfolding taken slotOf active
+slotAt start t =
+    let w = timingOf start (t .state) in
+    let i = taken w (t .state .states) (t .state .elements) in
+    cond (eqb (t .state .elements) 0) t (cond (active (elementOf (t .state) i)) (slotOf w i t) t)

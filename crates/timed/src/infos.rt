@@ -1,0 +1,94 @@
+// The object infos: 512 records of 44 bytes, info `element x 256 + object x 8 + block`. What an object in a block says, and what it keeps from update to update.
+ghost use mathlib.Core.Path.{_≡_};
+ghost use Prim.Native.Nat.{_+_, _*_, _<_, _≤_};
+ghost use lib.ListN.{length};
+ghost use Rattle.timed.specs.Infos.{anchorOf, depthOf, flagOf, maybeAt, vecAt, withVec, blockPosition};
+use roots::Depth;
+use vectors::Anchor;
+use vectors::BlockPosition;
+use vectors::Maybe;
+use vectors::Vec3;
+
+fn anchor_of(n: u32) -> Anchor
+    ensures { λ r. ⌜ r ≡ anchorOf n ⌝ }
+{
+    match n {
+        0 => Anchor::Room,
+        1 => Anchor::Screen,
+        _ => Anchor::Speaker,
+    }
+}
+
+fn depth_of(n: u32) -> Depth
+    ensures { λ r. ⌜ r ≡ depthOf n ⌝ }
+{
+    match n {
+        0 => Depth::Fourth,
+        1 => Depth::Half,
+        2 => Depth::One,
+        _ => Depth::Two,
+    }
+}
+
+// Whether a head has the flag that stands for `bit`.
+fn has(head: u32, bit: u32) -> bool
+    requires { ⌜ 0 < bit ⌝ }
+    ensures { λ r. ⌜ r ≡ flagOf head bit ⌝ }
+{
+    head / bit % 2 == 1
+}
+
+// The value at a place of an info that is present with `bit`.
+pub fn maybe_at(infos: &[u8], k: usize, bit: u32, at: usize) -> Maybe
+    requires { ⌜ (44 * k + 44 ≤ length (now infos)) × (at ≤ 40) × (k < 512) × (0 < bit) ⌝ }
+    ensures { λ r. ⌜ r ≡ maybeAt (now (infos .entry)) k bit at ⌝ }
+{
+    let head = words::u32_at(infos, 44 * k);
+    if has(head, bit) {
+        return Maybe::Value(words::f32_at(infos, 44 * k + at));
+    }
+    Maybe::Absent
+}
+
+fn vec_at(infos: &[u8], at: usize) -> Vec3
+    requires { ⌜ at + 12 ≤ length (now infos) ⌝ }
+    ensures { λ r. ⌜ r ≡ vecAt (now (infos .entry)) at ⌝ }
+{
+    Vec3 {
+        x: words::f32_at(infos, at),
+        y: words::f32_at(infos, at + 4),
+        z: words::f32_at(infos, at + 8),
+    }
+}
+
+// Stores a position at a place.
+pub fn put_vec(infos: &mut [u8], at: usize, v: Vec3)
+    requires { ⌜ at + 12 ≤ length (now infos) ⌝ }
+    ensures { λ _. ⌜ now (infos .exit) ≡ withVec (now (infos .entry)) at v ⌝ }
+{
+    words::put_f32(infos, at, v.x);
+    words::put_f32(infos, at + 4, v.y);
+    words::put_f32(infos, at + 8, v.z);
+}
+
+// What info k says of its object's position.
+pub fn block_position(infos: &[u8], k: usize) -> BlockPosition
+    requires { ⌜ (44 * k + 44 ≤ length (now infos)) × (k < 512) ⌝ }
+    ensures { λ r. ⌜ r ≡ blockPosition (now (infos .entry)) k ⌝ }
+{
+    let head = words::u32_at(infos, 44 * k);
+    let distance = maybe_at(infos, k, 16, 12);
+    let position = vec_at(infos, 44 * k + 20);
+    let last = vec_at(infos, 44 * k + 32);
+    let screen = words::f32_at(infos, 44 * k + 16);
+    BlockPosition {
+        valid: has(head, 1),
+        differential: has(head, 2),
+        anchor: anchor_of(head / 256 % 256),
+        position: position,
+        last: last,
+        distance: distance,
+        screen: screen,
+        depth: depth_of(head / 65536),
+    }
+}

@@ -1,0 +1,156 @@
+// What a block and a ramp do to beds and dynamic objects.
+ghost use mathlib.Core.Path.{_≡_};
+ghost use Prim.Native.Nat.{ℕ, _+_, _*_, _<_, _≤_};
+ghost use lib.ListN.{length};
+ghost use Rattle.timed.specs.Objects.{orElse, moved, IsMoved, movedAll, IsMovedAll, bedGains, ramped, rampedAll};
+use crate::infos;
+use crate::state::DynamicSourceState;
+use crate::state::Track;
+use vectors::Maybe;
+
+// The value of a maybe, or another.
+fn or_else(m: Maybe, other: f32) -> f32
+    ensures { λ r. ⌜ r ≡ orElse m other ⌝ }
+{
+    match m {
+        Maybe::Value(x) => x,
+        Maybe::Absent => other,
+    }
+}
+
+// A dynamic object and its track.
+pub struct Moved {
+    pub source: DynamicSourceState,
+    pub track: Track,
+}
+
+// `update_source_state` of info k; where no ramp remains (`arrived`), the object is put at its target.
+fn update_source_state(
+    infos: &mut [u8],
+    k: usize,
+    source: DynamicSourceState,
+    arrived: bool,
+) -> Moved
+    requires { ⌜ (44 * k + 44 ≤ length (now infos)) × (k < 512) ⌝ }
+    ensures { λ r. ⌜ IsMoved (moved arrived k source (now (infos .entry))) r (now (infos .exit)) ⌝ }
+{
+    let gain = or_else(infos::maybe_at(infos, k, 4, 4), source.gain);
+    let size = or_else(infos::maybe_at(infos, k, 32, 8), source.size);
+    let here = source.place;
+    let block = infos::block_position(infos, k);
+    let to = vectors::update_source_position(block, here);
+    let target = to.target;
+    infos::put_vec(infos, 44 * k + 20, to.position);
+    infos::put_vec(infos, 44 * k + 32, to.last);
+    let track = Track {
+        now: block.valid,
+        future: target,
+    };
+    if block.valid {
+        if arrived {
+            return Moved {
+                source: DynamicSourceState {
+                    gain: gain,
+                    size: size,
+                    place: target,
+                    placed: true,
+                },
+                track: track,
+            };
+        }
+    }
+    Moved {
+        source: DynamicSourceState {
+            gain: gain,
+            size: size,
+            place: here,
+            placed: source.placed,
+        },
+        track: track,
+    }
+}
+
+// The dynamic objects, each with where it is going.
+pub struct Moving {
+    pub sources: [DynamicSourceState; 16],
+    pub tracks: [Track; 16],
+}
+
+impl Moving {
+    // A block applied to `count` objects; the info of object d is `first` + 8 d.
+    pub fn apply_block(self, infos: &mut [u8], first: usize, count: usize, arrived: bool) -> Moving
+        requires { ⌜ (length (now infos) ≡ 22528) × (count ≤ 16) × ((d : ℕ) → d < count → first + 8 * d < 512) ⌝ }
+        ensures { λ r. ⌜ IsMovedAll (movedAll arrived first count self (now (infos .entry))) r (now (infos .exit)) ⌝ }
+    {
+        let mut next = self;
+        let mut d = 0usize;
+        while d < count {
+            let source = next.sources[d];
+            let m = update_source_state(infos, first + 8 * d, source, arrived);
+            let s = m.source;
+            let t = m.track;
+            next.sources[d] = s;
+            next.tracks[d] = t;
+            d += 1;
+        }
+        next
+    }
+
+    // The ramp's share t for `count` objects; `before` has their flags at the element's previous slot.
+    pub fn ramp(self, before: [Track; 16], count: usize, t: f32) -> Moving
+        requires { ⌜ count ≤ 16 ⌝ }
+        ensures { λ r. ⌜ r ≡ rampedAll t before count self ⌝ }
+    {
+        let mut next = self;
+        let mut d = 0usize;
+        while d < count {
+            let source = next.sources[d];
+            let track = next.tracks[d];
+            let last = before[d];
+            next.sources[d] = ramp_one(source, track, last.now, t);
+            d += 1;
+        }
+        next
+    }
+}
+
+// One object of a ramp: `last` is its flag at the element's previous slot.
+fn ramp_one(source: DynamicSourceState, track: Track, last: bool, t: f32) -> DynamicSourceState
+    ensures { λ r. ⌜ r ≡ ramped t last track source ⌝ }
+{
+    let here = source.place;
+    let future = track.future;
+    if track.now {
+        if last {
+            if source.placed {
+                return DynamicSourceState {
+                    gain: source.gain,
+                    size: source.size,
+                    place: vectors::lerp_vec3(here, future, t),
+                    placed: true,
+                };
+            }
+        }
+        return DynamicSourceState {
+            gain: source.gain,
+            size: source.size,
+            place: future,
+            placed: true,
+        };
+    }
+    source
+}
+
+// The beds' gains after a block; the info of bed i is `first` + 8 i.
+pub fn bed_gains(gains: [f32; 18], infos: &[u8], first: usize, count: usize) -> [f32; 18]
+    requires { ⌜ (length (now infos) ≡ 22528) × (count ≤ 18) × ((d : ℕ) → d < count → first + 8 * d < 512) ⌝ }
+    ensures { λ r. ⌜ r ≡ bedGains (now (infos .entry)) first count gains ⌝ }
+{
+    let mut next = gains;
+    let mut i = 0usize;
+    while i < count {
+        next[i] = or_else(infos::maybe_at(infos, first + 8 * i, 4, 4), next[i]);
+        i += 1;
+    }
+    next
+}

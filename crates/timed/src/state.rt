@@ -1,0 +1,59 @@
+// What is kept from slot to slot: `MetadataRendererState` and its parts. Tables have their full length, with counts beside them. The object infos stay in lent bytes.
+ghost use mathlib.Core.Path.{_≡_};
+ghost use Prim.Native.Nat.{_-_};
+use crate::clock::StreamSample;
+use vectors::Vec3;
+
+// A dynamic object as it is panned; `place` is the source's `cubical_position`, `placed` its `position_valid`.
+pub struct DynamicSourceState {
+    pub gain: f32,
+    pub size: f32,
+    pub place: Vec3,
+    pub placed: bool,
+}
+
+// Whether the element moves an object (`update_now`), and where to.
+pub struct Track {
+    pub now: bool,
+    pub future: Vec3,
+}
+
+// A block's offset and ramp, each plus 2^20, and whether it was applied since the last update.
+pub struct BlockState {
+    pub offset: u32,
+    pub ramp: u32,
+    pub used: bool,
+}
+
+// An element: how many blocks it has, how many objects have a flag, and the remaining ramp (`future_distance`) plus 2^47.
+pub struct ElementRendererState {
+    pub blocks: usize,
+    pub flags: usize,
+    pub remaining: u64,
+    pub schedule: [BlockState; 8],
+    pub tracks: [Track; 16],
+}
+
+// The last applied update's stream position and counts (`isf` is its `bed_or_isf_objects`), and what beds, objects and elements are since then.
+pub struct MetadataRendererState {
+    pub initialized: bool,
+    pub payload: StreamSample,
+    pub objects: usize,
+    pub isf: usize,
+    pub beds: usize,
+    pub elements: usize,
+    pub codes: [u8; 18],
+    pub gains: [f32; 18],
+    pub states: [ElementRendererState; 2],
+    pub sources: [DynamicSourceState; 16],
+}
+
+// How many objects are dynamic.
+pub fn dynamic(objects: usize, isf: usize) -> usize
+    ensures { λ r. ⌜ r ≡ objects - isf ⌝ }
+{
+    if isf < objects {
+        return objects - isf;
+    }
+    0
+}

@@ -1,0 +1,91 @@
+// A slot of the whole state: the element that it takes, and what that element moves.
+ghost use mathlib.Core.Path.{_≡_};
+ghost use Prim.Native.Nat.{_+_, _<_, _≤_};
+ghost use lib.ListN.{length};
+ghost use Rattle.timed.specs.Slot.{InTime};
+ghost use Rattle.timed.specs.State.{Within, IsTimed, taken, slotOf, slotAt};
+use crate::clock::StreamSample;
+use crate::slot::Reach;
+use crate::slot::Timing;
+use crate::state;
+use crate::state::MetadataRendererState;
+
+impl MetadataRendererState {
+    // The last element whose first block offset is from 0 up to the timecode, else element 0.
+    fn element_at(self, when: Timing) -> usize
+        requires { ⌜ (self .elements ≤ 2) × InTime when ⌝ }
+        ensures { λ r. ⌜ r ≡ taken when (self .states) (self .elements) ⌝ }
+    {
+        let states = self.states;
+        let mut i = self.elements;
+        let index = loop {
+            if i == 0 {
+                break 0;
+            }
+            i -= 1;
+            let element = states[i];
+            if element.begins(when) {
+                break i;
+            }
+        };
+        index
+    }
+
+    // A slot of element `index`.
+    fn slot_of(self, infos: &mut [u8], index: usize, when: Timing) -> MetadataRendererState
+        requires { ⌜ (length (now infos) ≡ 22528) × (index < 2) × InTime when × Within (when .start) self ⌝ }
+        ensures { λ r. ⌜ IsTimed (slotOf when index (record { state = self; infos = now (infos .entry) })) r (now (infos .exit)) ⌝ }
+    {
+        let reach = Reach {
+            beds: index * 256,
+            channels: self.beds,
+            first: index * 256 + 8 * self.isf,
+            count: state::dynamic(self.objects, self.isf),
+        };
+        let mut states = self.states;
+        let element = states[index];
+        let gains = self.gains;
+        let sources = self.sources;
+        let done = element.update_sources(infos, when, reach, gains, sources);
+        let next = done.element;
+        states[index] = next;
+        let heard = done.gains;
+        let moved = done.sources;
+        let payload = self.payload;
+        let codes = self.codes;
+        MetadataRendererState {
+            initialized: self.initialized,
+            payload: payload,
+            objects: self.objects,
+            isf: self.isf,
+            beds: self.beds,
+            elements: self.elements,
+            codes: codes,
+            gains: heard,
+            states: states,
+            sources: moved,
+        }
+    }
+
+    // The slot that starts at a sample of the stream.
+    pub fn update_timeslot(self, infos: &mut [u8], start: StreamSample) -> MetadataRendererState
+        requires { ⌜ (length (now infos) ≡ 22528) × (start .0 ≤ 1099511627776) × Within (start .0) self ⌝ }
+        ensures { λ r. ⌜ IsTimed (slotAt (start .0) (record { state = self; infos = now (infos .entry) })) r (now (infos .exit)) ⌝ }
+    {
+        if self.elements == 0 {
+            return self;
+        }
+        let payload = self.payload;
+        let when = Timing {
+            start: start.0,
+            payload: payload.0,
+        };
+        let index = self.element_at(when);
+        let states = self.states;
+        let element = states[index];
+        if element.active() {
+            return self.slot_of(infos, index, when);
+        }
+        self
+    }
+}
