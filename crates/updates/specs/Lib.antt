@@ -1,0 +1,4 @@
+pub mod Whole
+pub mod Said
+pub mod Stored
+pub mod Applied

@@ -1,0 +1,165 @@
+// An element of an update: `apply_element`. The element's record is record p of the metadata.
+ghost use mathlib.Core.Path.{_≡_};
+ghost use mathlib.Core.Bool.{not};
+ghost use Prim.Native.Nat.{ℕ, _+_, _-_, _*_, _<_, _≤_};
+ghost use lib.ListN.{length, replicate};
+ghost use Rattle.fields.specs.Block.{blocks};
+ghost use Rattle.records.specs.Laid.{objectAt};
+ghost use Rattle.updates.specs.Whole.{WholeBlocks, WholeElement};
+ghost use Rattle.updates.specs.Said.{elementOf};
+ghost use Rattle.updates.specs.Stored.{objectStored, objectsStored};
+ghost use Rattle.updates.specs.Applied.{newTrack, isKept, scheduled, elementNext, IsElement};
+use crate::info::put_info;
+use fields::block::blocks_at;
+use fields::block::raised_block_at;
+use fields::object::info_at;
+use records::layout::block_place;
+use records::layout::object_place;
+use timed::state::BlockState;
+use timed::state::ElementRendererState;
+use timed::state::Track;
+
+// How many objects an update has, the first `isf` of them beds or ISF, and how many are dynamic.
+pub struct Counts {
+    pub objects: usize,
+    pub isf: usize,
+    pub dynamic: usize,
+}
+
+// Object o in each of n blocks; the infos are those from `first` on.
+fn put_object(
+    infos: &mut [u8],
+    meta: &[u8],
+    p: usize,
+    n: usize,
+    first: usize,
+    o: usize,
+    fresh: bool,
+    bed: bool,
+)
+    requires { ⌜ (length (now infos) ≡ 22528) × (n ≡ blocks (now meta) p) × (n ≤ 8) × (first + 8 ≤ 512) × (o ≤ 32) × (40 * p + 40 ≤ length (now meta)) × ((b : ℕ) → b < n → 40 * objectAt (now meta) p (o * blocks (now meta) p + b) + 40 ≤ length (now meta)) ⌝ }
+    ensures { λ _. ⌜ now (infos .exit) ≡ objectStored fresh bed (elementOf (now (meta .entry)) p) first o (now (infos .entry)) ⌝ }
+{
+    let mut b = 0usize;
+    while b < n {
+        let i = info_at(meta, object_place(meta, p, o, b));
+        put_info(infos, 44 * (first + b), i, fresh, bed);
+        b += 1;
+    }
+}
+
+// Each object in each of n blocks.
+fn put_objects(
+    infos: &mut [u8],
+    meta: &[u8],
+    p: usize,
+    n: usize,
+    first: usize,
+    counts: Counts,
+    fresh: bool,
+)
+    requires { ⌜ (length (now infos) ≡ 22528) × (n ≡ blocks (now meta) p) × (first + 256 ≤ 512) × (counts .objects ≤ 32) × WholeElement (now meta) (counts .objects) p ⌝ }
+    ensures { λ _. ⌜ now (infos .exit) ≡ objectsStored fresh (counts .isf) (elementOf (now (meta .entry)) p) first (counts .objects) (now (infos .entry)) ⌝ }
+{
+    let objects = counts.objects;
+    let isf = counts.isf;
+    let mut o = 0usize;
+    while o < objects {
+        put_object(infos, meta, p, n, first + 8 * o, o, fresh, o < isf);
+        o += 1;
+    }
+}
+
+// Offsets and ramps of n blocks, none of them applied.
+fn schedule_of(schedule: [BlockState; 8], meta: &[u8], p: usize, n: usize) -> [BlockState; 8]
+    requires { ⌜ (n ≡ blocks (now meta) p) × WholeBlocks (now meta) p ⌝ }
+    ensures { λ r. ⌜ r ≡ scheduled (elementOf (now (meta .entry)) p) schedule ⌝ }
+{
+    let mut next = schedule;
+    let mut b = 0usize;
+    while b < n {
+        let block = raised_block_at(meta, block_place(p, b));
+        let given = BlockState {
+            offset: block.offset as u32,
+            ramp: block.ramp as u32,
+            used: false,
+        };
+        next[b] = given;
+        b += 1;
+    }
+    next
+}
+
+fn new_tracks() -> [Track; 16]
+    ensures { λ r. ⌜ r ≡ replicate 16 newTrack ⌝ }
+{
+    let origin = vectors::zero_vec3();
+    let track = Track {
+        now: false,
+        future: origin,
+    };
+    [track; 16]
+}
+
+// Whether an element is kept; `same` is of elements and objects.
+fn is_kept(same: bool, blocks: usize, next: usize) -> bool
+    ensures { λ r. ⌜ r ≡ isKept same blocks next ⌝ }
+{
+    if same {
+        return blocks == next;
+    }
+    false
+}
+
+// The element with the blocks of an update: kept, or new.
+fn next_element(
+    element: ElementRendererState,
+    meta: &[u8],
+    p: usize,
+    n: usize,
+    counts: Counts,
+    kept: bool,
+) -> ElementRendererState
+    requires { ⌜ (n ≡ blocks (now meta) p) × WholeElement (now meta) (counts .objects) p ⌝ }
+    ensures { λ r. ⌜ r ≡ elementNext kept (counts .dynamic) (elementOf (now (meta .entry)) p) element ⌝ }
+{
+    let before = element.schedule;
+    let schedule = schedule_of(before, meta, p, n);
+    if kept {
+        let tracks = element.tracks;
+        return ElementRendererState {
+            blocks: n,
+            flags: element.flags,
+            remaining: element.remaining,
+            schedule: schedule,
+            tracks: tracks,
+        };
+    }
+    let tracks = new_tracks();
+    ElementRendererState {
+        blocks: n,
+        flags: counts.dynamic,
+        remaining: 140737488355328,
+        schedule: schedule,
+        tracks: tracks,
+    }
+}
+
+// An element of an update; its infos are those from `first` on.
+pub fn apply_element(
+    element: ElementRendererState,
+    infos: &mut [u8],
+    meta: &[u8],
+    p: usize,
+    first: usize,
+    counts: Counts,
+    same: bool,
+) -> ElementRendererState
+    requires { ⌜ (length (now infos) ≡ 22528) × (first + 256 ≤ 512) × (counts .objects ≤ 32) × WholeElement (now meta) (counts .objects) p ⌝ }
+    ensures { λ r. ⌜ IsElement same counts (elementOf (now (meta .entry)) p) first element (now (infos .entry)) r (now (infos .exit)) ⌝ }
+{
+    let n = blocks_at(meta, p);
+    let kept = is_kept(same, element.blocks, n);
+    put_objects(infos, meta, p, n, first, counts, !kept);
+    next_element(element, meta, p, n, counts, kept)
+}
