@@ -3,3 +3,4 @@ pub mod Level
 pub mod Range
 pub mod Cases
 pub mod Sums
+pub mod Places

@@ -1,25 +1,20 @@
 -- `limiter::scale_block` meets its contract. Assumes nothing.
 use borrow.Author.Needs.{needs}
-use mathlib.Core.Path.{_≡_, refl, sym, ap, subst, _∙_}
+use mathlib.Core.Path.{_≡_, refl, _∙_}
 use mathlib.Core.List.{_++_}
-use Prim.Native.Nat.{ℕ, _+_, _-_, _*_, _≤_}
+use Prim.Native.Nat.{_+_, _*_}
 use native.Mathlib.Omega.{arith}
 use lib.ListN.{length, take, drop}
-use Rattle.limiter.specs.Limiter.{scaled, scaledBlock, channels, laid}
-use borrow.Rule.Slice.PartMut.{same-len-mid}
-use Rattle.limiter.proofs.Laws.{length-scaled}
+use Rattle.limiter.specs.Limiter.{scaledBlock, channels, laid}
 use Rattle.limiter.proofs.Rows.{laid-next, laid-end}
 use Rattle.limiter.proofs.scale_block.Statement.{statement}
 use Rattle.limiter.proofs.scale_block.Tie as tie
-use Rattle.limiter.proofs.scale_block.Reads as reads
-use Rattle.limiter.proofs.scale_block.Lts as lts
-use Rattle.limiter.proofs.scale_slice_in_place.Reads as scale-slice-in-place-reads
 
 abbrev Inv-loop : tie.InvT-loop
-Inv-loop block₀ samples gain at₀ left₀ block at left = (at + 64 * left ≡ 768) × (length block ≡ 768) × (take at block ++ laid (scaledBlock gain (channels left samples (drop at block))) (drop at block) ≡ laid (scaledBlock gain (channels 12 samples block₀)) block₀)
+Inv-loop block₀ samples gain at₀ unscaled₀ block at unscaled = (at + 64 * unscaled ≡ 768) × (length block ≡ 768) × (take at block ++ laid (scaledBlock gain (channels unscaled samples (drop at block))) (drop at block) ≡ laid (scaledBlock gain (channels 12 samples block₀)) block₀)
 
 abbrev μ-loop : tie.MeasureT-loop
-μ-loop block₀ samples gain at₀ left₀ block at left = left
+μ-loop block₀ samples gain at₀ unscaled₀ block at unscaled = unscaled
 
 loop-holds : tie.Need-loop-holds Inv-loop μ-loop
 loop-holds c = (refl, c .before .pre .0, refl)
@@ -45,8 +40,8 @@ scale-slice-in-place-requires c κs = search needs
 add-at : tie.Need-add-at Inv-loop μ-loop
 add-at c = search needs
 
-sub-left : tie.Need-sub-left Inv-loop μ-loop
-sub-left c = search needs
+sub-unscaled : tie.Need-sub-unscaled Inv-loop μ-loop
+sub-unscaled c = search needs
 
 loop-less : tie.Need-loop-less Inv-loop μ-loop
 loop-less c = search needs
@@ -56,7 +51,8 @@ loop-again c =
     let l = c .before .before .before .before .before .loop in
     let a = c .before .before .before .before .before .before .before .args in
     let z = c .before .before .scale-slice-in-place in
-    (omega arith, same-len-mid (l .at) (l .at + a .samples - l .at) (l .block) (z .last .0) (ap length (z .ensures) ∙ length-scaled (a .gain) (take (l .at + a .samples - l .at) (drop (l .at) (l .block)))) ∙ l .inv .1, laid-next (a .gain) (l .left) (a .samples) (l .at) (l .block) (z .last .0) (omega arith) (omega arith) (omega arith) (z .ensures) ∙ l .inv .2)
+    let n = laid-next (a .gain) (l .unscaled) (a .samples) (l .at) (l .block) (z .last .0) (omega arith) (omega arith) (omega arith) (z .ensures) in
+    (omega arith, n .0 ∙ l .inv .1, n .1 ∙ l .inv .2)
 
 same-length : tie.Need-same-length Inv-loop μ-loop
 same-length c = search needs
@@ -65,7 +61,7 @@ returns : tie.Need-returns Inv-loop μ-loop
 returns c =
     let l = c .before .loop in
     let a = c .before .before .before .args in
-    laid-end (a .gain) (l .left) (a .samples) (l .at) (l .block) (c .loop-test .left) ∙ l .inv .2
+    laid-end (a .gain) (l .unscaled) (a .samples) (l .at) (l .block) (c .loop-test .left) ∙ l .inv .2
 
 pub scale-block-spec : {M : Type 1} → statement M
 scale-block-spec =
@@ -81,7 +77,7 @@ scale-block-spec =
     part-scale-slice-in-place-end
     scale-slice-in-place-requires
     add-at
-    sub-left
+    sub-unscaled
     loop-less
     loop-again
     same-length
