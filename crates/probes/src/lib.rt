@@ -11,5 +11,6 @@ mod probe_records;
 mod probe_roots;
 mod probe_ieee;
 mod probe_limiter;
+mod probe_timed;
 mod probe_vectors;
 mod probe_words;

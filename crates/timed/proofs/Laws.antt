@@ -23,6 +23,11 @@ turn n i f s h =
     let e : n - i ≡ suc (n - (i + 1)) = omega arith in
     rw (e, add-one)
 
+-- the last turn is over
+pub ended : {S : Type 0} (n i : ℕ) (f : ℕ → S → S) (s : S) → n - i ≡ 0 → times (n - i) i f s ≡ s
+unfolding times
+ended n i f s e = rw e
+
 -- a number that an f32 holds
 pub in-float : (m : ℕ) → m ≤ 2 ^ 24 → T (inFloat binary32 (pos m))
 unfolding inFloat

@@ -45,8 +45,8 @@ noBlock = record { offset = 0; ramp = 0; used = false }
 
 -- "an offset or ramp outside ±1,048,576" is refused; "a remaining ramp from -2^21 - 64 × the stream's position to 2^20"
 pub record Ramps (position : ℕ) (schedule : List BlockState) (remaining : ℕ) : Type 0 where
-  pub offsets : (b : ℕ) → getD schedule b noBlock .offset ≤ 2097152
-  pub ramps : (b : ℕ) → getD schedule b noBlock .ramp ≤ 2097152
+  pub offsets : (b : ℕ) → b < 8 → getD schedule b noBlock .offset ≤ 2097152
+  pub ramps : (b : ℕ) → b < 8 → getD schedule b noBlock .ramp ≤ 2097152
   pub most : remaining ≤ 140737489403904
   pub least : middle ≤ remaining + (2097152 + 64 * position)
 

@@ -9,7 +9,6 @@ use lib.ListN.{getD, set}
 use native.Mathlib.Numerals.{add-one}
 use native.Mathlib.Omega.{arith}
 use native.Mathlib.Nat.{mul-le-mul-right, suc-mul}
-use Rattle.timed.specs.Turns.{times}
 use Rattle.timed.specs.State.{noElement, IsTimed}
 use Rattle.timed.specs.declared.clock.StreamSample.{StreamSample}
 use Rattle.timed.specs.declared.state.DynamicSourceState.{DynamicSourceState}
@@ -21,11 +20,6 @@ use Rattle.records.specs.Laid.{elementAt, elementEnd}
 use Rattle.updates.specs.declared.element.Counts.{Counts}
 use Rattle.updates.specs.Said.{elementOf, updateOf}
 use Rattle.updates.specs.Applied.{Work, IsCounts, IsElement, IsWork, elementGiven, elementsApplied, codesGiven, nextGains, nextSources, applied}
-
--- the last turn is over
-pub ended : {S : Type 0} (n i : ℕ) (f : ℕ → S → S) (s : S) → n - i ≡ 0 → times (n - i) i f s ≡ s
-unfolding times
-ended n i f s e = rw e
 
 -- object o in block b is among n objects in k blocks each
 pub cell-below : (o n b k : ℕ) → o < n → b < k → o * k + b < n * k
