@@ -2,13 +2,13 @@
 use mathlib.Core.Path.{_≡_, refl, sym, ap, ap₂, _∙_, subst}
 use mathlib.Core.Logic.{inl, inr}
 use mathlib.Core.Bool.{Bool, true, false, cond, not, _&&_, _||_}
-use mathlib.Core.List.{List, [], _∷_, _++_, map, List·Memᴰ, List·Memᴰ·head, List·Memᴰ·tail}
+use mathlib.Core.List.{List, [], _∷_, _++_, List·Memᴰ, List·Memᴰ·head, List·Memᴰ·tail}
 use Prim.Native.Nat.{ℕ, zero, suc, _+_, _-_, _*_, _≤_, _<_}
-use native.Mathlib.Nat.{le-trans, le-of-lt, mul-le-mul-right, not-suc-le-zero, zero-add}
+use native.Mathlib.Nat.{mul-le-mul-right}
 use native.Mathlib.Omega.{arith}
 use borrow.Author.Tests.{ne-eqb}
 use lib.Dec.{T, eqb, leb}
-use lib.ListN.{length, getD}
+use lib.ListN.{length}
 use lib.Ieee.{Float, binary32, ofBits}
 use lib.Ieee.Bits.{is-true}
 use Rattle.ieee.specs.Bounds.{All}
@@ -27,15 +27,15 @@ use Rattle.panning.specs.Terms.{Term}
 use Rattle.panning.specs.Hall.{fullRange}
 use Rattle.energy.specs.Facts.{Each}
 use Rattle.rules.specs.Parts.{0·0}
-use Rattle.rules.specs.Leaves.{Leaves, Source, Bed, started}
+use Rattle.rules.specs.Leaves.{Leaves, Source, Bed}
 use Rattle.rules.specs.Mix.{Moment, objectTerms, bedTerms, sampleAt, scaledOn, fedBy, bedsOn, objectsOn, heard, fed}
-use Rattle.rules.specs.Samples.{Frame, State}
+use Rattle.rules.specs.Samples.{State}
 use Rattle.rules.specs.Refusals.{Args, Found, clear, unless, _then_, every, room, sized, listed, lackingFrom, offsets, later}
 use Rattle.rules.specs.Calls.{found}
 use Rattle.rules.specs.Claim.{Replaced, withPcm}
 use Rattle.rules.proofs.Facts.{InHall}
 use Rattle.rules.proofs.Terms.{object-named}
-use Rattle.rules.proofs.Judged.{Passed, is-passed, sentOf}
+use Rattle.rules.proofs.Judged.{is-passed, sentOf}
 
 -- ---- an object adds nothing on channel 3
 full-range : {k : ℕ} → List·Memᴰ k fullRange → eqb 3 k ≡ false

@@ -1,15 +1,15 @@
 -- What an object of the hall adds, at size 0 and at gain 0: document 01's squares. Assumes nothing.
-use mathlib.Core.Path.{_≡_, refl, sym, ap, _∙_, subst}
-use mathlib.Core.Bool.{Bool, true, false, not, _&&_}
-use mathlib.Core.List.{List, [], _∷_, List·Memᴰ}
+use mathlib.Core.Path.{_≡_, sym, subst}
+use mathlib.Core.Bool.{not, _&&_}
+use mathlib.Core.List.{List, [], List·Memᴰ}
 use Prim.Native.Nat.{ℕ, _<_}
 use lib.Dec.{T, T-not, eqb, ltb, ltb→lt}
-use lib.Ieee.{Float, eq}
+use lib.Ieee.{eq}
 use lib.Ieee.Fits.{and-l, and-r}
 use Rattle.panning.specs.Choice.{every}
-use Rattle.panning.specs.Terms.{Term, panned, cornerTerms}
-use Rattle.panning.specs.Hall.{hall714, fullRange, 12·0}
-use Rattle.energy.specs.Facts.{apart, Pans}
+use Rattle.panning.specs.Terms.{Term}
+use Rattle.panning.specs.Hall.{fullRange}
+use Rattle.energy.specs.Facts.{apart}
 use Rattle.energy.proofs.Lists.{every→}
 use Rattle.energy.proofs.Hall.{pans714}
 use Rattle.rules.specs.Parts.{0·0}

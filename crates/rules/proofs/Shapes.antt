@@ -2,22 +2,26 @@
 use mathlib.Core.Path.{_≡_, refl, sym, ap, _∙_, subst}
 use mathlib.Core.Logic.{_⊎_, inl, inr}
 use mathlib.Core.Bool.{Bool, true, false, cond, not, _&&_, _||_}
-use mathlib.Core.List.{List, [], _∷_, map}
-use Prim.Native.Nat.{ℕ, zero, suc, _+_, _≤_, _<_}
+use mathlib.Core.List.{List, [], _∷_}
+use Prim.Native.Nat.{ℕ, zero, suc, _+_, _<_}
 use native.Mathlib.Nat.{not-suc-le-zero}
 use native.Mathlib.Omega.{arith}
 use borrow.Author.Tests.{eqb-true}
 use lib.Dec.{T, eqb}
 use lib.ListN.{length}
-use Rattle.rules.specs.Leaves.{Leaves, Source, Shape, started}
+use Rattle.ieee.specs.Bounds.{All}
+use Rattle.rules.specs.Leaves.{Leaves, Shape, started}
 use Rattle.rules.specs.Mix.{Moment}
-use Rattle.rules.specs.Samples.{Frame, State, applied, updated, slotted, moment, sampled, framed, opened, pushed}
-use Rattle.rules.specs.Refusals.{Args, Found, clear, stop, _then_, unless, Sent, objectsMatch, countsAt, shapeAt, mixes, walk, later, none}
+use Rattle.rules.specs.Samples.{Frame, State, applied, updated, slotted, sampled, opened, pushed}
+use Rattle.rules.specs.Refusals.{Args, clear, _then_, unless, Sent, objectsMatch, countsAt, shapeAt, mixes, walk, later, none}
 use Rattle.rules.specs.Calls.{frameOf}
 use Rattle.rules.specs.Block.{Layout}
 use Rattle.rules.specs.Claim.{momentAt}
+use Rattle.rules.proofs.Lists.{either}
 use Rattle.rules.proofs.Facts.{Facts}
 use Rattle.rules.proofs.Judged.{then-clear, unless-clear, sentOf, Passed}
+use Rattle.rules.proofs.Kept.{Good, Admitted, updated-good, before-good}
+use Rattle.rules.proofs.Frames.{sampled-fine}
 use Rattle.rules.proofs.Moments.{momentOf, each-moment}
 
 module _ (all : List Sent) (objects : ℕ) (codes : List ℕ) where
@@ -67,46 +71,62 @@ module _ (all : List Sent) (objects : ℕ) (codes : List ℕ) where
       go false q e st = absurd (subst T (sym st ∙ q) tt)
 
 module _ (L : Leaves) (B : Layout L) (F : Facts L B) where
+  abbrev Sound : State L → Type 0
+  Sound r = F .Sound (r .meta)
+
   -- the shape that sample t is heard with
-  updated-shape : (all : List Sent) (objects : ℕ) (codes : List ℕ) (t : ℕ) (us : List (L .Update)) (r : State L) → L .shape (updated L t us r .meta) ≡ shapeAt all objects codes t (sentOf L us) (L .shape (r .meta))
-  updated-shape all objects codes t [] r = refl
-  updated-shape all objects codes t (u ∷ us) r =
-      updated-shape all objects codes t us (cond (eqb (L .offset u) t) (applied L t u r) r) ∙ ap (shapeAt all objects codes t (sentOf L us)) (go (eqb (L .offset u) t))
+  updated-shape : (all : List Sent) (objects : ℕ) (codes : List ℕ) (t : ℕ) (us : List (L .Update)) (r : State L) → All (F .Checked) us → Sound r → L .shape (updated L t us r .meta) ≡ shapeAt all objects codes t (sentOf L us) (L .shape (r .meta))
+  updated-shape all objects codes t [] r k s = refl
+  updated-shape all objects codes t (u ∷ us) r k s =
+      updated-shape all objects codes t us (cond (eqb (L .offset u) t) (applied L t u r) r) (k .1) (either Sound (eqb (L .offset u) t) {x = applied L t u r} {y = r} (F .sound-apply (r .position) u (r .meta) (k .0) s) s)
+      ∙ ap (shapeAt all objects codes t (sentOf L us)) (go (eqb (L .offset u) t))
     where
       go : (b : Bool) → L .shape (cond b (applied L t u r) r .meta) ≡ cond b (L .sent u) (L .shape (r .meta))
-      go true = F .shape-apply (r .position) u (r .meta)
+      go true = F .shape-apply (r .position) u (r .meta) (k .0) s
       go false = refl
 
-  slotted-shape : (r : State L) → L .shape (slotted L r .meta) ≡ L .shape (r .meta)
-  slotted-shape r = go (started L (r .meta) && eqb (r .phase) 0)
+  slotted-shape : (r : State L) → Sound r → L .shape (slotted L r .meta) ≡ L .shape (r .meta)
+  slotted-shape r s = go (started L (r .meta) && eqb (r .phase) 0)
     where
       go : (b : Bool) → L .shape (cond b (L .slot (r .start) (r .meta)) (r .meta)) ≡ L .shape (r .meta)
-      go true = F .shape-slot (r .start) (r .meta)
+      go true = F .shape-slot (r .start) (r .meta) s
       go false = refl
 
-  module _ (r : State L) (a : Args) (p : Passed L r a) where
+  module _ (r : State L) (a : Args) (p : Passed L r a) (k : Admitted L B F (frameOf L a)) where
     abbrev f : Frame (L .Update)
     f = frameOf L a
 
     abbrev sent : List Sent
     sent = sentOf L (f .updates)
 
+    abbrev Fit : Shape → Type 0
+    Fit = Matches sent (a .objects) (a .codes)
+
+    abbrev shaped : ℕ → Shape → Shape
+    shaped t s = shapeAt sent (a .objects) (a .codes) t sent s
+
     abbrev Inv : ℕ → State L → Type 0
-    Inv t s = t < a .samples → Matches sent (a .objects) (a .codes) (shapeAt sent (a .objects) (a .codes) t sent (L .shape (s .meta)))
+    Inv t s = Good L B F s × (t < a .samples → Fit (shaped t (L .shape (s .meta))))
 
     abbrev met : ℕ → State L → State L
     met t s = slotted L (updated L t (f .updates) s)
 
-    met-shape : (t : ℕ) (s : State L) → L .shape (met t s .meta) ≡ shapeAt sent (a .objects) (a .codes) t sent (L .shape (s .meta))
-    met-shape t s = slotted-shape (updated L t (f .updates) s) ∙ updated-shape sent (a .objects) (a .codes) t (f .updates) s
+    met-good : (t : ℕ) (s : State L) → Good L B F s → Good L B F (met t s)
+    met-good t s g = before-good L B F t (f .updates) s (k .updates) g
+
+    met-shape : (t : ℕ) (s : State L) → Good L B F s → L .shape (met t s .meta) ≡ shaped t (L .shape (s .meta))
+    met-shape t s g =
+        slotted-shape (updated L t (f .updates) s) (updated-good L B F t (f .updates) s (k .updates) g .steady .meta) ∙ updated-shape sent (a .objects) (a .codes) t (f .updates) s (k .updates) (g .steady .meta)
 
     j : Judged sent (a .objects) (a .codes) (a .samples) (L .shape (r .meta))
     j = judged sent (a .objects) (a .codes) (a .samples) (a .rate) (r .rate) (L .shape (r .meta)) (p .later)
 
     keep : (t : ℕ) (s : State L) → t < a .samples → Inv t s → Inv (suc t) (sampled L f t s .next)
-    keep t s h i l =
-        matches-on sent (a .objects) (a .codes) (suc t) sent (L .shape (met t s .meta)) (j .then-all (suc t) l)
-        (subst (Matches sent (a .objects) (a .codes)) (sym (met-shape t s)) (i h))
+    keep t s h i = (
+      sampled-fine L B F f k t h s (i .0) .next,
+      λ l.
+          matches-on sent (a .objects) (a .codes) (suc t) sent (L .shape (met t s .meta)) (j .then-all (suc t) l) (subst Fit (sym (met-shape t s (i .0))) (i .1 h)),
+    )
 
     abbrev Q : Moment → Type 0
     Q m = (m .objects ≡ []) ⊎ (length (m .objects) ≡ a .objects)
@@ -115,9 +135,9 @@ module _ (L : Leaves) (B : Layout L) (F : Facts L B) where
     here t s h i = go (started L (met t s .meta)) refl
       where
         go : (b : Bool) → started L (met t s .meta) ≡ b → (cond b (L .objects (met t s .meta)) [] ≡ []) ⊎ (length (cond b (L .objects (met t s .meta)) []) ≡ a .objects)
-        go true e = inr (F .shape-objects (met t s .meta) e ∙ subst (Matches sent (a .objects) (a .codes)) (sym (met-shape t s)) (i h) e)
+        go true e = inr (F .shape-objects (met t s .meta) (met-good t s (i .0) .steady .meta) e ∙ subst Fit (sym (met-shape t s (i .0))) (i .1 h) e)
         go false e = inl refl
 
-    pub objects-match : (t : ℕ) → t < a .samples → Q (momentAt L r a t)
+    pub objects-match : Good L B F (opened L (a .rate) r) → (t : ℕ) → t < a .samples → Q (momentAt L r a t)
     unfolding pushed
-    objects-match t h = each-moment L f Inv (λ u m. Q m) keep here (a .samples) 0 t (opened L (a .rate) r) (omega arith) h (λ l. j .first)
+    objects-match g t h = each-moment L f Inv (λ u m. Q m) keep here (a .samples) 0 t (opened L (a .rate) r) (omega arith) h (g, λ l. j .first)

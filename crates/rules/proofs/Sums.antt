@@ -2,14 +2,14 @@
 use mathlib.Core.Path.{_≡_, refl, sym, ap, _∙_, subst}
 use mathlib.Core.Bool.{Bool, true, false, _&&_, cond}
 use mathlib.Core.List.{List, [], _∷_, _++_, map}
-use Prim.Native.Nat.{ℕ, zero, suc, _+_, _*_, _^_, _≤_, _<_}
-use native.Mathlib.Nat.{le-trans, le-of-eq, le-refl, mul-le-mul-left}
+use Prim.Native.Nat.{ℕ, zero, suc, _+_, _*_, _≤_, _<_}
+use native.Mathlib.Nat.{le-trans, le-of-eq, le-refl}
 use native.Mathlib.Omega.{arith}
 use lib.Dec.{T, eqb, lit<, lit≤}
 use lib.ListN.{length, getD, length-append}
 use lib.Ieee.{Float, binary32, fits, ofBits, round, mul, add, le, lt, eq}
 use lib.Ieee.Fits.{and-l, and-r}
-use Rattle.ieee.specs.Units.{One, F32, mag}
+use Rattle.ieee.specs.Units.{One, mag}
 use Rattle.ieee.specs.Bounds.{Bounded, All}
 use Rattle.ieee.proofs.Constants.{whole-grid, whole-less}
 use Rattle.ieee.proofs.Bound.{mul-bounded}
@@ -36,7 +36,7 @@ use Rattle.energy.proofs.Hall.{pans714}
 use Rattle.rules.specs.Parts.{0·0}
 use Rattle.rules.specs.Leaves.{Source, Bed}
 use Rattle.rules.specs.Mix.{Moment, objectTerms, routeTerms, bedTerms, scaledOn, fedBy, bedsOn, objectsOn, heard}
-use Rattle.rules.proofs.Lists.{either, all-append, all-at-or, length-map}
+use Rattle.rules.proofs.Lists.{either, all-append, length-map}
 use Rattle.rules.proofs.Facts.{InHall, Mixable}
 use Rattle.rules.proofs.Terms.{eight-bounded, each-all, terms-few, object-bounded, object-few}
 

@@ -1,23 +1,23 @@
 -- What objects and beds add to the twelve channels: an object only on the eleven that are not 3, each coefficient is finite and at most 8, and there are at most 19. Assumes nothing.
-use mathlib.Core.Path.{_≡_, refl, sym, ap, _∙_, subst}
+use mathlib.Core.Path.{refl}
 use mathlib.Core.Bool.{Bool, true, false, cond}
-use mathlib.Core.List.{List, [], _∷_, _++_, map, List·Memᴰ, List·Memᴰ·head, List·Memᴰ·tail}
-use Prim.Native.Nat.{ℕ, zero, suc, _+_, _*_, _≤_, _<_}
-use native.Mathlib.Nat.{le-trans, le-of-eq, le-refl}
+use mathlib.Core.List.{List, [], _∷_, List·Memᴰ, List·Memᴰ·head, List·Memᴰ·tail}
+use Prim.Native.Nat.{ℕ, suc, _*_, _≤_}
+use native.Mathlib.Nat.{le-refl}
 use native.Mathlib.Omega.{arith}
 use lib.Dec.{T, lit≤}
 use lib.ListN.{length, length-append}
-use lib.Ieee.{Float, binary32, fits, round, mul, le, lt, eq, ne}
-use Rattle.ieee.specs.Units.{One, F32, mag, P, N}
+use lib.Ieee.{Float, eq, ne}
+use Rattle.ieee.specs.Units.{One}
 use Rattle.ieee.specs.Bounds.{Bounded, All}
 use Rattle.ieee.proofs.Signed.{mag-is}
 use Rattle.vectors.specs.declared.Vec3.{Vec3}
 use Rattle.panning.specs.declared.Panned.{Panned}
-use Rattle.panning.specs.Choice.{every, 0·0, 1·0}
-use Rattle.panning.specs.Table.{Table, Position, between, distinct, 8·0}
-use Rattle.panning.specs.Hall.{hall714, positions714, fullRange, 12·0}
-use Rattle.panning.specs.Terms.{Term, term, terms, panned, audible, paired, spread, nothing}
-use Rattle.energy.specs.Facts.{Pans, Each}
+use Rattle.panning.specs.Choice.{0·0}
+use Rattle.panning.specs.Table.{between, 8·0}
+use Rattle.panning.specs.Hall.{hall714, fullRange, 12·0}
+use Rattle.panning.specs.Terms.{Term, terms, panned, audible, paired, spread}
+use Rattle.energy.specs.Facts.{Each}
 use Rattle.energy.proofs.Hall.{pans714}
 use Rattle.energy.proofs.Tables.{gain8}
 use Rattle.rules.specs.Leaves.{Source}

@@ -2,15 +2,15 @@
 use mathlib.Core.Path.{_≡_, refl, sym, ap, _∙_, subst}
 use mathlib.Core.Logic.{inl, inr}
 use mathlib.Core.List.{List, [], _∷_, map}
-use Prim.Native.Nat.{ℕ, zero, suc, _+_, _*_, _^_, _≤_, _<_, zero-le}
-use native.Mathlib.Nat.{le-trans, le-of-eq, not-suc-le-zero, eq-or-lt-of-le, mul-le-mul-right}
+use Prim.Native.Nat.{ℕ, zero, suc, _+_, _*_, _≤_, _<_, zero-le}
+use native.Mathlib.Nat.{not-suc-le-zero, eq-or-lt-of-le, mul-le-mul-right}
 use native.Mathlib.Omega.{arith}
 use lib.ListN.{length, getD, List·getD-map}
 use lib.Ieee.{Float, binary32, toBits, ofBits}
 use lib.Ieee.Bits.{ofBits-toBits, toBits-lt}
 use Rattle.ieee.specs.Units as units
 use Rattle.ieee.specs.Bounds.{All}
-use Rattle.words.specs.Words.{Words, number, word, floatAt, wordsAt, withWords}
+use Rattle.words.specs.Words.{Words, word, floatAt, wordsAt, withWords}
 use Rattle.words.proofs.Back.{words-read-back}
 use Rattle.words.proofs.Beside.{words-keep, reads-before}
 use Rattle.words.proofs.Runs.{run-length-kept}

@@ -1,9 +1,8 @@
 -- "Who can cause a refusal": the refusals of a push in document 01's order, for a renderer whose block is in range. Assumes nothing.
 use Prim.Native.Nat.{ℕ, zero, suc, _+_, _*_, _%_}
-use mathlib.Core.Path.{_≡_}
 use mathlib.Core.Bool.{Bool, true, false, cond, not, _&&_, _||_}
 use mathlib.Core.List.{List, [], _∷_}
-use lib.Dec.{eqb, leb, ltb}
+use lib.Dec.{eqb, leb}
 use lib.ListN.{length}
 use Rattle.mixing.specs.Samples.{allPass}
 use Rattle.beds.specs.Matching.{counted}
@@ -57,10 +56,6 @@ abbrev pub listed : ℕ → Bool
 listed rate = eqb rate 32000 || eqb rate 44100 || eqb rate 48000 || eqb rate 88200 || eqb rate 96000
 
 module _ (L : Leaves) where
-  -- "One at or past the frame's end is dropped, offset 0 excepted."
-  abbrev pub taken : ℕ → L .Update → Bool
-  taken n u = eqb (L .offset u) 0 || ltb (L .offset u) n
-
   -- 7 along the updates whose offset is t, in the order sent; the timed state after them
   abbrev pub lacking : ℕ → List (L .Update) → L .Meta → Bool
   lacking t [] m = false
@@ -75,7 +70,7 @@ module _ (L : Leaves) where
   lackingFrom zero t us m = false
   lackingFrom (suc n) t us m = lacking t us m || lackingFrom n (suc t) us (metaAfter t us m)
 
-  -- at least the offset 0
+  -- "One at or past the frame's end is dropped, offset 0 excepted": at least the offset 0 counts
   abbrev pub offsets : ℕ → ℕ
   offsets n = cond (eqb n 0) 1 n
 
