@@ -9,8 +9,6 @@ mod probe_mixing;
 mod probe_panning;
 mod probe_records;
 mod probe_roots;
-mod probe_ieee;
-mod probe_limiter;
 mod probe_timed;
 mod probe_vectors;
 mod probe_words;
