@@ -70,12 +70,12 @@ sources-entry =
       long = λ s h. refl;
       words = λ s h. (float-word _ (h .gain), (float-word _ (h .size), (float-word _ (h .place .x), (float-word _ (h .place .y), (float-word _ (h .place .z), (bit-word (s .placed), tt))))));
       back = λ s h t i.
-        record {
-          gain = float-back _ (h .gain) i;
-          size = float-back _ (h .size) i;
-          place = record { x = float-back _ (h .place .x) i; y = float-back _ (h .place .y) i; z = float-back _ (h .place .z) i };
-          placed = bit-back (s .placed) i;
-        };
+          record {
+            gain = float-back _ (h .gain) i;
+            size = float-back _ (h .size) i;
+            place = record { x = float-back _ (h .place .x) i; y = float-back _ (h .place .y) i; z = float-back _ (h .place .z) i };
+            placed = bit-back (s .placed) i;
+          };
     }
 
 -- offset and ramp in range
@@ -99,7 +99,7 @@ tracks-entry =
       long = λ k h. refl;
       words = λ k h. (bit-word (k .now), (float-word _ (h .x), (float-word _ (h .y), (float-word _ (h .z), tt))));
       back = λ k h t i.
-        record { now = bit-back (k .now) i; future = record { x = float-back _ (h .x) i; y = float-back _ (h .y) i; z = float-back _ (h .z) i } };
+          record { now = bit-back (k .now) i; future = record { x = float-back _ (h .x) i; y = float-back _ (h .y) i; z = float-back _ (h .z) i } };
     }
 
 pub record ElementFull (e : ElementRendererState) : Type 0 where
@@ -118,18 +118,18 @@ elements-entry =
       long = λ e h. ap (λ (n : ℕ). suc (suc (suc (suc n)))) (length-append (each blockWords (e .schedule)) (each trackWords (e .tracks)) ∙ ap₂ (λ (m n : ℕ). m + n) (B .long (e .schedule) (h .schedule)) (K .long (e .tracks) (h .tracks)));
       words = λ e h. (low-word (e .blocks), (low-word (e .flags), (low-word (e .remaining), (high-word (e .remaining), words-append (each blockWords (e .schedule)) (each trackWords (e .tracks)) (B .words (e .schedule) (h .schedule)) (K .words (e .tracks) (h .tracks))))));
       back = λ e h t.
-        let b = each blockWords (e .schedule) in
-        let k = each trackWords (e .tracks) in
-        let s : table blockOf 3 8 ((b ++ k) ++ t) ≡ e .schedule = rw (append-assoc b k t) (B .back (e .schedule) (h .schedule) (k ++ t)) in
-        let u : table trackOf 4 16 (drop 24 ((b ++ k) ++ t)) ≡ e .tracks =
-            rw (append-assoc b k t, drop-at b (k ++ t) 24 (B .long (e .schedule) (h .schedule))) (K .back (e .tracks) (h .tracks) t) in
-        λ i. record {
-          blocks = low-back (e .blocks) (h .blocks) i;
-          flags = low-back (e .flags) (h .flags) i;
-          remaining = long-back (e .remaining) (h .remaining) i;
-          schedule = s i;
-          tracks = u i;
-        };
+          let b = each blockWords (e .schedule) in
+          let k = each trackWords (e .tracks) in
+          let s : table blockOf 3 8 ((b ++ k) ++ t) ≡ e .schedule = rw (append-assoc b k t) (B .back (e .schedule) (h .schedule) (k ++ t)) in
+          let u : table trackOf 4 16 (drop 24 ((b ++ k) ++ t)) ≡ e .tracks =
+          rw (append-assoc b k t, drop-at b (k ++ t) 24 (B .long (e .schedule) (h .schedule))) (K .back (e .tracks) (h .tracks) t) in
+          λ i. record {
+            blocks = low-back (e .blocks) (h .blocks) i;
+            flags = low-back (e .flags) (h .flags) i;
+            remaining = long-back (e .remaining) (h .remaining) i;
+            schedule = s i;
+            tracks = u i;
+          };
     }
 
 -- ---- the small part
@@ -263,11 +263,49 @@ module _ (s : Small) (h : SmallFull s) where
 
   pub small-words : Words (smallWords s)
   unfolding smallWords clockWords countWords
-  small-words =
-      (h .rate, (h .phase, (low-word (s .position), (high-word (s .position), (low-word (s .start), (high-word (s .start), (float-word _ (h .gain),
-      words-append (filterWords (s .filter) ++ (s .pending ∷ [])) (countWords (s .state) ++ tableWords (s .state)) (filter-words (s .filter) (s .pending) (h .filter) (h .pending))
-      (bit-word (s .state .initialized), (low-word (s .state .payload .0), (high-word (s .state .payload .0), (low-word (s .state .objects), (low-word (s .state .isf), (low-word (s .state .beds), (low-word (s .state .elements),
-      tables-words (s .state) (h .state)))))))))))))))
+  small-words = (
+    h .rate,
+    (
+      h .phase,
+      (
+        low-word (s .position),
+        (
+          high-word (s .position),
+          (
+            low-word (s .start),
+            (
+              high-word (s .start),
+              (
+                float-word _ (h .gain),
+                words-append (filterWords (s .filter) ++ (s .pending ∷ [])) (countWords (s .state) ++ tableWords (s .state)) (filter-words (s .filter) (s .pending) (h .filter) (h .pending)) (
+                  bit-word (s .state .initialized),
+                  (
+                    low-word (s .state .payload .0),
+                    (
+                      high-word (s .state .payload .0),
+                      (
+                        low-word (s .state .objects),
+                        (
+                          low-word (s .state .isf),
+                          (
+                            low-word (s .state .beds),
+                            (
+                              low-word (s .state .elements),
+                              tables-words (s .state) (h .state),
+                            ),
+                          ),
+                        ),
+                      ),
+                    ),
+                  ),
+                ),
+              ),
+            ),
+          ),
+        ),
+      ),
+    ),
+  )
 
   pub small-back : smallOf (smallWords s) ≡ s
   unfolding smallWords smallOf clockWords filterWords

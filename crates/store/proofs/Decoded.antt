@@ -109,7 +109,7 @@ module _ (w : List ℕ) (h : T (smallValid w)) where
         channels = leb→le _ _ (counts 5);
         elements = leb→le _ _ (counts 6);
         states = λ i l.
-          rw (element-at i l) (element-in-range (smallOf w .position) (leastFlags i (smallOf w .state)) (drop (156 + 92 * i) w) (element-fields i l) (element-parts i l));
+            rw (element-at i l) (element-in-range (smallOf w .position) (leastFlags i (smallOf w .state)) (drop (156 + 92 * i) w) (element-fields i l) (element-parts i l));
       }
 
   code-most : (i : ℕ) → getD (smallOf w .state .codes) i 0 ≤ 17
@@ -130,7 +130,7 @@ module _ (w : List ℕ) (h : T (smallValid w)) where
         objects = table-all SourceSingles sourceOf (λ v. record { gain = single _; size = single _; place = record { x = single _; y = single _; z = single _ } }) 6 16 (drop 43 u);
         states = table-long elementOf 92 2 (drop 139 u);
         elements = λ i l.
-          subst (ElementRanged (leastFlags i (smallOf w .state))) (sym (element-at i l)) (element-ranged (smallOf w .position) (leastFlags i (smallOf w .state)) (drop (156 + 92 * i) w) (element-fields i l) (element-parts i l));
+            subst (ElementRanged (leastFlags i (smallOf w .state))) (sym (element-at i l)) (element-ranged (smallOf w .position) (leastFlags i (smallOf w .state)) (drop (156 + 92 * i) w) (element-fields i l) (element-parts i l));
       }
 
 idle-out : (rate pending : ℕ) → T (not (eqb rate 0) || eqb pending 0) → rate ≡ 0 → pending ≡ 0

@@ -178,3 +178,8 @@ encode-fresh =
     ap₂ (λ (a b : List ℕ). a ++ b) small-fresh (tail-fresh 22528 12 refl refl)
     ∙ sym (marked-front (replicate 1360 0) (replicate 25600 0) (subst (λ (n : ℕ). 1360 ≤ n) (sym (length-replicate {A = ℕ} 1360 0)) (lit≤ tt)))
     ∙ ap marked (replicate-append-replicate 1360 25600 0)
+
+-- what reset writes
+pub refilled : (n : ℕ) → n ≡ size → marked (replicate n 0) ≡ encode fresh
+unfolding filled
+refilled n e = ap (λ (k : ℕ). marked (replicate k 0)) e ∙ sym encode-fresh

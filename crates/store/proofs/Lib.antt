@@ -5,3 +5,6 @@ pub mod Whole
 pub mod Valid
 pub mod Decoded
 pub mod Fresh
+pub mod Loops
+pub mod Answers
+pub mod Stores

@@ -56,7 +56,7 @@ fields-valid : (r : Renderer Timed) → Ranged r → T (every (fieldTests (small
 fields-valid r h =
     let s = h .state in
     let e : (i : ℕ) → i < 2 → T (every (elementTests (r .position) (leastFlags i (r .meta .state)) (timed.elementOf (r .meta .state) i))) =
-        λ i l. element-valid (r .position) (leastFlags i (r .meta .state)) (timed.elementOf (r .meta .state) i) (s .within .states i l) (s .elements i l) in
+    λ i l. element-valid (r .position) (leastFlags i (r .meta .state)) (timed.elementOf (r .meta .state) i) (s .within .states i l) (s .elements i l) in
     every-in (fieldTests (small r)) (clock-valid r h, (count-valid (r .position) (r .meta .state) (s .within), (e 0 (lit< tt), (e 1 (lit< tt), tt))))
 
 -- ---- words
@@ -79,12 +79,20 @@ part-valid position least e r h t =
     let k = each trackWords (e .tracks) in
     let s = f .schedule .each in
     let n = h .schedule in
-    every-in (partTests (elementWords e ++ t))
-    (rw (append-assoc b k t, ← n) (at-most-in noBlock (λ x. x .offset) 2097152 0 3 blocks-entry (λ x u. refl) (e .schedule) s (r .ramps .offsets) (k ++ t)),
-    (rw (append-assoc b k t, ← n) (at-most-in noBlock (λ x. x .ramp) 2097152 1 3 blocks-entry (λ x u. refl) (e .schedule) s (r .ramps .ramps) (k ++ t)),
-    (rw (append-assoc b k t, ← n) (at-most-in noBlock (λ x. bit (x .used)) 1 2 3 blocks-entry (λ x u. refl) (e .schedule) s (λ i. bit-most (getD (e .schedule) i noBlock .used)) (k ++ t)),
-    (rw (append-assoc b k t, drop-at b (k ++ t) 24 (entries blocks-entry 8 .long (e .schedule) (f .schedule)), ← h .tracks)
-    (at-most-in noTrack (λ x. bit (x .now)) 1 0 4 tracks-entry (λ x u. refl) (e .tracks) (h .targets) (λ i. bit-most (getD (e .tracks) i noTrack .now)) t), tt))))
+    every-in (partTests (elementWords e ++ t)) (
+      rw (append-assoc b k t, ← n) (at-most-in noBlock (λ x. x .offset) 2097152 0 3 blocks-entry (λ x u. refl) (e .schedule) s (r .ramps .offsets) (k ++ t)),
+      (
+        rw (append-assoc b k t, ← n) (at-most-in noBlock (λ x. x .ramp) 2097152 1 3 blocks-entry (λ x u. refl) (e .schedule) s (r .ramps .ramps) (k ++ t)),
+        (
+          rw (append-assoc b k t, ← n) (at-most-in noBlock (λ x. bit (x .used)) 1 2 3 blocks-entry (λ x u. refl) (e .schedule) s (λ i. bit-most (getD (e .schedule) i noBlock .used)) (k ++ t)),
+          (
+            rw (append-assoc b k t, drop-at b (k ++ t) 24 (entries blocks-entry 8 .long (e .schedule) (f .schedule)), ← h .tracks)
+                (at-most-in noTrack (λ x. bit (x .now)) 1 0 4 tracks-entry (λ x u. refl) (e .tracks) (h .targets) (λ i. bit-most (getD (e .tracks) i noTrack .now)) t),
+            tt,
+          ),
+        ),
+      ),
+    )
 
 two-elements : (xs : List ElementRendererState) → length xs ≡ 2 → each elementWords xs ≡ elementWords (getD xs 0 noElement) ++ (elementWords (getD xs 1 noElement) ++ [])
 unfolding each
@@ -114,11 +122,16 @@ module _ (s : Small) (position : ℕ) (h : StateRanged position (s .state)) wher
   words-valid : T (every (wordTests (smallWords s)))
   unfolding smallWords clockWords filterWords countWords tableWords sourceWords
   words-valid =
-      every-in (wordTests (smallWords s))
-      (le→leb _ _ (bit-most (s .state .initialized)),
-      (rw (← h .codes) (at-most-in 0 (λ c. c) 17 0 1 codes-entry (λ c u. refl) (s .state .codes) (h .listed) (every-most (s .state .codes) (h .listed)) (each gainWords (s .state .gains) ++ (each sourceWords (s .state .sources) ++ each elementWords (s .state .states)))),
-      (rw (drop-sources (s .state) F, ← h .sources) (at-most-in noSource (λ x. bit (x .placed)) 1 5 6 sources-entry (λ x u. refl) (s .state .sources) (h .objects) (λ i. bit-most (getD (s .state .sources) i noSource .placed)) (each elementWords (s .state .states))),
-      (rw elements-at (part 0 (lit< tt) (elementWords (element 1) ++ [])), (rw second-at (part 1 (lit< tt) []), tt)))))
+      every-in (wordTests (smallWords s)) (
+        le→leb _ _ (bit-most (s .state .initialized)),
+        (
+          rw (← h .codes) (at-most-in 0 (λ c. c) 17 0 1 codes-entry (λ c u. refl) (s .state .codes) (h .listed) (every-most (s .state .codes) (h .listed)) (each gainWords (s .state .gains) ++ (each sourceWords (s .state .sources) ++ each elementWords (s .state .states)))),
+          (
+            rw (drop-sources (s .state) F, ← h .sources) (at-most-in noSource (λ x. bit (x .placed)) 1 5 6 sources-entry (λ x u. refl) (s .state .sources) (h .objects) (λ i. bit-most (getD (s .state .sources) i noSource .placed)) (each elementWords (s .state .states))),
+            (rw elements-at (part 0 (lit< tt) (elementWords (element 1) ++ [])), (rw second-at (part 1 (lit< tt) []), tt)),
+          ),
+        ),
+      )
 
 -- ---- the block
 

@@ -78,8 +78,8 @@ state-full position s h =
       states = record {
         count = h .states;
         each = all-at ElementFull noElement (s .states) (λ i l.
-          let k : i < 2 = let m = h .states in omega arith in
-          element-full position _ (timed.elementOf s i) (w .states i k) (h .elements i k));
+            let k : i < 2 = let m = h .states in omega arith in
+            element-full position _ (timed.elementOf s i) (w .states i k) (h .elements i k));
       };
     }
 
