@@ -91,7 +91,7 @@ fn apply_elements(
 }
 
 // Whether elements and objects are as many as before.
-fn same_counts(elements: usize, given: usize, objects: usize, sent: usize) -> bool
+pub fn same_counts(elements: usize, given: usize, objects: usize, sent: usize) -> bool
     ensures { λ r. ⌜ r ≡ (eqb elements given && eqb objects sent) ⌝ }
 {
     if elements == given {
