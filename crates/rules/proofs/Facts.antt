@@ -38,8 +38,9 @@ pub record Facts (L : Leaves) (B : Layout L) : Type 1 where
   pub sound-apply : (n : ℕ) (u : L .Update) (m : L .Meta) → Checked u → Sound m → Sound (L .apply n u m)
   pub sound-slot : (n : ℕ) (m : L .Meta) → Sound m → Sound (L .slot n m)
   pub mixable : (m : L .Meta) → Sound m → Mixable (L .beds m) (L .objects m)
-  -- the shape after an update is the update's; a slot keeps it; it counts the objects
+  -- the shape after an update is the update's, and started; a slot keeps it; it counts the objects
   pub shape-apply : (n : ℕ) (u : L .Update) (m : L .Meta) → Checked u → Sound m → L .shape (L .apply n u m) ≡ L .sent u
+  pub sent-started : (u : L .Update) → Checked u → L .sent u .started ≡ true
   pub shape-slot : (n : ℕ) (m : L .Meta) → Sound m → L .shape (L .slot n m) ≡ L .shape m
   pub shape-objects : (m : L .Meta) → Sound m → started L m ≡ true → length (L .objects m) ≡ L .shape m .objects
   -- the timed state's ranges at a stream position, gains of any bits

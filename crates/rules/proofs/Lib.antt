@@ -14,6 +14,7 @@ pub mod Written
 pub mod Erased
 pub mod Blocks
 pub mod Moments
+pub mod Begun
 pub mod Shapes
 pub mod Bass
 pub mod Energy

@@ -1,10 +1,9 @@
--- Refusal 11: at each sample of an accepted push the objects are as many as the push brings, or there are none yet. Assumes nothing beyond `Facts`.
+-- Refusal 11: at each sample of an accepted push the objects are as many as the push brings, or there are none before the first update. Assumes nothing beyond `Facts`.
 use mathlib.Core.Path.{_≡_, refl, sym, ap, _∙_, subst}
-use mathlib.Core.Logic.{_⊎_, inl, inr}
 use mathlib.Core.Bool.{Bool, true, false, cond, not, _&&_, _||_}
 use mathlib.Core.List.{List, [], _∷_}
 use Prim.Native.Nat.{ℕ, zero, suc, _+_, _<_}
-use native.Mathlib.Nat.{not-suc-le-zero}
+use native.Mathlib.Nat.{not-suc-le-zero, zero-add}
 use native.Mathlib.Omega.{arith}
 use borrow.Author.Tests.{eqb-true}
 use lib.Dec.{T, eqb}
@@ -16,12 +15,13 @@ use Rattle.rules.specs.Samples.{Frame, State, applied, updated, slotted,
 use Rattle.rules.specs.Refusals.{Args, clear, _then_, unless, Sent, objectsMatch, countsAt, shapeAt, mixes, walk, later, none}
 use Rattle.rules.specs.Calls.{frameOf}
 use Rattle.rules.specs.Block.{Layout}
-use Rattle.rules.specs.Claim.{momentAt}
+use Rattle.rules.specs.Claim.{begun, momentAt}
 use Rattle.rules.proofs.Lists.{either}
 use Rattle.rules.proofs.Facts.{Facts}
 use Rattle.rules.proofs.Judged.{then-clear, unless-clear, sentOf, Passed}
 use Rattle.rules.proofs.Kept.{Good, Admitted, updated-good, before-good}
 use Rattle.rules.proofs.Frames.{sampled-fine}
+use Rattle.rules.proofs.Begun.{at, before, begins, updated-started}
 use Rattle.rules.proofs.Moments.{momentOf, each-moment}
 
 module _ (all : List Sent) (objects : ℕ) (codes : List ℕ) where
@@ -106,7 +106,7 @@ module _ (L : Leaves) (B : Layout L) (F : Facts L B) where
     shaped t s = shapeAt sent (a .objects) (a .codes) t sent s
 
     abbrev Inv : ℕ → State L → Type 0
-    Inv t s = Good L B F s × (t < a .samples → Fit (shaped t (L .shape (s .meta))))
+    Inv t s = Good L B F s × (started L (s .meta) ≡ before L r a t) × (t < a .samples → Fit (shaped t (L .shape (s .meta))))
 
     abbrev met : ℕ → State L → State L
     met t s = slotted L (updated L t (f .updates) s)
@@ -118,26 +118,33 @@ module _ (L : Leaves) (B : Layout L) (F : Facts L B) where
     met-shape t s g =
         slotted-shape (updated L t (f .updates) s) (updated-good L B F t (f .updates) s (k .updates) g .steady .meta) ∙ updated-shape sent (a .objects) (a .codes) t (f .updates) s (k .updates) (g .steady .meta)
 
+    met-started : (t : ℕ) (s : State L) → Good L B F s → started L (s .meta) ≡ before L r a t → started L (met t s .meta) ≡ begun L r a t
+    met-started t s g e =
+        ap (λ (s : Shape). s .started) (slotted-shape (updated L t (f .updates) s) (updated-good L B F t (f .updates) s (k .updates) g .steady .meta))
+        ∙ updated-started L B F t (f .updates) s (k .updates) (g .steady .meta) ∙ ap (λ (b : Bool). b || at L t (f .updates)) e ∙ begins L r a t
+
     j : Judged sent (a .objects) (a .codes) (a .samples) (L .shape (r .meta))
     j = judged sent (a .objects) (a .codes) (a .samples) (a .rate) (r .rate) (L .shape (r .meta)) (p .later)
 
     keep : (t : ℕ) (s : State L) → t < a .samples → Inv t s → Inv (suc t) (sampled L f t s .next)
     keep t s h i = (
       sampled-fine L B F f k t h s (i .0) .next,
+      met-started t s (i .0) (i .1),
       λ l.
-          matches-on sent (a .objects) (a .codes) (suc t) sent (L .shape (met t s .meta)) (j .then-all (suc t) l) (subst Fit (sym (met-shape t s (i .0))) (i .1 h)),
+          matches-on sent (a .objects) (a .codes) (suc t) sent (L .shape (met t s .meta)) (j .then-all (suc t) l) (subst Fit (sym (met-shape t s (i .0))) (i .2 h)),
     )
 
-    abbrev Q : Moment → Type 0
-    Q m = (m .objects ≡ []) ⊎ (length (m .objects) ≡ a .objects)
+    abbrev Q : ℕ → Moment → Type 0
+    Q t m = length (m .objects) ≡ cond (begun L r a t) (a .objects) 0
 
-    here : (t : ℕ) (s : State L) → t < a .samples → Inv t s → Q (momentOf L f t s)
-    here t s h i = go (started L (met t s .meta)) refl
+    here : (t : ℕ) (s : State L) → t < a .samples → Inv t s → Q t (momentOf L f t s)
+    here t s h i = go (started L (met t s .meta)) refl ∙ ap (λ (b : Bool). cond b (a .objects) 0) (met-started t s (i .0) (i .1))
       where
-        go : (b : Bool) → started L (met t s .meta) ≡ b → (cond b (L .objects (met t s .meta)) [] ≡ []) ⊎ (length (cond b (L .objects (met t s .meta)) []) ≡ a .objects)
-        go true e = inr (F .shape-objects (met t s .meta) (met-good t s (i .0) .steady .meta) e ∙ subst Fit (sym (met-shape t s (i .0))) (i .1 h) e)
-        go false e = inl refl
+        go : (b : Bool) → started L (met t s .meta) ≡ b → length (cond b (L .objects (met t s .meta)) []) ≡ cond b (a .objects) 0
+        go true e = F .shape-objects (met t s .meta) (met-good t s (i .0) .steady .meta) e ∙ subst Fit (sym (met-shape t s (i .0))) (i .2 h) e
+        go false e = refl
 
-    pub objects-match : Good L B F (opened L (a .rate) r) → (t : ℕ) → t < a .samples → Q (momentAt L r a t)
+    pub objects-match : Good L B F (opened L (a .rate) r) → (t : ℕ) → t < a .samples → Q t (momentAt L r a t)
     unfolding pushed
-    objects-match g t h = each-moment L f Inv (λ u m. Q m) keep here (a .samples) 0 t (opened L (a .rate) r) (omega arith) h (g, λ l. j .first)
+    objects-match g t h =
+        subst (λ (u : ℕ). Q u (momentAt L r a t)) (zero-add t) (each-moment L f Inv Q keep here (a .samples) 0 t (opened L (a .rate) r) (omega arith) h (g, refl, λ l. j .first))

@@ -1,10 +1,9 @@
 -- Demand 3: one claim about a whole list of calls, from a block that reset has filled. Assumes nothing.
 use Prim.Native.Nat.{ℕ, suc, _+_, _*_, _≤_, _<_}
 use mathlib.Core.Path.{_≡_}
-use mathlib.Core.Logic.{_⊎_}
-use mathlib.Core.Bool.{true, false}
+use mathlib.Core.Bool.{Bool, true, false, cond, _||_}
 use mathlib.Core.List.{List, [], _∷_}
-use lib.Dec.{T}
+use lib.Dec.{T, leb}
 use lib.ListN.{length, getD}
 use lib.Ieee.{eq}
 use Rattle.words.specs.Words.{Bytes, floatAt}
@@ -12,7 +11,7 @@ use Rattle.mixing.specs.Samples.{allPass}
 use Rattle.energy.specs.Facts.{squareSum, AddsUp, apart, Each}
 use Rattle.panning.specs.Table.{between, 8·0}
 use Rattle.rules.specs.Parts.{0·0, Tame}
-use Rattle.rules.specs.Leaves.{Leaves, Source}
+use Rattle.rules.specs.Leaves.{Leaves, Source, started}
 use Rattle.rules.specs.Mix.{Moment, objectTerms, samplesAt, fed}
 use Rattle.rules.specs.Samples.{State, fresh, opened, framed, pushed}
 use Rattle.rules.specs.Refusals.{Args, clear}
@@ -57,12 +56,21 @@ module _ (L : Leaves) where
   abbrev pub objectAt : State L → Args → ℕ → ℕ → Source
   objectAt r a t j = getD (momentAt r a t .objects) j nobody
 
+  -- an update was applied before the push, or one of its own at an offset up to t is
+  abbrev pub upTo : ℕ → List (L .Update) → Bool
+  upTo t [] = false
+  upTo t (u ∷ us) = leb (L .offset u) t || upTo t us
+
+  abbrev pub begun : State L → Args → ℕ → Bool
+  begun r a t = started L (r .meta) || upTo t (L .updates (a .meta))
+
   pub record PushHolds (r : State L) (a : Args) : Type 0 where
-    -- as many moments as samples, at the push's rate; the own samples are the PCM's; an object for each, or silence; what is fed is what the filter then remembers
+    -- as many moments as samples, at the push's rate; the own samples are the PCM's; an object for each from the first update on, "silent samples pan no object"; what is fed is what the
+    -- filter then remembers
     pub moments : length (pushed L (frameOf L a) r .moments) ≡ a .samples
     pub rate : pushed L (frameOf L a) r .next .rate ≡ a .rate
     pub own : (t : ℕ) → t < a .samples → momentAt r a t .own ≡ samplesAt (a .pcm) (a .samples) (a .objects) (length (a .codes)) t
-    pub objects : (t : ℕ) → t < a .samples → (momentAt r a t .objects ≡ []) ⊎ (length (momentAt r a t .objects) ≡ a .objects)
+    pub objects : (t : ℕ) → t < a .samples → length (momentAt r a t .objects) ≡ cond (begun r a t) (a .objects) 0
     pub enters : (t : ℕ) → t < a .samples → framed L (frameOf L a) (suc t) 0 (opened L (a .rate) r) .next .filter .x1 ≡ fed (momentAt r a t)
     -- "each object of size zero puts nothing into the bass feed": with its row of the PCM replaced by any that refusal 8 lets pass, the push is accepted and the same number is fed
     pub bass : (t j : ℕ) → t < a .samples → j < a .objects → T (eq (objectAt r a t j .size) 0·0) → (qcm : List ℕ) → Replaced (a .samples) (length (a .codes) + j) (a .pcm) qcm
