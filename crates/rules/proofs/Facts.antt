@@ -47,14 +47,11 @@ pub record Facts (L : Leaves) (B : Layout L) : Type 1 where
   pub Within : ℕ → L .Meta → Type 0
   pub within-blank : Within 0 (L .blank)
   pub within-later : (n k : ℕ) (m : L .Meta) → n ≤ k → Within n m → Within k m
-  pub within-apply : (n : ℕ) (u : L .Update) (m : L .Meta) → n ≤ 1099511627776 → Checked u → L .lacks u m ≡ false → Within n m → Within n (L .apply n u m)
+  pub within-apply : (n : ℕ) (u : L .Update) (m : L .Meta) → n ≤ 1099511627776 → Checked u → L .lacks u (L .counts m) ≡ false → Within n m → Within n (L .apply n u m)
   pub within-slot : (n start : ℕ) (m : L .Meta) → start ≤ n → n ≤ 1099511627776 → Within n m → Within n (L .slot start m)
-  -- two timed states whose elements have as many blocks, objects and flags: refusal 7 and updates go by these counts alone, and a slot keeps them
-  pub Like : L .Meta → L .Meta → Type 0
-  pub like-self : (n : ℕ) (m : L .Meta) → Within n m → Like m m
-  pub like-apply : (n k : ℕ) (u : L .Update) (m o : L .Meta) → Checked u → Like m o → Like (L .apply n u m) (L .apply k u o)
-  pub like-slot : (n : ℕ) (m o : L .Meta) → Like m o → Like m (L .slot n o)
-  pub like-lacks : (u : L .Update) (m o : L .Meta) → Checked u → Like m o → L .lacks u m ≡ L .lacks u o
+  -- what an update leaves of the counts depends on the counts alone, and a slot keeps them
+  pub counts-apply : (n : ℕ) (u : L .Update) (m : L .Meta) → Checked u → Within n m → L .counts (L .apply n u m) ≡ L .nextCounts u (L .counts m)
+  pub counts-slot : (n start : ℕ) (m : L .Meta) → Within n m → L .counts (L .slot start m) ≡ L .counts m
   -- the block of a renderer in its ranges is as long as it should be, valid, and gives the renderer back; a valid block holds a renderer in its ranges
   pub size : (r : State L) → Ranged L Within r → length (B .encode r) ≡ B .size
   pub valid : (r : State L) → Ranged L Within r → B .valid (B .encode r) ≡ true

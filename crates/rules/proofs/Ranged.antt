@@ -16,7 +16,7 @@ use Rattle.rules.specs.Parts.{laid}
 use Rattle.rules.specs.Leaves.{Leaves, started}
 use Rattle.rules.specs.Mix.{Moment}
 use Rattle.rules.specs.Samples.{Frame, State, fresh, row, applied, updated, slotted, moment, passed, sampled, framed, opened, pushed, flushed}
-use Rattle.rules.specs.Refusals.{Args, listed, lacking, metaAfter, lackingFrom, offsets}
+use Rattle.rules.specs.Refusals.{Args, listed, lacking, countsAfter, lackingFrom, offsets}
 use Rattle.rules.specs.Ranges.{Fits, FilterFits, Ranged}
 use Rattle.rules.specs.Calls.{frameOf}
 use Rattle.rules.specs.Block.{Layout}
@@ -48,7 +48,7 @@ module _ (L : Leaves) (B : Layout L) (F : Facts L B) where
   }
 
   -- ---- updates and slots
-  applied-ranged : (t : ℕ) (u : L .Update) (r : State L) → F .Checked u → L .lacks u (r .meta) ≡ false → R r → R (applied L t u r)
+  applied-ranged : (t : ℕ) (u : L .Update) (r : State L) → F .Checked u → L .lacks u (L .counts (r .meta)) ≡ false → R r → R (applied L t u r)
   applied-ranged t u r k l g =
       let s = slot-kept (not (started L (r .meta)) || eqb t 0) in
       record {
@@ -118,36 +118,37 @@ module _ (L : Leaves) (B : Layout L) (F : Facts L B) where
   or-false true b e = absurd (subst T e tt)
   or-false false b e = (refl, e)
 
-  abbrev Met : L .Meta → State L → Type 0
-  Met m s = R s × F .Like m (s .meta)
+  abbrev Met : L .Counts → State L → Type 0
+  Met k s = R s × (L .counts (s .meta) ≡ k)
 
-  updated-ranged : (t : ℕ) (us : List (L .Update)) (r : State L) (m : L .Meta) → All (F .Checked) us → lacking L t us m ≡ false → Met m r → Met (metaAfter L t us m) (updated L t us r)
-  updated-ranged t [] r m k e g = g
-  updated-ranged t (u ∷ us) r m k e g = go (eqb (L .offset u) t) e (λ s o i h. updated-ranged t us s o (k .1) i h)
+  updated-ranged : (t : ℕ) (us : List (L .Update)) (r : State L) (k : L .Counts) → All (F .Checked) us → lacking L t us k ≡ false → Met k r → Met (countsAfter L t us k) (updated L t us r)
+  updated-ranged t [] r k c e g = g
+  updated-ranged t (u ∷ us) r k c e g = go (eqb (L .offset u) t) e (λ s o i h. updated-ranged t us s o (c .1) i h)
     where
-      go : (b : Bool) → cond b (L .lacks u m || lacking L t us (L .apply 0 u m)) (lacking L t us m) ≡ false
-          → ((s : State L) (o : L .Meta) → lacking L t us o ≡ false → Met o s → Met (metaAfter L t us o) (updated L t us s))
-          → Met (metaAfter L t us (cond b (L .apply 0 u m) m)) (updated L t us (cond b (applied L t u r) r))
+      go : (b : Bool) → cond b (L .lacks u k || lacking L t us (L .nextCounts u k)) (lacking L t us k) ≡ false
+          → ((s : State L) (o : L .Counts) → lacking L t us o ≡ false → Met o s → Met (countsAfter L t us o) (updated L t us s))
+          → Met (countsAfter L t us (cond b (L .nextCounts u k) k)) (updated L t us (cond b (applied L t u r) r))
       go true e rec =
-          let p = or-false (L .lacks u m) (lacking L t us (L .apply 0 u m)) e in
-          rec (applied L t u r) (L .apply 0 u m) (p .1)
-          (applied-ranged t u r (k .0) (sym (F .like-lacks u m (r .meta) (k .0) (g .1)) ∙ p .0) (g .0), F .like-apply 0 (r .position) u m (r .meta) (k .0) (g .1))
-      go false e rec = rec r m e g
+          let p = or-false (L .lacks u k) (lacking L t us (L .nextCounts u k)) e in
+          rec (applied L t u r) (L .nextCounts u k) (p .1)
+          (applied-ranged t u r (c .0) (ap (L .lacks u) (g .1) ∙ p .0) (g .0), F .counts-apply (r .position) u (r .meta) (c .0) (g .0 .meta) ∙ ap (L .nextCounts u) (g .1))
+      go false e rec = rec r k e g
 
-  slotted-met : (m : L .Meta) (r : State L) → Met m r → Met m (slotted L r)
-  slotted-met m r g = (slotted-ranged r (g .0), either (F .Like m) (started L (r .meta) && eqb (r .phase) 0) (F .like-slot (r .start) m (r .meta) (g .1)) (g .1))
+  slotted-met : (k : L .Counts) (r : State L) → Met k r → Met k (slotted L r)
+  slotted-met k r g =
+      (slotted-ranged r (g .0), either (λ (m : L .Meta). L .counts m ≡ k) (started L (r .meta) && eqb (r .phase) 0) (F .counts-slot (r .position) (r .start) (r .meta) (g .0 .meta) ∙ g .1) (g .1))
 
   -- ---- a frame
-  framed-ranged : (f : Frame (L .Update)) → All (F .Checked) (f .updates) → (n t : ℕ) (r : State L) (m : L .Meta) → lackingFrom L n t (f .updates) m ≡ false → listed (r .rate) ≡ true → r .position + n ≤ 1099511627776 → Met m r → R (framed L f n t r .next)
+  framed-ranged : (f : Frame (L .Update)) → All (F .Checked) (f .updates) → (n t : ℕ) (r : State L) (m : L .Counts) → lackingFrom L n t (f .updates) m ≡ false → listed (r .rate) ≡ true → r .position + n ≤ 1099511627776 → Met m r → R (framed L f n t r .next)
   framed-ranged f k zero t r m e l h g = g .0
   framed-ranged f k (suc n) t r m e l h g =
-      let p = or-false (lacking L t (f .updates) m) (lackingFrom L n (suc t) (f .updates) (metaAfter L t (f .updates) m)) e in
+      let p = or-false (lacking L t (f .updates) m) (lackingFrom L n (suc t) (f .updates) (countsAfter L t (f .updates) m)) e in
       let s = slotted L (updated L t (f .updates) r) in
-      let i = slotted-met (metaAfter L t (f .updates) m) (updated L t (f .updates) r) (updated-ranged t (f .updates) r m k (p .0) g) in
+      let i = slotted-met (countsAfter L t (f .updates) m) (updated L t (f .updates) r) (updated-ranged t (f .updates) r m k (p .0) g) in
       let u = untouched L t (f .updates) r in
       let w : listed (s .rate) ≡ true = ap listed (u .rate) ∙ l in
       let v = u .position in
-      framed-ranged f k n (suc t) (sampled L f t r .next) (metaAfter L t (f .updates) m) (p .1) w (omega arith)
+      framed-ranged f k n (suc t) (sampled L f t r .next) (countsAfter L t (f .updates) m) (p .1) w (omega arith)
       (passed-ranged (moment L f t (s .meta)) s w (omega arith) (i .0), i .1)
 
   opened-ranged : (rate : ℕ) (r : State L) → listed rate ≡ true → R r → R (opened L rate r) × (listed (opened L rate r .rate) ≡ true)
@@ -184,11 +185,11 @@ module _ (L : Leaves) (B : Layout L) (F : Facts L B) where
       o : R (opened L (a .rate) r) × (listed (opened L (a .rate) r .rate) ≡ true)
       o = opened-ranged (a .rate) r (p .listed) g
 
-      go : (n : ℕ) → lackingFrom L (offsets L n) 0 (L .updates (a .meta)) (r .meta) ≡ false → r .position + n ≤ 1099511627776 → R (framed L (frameOf L a) n 0 (opened L (a .rate) r) .next)
+      go : (n : ℕ) → lackingFrom L (offsets L n) 0 (L .updates (a .meta)) (L .counts (r .meta)) ≡ false → r .position + n ≤ 1099511627776 → R (framed L (frameOf L a) n 0 (opened L (a .rate) r) .next)
       go zero e h = o .0
       go (suc n) e h =
-          framed-ranged (frameOf L a) (F .checked (a .meta) b (p .laidOut) (p .inRange)) (suc n) 0 (opened L (a .rate) r) (r .meta)
-          (ap (λ (t : Bool). lackingFrom L (cond t 1 (suc n)) 0 (L .updates (a .meta)) (r .meta)) (sym (eqb·suc-zero n)) ∙ e) (o .1) h (o .0, F .like-self (r .position) (r .meta) (g .meta))
+          framed-ranged (frameOf L a) (F .checked (a .meta) b (p .laidOut) (p .inRange)) (suc n) 0 (opened L (a .rate) r) (L .counts (r .meta))
+          (ap (λ (t : Bool). lackingFrom L (cond t 1 (suc n)) 0 (L .updates (a .meta)) (L .counts (r .meta))) (sym (eqb·suc-zero n)) ∙ e) (o .1) h (o .0, refl)
 
   pub flushed-ranged : (r : State L) → R r → R (flushed L r .next)
   unfolding flushed

@@ -8,11 +8,12 @@ use lib.ListN.{length, getD}
 use lib.Ieee.{eq}
 use Rattle.words.specs.Words.{Bytes, floatAt}
 use Rattle.mixing.specs.Samples.{allPass}
-use Rattle.energy.specs.Facts.{squareSum, AddsUp, apart, Each}
+use Rattle.energy.specs.Facts.{squares, AddsUp, Each}
+use Rattle.panning.specs.Hall.{fullRange}
 use Rattle.panning.specs.Table.{between, 8·0}
 use Rattle.rules.specs.Parts.{0·0, Tame}
 use Rattle.rules.specs.Leaves.{Leaves, Source, started}
-use Rattle.rules.specs.Mix.{Moment, objectTerms, samplesAt, fed}
+use Rattle.rules.specs.Mix.{Moment, objectTerms, objectAdds, samplesAt, fed}
 use Rattle.rules.specs.Samples.{State, fresh, opened, framed, pushed}
 use Rattle.rules.specs.Refusals.{Args, clear}
 use Rattle.rules.specs.Calls.{Call, push, flush, reset, Answer, refused, rendered, nothing, cleared, isRefused, frameOf, found, step, run, final, kept, accepted}
@@ -31,8 +32,8 @@ nobody = record { gain = 0·0; size = 0·0; place = record { x = 0·0; y = 0·0;
 pub record Squares (s : Source) : Type 0 where
   pub channels : Each (λ t. (t .channel < 12) × (t .channel ≡ 3 → ⊥)) (objectTerms s)
   pub each : Each (λ t. T (between 0·0 8·0 (t .coefficient))) (objectTerms s)
-  pub apart : T (apart (objectTerms s))
-  pub sum : AddsUp (squareSum (objectTerms s)) (s .gain)
+  pub once : (c : ℕ) → length (objectAdds s c) ≤ 1
+  pub sum : AddsUp (squares fullRange (objectTerms s)) (s .gain)
 
 -- ---- a push that was accepted, on the renderer r that the rules worked out from the list's start
 
