@@ -1,11 +1,10 @@
 -- The hall renderer: the rules' interface filled with the timed state, the metadata records and the layout of the state block. Assumes nothing.
 use Prim.Native.Nat.{ℕ, _-_}
-use mathlib.Core.Bool.{Bool, true, _&&_, _||_, cond}
+use mathlib.Core.Bool.{true}
 use mathlib.Core.List.{List}
-use lib.Dec.{ltb}
 use lib.ListN.{getD}
 use lib.Ieee.{nan}
-use Rattle.timed.specs.State.{Timed, elementOf, slotAt}
+use Rattle.timed.specs.State.{Timed, slotAt}
 use Rattle.timed.specs.Objects.{noSource}
 use Rattle.timed.specs.declared.state.MetadataRendererState.{MetadataRendererState}
 use Rattle.fields.specs.Update.{offset}
@@ -13,7 +12,9 @@ use Rattle.records.specs.Runs.{each}
 use Rattle.records.specs.Laid.{laidOut, count, updateAt}
 use Rattle.records.specs.Ranges.{inRange}
 use Rattle.updates.specs.Said.{Update, updateOf}
-use Rattle.updates.specs.Applied.{isKept, isSame, applied}
+use Rattle.updates.specs.Applied.{applied}
+use Rattle.updates.specs.Shape as refusal7
+use Rattle.updates.specs.declared.shape.Shape as judge
 use Rattle.rules.specs.Leaves.{Leaves, Source, Bed, Shape}
 use Rattle.rules.specs.Block.{Layout}
 use Rattle.store.specs.Layout as store
@@ -24,9 +25,12 @@ pub record Sent : Type 0 where
   pub offset : ℕ
   pub said : Update
 
--- the updates of metadata that is laid out, in the order sent
+-- update i of metadata that is laid out, and all of them in the order sent
+abbrev pub sentAt : List ℕ → ℕ → Sent
+sentAt meta i = record { offset = offset meta (updateAt meta i); said = updateOf meta (updateAt meta i) }
+
 abbrev pub sentOf : List ℕ → List Sent
-sentOf meta = each (λ i. record { offset = offset meta (updateAt meta i); said = updateOf meta (updateAt meta i) }) (count meta)
+sentOf meta = each (sentAt meta) (count meta)
 
 abbrev pub bedOf : MetadataRendererState → ℕ → Bed
 bedOf s k = record { code = getD (s .codes) k 0; gain = getD (s .gains) k nan }
@@ -36,13 +40,6 @@ sourceOf s d = let o = getD (s .sources) d noSource in record { gain = o .gain; 
 
 abbrev pub shapeOf : MetadataRendererState → Shape
 shapeOf s = record { started = s .initialized; objects = s .objects - s .isf; beds = each (λ k. getD (s .codes) k 0) (s .beds) }
-
--- Document 01, refusal 7: "keeps an element (same number of elements, blocks and objects) that has flags for fewer dynamic objects than the update"
-abbrev pub lacksAt : Update → MetadataRendererState → ℕ → Bool
-lacksAt u s e = ltb e (u .elements) && (isKept (isSame s u) (elementOf s e .blocks) (u .element e .blocks) && ltb (elementOf s e .flags) (u .objects - u .isf))
-
-abbrev pub lacks : Update → MetadataRendererState → Bool
-lacks u s = lacksAt u s 0 || lacksAt u s 1
 
 abbrev pub hall : Leaves
 hall =
@@ -60,7 +57,10 @@ hall =
       updates = sentOf;
       laidOut = laidOut;
       inRange = inRange;
-      lacks = λ u m. lacks (u .said) (m .state);
+      Counts = judge.Shape;
+      counts = λ m. refusal7.shapeOf (m .state);
+      nextCounts = λ u c. refusal7.nextShape (u .said) c;
+      lacks = λ u c. refusal7.lacks (u .said) c;
     }
 
 abbrev pub block : Layout hall
