@@ -1,3 +1,4 @@
 pub mod Sound
 pub mod Infos
 pub mod Checked
+pub mod Applied
