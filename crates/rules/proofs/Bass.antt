@@ -113,7 +113,8 @@ module _ (L : Leaves) (r : State L) (a : Args) where
   same-size : (qcm : List ℕ) → length qcm ≡ length (a .pcm) → sized (withPcm qcm a) ≡ sized a
   same-size qcm e =
       let channels = length (a .codes) + a .objects in
-      ap (λ (n : ℕ). leb (a .samples) (a .stride) && leb (length (a .codes)) 18 && leb (a .objects) 16 && every (λ c. leb c 17) (a .codes) && eqb n (4 * (channels * a .samples)) && (eqb (a .samples) 0 || not (eqb channels 0))) e
+      ap (λ (n : ℕ). leb (a .samples) (a .stride) && leb (length (a .codes)) 18 && leb (a .objects) 16 && every (λ c. leb c 17) (a .codes)
+      && eqb n (4 * (channels * a .samples)) && (eqb (a .samples) 0 || not (eqb channels 0))) e
 
   pub still-clear : (j : ℕ) (qcm : List ℕ) → Replaced (a .samples) j (a .pcm) qcm → found L r a ≡ clear → found L r (withPcm qcm a) ≡ clear
   still-clear j qcm p e =

@@ -30,7 +30,8 @@ blocks-fit blocks left p n stride e l h w = omega arith
 
 module _ (L : Leaves) (B : Layout L) (F : Facts L B) where
   -- samples that are given out, of which each channel has n
-  given-range : (g : Channels) (n stride : ℕ) (s : State L) (out b : List ℕ) → n ≤ stride → 48 * stride ≤ length out → ((c : ℕ) → c < 12 → All Tame (g c)) → ((c : ℕ) → c < 12 → length (g c) ≡ n)
+  given-range : (g : Channels) (n stride : ℕ) (s : State L) (out b : List ℕ) → n ≤ stride → 48 * stride ≤ length out
+      → ((c : ℕ) → c < 12 → All Tame (g c)) → ((c : ℕ) → c < 12 → length (g c) ≡ n)
       → InRange stride out (left L B (rendered g) s out stride b)
   given-range g n stride s out b few room tamed long =
       let e = long 0 (lit< tt) in
@@ -60,9 +61,10 @@ module _ (L : Leaves) (B : Layout L) (F : Facts L B) where
         let q = is-roomy (a .stride) (length (a .out)) (p .room) in
         let d = pushed-fine L B F r a (h .0) (h .1) p rest in
         let y = pushed L (frameOf L a) r in
+        let fit = blocks-fit (d .blocks) (y .next .pending) (r .pending) (a .samples) (a .stride) (d .all) (steady rest .few) (samples-fit a (p .sized)) (q .whole) in
         record {
           rest = inr (d .next);
-          range = λ b. given-range (y .given) (64 * d .blocks) (a .stride) (y .next) (a .out) b (blocks-fit (d .blocks) (y .next .pending) (r .pending) (a .samples) (a .stride) (d .all) (steady rest .few) (samples-fit a (p .sized)) (q .whole)) (q .long) (d .given) (d .length);
+          range = λ b. given-range (y .given) (64 * d .blocks) (a .stride) (y .next) (a .out) b fit (q .long) (d .given) (d .length);
         }
 
     -- something waits, so there is a rate

@@ -121,7 +121,8 @@ module _ (L : Leaves) where
       let s4 = then-clear (unless (leb (r .position + a .samples) 1099511627776) 4 0 0) _ (s3 .1) in
       let s5 = then-clear (unless (L .laidOut (a .meta)) 5 0 0) _ (s4 .1) in
       let s6 = then-clear (unless (L .inRange (a .meta)) 6 0 0) _ (s5 .1) in
-      let s7 = then-clear (unless (not (lackingFrom L (offsets L (a .samples)) 0 (L .updates (a .meta)) (L .counts (r .meta)))) 7 0 0) _ (s6 .1) in
+      let x7 = lackingFrom L (offsets L (a .samples)) 0 (L .updates (a .meta)) (L .counts (r .meta)) in
+      let s7 = then-clear (unless (not x7) 7 0 0) _ (s6 .1) in
       record {
         room = unless-clear (room (a .stride) (length (a .out))) 1 0 0 (s1 .0);
         sized = unless-clear (sized a) 2 0 0 (s2 .0);
@@ -129,7 +130,7 @@ module _ (L : Leaves) where
         position = leb-true (r .position + a .samples) 1099511627776 (unless-clear (leb (r .position + a .samples) 1099511627776) 4 0 0 (s4 .0));
         laidOut = unless-clear (L .laidOut (a .meta)) 5 0 0 (s5 .0);
         inRange = unless-clear (L .inRange (a .meta)) 6 0 0 (s6 .0);
-        enough = not-true (lackingFrom L (offsets L (a .samples)) 0 (L .updates (a .meta)) (L .counts (r .meta))) (unless-clear (not (lackingFrom L (offsets L (a .samples)) 0 (L .updates (a .meta)) (L .counts (r .meta)))) 7 0 0 (s7 .0));
+        enough = not-true x7 (unless-clear (not x7) 7 0 0 (s7 .0));
         pass = unless-clear (allPass (a .pcm) 0 ((length (a .codes) + a .objects) * a .samples)) 8 0 0 (s7 .1);
         later = s .1;
       }

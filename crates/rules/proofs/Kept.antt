@@ -190,7 +190,8 @@ module _ (L : Leaves) (B : Layout L) (F : Facts L B) where
             let most = leb-true 64 (suc (r .pending)) e in
             record {
               next = passed-good;
-              given = λ c l. subst (λ (b : Bool). All Tame (cond b (limited (r .gain) (floats places)) none c)) (sym e) (limited-tame (floats places) floats-finite 64 (r .rate) (g .rate) (lit≤ tt) (r .gain) (g .steady .gain) c l);
+              given = λ c l. subst (λ (b : Bool). All Tame (cond b (limited (r .gain) (floats places)) none c)) (sym e)
+                  (limited-tame (floats places) floats-finite 64 (r .rate) (g .rate) (lit≤ tt) (r .gain) (g .steady .gain) c l);
               blocks = 1;
               length = λ c l. ap (λ (b : Bool). length (cond b (limited (r .gain) (floats places)) none c)) e ∙ length-limited (r .gain) (floats places) c ∙ floats-long c l;
               all = ap (λ (b : Bool). 64 * 1 + cond b 0 (suc (r .pending))) e ∙ (omega arith);

@@ -139,7 +139,8 @@ module _ (L : Leaves) (B : Layout L) (F : Facts L B) where
       (slotted-ranged r (g .0), either (λ (m : L .Meta). L .counts m ≡ k) (started L (r .meta) && eqb (r .phase) 0) (F .counts-slot (r .position) (r .start) (r .meta) (g .0 .meta) ∙ g .1) (g .1))
 
   -- ---- a frame
-  framed-ranged : (f : Frame (L .Update)) → All (F .Checked) (f .updates) → (n t : ℕ) (r : State L) (m : L .Counts) → lackingFrom L n t (f .updates) m ≡ false → listed (r .rate) ≡ true → r .position + n ≤ 1099511627776 → Met m r → R (framed L f n t r .next)
+  framed-ranged : (f : Frame (L .Update)) → All (F .Checked) (f .updates) → (n t : ℕ) (r : State L) (m : L .Counts) → lackingFrom L n t (f .updates) m ≡ false
+      → listed (r .rate) ≡ true → r .position + n ≤ 1099511627776 → Met m r → R (framed L f n t r .next)
   framed-ranged f k zero t r m e l h g = g .0
   framed-ranged f k (suc n) t r m e l h g =
       let p = or-false (lacking L t (f .updates) m) (lackingFrom L n (suc t) (f .updates) (countsAfter L t (f .updates) m)) e in

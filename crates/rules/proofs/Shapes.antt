@@ -12,7 +12,7 @@ use Rattle.ieee.specs.Bounds.{All}
 use Rattle.rules.specs.Leaves.{Leaves, Shape, started}
 use Rattle.rules.specs.Mix.{Moment}
 use Rattle.rules.specs.Samples.{Frame, State, applied, updated, slotted, sampled, opened, pushed}
-use Rattle.rules.specs.Refusals.{Args, clear, _then_, unless, Sent, objectsMatch, countsAt, shapeAt, mixes, walk, later, none}
+use Rattle.rules.specs.Refusals.{Args, Found, clear, _then_, unless, Sent, objectsMatch, countsAt, shapeAt, mixes, walk, later, none}
 use Rattle.rules.specs.Calls.{frameOf}
 use Rattle.rules.specs.Block.{Layout}
 use Rattle.rules.specs.Claim.{begun, momentAt}
@@ -43,31 +43,35 @@ module _ (all : List Sent) (objects : ℕ) (codes : List ℕ) where
       go true e st = match-clear (u .shape) e
       go false e st = m st
 
+  abbrev counts : ℕ → Found
+  counts t = countsAt all objects codes t all
+
+  abbrev after : ℕ → Shape → Shape
+  after t s = shapeAt all objects codes t all s
+
   -- 11 for the updates of every sample
-  walked : (n t k : ℕ) (s : Shape) → walk all objects codes n t s ≡ clear → k < n → countsAt all objects codes (t + k) all ≡ clear
+  walked : (n t k : ℕ) (s : Shape) → walk all objects codes n t s ≡ clear → k < n → counts (t + k) ≡ clear
   walked zero t k s e h = absurd (not-suc-le-zero h)
-  walked (suc n) t zero s e h = ap (λ (u : ℕ). countsAt all objects codes u all) (let q : t + 0 ≡ t = omega arith in q) ∙ then-clear (countsAt all objects codes t all) (mixes all objects codes (shapeAt all objects codes t all s) then walk all objects codes n (suc t) (shapeAt all objects codes t all s)) e .0
+  walked (suc n) t zero s e h = ap counts (let q : t + 0 ≡ t = omega arith in q) ∙ then-clear (counts t) _ e .0
   walked (suc n) t (suc k) s e h =
-      let p = then-clear (countsAt all objects codes t all) (mixes all objects codes (shapeAt all objects codes t all s) then walk all objects codes n (suc t) (shapeAt all objects codes t all s)) e .1 in
-      ap (λ (u : ℕ). countsAt all objects codes u all) (let q : t + suc k ≡ suc t + k = omega arith in q)
-      ∙ walked n (suc t) k (shapeAt all objects codes t all s) (then-clear (mixes all objects codes (shapeAt all objects codes t all s)) (walk all objects codes n (suc t) (shapeAt all objects codes t all s)) p .1) (omega arith)
+      let p = then-clear (mixes all objects codes (after t s)) (walk all objects codes n (suc t) (after t s)) (then-clear (counts t) _ e .1) in
+      ap counts (let q : t + suc k ≡ suc t + k = omega arith in q) ∙ walked n (suc t) k (after t s) (p .1) (omega arith)
 
   record Judged (n : ℕ) (s : Shape) : Type 0 where
-    first : Matches (shapeAt all objects codes 0 all s)
-    then-all : (k : ℕ) → k < n → countsAt all objects codes k all ≡ clear
+    first : Matches (after 0 s)
+    then-all : (k : ℕ) → k < n → counts k ≡ clear
 
   judged : (n rate old : ℕ) (s : Shape) → later all objects codes n rate old s ≡ clear → Judged n s
   judged n rate old s e =
-      let first = shapeAt all objects codes 0 all s in
       let p1 = then-clear (unless (eqb old 0 || eqb old rate) 9 old rate) _ e .1 in
       let p2 = then-clear (unless (s .started || not (none all objects codes all)) 10 0 0) _ p1 .1 in
-      let p3 = then-clear (countsAt all objects codes 0 all) _ p2 .1 in
+      let p3 = then-clear (counts 0) _ p2 .1 in
       let p4 = then-clear (unless (not (eqb n 0)) 12 0 0) _ p3 .1 in
-      let p5 = then-clear (cond (first .started) (objectsMatch all objects codes first) clear) (walk all objects codes n 0 s) p4 in
-      record { first = go (first .started) refl (p5 .0); then-all = λ k h. ap (λ (u : ℕ). countsAt all objects codes u all) (let q : k ≡ 0 + k = omega arith in q) ∙ walked n 0 k s (p5 .1) h }
+      let p5 = then-clear (cond (after 0 s .started) (objectsMatch all objects codes (after 0 s)) clear) (walk all objects codes n 0 s) p4 in
+      record { first = go (after 0 s .started) refl (p5 .0); then-all = λ k h. ap counts (let q : k ≡ 0 + k = omega arith in q) ∙ walked n 0 k s (p5 .1) h }
     where
-      go : (b : Bool) → shapeAt all objects codes 0 all s .started ≡ b → cond b (objectsMatch all objects codes (shapeAt all objects codes 0 all s)) clear ≡ clear → Matches (shapeAt all objects codes 0 all s)
-      go true q e st = match-clear (shapeAt all objects codes 0 all s) e
+      go : (b : Bool) → after 0 s .started ≡ b → cond b (objectsMatch all objects codes (after 0 s)) clear ≡ clear → Matches (after 0 s)
+      go true q e st = match-clear (after 0 s) e
       go false q e st = absurd (subst T (sym st ∙ q) tt)
 
 module _ (L : Leaves) (B : Layout L) (F : Facts L B) where
@@ -75,15 +79,16 @@ module _ (L : Leaves) (B : Layout L) (F : Facts L B) where
   Sound r = F .Sound (r .meta)
 
   -- the shape that sample t is heard with
-  updated-shape : (all : List Sent) (objects : ℕ) (codes : List ℕ) (t : ℕ) (us : List (L .Update)) (r : State L) → All (F .Checked) us → Sound r → L .shape (updated L t us r .meta) ≡ shapeAt all objects codes t (sentOf L us) (L .shape (r .meta))
-  updated-shape all objects codes t [] r k s = refl
-  updated-shape all objects codes t (u ∷ us) r k s =
-      updated-shape all objects codes t us (cond (eqb (L .offset u) t) (applied L t u r) r) (k .1) (either Sound (eqb (L .offset u) t) {x = applied L t u r} {y = r} (F .sound-apply (r .position) u (r .meta) (k .0) s) s)
-      ∙ ap (shapeAt all objects codes t (sentOf L us)) (go (eqb (L .offset u) t))
-    where
-      go : (b : Bool) → L .shape (cond b (applied L t u r) r .meta) ≡ cond b (L .sent u) (L .shape (r .meta))
-      go true = F .shape-apply (r .position) u (r .meta) (k .0) s
-      go false = refl
+  module _ (all : List Sent) (objects : ℕ) (codes : List ℕ) (t : ℕ) where
+    updated-shape : (us : List (L .Update)) (r : State L) → All (F .Checked) us → Sound r → L .shape (updated L t us r .meta) ≡ shapeAt all objects codes t (sentOf L us) (L .shape (r .meta))
+    updated-shape [] r k s = refl
+    updated-shape (u ∷ us) r k s =
+        let x = either Sound (eqb (L .offset u) t) {x = applied L t u r} {y = r} (F .sound-apply (r .position) u (r .meta) (k .0) s) s in
+        updated-shape us (cond (eqb (L .offset u) t) (applied L t u r) r) (k .1) x ∙ ap (shapeAt all objects codes t (sentOf L us)) (go (eqb (L .offset u) t))
+      where
+        go : (b : Bool) → L .shape (cond b (applied L t u r) r .meta) ≡ cond b (L .sent u) (L .shape (r .meta))
+        go true = F .shape-apply (r .position) u (r .meta) (k .0) s
+        go false = refl
 
   slotted-shape : (r : State L) → Sound r → L .shape (slotted L r .meta) ≡ L .shape (r .meta)
   slotted-shape r s = go (started L (r .meta) && eqb (r .phase) 0)

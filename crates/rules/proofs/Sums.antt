@@ -139,11 +139,13 @@ one-more n = omega arith
 joined : {m n : ℕ} (ss ts : List sums.Term) → Fewer m ss → Fewer n ts → Fewer (m + n) (ss ++ ts)
 joined ss ts a b = let e = length-append ss ts in record { few = omega arith; small = all-append Small ss ts (a .small) (b .small) }
 
-fed-fewer : (ks : List Float) (code : ℕ) (codes : List ℕ) (f : Found) (inputs : ℕ → Float) → Judged code codes f → Modest ks → ((i : ℕ) → i < length codes → Bounded (16 * One) (inputs i)) → Fewer 19 (fedBy ks f inputs)
+fed-fewer : (ks : List Float) (code : ℕ) (codes : List ℕ) (f : Found) (inputs : ℕ → Float) → Judged code codes f → Modest ks
+    → ((i : ℕ) → i < length codes → Bounded (16 * One) (inputs i)) → Fewer 19 (fedBy ks f inputs)
 fed-fewer ks code codes (At i) inputs j m h = modest-by ks (inputs i) m (h i (j .0))
 fed-fewer ks code codes Nothing inputs j m h = record { few = lit≤ tt; small = tt }
 
-beds-fewer : (c : ℕ) (bs : List Bed) (codes : List ℕ) (inputs : ℕ → Float) → All (λ (b : Bed). T (between 0·0 8·0 (b .gain))) bs → ((i : ℕ) → i < length codes → Bounded (16 * One) (inputs i)) → Fewer (length bs * 19) (bedsOn c bs codes inputs)
+beds-fewer : (c : ℕ) (bs : List Bed) (codes : List ℕ) (inputs : ℕ → Float) → All (λ (b : Bed). T (between 0·0 8·0 (b .gain))) bs
+    → ((i : ℕ) → i < length codes → Bounded (16 * One) (inputs i)) → Fewer (length bs * 19) (bedsOn c bs codes inputs)
 beds-fewer c [] codes inputs g h = record { few = lit≤ tt; small = tt }
 beds-fewer c (b ∷ bs) codes inputs g h =
     subst (λ (n : ℕ). Fewer n (bedsOn c (b ∷ bs) codes inputs)) (one-more (length bs))

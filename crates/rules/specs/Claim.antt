@@ -66,6 +66,9 @@ module _ (L : Leaves) where
   begun r a t = started L (r .meta) || upTo t (L .updates (a .meta))
 
   pub record PushHolds (r : State L) (a : Args) : Type 0 where
+    -- whole blocks are ready, and the remainder waits
+    pub ready : length (pushed L (frameOf L a) r .given 0) + pushed L (frameOf L a) r .next .pending ≡ r .pending + a .samples
+    pub waits : pushed L (frameOf L a) r .next .pending < 64
     -- as many moments as samples, at the push's rate; the own samples are the PCM's; an object for each from the first update on, "silent samples pan no object"; what is fed is what the
     -- filter then remembers
     pub moments : length (pushed L (frameOf L a) r .moments) ≡ a .samples
