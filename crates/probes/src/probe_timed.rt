@@ -92,7 +92,11 @@ fn state_fits(s: MetadataRendererState, position: u64) -> bool
 }
 
 #[no_mangle]
-pub extern "C" fn probe_update_timeslot(s: MetadataRendererState, infos: &mut [u8], start: u64) -> MetadataRendererState
+pub extern "C" fn probe_update_timeslot(
+    s: MetadataRendererState,
+    infos: &mut [u8],
+    start: u64,
+) -> MetadataRendererState
     ensures { λ r. ⌜ IsTimed (slotAt start (record { state = s; infos = now (infos .entry) })) r (now (infos .exit)) ⊎ IsTimed (record { state = s; infos = now (infos .entry) }) r (now (infos .exit)) ⌝ }
 {
     if infos.len() != 22528 {
@@ -108,7 +112,13 @@ pub extern "C" fn probe_update_timeslot(s: MetadataRendererState, infos: &mut [u
 }
 
 #[no_mangle]
-pub extern "C" fn probe_apply_update(s: MetadataRendererState, infos: &mut [u8], meta: &[u8], i: usize, at: u64) -> MetadataRendererState
+pub extern "C" fn probe_apply_update(
+    s: MetadataRendererState,
+    infos: &mut [u8],
+    meta: &[u8],
+    i: usize,
+    at: u64,
+) -> MetadataRendererState
     ensures { λ r. ⌜ IsTimed (applied at (updateOf (now (meta .entry)) (updateAt (now (meta .entry)) i)) (record { state = s; infos = now (infos .entry) })) r (now (infos .exit)) ⊎ IsTimed (record { state = s; infos = now (infos .entry) }) r (now (infos .exit)) ⌝ }
 {
     if infos.len() != 22528 {

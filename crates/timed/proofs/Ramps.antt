@@ -4,11 +4,11 @@ use mathlib.Core.Path.{_≡_, sym, subst}
 use mathlib.Core.Bool.{Bool, true, false, cond}
 use mathlib.Core.List.{List}
 use lib.Dec.{T, ltb, leb}
-use lib.ListN.{getD, set}
+use lib.ListN.{getD}
 use native.Mathlib.Omega.{arith}
 use borrow.Author.Tests.{ltb-true, leb-false}
 use Rattle.timed.proofs.Keeps.{times-in, cond-keeps, set-each}
-use Rattle.timed.specs.Slot.{InTime, Ramps, InRange, Work, middle, noBlock, due, leftAfter, blockApplied, blockAt, blocksApplied, rampApplied, updatedSources}
+use Rattle.timed.specs.Slot.{Ramps, InRange, Work, middle, noBlock, due, blockApplied, blockAt, blocksApplied, rampApplied, updatedSources}
 use Rattle.timed.specs.declared.state.BlockState.{BlockState}
 use Rattle.timed.specs.declared.state.Track.{Track}
 use Rattle.timed.specs.declared.state.DynamicSourceState.{DynamicSourceState}

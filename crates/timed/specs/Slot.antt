@@ -1,8 +1,8 @@
 -- A slot of an element: `update_sources`. Offsets and ramps are kept plus 2 ^ 20, a remaining ramp plus 2 ^ 47, so that none is below 0; the timecode is the slot's start less
 -- the last applied update's stream position. Assumes nothing.
-use Prim.Native.Nat.{ℕ, zero, suc, _+_, _-_, _*_, _≤_, _<_}
+use Prim.Native.Nat.{ℕ, _+_, _-_, _*_, _≤_, _<_}
 use mathlib.Core.Path.{_≡_}
-use mathlib.Core.Bool.{Bool, true, false, not, _&&_, cond}
+use mathlib.Core.Bool.{Bool, true, false, cond}
 use mathlib.Core.List.{List}
 use lib.Dec.{eqb, leb, ltb}
 use lib.IntN.{pos}

@@ -1,6 +1,6 @@
--- What the loops over elements, objects and blocks need. Assumes nothing.
-use Prim.Native.Nat.{ℕ, zero, suc, _+_, _-_, _*_, _<_, _≤_}
-use mathlib.Core.Path.{_≡_, refl}
+-- What the proofs of the code cite: where records stand, the turn of an element, an applied update from its parts. Assumes nothing.
+use Prim.Native.Nat.{ℕ, suc, _+_, _-_, _*_, _<_}
+use mathlib.Core.Path.{_≡_}
 use mathlib.Core.Bool.{Bool, true, _&&_}
 use lib.Dec.{eqb}
 use lib.Ieee.{Float}

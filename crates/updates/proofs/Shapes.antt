@@ -1,11 +1,11 @@
 -- Refusal 7: the counts after an applied update are those that the judge leaves, and where the judge finds no lack each element has a flag for every dynamic object.
 -- Assumes nothing.
 use Prim.Native.Nat.{ℕ, zero, suc, _-_, _≤_, _<_}
-use mathlib.Core.Path.{_≡_, refl, sym, ap, _∙_}
+use mathlib.Core.Path.{_≡_, refl, sym, ap}
 use mathlib.Core.Bool.{Bool, true, false, _&&_, _||_, cond}
 use mathlib.Core.List.{List, [], _∷_}
 use lib.Dec.{eqb, ltb}
-use lib.ListN.{getD, set}
+use lib.ListN.{getD}
 use native.Mathlib.Omega.{arith}
 use borrow.Author.Tests.{ltb-false}
 use Rattle.fields.specs.declared.update.Header.{Header}
@@ -15,12 +15,11 @@ use Rattle.records.specs.Laid.{elementAt}
 use Rattle.timed.specs.Turns.{times}
 use Rattle.timed.specs.State.{Timed, elementOf, noElement}
 use Rattle.timed.specs.declared.state.ElementRendererState.{ElementRendererState}
-use Rattle.timed.specs.declared.state.MetadataRendererState.{MetadataRendererState}
 use Rattle.updates.specs.declared.shape.Shape.{Shape}
 use Rattle.updates.specs.declared.shape.Judged.{Judged}
 use Rattle.updates.specs.Said.{Update, updateOf}
-use Rattle.updates.specs.Applied.{Work, isKept, elementNext, elementGiven, elementsApplied, applied}
-use Rattle.updates.specs.Shape.{shapeOf, judgedElement, judgedAt, judgedCounts, judged, nextShape, lacks}
+use Rattle.updates.specs.Applied.{isKept, elementNext, elementGiven, elementsApplied, applied}
+use Rattle.updates.specs.Shape.{shapeOf, judgedElement, judgedAt, judged, nextShape, lacks}
 
 -- ---- the code's walk
 
@@ -62,10 +61,10 @@ walk-shape (suc (suc (suc n))) h same u objects elements a b is = let z : ⊥ = 
 pub shape-applied : (at : ℕ) (u : Update) (t : Timed) (a b : ElementRendererState) → t .state .states ≡ a ∷ b ∷ [] → u .elements ≤ 2 → shapeOf (applied at u t .state) ≡ nextShape u (shapeOf (t .state))
 unfolding applied judged elementsApplied
 shape-applied at u t a b e h =
-  let s = t .state in
-  let same = eqb (s .elements) (u .elements) && eqb (s .objects) (u .objects) in
-  let w = walk-shape (u .elements) h same u (s .objects) (s .elements) a b (t .infos) in
-  rw e (ap (λ (x : Shape). record { objects = u .objects; elements = u .elements; blocks = x .blocks; flags = x .flags }) (sym w))
+    let s = t .state in
+    let same = eqb (s .elements) (u .elements) && eqb (s .objects) (u .objects) in
+    let w = walk-shape (u .elements) h same u (s .objects) (s .elements) a b (t .infos) in
+    rw e (ap (λ (x : Shape). record { objects = u .objects; elements = u .elements; blocks = x .blocks; flags = x .flags }) (sym w))
 
 -- ---- flags
 
@@ -90,9 +89,9 @@ walk-flags zero h same u objects elements a b is l e i = let z : ⊥ = omega ari
 walk-flags (suc zero) h same u objects elements a b is l zero i = enough (isKept same (a .blocks) (u .element 0 .blocks)) (a .flags) (u .objects - u .isf) l
 walk-flags (suc zero) h same u objects elements a b is l (suc e) i = let z : ⊥ = omega arith in absurd z
 walk-flags (suc (suc zero)) h same u objects elements a b is l zero i =
-  enough (isKept same (a .blocks) (u .element 0 .blocks)) (a .flags) (u .objects - u .isf) (or-left _ _ l)
+    enough (isKept same (a .blocks) (u .element 0 .blocks)) (a .flags) (u .objects - u .isf) (or-left _ _ l)
 walk-flags (suc (suc zero)) h same u objects elements a b is l (suc zero) i =
-  enough (isKept same (b .blocks) (u .element 1 .blocks)) (b .flags) (u .objects - u .isf) (or-right (isKept same (a .blocks) (u .element 0 .blocks) && ltb (a .flags) (u .objects - u .isf)) _ l)
+    enough (isKept same (b .blocks) (u .element 1 .blocks)) (b .flags) (u .objects - u .isf) (or-right (isKept same (a .blocks) (u .element 0 .blocks) && ltb (a .flags) (u .objects - u .isf)) _ l)
 walk-flags (suc (suc zero)) h same u objects elements a b is l (suc (suc e)) i = let z : ⊥ = omega arith in absurd z
 walk-flags (suc (suc (suc n))) h same u objects elements a b is l e i = let z : ⊥ = omega arith in absurd z
 
@@ -101,6 +100,6 @@ pub flags-enough : (at : ℕ) (u : Update) (t : Timed) (a b : ElementRendererSta
     u .objects - u .isf ≤ elementOf (applied at u t .state) e .flags
 unfolding applied judged elementsApplied
 flags-enough at u t a b q h l e i =
-  let s = t .state in
-  let same = eqb (s .elements) (u .elements) && eqb (s .objects) (u .objects) in
-  rw q (walk-flags (u .elements) h same u (s .objects) (s .elements) a b (t .infos) (rw q at l) e i)
+    let s = t .state in
+    let same = eqb (s .elements) (u .elements) && eqb (s .objects) (u .objects) in
+    rw q (walk-flags (u .elements) h same u (s .objects) (s .elements) a b (t .infos) (rw q at l) e i)

@@ -1,5 +1,5 @@
 -- An applied update: `apply_update` and `apply_element`. Assumes nothing.
-use Prim.Native.Nat.{ℕ, _+_, _-_, _*_}
+use Prim.Native.Nat.{ℕ, _-_, _*_}
 use mathlib.Core.Path.{_≡_}
 use mathlib.Core.Bool.{Bool, true, false, not, _&&_, cond}
 use mathlib.Core.List.{List}
@@ -8,9 +8,8 @@ use lib.ListN.{getD, set, replicate}
 use lib.Ieee.{Float, binary32, ofBits}
 use Rattle.vectors.specs.Vectors.{0·0, zeroVec3}
 use Rattle.timed.specs.Turns.{times}
-use Rattle.timed.specs.Slot.{middle, noBlock}
+use Rattle.timed.specs.Slot.{middle}
 use Rattle.timed.specs.State.{Timed, noElement}
-use Rattle.timed.specs.declared.clock.StreamSample.{StreamSample}
 use Rattle.timed.specs.declared.state.BlockState.{BlockState}
 use Rattle.timed.specs.declared.state.Track.{Track}
 use Rattle.timed.specs.declared.state.DynamicSourceState.{DynamicSourceState}

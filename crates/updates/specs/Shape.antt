@@ -2,7 +2,7 @@
 -- update." Counts alone decide it, and what an update leaves of them depends on nothing else: so refusal 7 walks along the updates of a frame by counts. Assumes nothing.
 use Prim.Native.Nat.{ℕ, _-_}
 use mathlib.Core.Bool.{Bool, false, _&&_, _||_, cond}
-use mathlib.Core.List.{List, [], _∷_}
+use mathlib.Core.List.{[], _∷_}
 use lib.Dec.{eqb, ltb}
 use lib.ListN.{getD, set}
 use Rattle.timed.specs.Turns.{times}

@@ -1,7 +1,8 @@
+-- `probes::probe_timed::counts_fit`: one count after the other. Assumes nothing.
 use native.Mathlib.Omega.{arith}
-use Rattle.probes.proofs.Timed.{never}
 use borrow.Author.Tests.{leb-true}
 use borrow.Author.Needs.{needs}
+use Rattle.probes.proofs.Timed.{never}
 use Rattle.probes.proofs.probe_timed.counts_fit.Statement.{statement}
 use Rattle.probes.proofs.probe_timed.counts_fit.Tie as tie
 

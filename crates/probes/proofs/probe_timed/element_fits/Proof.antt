@@ -1,8 +1,9 @@
-use native.Mathlib.Omega.{arith}
-use Rattle.probes.proofs.Timed.{never}
+-- `probes::probe_timed::element_fits`: blocks, offsets, ramps and the remaining ramp. Assumes nothing.
 use Prim.Native.Nat.{_+_, _*_}
+use native.Mathlib.Omega.{arith}
 use borrow.Author.Tests.{not-false, leb-true}
 use borrow.Author.Needs.{needs}
+use Rattle.probes.proofs.Timed.{never}
 use Rattle.probes.proofs.probe_timed.element_fits.Statement.{statement}
 use Rattle.probes.proofs.probe_timed.element_fits.Tie as tie
 
@@ -28,7 +29,7 @@ add-result-2 : tie.Need-add-result-2
 add-result-2 c = search needs
 
 returns-4 : tie.Need-returns-4
-returns-4 c = 
+returns-4 c =
     λ q.
     let s = c .before .before .before .before .before .before .args in
     let f = c .before .before .schedule-fits .ensures (not-false (c .before .before .schedule-fits .result) (c .before .if2 .left)) in

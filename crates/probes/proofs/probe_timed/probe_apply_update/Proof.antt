@@ -1,12 +1,13 @@
+-- `probes::probe_timed::probe_apply_update`: the update of metadata that refusals 5 and 6 let pass, or nothing. Assumes nothing.
 use Prim.Native.Nat.{_<_}
-use mathlib.Core.Path.{_≡_, refl, sym, _∙_}
+use mathlib.Core.Path.{refl, sym, _∙_}
 use mathlib.Core.Logic.{inl, inr}
-use denote.Ref.{now}
 use native.Mathlib.Omega.{arith}
+use denote.Ref.{now}
 use borrow.Author.Tests.{not-false}
+use borrow.Author.Needs.{needs}
 use Rattle.records.specs.Laid.{count}
 use Rattle.updates.proofs.Passed.{passes}
-use borrow.Author.Needs.{needs}
 use Rattle.probes.proofs.probe_timed.probe_apply_update.Statement.{statement}
 use Rattle.probes.proofs.probe_timed.probe_apply_update.Tie as tie
 
@@ -35,7 +36,7 @@ array-read-apply-update : tie.Need-array-read-apply-update
 array-read-apply-update c = omega (arith, c .before .before .before .before .before .before .before .layout-of .ensures .few, c .before .before .before .before .before .before .before .layout-of .ensures .counted, c .before .before .if4 .left)
 
 apply-update-requires : tie.Need-apply-update-requires
-apply-update-requires c κs = 
+apply-update-requires c κs =
     let s = c .before .before .before .before .before .before .before .before .before .before .before .args in
     let g = c .before .before .before .before .before .before .before .layout-of .ensures in
     let one : s .i < count (now (s .meta)) = omega (arith, g .counted, c .before .before .if4 .left) in
@@ -47,7 +48,7 @@ same-length : tie.Need-same-length
 same-length c = search needs
 
 returns-5 : tie.Need-returns-5
-returns-5 c = 
+returns-5 c =
     let s = c .before .before .before .before .before .before .before .before .before .before .before .before .before .before .args in
     let g = c .before .before .before .before .before .before .before .before .before .before .layout-of .ensures in
     let one : s .i < count (now (s .meta)) = omega (arith, g .counted, c .before .before .before .before .before .if4 .left) in

@@ -1,6 +1,7 @@
-use native.Mathlib.Omega.{arith}
+-- `probes::probe_timed::probe_update_timeslot`: the slot, or nothing. Assumes nothing.
 use mathlib.Core.Path.{refl}
 use mathlib.Core.Logic.{inl, inr}
+use native.Mathlib.Omega.{arith}
 use borrow.Author.Tests.{not-false}
 use borrow.Author.Needs.{needs}
 use Rattle.probes.proofs.probe_timed.probe_update_timeslot.Statement.{statement}

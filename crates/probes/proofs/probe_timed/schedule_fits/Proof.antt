@@ -1,9 +1,10 @@
-use native.Mathlib.Omega.{arith}
-use borrow.Author.Needs.{needs}
-use Rattle.probes.proofs.Timed.{never}
+-- `probes::probe_timed::schedule_fits`: each block passed is within its ranges. Assumes nothing.
 use Prim.Native.Nat.{ℕ, _≤_, _<_, _-_}
+use native.Mathlib.Omega.{arith}
 use lib.ListN.{getD}
+use borrow.Author.Needs.{needs}
 use borrow.Author.Count.{below-more}
+use Rattle.probes.proofs.Timed.{never}
 use Rattle.timed.specs.Slot.{noBlock}
 use Rattle.probes.proofs.probe_timed.schedule_fits.Statement.{statement}
 use Rattle.probes.proofs.probe_timed.schedule_fits.Tie as tie
@@ -36,7 +37,7 @@ loop-less : tie.Need-loop-less Inv-loop μ-loop
 loop-less c = search needs
 
 loop-again : tie.Need-loop-again Inv-loop μ-loop
-loop-again c = 
+loop-again c =
     let s = c .before .before .before .before .before .before .before .args .t1 in
     let l = c .before .before .before .before .before .before .loop in
     (search needs, below-more (λ (k : ℕ). (getD s k noBlock .offset ≤ 2097152) × (getD s k noBlock .ramp ≤ 2097152)) (l .b) (l .inv .1) (search needs, search needs))

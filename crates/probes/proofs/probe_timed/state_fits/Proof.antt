@@ -1,10 +1,11 @@
-use native.Mathlib.Omega.{arith}
-use Rattle.probes.proofs.Timed.{never, two}
+-- `probes::probe_timed::state_fits`: the counts and both elements. Assumes nothing.
 use Prim.Native.Nat.{ℕ}
+use native.Mathlib.Omega.{arith}
 use borrow.Author.Tests.{not-false}
+use borrow.Author.Needs.{needs}
+use Rattle.probes.proofs.Timed.{never, two}
 use Rattle.timed.specs.Slot.{InRange}
 use Rattle.timed.specs.State.{elementOf}
-use borrow.Author.Needs.{needs}
 use Rattle.probes.proofs.probe_timed.state_fits.Statement.{statement}
 use Rattle.probes.proofs.probe_timed.state_fits.Tie as tie
 
@@ -33,7 +34,7 @@ element-fits-requires-2 : tie.Need-element-fits-requires-2
 element-fits-requires-2 c κs = search needs
 
 returns-4 : tie.Need-returns-4
-returns-4 c = 
+returns-4 c =
     λ q.
     let s = c .before .before .before .before .before .before .before .before .before .before .before .args in
     let k = c .before .before .before .before .before .before .before .before .before .before .counts-fit .ensures (not-false (c .before .before .before .before .before .before .before .before .before .before .counts-fit .result) (c .before .before .before .before .before .before .before .before .before .if1 .left)) in

@@ -1,3 +1,4 @@
+-- `timed::infos::anchor_of`: each code by its arm. Assumes nothing.
 use borrow.Author.Tests.{ne-eqb}
 use Rattle.timed.proofs.infos.anchor_of.Statement.{statement}
 use Rattle.timed.proofs.infos.anchor_of.Tie as tie

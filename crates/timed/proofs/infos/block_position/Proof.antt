@@ -1,5 +1,6 @@
-use Rattle.timed.specs.Infos.{blockPosition}
+-- `timed::infos::block_position`: the words of the info in order. Assumes nothing.
 use borrow.Author.Needs.{needs}
+use Rattle.timed.specs.Infos.{blockPosition}
 use Rattle.timed.proofs.infos.block_position.Statement.{statement}
 use Rattle.timed.proofs.infos.block_position.Tie as tie
 

@@ -1,5 +1,6 @@
-use Rattle.timed.specs.Infos.{maybeAt}
+-- `timed::infos::maybe_at`: by the flag in the head. Assumes nothing.
 use borrow.Author.Needs.{needs}
+use Rattle.timed.specs.Infos.{maybeAt}
 use Rattle.timed.proofs.infos.maybe_at.Statement.{statement}
 use Rattle.timed.proofs.infos.maybe_at.Tie as tie
 

@@ -1,5 +1,6 @@
-use Rattle.timed.specs.Infos.{withVec}
+-- `timed::infos::put_vec`: the three words in order. Assumes nothing.
 use borrow.Author.Needs.{needs}
+use Rattle.timed.specs.Infos.{withVec}
 use Rattle.timed.proofs.infos.put_vec.Statement.{statement}
 use Rattle.timed.proofs.infos.put_vec.Tie as tie
 

@@ -1,5 +1,6 @@
-use Rattle.timed.specs.Infos.{vecAt}
+-- `timed::infos::vec_at`: the three words in order. Assumes nothing.
 use borrow.Author.Needs.{needs}
+use Rattle.timed.specs.Infos.{vecAt}
 use Rattle.timed.proofs.infos.vec_at.Statement.{statement}
 use Rattle.timed.proofs.infos.vec_at.Tie as tie
 

@@ -1,11 +1,12 @@
-use borrow.Author.Needs.{needs}
+-- `timed::objects::bed_gains`: the turns left lead from the gains now to those at the end. Assumes nothing.
 use Prim.Native.Nat.{_≤_, _-_}
 use mathlib.Core.Path.{_≡_, refl, sym, _∙_}
 use native.Mathlib.Omega.{arith}
 use native.Mathlib.Numerals.{unary-clauses}
+use denote.Ref.{now}
+use borrow.Author.Needs.{needs}
 use Rattle.timed.proofs.Laws.{turn}
 use Rattle.timed.specs.Turns.{times}
-use denote.Ref.{now}
 use Rattle.timed.specs.Objects.{bedAt, bedGains}
 use Rattle.timed.proofs.objects.bed_gains.Statement.{statement}
 use Rattle.timed.proofs.objects.bed_gains.Tie as tie

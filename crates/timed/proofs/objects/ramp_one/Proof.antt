@@ -1,5 +1,6 @@
-use Rattle.timed.specs.Objects.{ramped}
+-- `timed::objects::ramp_one`: by the object's flag, its flag before, and whether it has a place. Assumes nothing.
 use borrow.Author.Needs.{needs}
+use Rattle.timed.specs.Objects.{ramped}
 use Rattle.timed.proofs.objects.ramp_one.Statement.{statement}
 use Rattle.timed.proofs.objects.ramp_one.Tie as tie
 

@@ -1,8 +1,8 @@
-use denote.Ref.{now}
-use Rattle.timed.proofs.Laws.{moved-by}
-use Rattle.timed.specs.Objects.{moved}
+-- `timed::objects::update_source_state`: by whether the position is valid and the ramp over; the info as the two stores leave it. Assumes nothing.
 use native.Mathlib.Omega.{arith}
+use denote.Ref.{now}
 use borrow.Author.Needs.{needs}
+use Rattle.timed.proofs.Laws.{moved-by}
 use Rattle.timed.proofs.objects.update_source_state.Statement.{statement}
 use Rattle.timed.proofs.objects.update_source_state.Tie as tie
 

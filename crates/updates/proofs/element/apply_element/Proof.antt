@@ -1,3 +1,4 @@
+-- `updates::element::apply_element`: from what is kept and what is stored. Assumes nothing.
 use borrow.Author.Needs.{needs}
 use Rattle.updates.proofs.element.apply_element.Statement.{statement}
 use Rattle.updates.proofs.element.apply_element.Tie as tie

@@ -1,3 +1,4 @@
+-- `updates::element::is_kept`: by `same`. Assumes nothing.
 use borrow.Author.Needs.{needs}
 use Rattle.updates.proofs.element.is_kept.Statement.{statement}
 use Rattle.updates.proofs.element.is_kept.Tie as tie

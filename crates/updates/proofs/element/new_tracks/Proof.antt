@@ -1,3 +1,4 @@
+-- `updates::element::new_tracks`: sixteen times one track. Assumes nothing.
 use borrow.Author.Needs.{needs}
 use Rattle.updates.proofs.element.new_tracks.Statement.{statement}
 use Rattle.updates.proofs.element.new_tracks.Tie as tie

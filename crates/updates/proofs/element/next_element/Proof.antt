@@ -1,5 +1,6 @@
-use Rattle.updates.specs.Applied.{elementNext}
+-- `updates::element::next_element`: by whether the element is kept. Assumes nothing.
 use borrow.Author.Needs.{needs}
+use Rattle.updates.specs.Applied.{elementNext}
 use Rattle.updates.proofs.element.next_element.Statement.{statement}
 use Rattle.updates.proofs.element.next_element.Tie as tie
 

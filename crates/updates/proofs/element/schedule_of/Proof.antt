@@ -1,11 +1,12 @@
-use borrow.Author.Needs.{needs}
+-- `updates::element::schedule_of`: the turns left lead from the schedule now to that at the end; offsets and ramps fit their words. Assumes nothing.
 use Prim.Native.Nat.{_≤_, _-_}
-use mathlib.Core.Path.{_≡_, refl, sym, _∙_}
+use mathlib.Core.Path.{_≡_, sym, _∙_}
 use native.Mathlib.Omega.{arith}
 use native.Mathlib.Numerals.{unary-clauses}
+use denote.Ref.{now}
+use borrow.Author.Needs.{needs}
 use Rattle.timed.proofs.Laws.{turn, ended}
 use Rattle.timed.specs.Turns.{times}
-use denote.Ref.{now}
 use Rattle.updates.specs.Said.{elementOf}
 use Rattle.updates.specs.Applied.{blockGiven, scheduled}
 use Rattle.updates.proofs.element.schedule_of.Statement.{statement}

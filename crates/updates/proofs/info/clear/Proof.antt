@@ -1,5 +1,6 @@
-use Rattle.updates.specs.Stored.{cleared}
+-- `updates::info::clear`: by whether the info is new. Assumes nothing.
 use borrow.Author.Needs.{needs}
+use Rattle.updates.specs.Stored.{cleared}
 use Rattle.updates.proofs.info.clear.Statement.{statement}
 use Rattle.updates.proofs.info.clear.Tie as tie
 

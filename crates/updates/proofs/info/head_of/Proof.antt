@@ -1,3 +1,4 @@
+-- `updates::info::head_of`: by whether the object is a bed or ISF. Assumes nothing.
 use borrow.Author.Needs.{needs}
 use Rattle.updates.proofs.info.head_of.Statement.{statement}
 use Rattle.updates.proofs.info.head_of.Tie as tie

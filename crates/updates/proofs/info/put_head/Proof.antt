@@ -1,5 +1,6 @@
-use Rattle.updates.specs.Stored.{withHead}
+-- `updates::info::put_head`: the five words in order. Assumes nothing.
 use borrow.Author.Needs.{needs}
+use Rattle.updates.specs.Stored.{withHead}
 use Rattle.updates.proofs.info.put_head.Statement.{statement}
 use Rattle.updates.proofs.info.put_head.Tie as tie
 

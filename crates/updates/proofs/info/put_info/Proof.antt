@@ -1,5 +1,6 @@
-use Rattle.updates.specs.Stored.{withInfo}
+-- `updates::info::put_info`: the three stores in order. Assumes nothing.
 use borrow.Author.Needs.{needs}
+use Rattle.updates.specs.Stored.{withInfo}
 use Rattle.updates.proofs.info.put_info.Statement.{statement}
 use Rattle.updates.proofs.info.put_info.Tie as tie
 

@@ -1,7 +1,8 @@
-use borrow.Author.Tests.{eq-eqb, ne-eqb}
+-- `updates::info::put_place`: by the position's flag. Assumes nothing.
 use Prim.Native.Nat.{_/_, _%_}
-use Rattle.updates.specs.Stored.{withPlace}
+use borrow.Author.Tests.{eq-eqb, ne-eqb}
 use borrow.Author.Needs.{needs}
+use Rattle.updates.specs.Stored.{withPlace}
 use Rattle.updates.proofs.info.put_place.Statement.{statement}
 use Rattle.updates.proofs.info.put_place.Tie as tie
 

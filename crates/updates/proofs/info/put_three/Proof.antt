@@ -1,5 +1,6 @@
-use Rattle.updates.specs.Stored.{withThree}
+-- `updates::info::put_three`: the three words in order. Assumes nothing.
 use borrow.Author.Needs.{needs}
+use Rattle.updates.specs.Stored.{withThree}
 use Rattle.updates.proofs.info.put_three.Statement.{statement}
 use Rattle.updates.proofs.info.put_three.Tie as tie
 

@@ -1,12 +1,12 @@
-use borrow.Author.Needs.{needs}
-use Prim.Native.Nat.{_≤_, _-_}
+-- `updates::shape::judge`: the turns left lead from the counts now to those at the end; p is the record of element e. Assumes nothing.
+use Prim.Native.Nat.{_≤_, _-_, _<_}
 use mathlib.Core.Path.{_≡_, refl, sym, _∙_}
 use native.Mathlib.Omega.{arith}
 use native.Mathlib.Numerals.{unary-clauses}
+use denote.Ref.{now}
+use borrow.Author.Needs.{needs}
 use Rattle.timed.proofs.Laws.{turn, ended}
 use Rattle.timed.specs.Turns.{times}
-use denote.Ref.{now}
-use Prim.Native.Nat.{_<_}
 use Rattle.fields.specs.Update.{objects, elements}
 use Rattle.records.specs.Laid.{elementAt}
 use Rattle.updates.specs.Whole.{WholeElement}
@@ -14,14 +14,6 @@ use Rattle.updates.proofs.Laws.{element-more}
 use Rattle.updates.proofs.Shapes.{judgedGiven, judge-done}
 use Rattle.updates.proofs.shape.judge.Statement.{statement}
 use Rattle.updates.proofs.shape.judge.Tie as tie
-use Rattle.updates.proofs.shape.judge.Reads as reads
-use Rattle.updates.proofs.shape.judge.Lts as lts
-use Rattle.fields.proofs.block.blocks_at.Reads as blocks-at-reads
-use Rattle.fields.proofs.update.header_at.Reads as header-at-reads
-use Rattle.records.proofs.layout.element_after.Reads as element-after-reads
-use Rattle.timed.proofs.state.dynamic.Reads as dynamic-reads
-use Rattle.updates.proofs.shape.judge_element.Reads as judge-element-reads
-use Rattle.updates.proofs.update.same_counts.Reads as same-counts-reads
 
 abbrev Inv-loop : tie.InvT-loop
 Inv-loop meta u objects n dynamic same next₀ p₀ e₀ next p e = (e ≤ n) × ((p ≡ elementAt meta u e) × (times (n - e) e (judgedGiven meta u dynamic same) next ≡ times n 0 (judgedGiven meta u dynamic same) next₀))
@@ -52,7 +44,7 @@ loop-holds c = (search needs, (refl, simp unary-clauses))
 
 -- src/shape.rt:114:39
 blocks-at-requires : tie.Need-blocks-at-requires Inv-loop μ-loop
-blocks-at-requires c κs = 
+blocks-at-requires c κs =
     let s = c .before .before .before .before .before .before .args in
     let l = c .before .loop in
     let h = c .before .before .before .before .before .before .pre in
@@ -63,7 +55,7 @@ blocks-at-requires c κs =
 
 -- src/shape.rt:114:9
 judge-element-requires : tie.Need-judge-element-requires Inv-loop μ-loop
-judge-element-requires c κs = 
+judge-element-requires c κs =
     let s = c .before .before .before .before .before .before .before .args in
     let l = c .before .before .loop in
     let h = c .before .before .before .before .before .before .before .pre in
@@ -74,7 +66,7 @@ judge-element-requires c κs =
 
 -- src/shape.rt:115:9
 element-after-requires : tie.Need-element-after-requires Inv-loop μ-loop
-element-after-requires c κs = 
+element-after-requires c κs =
     let s = c .before .before .before .before .before .before .before .before .args in
     let l = c .before .before .before .loop in
     let h = c .before .before .before .before .before .before .before .before .pre in
@@ -85,7 +77,7 @@ element-after-requires c κs =
 
 -- src/shape.rt:116:9
 add-e : tie.Need-add-e Inv-loop μ-loop
-add-e c = 
+add-e c =
     let s = c .before .before .before .before .before .before .before .before .before .args in
     let l = c .before .before .before .before .loop in
     let h = c .before .before .before .before .before .before .before .before .before .pre in
@@ -100,19 +92,23 @@ loop-less c = search needs
 
 -- src/shape.rt:113:5
 loop-again : tie.Need-loop-again Inv-loop μ-loop
-loop-again c = 
+loop-again c =
     let s = c .before .before .before .before .before .before .before .before .before .args in
     let l = c .before .before .before .before .loop in
     let h = c .before .before .before .before .before .before .before .before .before .pre in
     let q : c .before .before .before .before .before .before .before .header-at .result .elements ≡ elements (now (s .meta)) (s .u) = rw (c .before .before .before .before .before .before .before .header-at .ensures) in
     let i : l .e < elements (now (s .meta)) (s .u) = omega (arith, q, c .before .before .before .loop-test) in
-    let w : WholeElement (now (s .meta)) (objects (now (s .meta)) (s .u)) (l .p) = rw (l .inv .1 .0) (h .each (l .e) i) in
-    (search needs, (c .element-after .ensures ∙ rw (c .before .before .before .before .before .before .before .header-at .ensures, l .inv .1 .0, element-more),
-    rw (c .before .judge-element .ensures, c .before .before .blocks-at .ensures .0, l .inv .1 .0) (sym (turn (c .before .before .before .before .before .before .before .header-at .result .elements) (l .e) (judgedGiven (now (s .meta)) (s .u) (c .before .before .before .before .before .before .dynamic .result) (c .before .before .before .before .before .same-counts .result)) (l .next) (omega (arith, c .before .before .before .loop-test))) ∙ l .inv .1 .1)))
+    let w : WholeElement (now (s .meta)) (objects (now (s .meta)) (s .u)) (l .p) = rw (l .inv .1 .0) (h .each (l .e) i) in (
+      search needs,
+      (
+        c .element-after .ensures ∙ rw (c .before .before .before .before .before .before .before .header-at .ensures, l .inv .1 .0, element-more),
+        rw (c .before .judge-element .ensures, c .before .before .blocks-at .ensures .0, l .inv .1 .0) (sym (turn (c .before .before .before .before .before .before .before .header-at .result .elements) (l .e) (judgedGiven (now (s .meta)) (s .u) (c .before .before .before .before .before .before .dynamic .result) (c .before .before .before .before .before .same-counts .result)) (l .next) (omega (arith, c .before .before .before .loop-test))) ∙ l .inv .1 .1),
+      ),
+    )
 
 -- src/shape.rt:98:1
 returns : tie.Need-returns Inv-loop μ-loop
-returns c = 
+returns c =
     let s = c .before .before .before .before .before .before .before .before .before .args in
     let l = c .before .before .before .before .loop in
     let g = c .before .before .before .before .before .before .before .header-at in

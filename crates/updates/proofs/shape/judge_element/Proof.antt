@@ -1,12 +1,7 @@
+-- `updates::shape::judge_element`: the counts from their parts. Assumes nothing.
 use borrow.Author.Needs.{needs}
 use Rattle.updates.proofs.shape.judge_element.Statement.{statement}
 use Rattle.updates.proofs.shape.judge_element.Tie as tie
-use Rattle.updates.proofs.shape.judge_element.Reads as reads
-use Rattle.updates.proofs.shape.judge_element.Lts as lts
-use Rattle.updates.proofs.element.is_kept.Reads as is-kept-reads
-use Rattle.updates.proofs.shape.both.Reads as both-reads
-use Rattle.updates.proofs.shape.either.Reads as either-reads
-use Rattle.updates.proofs.shape.next_flags.Reads as next-flags-reads
 
 -- src/shape.rt:81:15
 mul-was : tie.Need-mul-was

@@ -1,13 +1,13 @@
-use borrow.Author.Needs.{needs}
+-- `updates::update::apply_elements`: the turns left lead from elements and infos now to those at the end; p is the record of element e. Assumes nothing.
 use Prim.Native.Nat.{_≤_, _-_}
-use mathlib.Core.Path.{_≡_, refl, sym, _∙_}
+use mathlib.Core.Path.{_≡_, refl, sym, _∙_, ap}
 use native.Mathlib.Omega.{arith}
 use native.Mathlib.Numerals.{unary-clauses}
+use lib.ListN.{length}
+use denote.Ref.{now}
+use borrow.Author.Needs.{needs}
 use Rattle.timed.proofs.Laws.{turn, ended}
 use Rattle.timed.specs.Turns.{times}
-use denote.Ref.{now}
-use mathlib.Core.Path.{ap}
-use lib.ListN.{length}
 use Rattle.records.specs.Laid.{elementAt}
 use Rattle.updates.specs.Whole.{WholeElement}
 use Rattle.updates.specs.Said.{updateOf}

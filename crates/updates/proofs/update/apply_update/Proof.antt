@@ -1,8 +1,9 @@
+-- `updates::update::apply_update`: the state from its parts. Assumes nothing.
 use mathlib.Core.Path.{_∙_}
-use denote.Ref.{now}
 use native.Mathlib.Omega.{arith}
-use Rattle.updates.proofs.Laws.{update-done}
+use denote.Ref.{now}
 use borrow.Author.Needs.{needs}
+use Rattle.updates.proofs.Laws.{update-done}
 use Rattle.updates.proofs.update.apply_update.Statement.{statement}
 use Rattle.updates.proofs.update.apply_update.Tie as tie
 

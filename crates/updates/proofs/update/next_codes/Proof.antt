@@ -1,11 +1,12 @@
-use borrow.Author.Needs.{needs}
+-- `updates::update::next_codes`: the turns left lead from the codes now to those at the end. Assumes nothing.
 use Prim.Native.Nat.{_≤_, _-_}
-use mathlib.Core.Path.{_≡_, refl, sym, _∙_}
+use mathlib.Core.Path.{_≡_, sym, _∙_}
 use native.Mathlib.Omega.{arith}
 use native.Mathlib.Numerals.{unary-clauses}
+use denote.Ref.{now}
+use borrow.Author.Needs.{needs}
 use Rattle.timed.proofs.Laws.{turn, ended}
 use Rattle.timed.specs.Turns.{times}
-use denote.Ref.{now}
 use Rattle.updates.specs.Applied.{codeGiven, codesGiven}
 use Rattle.updates.specs.Said.{updateOf}
 use Rattle.updates.proofs.update.next_codes.Statement.{statement}

@@ -1,3 +1,4 @@
+-- `updates::update::next_gains`: by whether their number changes. Assumes nothing.
 use borrow.Author.Tests.{eq-eqb, ne-eqb}
 use Rattle.updates.specs.Applied.{nextGains}
 use Rattle.updates.proofs.update.next_gains.Statement.{statement}

@@ -1,6 +1,7 @@
+-- `updates::update::next_sources`: by whether their number changes. Assumes nothing.
 use borrow.Author.Tests.{eq-eqb, ne-eqb}
-use Rattle.updates.specs.Applied.{nextSources}
 use borrow.Author.Needs.{needs}
+use Rattle.updates.specs.Applied.{nextSources}
 use Rattle.updates.proofs.update.next_sources.Statement.{statement}
 use Rattle.updates.proofs.update.next_sources.Tie as tie
 

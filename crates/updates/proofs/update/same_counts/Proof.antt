@@ -1,3 +1,4 @@
+-- `updates::update::same_counts`: by the elements, then the objects. Assumes nothing.
 use borrow.Author.Tests.{eq-eqb, ne-eqb}
 use Rattle.updates.proofs.update.same_counts.Statement.{statement}
 use Rattle.updates.proofs.update.same_counts.Tie as tie

@@ -1,12 +1,13 @@
-use denote.Ref.{now}
-use borrow.Author.Needs.{needs}
+-- `timed::objects::Moving::apply_block`: the turns left lead from objects and infos now to those at the end. Assumes nothing.
 use Prim.Native.Nat.{_≤_, _-_}
 use mathlib.Core.Path.{_≡_, refl, sym, _∙_, ap}
 use native.Mathlib.Omega.{arith}
 use native.Mathlib.Numerals.{unary-clauses}
+use lib.ListN.{length}
+use denote.Ref.{now}
+use borrow.Author.Needs.{needs}
 use Rattle.timed.proofs.Laws.{turn}
 use Rattle.timed.specs.Turns.{times}
-use lib.ListN.{length}
 use Rattle.timed.specs.Objects.{movedAt, movedAll, Work}
 use Rattle.timed.proofs.objects.Moving.apply_block.Statement.{statement}
 use Rattle.timed.proofs.objects.Moving.apply_block.Tie as tie

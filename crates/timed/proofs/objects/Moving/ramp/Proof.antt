@@ -1,8 +1,9 @@
-use borrow.Author.Needs.{needs}
+-- `timed::objects::Moving::ramp`: the turns left lead from the objects now to those at the end. Assumes nothing.
 use Prim.Native.Nat.{_≤_, _-_}
 use mathlib.Core.Path.{_≡_, refl, sym, _∙_}
 use native.Mathlib.Omega.{arith}
 use native.Mathlib.Numerals.{unary-clauses}
+use borrow.Author.Needs.{needs}
 use Rattle.timed.proofs.Laws.{turn}
 use Rattle.timed.specs.Turns.{times}
 use Rattle.timed.specs.Objects.{rampedAt, rampedAll}

@@ -1,6 +1,7 @@
+-- `timed::slot::Slot::apply_block`: every info that is reached is one of the 512. Assumes nothing.
 use native.Mathlib.Omega.{arith}
-use Rattle.timed.specs.Slot.{blockApplied}
 use borrow.Author.Needs.{needs}
+use Rattle.timed.specs.Slot.{blockApplied}
 use Rattle.timed.proofs.slot.Slot.apply_block.Statement.{statement}
 use Rattle.timed.proofs.slot.Slot.apply_block.Tie as tie
 

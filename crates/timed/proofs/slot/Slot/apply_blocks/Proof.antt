@@ -1,14 +1,14 @@
-use mathlib.Core.Logic.{⊎-elim}
-use borrow.Author.Needs.{needs}
+-- `timed::slot::Slot::apply_blocks`: the turns left lead from the slot now to that at the end, where a block is due and where not. Assumes nothing.
 use Prim.Native.Nat.{_≤_, _-_}
-use mathlib.Core.Path.{_≡_, refl, sym, _∙_}
+use mathlib.Core.Logic.{⊎-elim}
+use mathlib.Core.Path.{_≡_, refl, sym, _∙_, ap}
 use native.Mathlib.Omega.{arith}
 use native.Mathlib.Numerals.{unary-clauses}
+use lib.ListN.{length}
+use denote.Ref.{now}
+use borrow.Author.Needs.{needs}
 use Rattle.timed.proofs.Laws.{turn}
 use Rattle.timed.specs.Turns.{times}
-use mathlib.Core.Path.{ap}
-use denote.Ref.{now}
-use lib.ListN.{length}
 use Rattle.timed.specs.Slot.{Work, blockAt, blocksApplied}
 use Rattle.timed.proofs.slot.Slot.apply_blocks.Statement.{statement}
 use Rattle.timed.proofs.slot.Slot.apply_blocks.Tie as tie

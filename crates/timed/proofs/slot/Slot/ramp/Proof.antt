@@ -1,6 +1,7 @@
+-- `timed::slot::Slot::ramp`: by whether a ramp remains. Assumes nothing.
 use borrow.Author.Tests.{le-leb, lt-leb}
-use Rattle.timed.specs.Slot.{rampApplied}
 use borrow.Author.Needs.{needs}
+use Rattle.timed.specs.Slot.{rampApplied}
 use Rattle.timed.proofs.slot.Slot.ramp.Statement.{statement}
 use Rattle.timed.proofs.slot.Slot.ramp.Tie as tie
 

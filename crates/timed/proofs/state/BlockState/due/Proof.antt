@@ -1,3 +1,4 @@
+-- `timed::state::BlockState::due`: a used block is not due. Assumes nothing.
 use borrow.Author.Needs.{needs}
 use Rattle.timed.proofs.state.BlockState.due.Statement.{statement}
 use Rattle.timed.proofs.state.BlockState.due.Tie as tie

@@ -1,6 +1,7 @@
+-- `timed::state::ElementRendererState::active`: by the number of blocks. Assumes nothing.
 use borrow.Author.Tests.{eq-eqb, ne-eqb}
-use Rattle.timed.specs.Slot.{active}
 use borrow.Author.Needs.{needs}
+use Rattle.timed.specs.Slot.{active}
 use Rattle.timed.proofs.state.ElementRendererState.active.Statement.{statement}
 use Rattle.timed.proofs.state.ElementRendererState.active.Tie as tie
 

@@ -1,5 +1,6 @@
-use Rattle.timed.specs.Slot.{begins}
+-- `timed::state::ElementRendererState::begins`: an element that does nothing does not begin. Assumes nothing.
 use borrow.Author.Needs.{needs}
+use Rattle.timed.specs.Slot.{begins}
 use Rattle.timed.proofs.state.ElementRendererState.begins.Statement.{statement}
 use Rattle.timed.proofs.state.ElementRendererState.begins.Tie as tie
 

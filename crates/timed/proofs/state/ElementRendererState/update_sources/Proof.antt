@@ -1,7 +1,8 @@
+-- `timed::state::ElementRendererState::update_sources`: the blocks keep the remaining ramp within its range. Assumes nothing.
 use native.Mathlib.Omega.{arith}
+use borrow.Author.Needs.{needs}
 use Rattle.timed.specs.Slot.{updatedSources}
 use Rattle.timed.proofs.Ramps.{blocks-ramps}
-use borrow.Author.Needs.{needs}
 use Rattle.timed.proofs.state.ElementRendererState.update_sources.Statement.{statement}
 use Rattle.timed.proofs.state.ElementRendererState.update_sources.Tie as tie
 

@@ -1,6 +1,7 @@
-use borrow.Author.Needs.{needs}
+-- `timed::state::MetadataRendererState::element_at`: the search from i on finds what the whole search finds. Assumes nothing.
 use Prim.Native.Nat.{_≤_}
 use mathlib.Core.Path.{_≡_, refl, sym, _∙_}
+use borrow.Author.Needs.{needs}
 use Rattle.timed.specs.State.{taken}
 use Rattle.timed.proofs.Slots.{taken-more}
 use Rattle.timed.proofs.state.MetadataRendererState.element_at.Statement.{statement}

@@ -1,8 +1,8 @@
-use denote.Ref.{now}
-use Rattle.timed.proofs.Slots.{slot-left}
+-- `timed::state::MetadataRendererState::slot_of`: where the element finds its infos follows from the counts. Assumes nothing.
 use native.Mathlib.Omega.{arith}
-use Rattle.timed.specs.State.{slotOf}
+use denote.Ref.{now}
 use borrow.Author.Needs.{needs}
+use Rattle.timed.proofs.Slots.{slot-left}
 use Rattle.timed.proofs.state.MetadataRendererState.slot_of.Statement.{statement}
 use Rattle.timed.proofs.state.MetadataRendererState.slot_of.Tie as tie
 

@@ -1,9 +1,10 @@
-use native.Mathlib.Omega.{arith}
-use denote.Ref.{now}
+-- `timed::state::MetadataRendererState::update_timeslot`: by whether there is an element, and whether it does anything. Assumes nothing.
 use Prim.Native.Nat.{_<_}
 use mathlib.Core.Path.{sym, _∙_}
-use Rattle.timed.proofs.Slots.{taken-low, slot-empty, slot-idle, slot-moves}
+use native.Mathlib.Omega.{arith}
+use denote.Ref.{now}
 use borrow.Author.Needs.{needs}
+use Rattle.timed.proofs.Slots.{taken-low, slot-empty, slot-idle, slot-moves}
 use Rattle.timed.proofs.state.MetadataRendererState.update_timeslot.Statement.{statement}
 use Rattle.timed.proofs.state.MetadataRendererState.update_timeslot.Tie as tie
 
