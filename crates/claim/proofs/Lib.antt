@@ -4,3 +4,7 @@ pub mod SlotInfos
 pub mod Infos
 pub mod Checked
 pub mod Applied
+pub mod Shapes
+pub mod Blank
+pub mod Blocks
+pub mod Theorem
