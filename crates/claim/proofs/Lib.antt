@@ -1,3 +1,4 @@
 pub mod Sound
 pub mod SlotShape
 pub mod SlotInfos
+pub mod SlotObjects
