@@ -2,3 +2,4 @@ pub mod Sound
 pub mod SlotShape
 pub mod SlotInfos
 pub mod SlotObjects
+pub mod SlotState
