@@ -3,3 +3,4 @@ pub mod SlotShape
 pub mod SlotInfos
 pub mod SlotObjects
 pub mod SlotState
+pub mod SlotSound
