@@ -4,3 +4,4 @@ pub mod SlotInfos
 pub mod SlotObjects
 pub mod SlotState
 pub mod SlotSound
+pub mod SlotWithin
