@@ -1,16 +1,14 @@
 -- A slot gives beds and objects no gain and no size but those that they or the infos hold, and no place but f32 values: whatever holds of every gain (`G`) and every size (`Z`) still does.
 -- Assumes nothing.
 use Prim.Native.Nat.{ℕ, _+_, _*_, _<_, _≤_}
-use mathlib.Core.Path.{_≡_, refl}
-use mathlib.Core.Bool.{Bool, true, _&&_}
+use mathlib.Core.Path.{_≡_}
+use mathlib.Core.Bool.{Bool, _&&_}
 use mathlib.Core.List.{List}
 use native.Mathlib.Omega.{arith}
-use lib.Dec.{leb}
 use lib.ListN.{getD}
 use lib.Ieee.{Float, nan, binary32}
 use lib.Ieee.Bits.{ofBits-fits}
 use Rattle.words.specs.Words.{floatAt}
-use Rattle.vectors.specs.declared.Vec3.{Vec3}
 use Rattle.vectors.specs.declared.Maybe.{Maybe}
 use Rattle.vectors.specs.declared.Maybe.the-variants.{Absent, Value}
 use Rattle.vectors.specs.Vectors.{lerpVec3}
@@ -127,13 +125,13 @@ module _ (G Z : Float → Type 0) where
   ramped-all-has t before count m l h =
       times-in (MovingHas G Z) (rampedAt t before) 16
       (λ d w b k.
-          let last = getD before d noTrack .now in
-          let track = getD (w .tracks) d noTrack in
-          let s = getD (w .sources) d noSource in
-          record {
-            sources = set-each (λ i x. i < 16 → SourceHas G Z x) (w .sources) d (ramped t last track s) noSource (λ _. ramped-has G Z t last track s (k .sources d b) (k .targets d b)) (k .sources);
-            targets = k .targets;
-          })
+      let last = getD before d noTrack .now in
+      let track = getD (w .tracks) d noTrack in
+      let s = getD (w .sources) d noSource in
+      record {
+        sources = set-each (λ i x. i < 16 → SourceHas G Z x) (w .sources) d (ramped t last track s) noSource (λ _. ramped-has G Z t last track s (k .sources d b) (k .targets d b)) (k .sources);
+        targets = k .targets;
+      })
       count 0 (omega arith) m h
 
   pub bed-gains-have : (is : List ℕ) (first count : ℕ) (gs : List Float) → count ≤ 18 → InfosHave G Z is → ((i : ℕ) → i < 18 → G (getD gs i nan)) → (i : ℕ) → i < 18 → G (getD (bedGains is first count gs) i nan)

@@ -13,7 +13,6 @@ use Rattle.timed.specs.Objects.{noSource, noTrack}
 use Rattle.timed.specs.Slot.{Work, noBlock, middle, due, leftAfter, share, blockApplied, blockAt, blocksApplied, rampApplied, active, updatedSources}
 use Rattle.timed.specs.State.{Timed, noElement, elementOf, timingOf, reachOf, taken, slotOf, slotAt}
 use Rattle.timed.specs.declared.state.Track.{Track}
-use Rattle.timed.specs.declared.state.ElementRendererState.{ElementRendererState}
 use Rattle.timed.specs.declared.state.MetadataRendererState.{MetadataRendererState}
 use Rattle.timed.specs.declared.slot.Slot.{Slot}
 use Rattle.timed.specs.declared.slot.Timing.{Timing}
@@ -66,8 +65,8 @@ module _ (G Z : Float → Type 0) where
   ramp-has before n s l h =
       cond-keeps (SlotHas G Z) (leb (s .remaining) middle) s _ (λ _. h)
       (λ _.
-          let m = ramped-all-has G Z (share (s .remaining)) before n (record { sources = s .sources; tracks = s .tracks }) l (h .moving) in
-          record { gains = h .gains; moving = record { sources = m .sources; targets = h .moving .targets } })
+      let m = ramped-all-has G Z (share (s .remaining)) before n (record { sources = s .sources; tracks = s .tracks }) l (h .moving) in
+      record { gains = h .gains; moving = record { sources = m .sources; targets = h .moving .targets } })
 
   -- ---- the state
 
@@ -88,7 +87,7 @@ module _ (G Z : Float → Type 0) where
         gains = l .gains;
         sources = l .moving .sources;
         targets =
-          set-each (λ j x. j < 2 → (d : ℕ) → d < 16 → VecFits (getD (x .tracks) d noTrack .future)) (s .states) i f noElement (λ _. l .moving .targets) (h .targets);
+            set-each (λ j x. j < 2 → (d : ℕ) → d < 16 → VecFits (getD (x .tracks) d noTrack .future)) (s .states) i f noElement (λ _. l .moving .targets) (h .targets);
       }
 
 -- an element that has its slot is one of the two

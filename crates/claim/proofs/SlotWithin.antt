@@ -1,7 +1,7 @@
 -- A slot that starts no later than a stream position keeps document 01's ranges at that position. Assumes nothing.
 use Prim.Native.Nat.{ℕ, zero, suc, _+_, _-_, _*_, _<_, _≤_}
-use mathlib.Core.Path.{_≡_, refl, sym, ap, ap₂, subst, _∙_}
-use mathlib.Core.Bool.{Bool, true, false, _&&_, cond}
+use mathlib.Core.Path.{_≡_, refl, sym, ap, subst, _∙_}
+use mathlib.Core.Bool.{Bool, true, false, cond}
 use mathlib.Core.List.{List, [], _∷_}
 use native.Mathlib.Omega.{arith}
 use borrow.Author.Tests.{ltb-true}
@@ -16,24 +16,21 @@ use Rattle.vectors.specs.declared.Maybe.the-variants.{Absent, Value}
 use Rattle.vectors.specs.Fit.{VecFits}
 use Rattle.timed.specs.Infos.{flagOf, headAt, maybeAt}
 use Rattle.timed.specs.Objects.{noSource, noTrack}
-use Rattle.timed.specs.Slot.{Ramps, InRange, Work, middle, noBlock, due, leftAfter, blockApplied, blockAt, blocksApplied, active, updatedSources}
+use Rattle.timed.specs.Slot.{Ramps, InRange, Work, middle, noBlock, due, blockApplied, blockAt, blocksApplied, active, updatedSources}
 use Rattle.timed.specs.State.{Timed, noElement, elementOf, timingOf, reachOf, taken, slotOf, slotAt}
-use Rattle.timed.specs.State as timed
 use Rattle.timed.specs.declared.state.BlockState.{BlockState}
-use Rattle.timed.specs.declared.state.Track.{Track}
-use Rattle.timed.specs.declared.state.DynamicSourceState.{DynamicSourceState}
 use Rattle.timed.specs.declared.state.MetadataRendererState.{MetadataRendererState}
 use Rattle.timed.specs.declared.slot.Timing.{Timing}
 use Rattle.timed.specs.declared.slot.Reach.{Reach}
 use Rattle.timed.proofs.Keeps.{times-in, cond-keeps, set-each}
 use Rattle.timed.proofs.Ramps.{ramp-ramps}
-use Rattle.store.specs.Ranges.{leastFlags, headValid, headsValid}
+use Rattle.store.specs.Ranges.{leastFlags, headsValid}
 use Rattle.store.specs.Ranged.{Single, Singles, SourceSingles, TrackSingles, ElementRanged, StateRanged, InfosRanged}
 use Rattle.store.proofs.Whole.{all-at}
 use Rattle.claim.proofs.Sound.{Within}
 use Rattle.claim.proofs.SlotShape.{Shaped, slotOn, shape-slot}
 use Rattle.claim.proofs.SlotInfos.{Like, like-head, slot-like}
-use Rattle.claim.proofs.SlotObjects.{Holds, SourceHas, InfosHave}
+use Rattle.claim.proofs.SlotObjects.{Holds, InfosHave}
 use Rattle.claim.proofs.SlotState.{StateHas, slot-has}
 
 -- ---- offsets and ramps
@@ -168,8 +165,8 @@ module _ (n : ℕ) (s : MetadataRendererState) (h : StateRanged n s) where
           beds = all-at Single nan (t .gains) (λ i l. g .gains i (rw gains at l));
           sources = sources;
           objects =
-            all-at SourceSingles noSource (t .sources)
-            (λ d l. let x = g .sources d (rw sources at l) in record { gain = x .gain; size = x .size; place = singles-of (x .place) });
+              all-at SourceSingles noSource (t .sources)
+              (λ d l. let x = g .sources d (rw sources at l) in record { gain = x .gain; size = x .size; place = singles-of (x .place) });
           states = g .states;
           elements = element-ranged;
         }
@@ -190,8 +187,8 @@ pub within-slot : (n start : ℕ) (m : Timed) → start ≤ n → n ≤ 10995116
 within-slot n start m early _ h =
     record {
       state =
-        state-ranged n (m .state) (h .state) (slotAt start m .state) (shape-slot start m)
-        (slot-has Single Single start m (state-has n (m .state) (h .state)) (infos-single (m .infos)))
-        (slot-range n start m early (h .state .within .states));
+          state-ranged n (m .state) (h .state) (slotAt start m .state) (shape-slot start m)
+          (slot-has Single Single start m (state-has n (m .state) (h .state)) (infos-single (m .infos)))
+          (slot-range n start m early (h .state .within .states));
       infos = like-ranged (slot-like start m) (h .infos);
     }
