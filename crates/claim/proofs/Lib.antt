@@ -1,6 +1,10 @@
 pub mod Sound
 pub mod SlotShape
 pub mod SlotInfos
+pub mod SlotObjects
+pub mod SlotState
+pub mod SlotSound
+pub mod SlotWithin
 pub mod Infos
 pub mod Checked
 pub mod Applied

@@ -4,14 +4,13 @@ use mathlib.Core.Path.{_≡_, refl, _∙_}
 use mathlib.Core.Bool.{Bool, true}
 use mathlib.Core.List.{List}
 use lib.Dec.{eqb, leb}
-use lib.ListN.{length, getD, set, length-set}
+use lib.ListN.{length, getD, length-set}
 use lib.Ieee.{Float, nan}
 use Rattle.timed.specs.Infos.{gainAt}
 use Rattle.timed.specs.Objects.{noSource, noTrack, orElse, moved, movedAt, movedAll, bedAt, bedGains, ramped, rampedAt, rampedAll}
 use Rattle.timed.specs.Objects as objects
 use Rattle.timed.specs.Slot.{Work, noBlock, middle, due, leftAfter, share, blockApplied, blockAt, blocksApplied, rampApplied, active, updatedSources}
 use Rattle.timed.specs.State.{Timed, noElement, elementOf, timingOf, reachOf, taken, slotOf, slotAt}
-use Rattle.timed.specs.declared.state.BlockState.{BlockState}
 use Rattle.timed.specs.declared.state.Track.{Track}
 use Rattle.timed.specs.declared.state.ElementRendererState.{ElementRendererState}
 use Rattle.timed.specs.declared.state.MetadataRendererState.{MetadataRendererState}

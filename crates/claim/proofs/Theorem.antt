@@ -1,7 +1,5 @@
 -- Document 01, demand 3, closed: for every list of calls, on the real timed state, metadata and state block. Assumes nothing.
-use Prim.Native.Nat.{ℕ, _≤_}
 use mathlib.Core.Path.{refl}
-use Rattle.timed.specs.State.{Timed, slotAt}
 use Rattle.rules.specs.Claim.{EveryList}
 use Rattle.rules.proofs.Facts.{Facts}
 use Rattle.rules.proofs.Theorem.{every-list}
@@ -10,23 +8,21 @@ use Rattle.claim.proofs.Sound.{Sound, Within}
 use Rattle.claim.proofs.Checked.{Checked, checked}
 use Rattle.claim.proofs.Applied.{sound-apply, within-apply}
 use Rattle.claim.proofs.Shapes.{mixable, shape-apply, shape-slot, shape-objects, counts-apply, counts-slot}
+use Rattle.claim.proofs.SlotSound.{sound-slot}
+use Rattle.claim.proofs.SlotWithin.{within-slot}
 use Rattle.claim.proofs.Blank.{sound-blank, within-blank, within-later}
 use Rattle.claim.proofs.Blocks.{size-of, valid-of, back-of, decoded-of}
 
--- what is still to be proved of a slot
-pub record Remaining : Type 0 where
-  pub sound-slot : (n : ℕ) (m : Timed) → Sound m → Sound (slotAt n m)
-  pub within-slot : (n start : ℕ) (m : Timed) → start ≤ n → n ≤ 1099511627776 → Within n m → Within n (slotAt start m)
-
-facts : Remaining → Facts hall block
-facts R =
+-- what the rules take from the crates `timed`, `updates`, `records` and `store`
+pub facts : Facts hall block
+facts =
   record {
     Checked = Checked;
     checked = checked;
     Sound = Sound;
     sound-blank = sound-blank;
     sound-apply = sound-apply;
-    sound-slot = R .sound-slot;
+    sound-slot = sound-slot;
     mixable = mixable;
     shape-apply = shape-apply;
     sent-started = λ u c. refl;
@@ -36,7 +32,7 @@ facts R =
     within-blank = within-blank;
     within-later = within-later;
     within-apply = within-apply;
-    within-slot = R .within-slot;
+    within-slot = within-slot;
     counts-apply = counts-apply;
     counts-slot = λ n start m h. counts-slot start m;
     size = size-of;
@@ -45,5 +41,5 @@ facts R =
     decoded = decoded-of;
   }
 
-pub demand3 : Remaining → EveryList hall block
-demand3 R = every-list hall block (facts R)
+pub demand3 : EveryList hall block
+demand3 = every-list hall block facts
