@@ -17,7 +17,7 @@ use Rattle.timed.specs.declared.state.Track.{Track}
 use Rattle.timed.specs.declared.state.DynamicSourceState.{DynamicSourceState}
 use Rattle.timed.specs.declared.state.ElementRendererState.{ElementRendererState}
 use Rattle.timed.specs.declared.state.MetadataRendererState.{MetadataRendererState}
-use Rattle.rules.specs.Parts.{All}
+use Rattle.ieee.specs.Bounds.{All}
 use Rattle.store.specs.declared.Small.{Small}
 use Rattle.store.specs.Table.{low, high, bit, bits, each, table}
 use Rattle.store.specs.Fields.{codeWords, codeOf, gainWords, gainOf, sourceWords, sourceOf, blockWords, blockOf, trackWords, trackOf, elementWords, elementOf, filterWords, filterOf, clockWords, countWords, tableWords, smallWords, stateOf, smallOf}

@@ -19,7 +19,7 @@ use Rattle.timed.specs.State.{Timed, Within}
 use Rattle.timed.specs.State as timed
 use Rattle.timed.specs.declared.state.ElementRendererState.{ElementRendererState}
 use Rattle.timed.specs.declared.state.MetadataRendererState.{MetadataRendererState}
-use Rattle.rules.specs.Parts.{All}
+use Rattle.ieee.specs.Bounds.{All}
 use Rattle.rules.specs.Refusals.{listed}
 use Rattle.rules.specs.Samples.{Renderer}
 use Rattle.store.specs.declared.Small.{Small}
@@ -45,8 +45,8 @@ module _ (position least : ℕ) (w : List ℕ) (f : T (every (elementTests posit
       record {
         blocks = leb→le _ _ (t 0);
         ramps = record {
-          offsets = at-most-out noBlock (λ x. x .offset) 2097152 0 3 blockOf (λ u h. h) (lit≤ tt) 8 (drop 4 w) (q 0);
-          ramps = at-most-out noBlock (λ x. x .ramp) 2097152 1 3 blockOf (λ u h. h) (lit≤ tt) 8 (drop 4 w) (q 1);
+          offsets = λ b l. at-most-out noBlock (λ x. x .offset) 2097152 0 3 blockOf (λ u h. h) (lit≤ tt) 8 (drop 4 w) (q 0) b;
+          ramps = λ b l. at-most-out noBlock (λ x. x .ramp) 2097152 1 3 blockOf (λ u h. h) (lit≤ tt) 8 (drop 4 w) (q 1) b;
           most = leb→le _ _ (t 3);
           least = leb→le _ _ (t 4);
         };

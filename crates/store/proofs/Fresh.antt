@@ -14,7 +14,8 @@ use Rattle.timed.specs.Slot.{middle, InRange, noBlock}
 use Rattle.timed.specs.State.{Timed, noElement}
 use Rattle.timed.specs.declared.state.BlockState.{BlockState}
 use Rattle.timed.specs.declared.state.MetadataRendererState.{MetadataRendererState}
-use Rattle.rules.specs.Parts.{All, Places, zeros, 0·0, 1·0}
+use Rattle.ieee.specs.Bounds.{All}
+use Rattle.rules.specs.Parts.{Places, zeros, 0·0, 1·0}
 use Rattle.store.specs.Table.{each, bytesOf}
 use Rattle.store.specs.Fields.{sourceWords, blockWords, trackWords, elementWords, filterWords, clockWords, countWords, tableWords, smallWords}
 use Rattle.store.specs.Layout.{size, small, rows, encode, still, noBlocks, blank, fresh, marked, filled}
@@ -75,8 +76,8 @@ blocks-in-range =
     record {
       blocks = lit≤ tt;
       ramps = record {
-        offsets = λ b. subst (λ (x : BlockState). x .offset ≤ 2097152) (sym (same-at 8 b noBlock)) (lit≤ tt);
-        ramps = λ b. subst (λ (x : BlockState). x .ramp ≤ 2097152) (sym (same-at 8 b noBlock)) (lit≤ tt);
+        offsets = λ b l. subst (λ (x : BlockState). x .offset ≤ 2097152) (sym (same-at 8 b noBlock)) (lit≤ tt);
+        ramps = λ b l. subst (λ (x : BlockState). x .ramp ≤ 2097152) (sym (same-at 8 b noBlock)) (lit≤ tt);
         most = lit≤ tt;
         least = lit≤ tt;
       };

@@ -15,7 +15,8 @@ use Rattle.timed.specs.State.{Timed, Within, noElement}
 use Rattle.timed.specs.State as timed
 use Rattle.timed.specs.declared.state.ElementRendererState.{ElementRendererState}
 use Rattle.timed.specs.declared.state.MetadataRendererState.{MetadataRendererState}
-use Rattle.rules.specs.Parts.{All, Places}
+use Rattle.ieee.specs.Bounds.{All}
+use Rattle.rules.specs.Parts.{Places}
 use Rattle.rules.specs.Refusals.{listed}
 use Rattle.rules.specs.Samples.{Renderer}
 use Rattle.store.specs.Table.{bytesOf}
@@ -54,7 +55,7 @@ element-full position least e r h =
       blocks = omega arith;
       flags = omega arith;
       remaining = omega arith;
-      schedule = record { count = h .schedule; each = all-at Brief noBlock (e .schedule) (λ i l. record { offset = r .ramps .offsets i; ramp = r .ramps .ramps i }) };
+      schedule = record { count = h .schedule; each = all-at Brief noBlock (e .schedule) (λ i l. let n = h .schedule in let m : i < 8 = omega arith in record { offset = r .ramps .offsets i m; ramp = r .ramps .ramps i m }) };
       tracks = record { count = h .tracks; each = h .targets };
     }
 
