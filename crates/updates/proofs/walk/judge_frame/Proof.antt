@@ -1,21 +1,17 @@
+-- `updates::walk::judge_frame`: the updates from t on lead from the counts now to those at the end. Assumes nothing.
 use Prim.Native.Nat.{ℕ, _-_, _≤_, _<_}
 use mathlib.Core.Path.{_≡_, refl, _∙_}
 use mathlib.Core.Bool.{false}
 use native.Mathlib.Omega.{arith}
 use lib.ListN.{getD}
 use denote.Ref.{now}
-use Rattle.records.specs.Order.{during, applied}
+use Rattle.records.specs.Order.{during}
 use Rattle.records.proofs.Times.{next-within, next-above}
-use Rattle.updates.specs.declared.shape.Judged.{Judged}
 use Rattle.updates.specs.Said.{Update, updateOf}
 use Rattle.updates.specs.Shape.{judgedAll}
 use Rattle.updates.proofs.Walks.{frame-begins, frame-goes-on, frame-ends}
 use Rattle.updates.proofs.walk.judge_frame.Statement.{statement}
 use Rattle.updates.proofs.walk.judge_frame.Tie as tie
-use Rattle.updates.proofs.walk.judge_frame.Reads as reads
-use Rattle.updates.proofs.walk.judge_frame.Lts as lts
-use Rattle.records.proofs.order.next_offset.Reads as next-offset-reads
-use Rattle.updates.proofs.walk.judge_sent.Reads as judge-sent-reads
 
 abbrev Inv-loop : tie.InvT-loop
 Inv-loop meta l samples next₀ t₀ next t = (t ≤ samples) × (judgedAll (λ k. updateOf meta (getD (l .first) k 0)) (during (λ k. getD (l .offset) k 0) (l .count) (samples - t) t) next ≡ judgedAll (λ k. updateOf meta (getD (l .first) k 0)) (during (λ k. getD (l .offset) k 0) (l .count) (samples - t₀) t₀) next₀)
@@ -33,7 +29,7 @@ next-offset-requires c κs = c .before .before .pre .few
 
 -- src/walk.rt:59:5
 loop-holds : tie.Need-loop-holds Inv-loop μ-loop
-loop-holds c = 
+loop-holds c =
     let s = c .before .before .before .args in
     let f : ℕ → ℕ = λ k. getD (s .l .offset) k 0 in
     let u : ℕ → Update = λ k. updateOf (now (s .meta)) (getD (s .l .first) k 0) in
@@ -52,7 +48,7 @@ next-offset-requires-2 c κs = c .before .before .before .before .before .before
 
 -- src/walk.rt:59:5
 loop-less : tie.Need-loop-less Inv-loop μ-loop
-loop-less c = 
+loop-less c =
     let s = c .before .before .before .before .before .before .before .args in
     let f : ℕ → ℕ = λ k. getD (s .l .offset) k 0 in
     let u : ℕ → Update = λ k. updateOf (now (s .meta)) (getD (s .l .first) k 0) in
@@ -65,7 +61,7 @@ loop-less c =
 
 -- src/walk.rt:59:5
 loop-again : tie.Need-loop-again Inv-loop μ-loop
-loop-again c = 
+loop-again c =
     let s = c .before .before .before .before .before .before .before .args in
     let f : ℕ → ℕ = λ k. getD (s .l .offset) k 0 in
     let u : ℕ → Update = λ k. updateOf (now (s .meta)) (getD (s .l .first) k 0) in
@@ -77,7 +73,7 @@ loop-again c =
 
 -- src/walk.rt:49:1
 returns : tie.Need-returns Inv-loop μ-loop
-returns c = 
+returns c =
     let s = c .before .before .before .before .before .args in
     let f : ℕ → ℕ = λ k. getD (s .l .offset) k 0 in
     let u : ℕ → Update = λ k. updateOf (now (s .meta)) (getD (s .l .first) k 0) in

@@ -1,10 +1,7 @@
+-- `updates::walk::judge_next`: the counts from their parts. Assumes nothing.
 use borrow.Author.Needs.{needs}
 use Rattle.updates.proofs.walk.judge_next.Statement.{statement}
 use Rattle.updates.proofs.walk.judge_next.Tie as tie
-use Rattle.updates.proofs.walk.judge_next.Reads as reads
-use Rattle.updates.proofs.walk.judge_next.Lts as lts
-use Rattle.updates.proofs.shape.either.Reads as either-reads
-use Rattle.updates.proofs.shape.judge.Reads as judge-reads
 
 -- src/walk.rt:24:9
 judge-requires : tie.Need-judge-requires

@@ -1,5 +1,5 @@
+-- `updates::walk::judge_sent`: the updates from i on lead from the counts now to those at the end. Assumes nothing.
 use Prim.Native.Nat.{ℕ, _+_, _-_}
-use mathlib.Core.Path.{_≡_}
 use native.Mathlib.Omega.{arith}
 use native.Mathlib.Numerals.{unary-clauses, add-one}
 use lib.ListN.{getD}
@@ -10,10 +10,6 @@ use Rattle.updates.specs.Shape.{judgedAll}
 use Rattle.updates.proofs.Walks.{Standing, standing, goes-on, stands-at-end}
 use Rattle.updates.proofs.walk.judge_sent.Statement.{statement}
 use Rattle.updates.proofs.walk.judge_sent.Tie as tie
-use Rattle.updates.proofs.walk.judge_sent.Reads as reads
-use Rattle.updates.proofs.walk.judge_sent.Lts as lts
-use Rattle.records.proofs.order.sent_at.Reads as sent-at-reads
-use Rattle.updates.proofs.walk.judge_next.Reads as judge-next-reads
 
 abbrev Inv-loop : tie.InvT-loop
 Inv-loop meta l t first count next₀ i₀ next i = Standing (λ k. getD (l .offset) k 0) count t (λ k. updateOf meta (getD first k 0)) (judgedAll (λ k. updateOf meta (getD first k 0)) (sent (λ k. getD (l .offset) k 0) t count 0) next₀) i next
@@ -27,7 +23,7 @@ sent-at-requires c κs = (omega (arith, c .before .before .pre .few), omega arit
 
 -- src/walk.rt:41:5
 loop-holds : tie.Need-loop-holds Inv-loop μ-loop
-loop-holds c = 
+loop-holds c =
     let s = c .before .before .before .args in
     let f : ℕ → ℕ = λ k. getD (s .l .offset) k 0 in
     let u : ℕ → Update = λ k. updateOf (now (s .meta)) (getD (s .l .first) k 0) in
@@ -61,7 +57,7 @@ loop-less c = omega (arith, c .sent-at2 .ensures .after)
 
 -- src/walk.rt:41:5
 loop-again : tie.Need-loop-again Inv-loop μ-loop
-loop-again c = 
+loop-again c =
     let s = c .before .before .before .before .before .before .before .args in
     let f : ℕ → ℕ = λ k. getD (s .l .offset) k 0 in
     let u : ℕ → Update = λ k. updateOf (now (s .meta)) (getD (s .l .first) k 0) in
@@ -72,7 +68,7 @@ loop-again c =
 
 -- src/walk.rt:33:1
 returns : tie.Need-returns Inv-loop μ-loop
-returns c = 
+returns c =
     let s = c .before .before .before .before .before .args in
     let f : ℕ → ℕ = λ k. getD (s .l .offset) k 0 in
     let u : ℕ → Update = λ k. updateOf (now (s .meta)) (getD (s .l .first) k 0) in
