@@ -1,0 +1,78 @@
+-- `limiter::places::load_samples` meets its contract. Assumes nothing.
+use borrow.Author.Needs.{needs}
+use native.Mathlib.Omega.{arith}
+use native.Mathlib.Numerals.{add-one}
+use mathlib.Core.Path.{_≡_, sym, ap, _∙_}
+use Prim.Native.Nat.{_-_, _≤_, _<_}
+use lib.ListN.{length, take, length-set}
+use lib.Seq.{take-suc-set, take-all}
+use Rattle.limiter.specs.Places.{floatsAt}
+use Rattle.limiter.proofs.Runs.{read-more}
+use Rattle.limiter.proofs.places.load_samples.Statement.{statement}
+use Rattle.limiter.proofs.places.load_samples.Tie as tie
+
+abbrev Inv-loop : tie.InvT-loop
+Inv-loop places at samples₀ i₀ samples i = (i ≤ length samples) × (length samples ≡ length samples₀) × (take i samples ≡ floatsAt places at i)
+
+abbrev μ-loop : tie.MeasureT-loop
+μ-loop places at samples₀ i₀ samples i = length samples₀ - i
+
+loop-holds : tie.Need-loop-holds Inv-loop μ-loop
+loop-holds c = search needs
+
+mul-f32-at : tie.Need-mul-f32-at Inv-loop μ-loop
+mul-f32-at c = search needs
+
+add-f32-at : tie.Need-add-f32-at Inv-loop μ-loop
+add-f32-at c = search needs
+
+f32-at-requires : tie.Need-f32-at-requires Inv-loop μ-loop
+f32-at-requires c κs = search needs
+
+mul-samples : tie.Need-mul-samples Inv-loop μ-loop
+mul-samples c = search needs
+
+slice-write-samples : tie.Need-slice-write-samples Inv-loop μ-loop
+slice-write-samples c = search needs
+
+add-i : tie.Need-add-i Inv-loop μ-loop
+add-i c = search needs
+
+loop-less : tie.Need-loop-less Inv-loop μ-loop
+loop-less c = search needs
+
+loop-again : tie.Need-loop-again Inv-loop μ-loop
+loop-again c =
+    let l = c .before .before in
+    let a = l .before .before .before .args in
+    let h : l .loop .i < length (l .loop .samples) = omega arith in
+    (simp length-set (omega arith), simp length-set (omega arith), rw (add-one, take-suc-set (l .loop .samples) (l .loop .i) (c .f32-at .result) h, l .loop .inv .2, c .f32-at .ensures) (sym (read-more (a .places .now) (a .at) (l .loop .i))))
+
+same-length : tie.Need-same-length Inv-loop μ-loop
+same-length c = search needs
+
+returns : tie.Need-returns Inv-loop μ-loop
+returns c =
+    let l = c .before in
+    let a = l .before .before .before .args in
+    let h : length (l .loop .samples) ≤ l .loop .i = omega arith in
+    let e : l .loop .i ≡ length (a .samples .now) = omega arith in
+    sym (take-all (l .loop .i) (l .loop .samples) h) ∙ l .loop .inv .2 ∙ ap (floatsAt (a .places .now) (a .at)) e
+
+pub load-samples-spec : {M : Type 1} → statement M
+load-samples-spec =
+    tie.close
+    (tie.spec
+    Inv-loop
+    μ-loop
+    loop-holds
+    mul-f32-at
+    add-f32-at
+    f32-at-requires
+    mul-samples
+    slice-write-samples
+    add-i
+    loop-less
+    loop-again
+    same-length
+    returns)

@@ -1,0 +1,78 @@
+-- `limiter::places::store_scaled` meets its contract. Assumes nothing.
+use borrow.Author.Needs.{needs}
+use native.Mathlib.Omega.{arith}
+use mathlib.Core.Path.{_≡_, refl, ap, _∙_}
+use Prim.Native.Nat.{ℕ, _+_, _*_, _-_, _≤_}
+use lib.ListN.{length, drop}
+use Rattle.limiter.specs.Limiter.{scaled}
+use Rattle.limiter.specs.Places.{withFloats}
+use Rattle.limiter.proofs.Runs.{write-more, write-end}
+use Rattle.limiter.proofs.places.store_scaled.Statement.{statement}
+use Rattle.limiter.proofs.places.store_scaled.Tie as tie
+
+abbrev Inv-loop : tie.InvT-loop
+Inv-loop samples gain out₀ at i₀ out i = (i ≤ length samples) × (length out ≡ length out₀) × (withFloats out (at + 4 * i) (scaled gain (drop i samples)) ≡ withFloats out₀ at (scaled gain samples))
+
+abbrev μ-loop : tie.MeasureT-loop
+μ-loop samples gain out₀ at i₀ out i = length samples - i
+
+loop-holds : tie.Need-loop-holds Inv-loop μ-loop
+loop-holds c =
+    let a = c .before .before .args in
+    let e : a .at + 4 * 0 ≡ a .at = omega arith in
+    (omega arith, refl, ap (λ (j : ℕ). withFloats (a .out .now) j (scaled (a .gain) (a .samples .now))) e)
+
+mul-put-f32 : tie.Need-mul-put-f32 Inv-loop μ-loop
+mul-put-f32 c = search needs
+
+add-put-f32 : tie.Need-add-put-f32 Inv-loop μ-loop
+add-put-f32 c = search needs
+
+mul-put-f32-2 : tie.Need-mul-put-f32-2 Inv-loop μ-loop
+mul-put-f32-2 c = search needs
+
+shared-slice-read-put-f32 : tie.Need-shared-slice-read-put-f32 Inv-loop μ-loop
+shared-slice-read-put-f32 c = search needs
+
+put-f32-requires : tie.Need-put-f32-requires Inv-loop μ-loop
+put-f32-requires c κs = search needs
+
+add-i : tie.Need-add-i Inv-loop μ-loop
+add-i c = search needs
+
+loop-less : tie.Need-loop-less Inv-loop μ-loop
+loop-less c = search needs
+
+loop-again : tie.Need-loop-again Inv-loop μ-loop
+loop-again c =
+    let l = c .before .before .before .before .before .before in
+    let a = l .before .before .before .args in
+    let p = c .before .before .put-f32 in
+    (omega arith, search needs, write-more (a .gain) (l .loop .out) (p .last .0) (a .at) (l .loop .i) (a .samples .now) (omega arith) (p .ensures) ∙ l .loop .inv .2)
+
+same-length : tie.Need-same-length Inv-loop μ-loop
+same-length c = search needs
+
+returns : tie.Need-returns Inv-loop μ-loop
+returns c =
+    let l = c .before in
+    let a = l .before .before .before .args in
+    write-end (a .gain) (l .loop .out) (a .at + 4 * l .loop .i) (l .loop .i) (a .samples .now) (omega arith) ∙ l .loop .inv .2
+
+pub store-scaled-spec : {M : Type 1} → statement M
+store-scaled-spec =
+    tie.close
+    (tie.spec
+    Inv-loop
+    μ-loop
+    loop-holds
+    mul-put-f32
+    add-put-f32
+    mul-put-f32-2
+    shared-slice-read-put-f32
+    put-f32-requires
+    add-i
+    loop-less
+    loop-again
+    same-length
+    returns)

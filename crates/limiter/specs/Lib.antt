@@ -1,0 +1,6 @@
+pub mod Limiter
+pub mod Level
+pub mod Range
+pub mod Cases
+pub mod Sums
+pub mod Places

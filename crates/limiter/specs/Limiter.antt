@@ -1,0 +1,70 @@
+-- The output limiter, for any floats. Document 01, item 6: "A block of 64 with peak p and gain g: if p × g > 1, g becomes 0.9 / p; scale; then g grows by length / rate, at most 1. Flush treats the
+-- remainder as one shorter block." Assumes nothing.
+use Prim.Native.Nat.{ℕ, zero, suc, _-_}
+use mathlib.Core.Path.{_≡_}
+use mathlib.Core.Bool.{false, cond}
+use mathlib.Core.List.{List, [], _∷_, _++_}
+use lib.IntN.{pos, negsuc}
+use lib.ListN.{length, take, drop}
+use lib.Ieee.{Float, fin, binary32, add, mul, div, lt, ofInt}
+use Rattle.ieee.specs.Small.{absolute, larger}
+
+abbrev pub 0·0 : Float
+0·0 = fin false 0 (pos 0)
+
+abbrev pub 1·0 : Float
+1·0 = fin false 1 (pos 0)
+
+abbrev pub 0·9 : Float
+0·9 = fin false 7549747 (negsuc 22)
+
+-- the largest size of a sample, at least m; a NaN is passed over
+abbrev pub peakFrom : Float → List Float → Float
+peakFrom m [] = m
+peakFrom m (x ∷ xs) = peakFrom (larger m (absolute x)) xs
+
+abbrev pub peak : List Float → Float
+peak xs = peakFrom 0·0 xs
+
+-- "if p × g > 1, g becomes 0.9 / p"
+unfoldable pub lowered : Float → Float → Float
+unfolding lt mul div
+lowered p g = cond (lt 1·0 (mul binary32 p g)) (div binary32 0·9 p) g
+
+-- "scale"
+abbrev pub scaled : Float → List Float → List Float
+scaled g [] = []
+scaled g (x ∷ xs) = mul binary32 x g ∷ scaled g xs
+
+-- "then g grows by length / rate, at most 1"
+unfoldable pub grown : ℕ → ℕ → Float → Float
+unfolding lt add div ofInt
+grown n rate g = let h = add binary32 g (div binary32 (ofInt binary32 (pos n)) (ofInt binary32 (pos rate))) in cond (lt 1·0 h) 1·0 h
+
+-- ---- a block of channels
+unfoldable pub blockPeak : Float → List (List Float) → Float
+blockPeak m [] = m
+blockPeak m (c ∷ cs) = blockPeak (larger m (peak c)) cs
+
+unfoldable pub scaledBlock : Float → List (List Float) → List (List Float)
+scaledBlock g [] = []
+scaledBlock g (c ∷ cs) = scaled g c ∷ scaledBlock g cs
+
+-- the gain that a block is scaled by
+abbrev pub blockGain : Float → List (List Float) → Float
+blockGain g cs = lowered (blockPeak 0·0 cs) g
+
+-- ---- the block in memory: channel after channel, 64 places each, of which the first n are used
+unfoldable pub channels : ℕ → ℕ → List Float → List (List Float)
+channels zero n xs = []
+channels (suc k) n xs = take n xs ∷ channels k n (drop 64 xs)
+
+-- the block with the first places of each channel written anew
+unfoldable pub laid : List (List Float) → List Float → List Float
+laid [] xs = xs
+laid (c ∷ cs) xs = c ++ (take (64 - length c) (drop (length c) xs) ++ laid cs (drop 64 xs))
+
+-- one block of n samples at a rate: from the gain g and the places xs to the gain h and the places ys
+pub record Limited (g : Float) (n rate : ℕ) (xs : List Float) (h : Float) (ys : List Float) : Type 0 where
+  pub gain : h ≡ grown n rate (blockGain g (channels 12 n xs))
+  pub places : ys ≡ laid (scaledBlock (blockGain g (channels 12 n xs)) (channels 12 n xs)) xs

@@ -1,0 +1,40 @@
+-- What the limiter keeps in range: the samples that it gives out, and its gain. Assumes nothing.
+use Prim.Native.Nat.{ℕ, zero, suc, _+_, _*_, _^_, _≤_}
+use mathlib.Core.Path.{_≡_}
+use mathlib.Core.Logic.{_⊎_}
+use mathlib.Core.List.{List}
+use lib.IntN.{pos}
+use lib.Ieee.{Float, binary32, div, ofInt}
+use Rattle.ieee.specs.Units.{One, F32, P, N, Gain, Tame}
+use Rattle.ieee.specs.Bounds.{All}
+use Rattle.limiter.specs.Limiter.{1·0, scaledBlock, blockGain, grown}
+
+-- from the gain g, a block of channels of n samples: each sample given out is finite and from -1 to 1, and the next gain is above 0 and at most 1
+pub record InRange (g : Float) (n rate : ℕ) (cs : List (List Float)) : Type 0 where
+  pub samples : All (All Tame) (scaledBlock (blockGain g cs) cs)
+  pub scaling : Gain (blockGain g cs)
+  pub next : Gain (grown n rate (blockGain g cs))
+
+-- a gain from 0 to 1, both ends with it: what growth asks
+pub record Fraction (g : Float) : Type 0 where
+  pub f32 : F32 g
+  pub plus : N g ≡ 0
+  pub most : P g ≤ One
+
+-- a length in seconds, as the limiter takes it
+abbrev pub decay : ℕ → ℕ → Float
+decay n rate = div binary32 (ofInt binary32 (pos n)) (ofInt binary32 (pos rate))
+
+-- half a unit in the last place of the values from 1/2 to 1
+unfoldable pub HalfUlp : ℕ
+HalfUlp = 2 ^ 124
+
+-- the gain after k blocks of n samples, none of which lowered it
+abbrev pub grownTimes : ℕ → ℕ → ℕ → Float → Float
+grownTimes zero n rate g = g
+grownTimes (suc k) n rate g = grown n rate (grownTimes k n rate g)
+
+-- it is 1, or has grown k times by the decay, each time less the rounding
+pub record Grows (k : ℕ) (g : Float) (n rate : ℕ) : Type 0 where
+  pub gain : Fraction (grownTimes k n rate g)
+  pub risen : (grownTimes k n rate g ≡ 1·0) ⊎ (P g + k * P (decay n rate) ≤ P (grownTimes k n rate g) + k * HalfUlp)

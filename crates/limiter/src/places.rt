@@ -1,0 +1,62 @@
+// The limiter over bytes: from the places of a state block to the output.
+ghost use mathlib.Core.Path.{_≡_};
+ghost use Prim.Native.Nat.{_+_, _*_, _≤_};
+ghost use lib.ListN.{length};
+ghost use Rattle.limiter.specs.Limiter.{scaled, scaledBlock, channels, laid};
+ghost use Rattle.limiter.specs.Places.{floatsAt, withFloats, channelsAt, withChannels};
+
+// The floats from `at` on, as many as `samples` has.
+pub fn load_samples(places: &[u8], at: usize, samples: &mut [f32])
+    requires { ⌜ at + 4 * length (now samples) ≤ length (now places) ⌝ }
+    ensures { λ _. ⌜ now (samples .exit) ≡ floatsAt (now (places .entry)) at (length (now (samples .entry))) ⌝ }
+{
+    let mut i: usize = 0;
+    while i < samples.len() {
+        samples[i] = words::f32_at(places, at + 4 * i);
+        i += 1;
+    }
+}
+
+// The samples times the gain, written from `at` on.
+pub fn store_scaled(samples: &[f32], gain: f32, out: &mut [u8], at: usize)
+    requires { ⌜ at + 4 * length (now samples) ≤ length (now out) ⌝ }
+    ensures { λ _. ⌜ now (out .exit) ≡ withFloats (now (out .entry)) at (scaled gain (now (samples .entry))) ⌝ }
+{
+    let mut i: usize = 0;
+    while i < samples.len() {
+        words::put_f32(out, at + 4 * i, samples[i] * gain);
+        i += 1;
+    }
+}
+
+// The places of a state block, `samples` of each channel, in a block of floats.
+pub fn load_block(places: &[u8], samples: usize, block: &mut [f32])
+    requires { ⌜ (length (now places) ≡ 3072) × (length (now block) ≡ 768) × (samples ≤ 64) ⌝ }
+    ensures { λ _. ⌜ now (block .exit) ≡ laid (channelsAt 12 samples (now (places .entry)) 0) (now (block .entry)) ⌝ }
+{
+    let mut at: usize = 0;
+    let mut left: usize = 12;
+    while left > 0 {
+        let end = at + samples;
+        load_samples(places, 4 * at, &mut block[at..end]);
+        at += 64;
+        left -= 1;
+    }
+}
+
+// The block times the gain, channel c at `to` + c x `step`.
+pub fn store_block(block: &[f32], samples: usize, gain: f32, out: &mut [u8], step: usize, to: usize)
+    requires { ⌜ (length (now block) ≡ 768) × (samples ≤ 64) × (to + 4 * samples ≤ step) × (12 * step ≤ length (now out)) ⌝ }
+    ensures { λ _. ⌜ now (out .exit) ≡ withChannels (scaledBlock gain (channels 12 samples (now (block .entry)))) step to (now (out .entry)) ⌝ }
+{
+    let mut at: usize = 0;
+    let mut base: usize = 0;
+    let mut left: usize = 12;
+    while left > 0 {
+        let end = at + samples;
+        store_scaled(&block[at..end], gain, out, base + to);
+        at += 64;
+        base += step;
+        left -= 1;
+    }
+}

@@ -1,0 +1,70 @@
+-- What updates leave as it was; and the clock and the timed state do not depend on the samples: two renderers that agree on them do so after a sample of two frames with the same updates.
+-- Assumes nothing.
+use mathlib.Core.Path.{_≡_, refl, ap, _∙_}
+use mathlib.Core.Bool.{cond, not, _&&_, _||_}
+use mathlib.Core.List.{List, [], _∷_}
+use Prim.Native.Nat.{ℕ, suc, _+_}
+use lib.Dec.{eqb, leb}
+use Rattle.rules.specs.Leaves.{Leaves, started}
+use Rattle.rules.specs.Mix.{Moment}
+use Rattle.rules.specs.Samples.{State, applied, updated, slotted, passed}
+use Rattle.rules.proofs.Lists.{either, both}
+
+module _ (L : Leaves) where
+  -- updates leave the rate, the stream's position and the pending samples
+  pub record Untouched (r s : State L) : Type 0 where
+    pub rate : s .rate ≡ r .rate
+    pub position : s .position ≡ r .position
+    pub pending : s .pending ≡ r .pending
+
+  pub untouched : (t : ℕ) (us : List (L .Update)) (r : State L) → Untouched r (updated L t us r)
+  untouched t [] r = record { rate = refl; position = refl; pending = refl }
+  untouched t (u ∷ us) r =
+      let s = cond (eqb (L .offset u) t) (applied L t u r) r in
+      let h = untouched t us s in
+      let k : Untouched r s = either (Untouched r) (eqb (L .offset u) t) (record { rate = refl; position = refl; pending = refl }) (record { rate = refl; position = refl; pending = refl }) in
+      record { rate = h .rate ∙ k .rate; position = h .position ∙ k .position; pending = h .pending ∙ k .pending }
+
+  pub record Alike (r s : State L) : Type 0 where
+    pub position : r .position ≡ s .position
+    pub phase : r .phase ≡ s .phase
+    pub start : r .start ≡ s .start
+    pub meta : r .meta ≡ s .meta
+
+  pub alike-self : (r : State L) → Alike r r
+  alike-self r = record { position = refl; phase = refl; start = refl; meta = refl }
+
+  applied-alike : (t : ℕ) (u : L .Update) (r s : State L) → Alike r s → Alike (applied L t u r) (applied L t u s)
+  applied-alike t u r s a =
+      record {
+        position = a .position;
+        phase = λ i. cond (not (started L (a .meta i)) || eqb t 0) 0 (a .phase i);
+        start = λ i. cond (not (started L (a .meta i)) || eqb t 0) (a .position i) (a .start i);
+        meta = λ i. L .apply (a .position i) u (a .meta i);
+      }
+
+  updated-alike : (t : ℕ) (us : List (L .Update)) (r s : State L) → Alike r s → Alike (updated L t us r) (updated L t us s)
+  updated-alike t [] r s a = a
+  updated-alike t (u ∷ us) r s a =
+      updated-alike t us (cond (eqb (L .offset u) t) (applied L t u r) r) (cond (eqb (L .offset u) t) (applied L t u s) s) (both Alike (eqb (L .offset u) t) (applied-alike t u r s a) a)
+
+  slotted-alike : (r s : State L) → Alike r s → Alike (slotted L r) (slotted L s)
+  slotted-alike r s a =
+      record {
+        position = a .position;
+        phase = a .phase;
+        start = a .start;
+        meta = λ i. cond (started L (a .meta i) && eqb (a .phase i) 0) (L .slot (a .start i) (a .meta i)) (a .meta i);
+      }
+
+  pub met-alike : (t : ℕ) (us : List (L .Update)) (r s : State L) → Alike r s → Alike (slotted L (updated L t us r)) (slotted L (updated L t us s))
+  met-alike t us r s a = slotted-alike (updated L t us r) (updated L t us s) (updated-alike t us r s a)
+
+  pub passed-alike : (m n : Moment) (r s : State L) → Alike r s → Alike (passed L m r .next) (passed L n s .next)
+  passed-alike m n r s a =
+      record {
+        position = ap suc (a .position);
+        phase = λ i. cond (started L (a .meta i)) (cond (leb 64 (suc (a .phase i))) 0 (suc (a .phase i))) (a .phase i);
+        start = λ i. cond (started L (a .meta i) && leb 64 (suc (a .phase i))) (a .start i + 64) (a .start i);
+        meta = a .meta;
+      }

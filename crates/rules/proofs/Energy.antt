@@ -1,0 +1,41 @@
+-- What an object of the hall adds, at size 0 and at gain 0: document 01's squares. Assumes nothing.
+use mathlib.Core.Path.{_≡_, sym, subst}
+use mathlib.Core.Bool.{not, _&&_}
+use mathlib.Core.List.{List, [], List·Memᴰ}
+use Prim.Native.Nat.{ℕ, _≤_, _<_}
+use lib.Dec.{T, T-not, eqb, ltb, ltb→lt}
+use lib.ListN.{length}
+use lib.Ieee.{eq}
+use lib.Ieee.Fits.{and-l, and-r}
+use Rattle.panning.specs.Choice.{every}
+use Rattle.panning.specs.Terms.{Term, onChannel}
+use Rattle.panning.specs.Hall.{fullRange}
+use Rattle.energy.proofs.Lists.{every→}
+use Rattle.energy.proofs.Hall.{pans714}
+use Rattle.rules.specs.Parts.{0·0}
+use Rattle.rules.specs.Leaves.{Source}
+use Rattle.rules.specs.Mix.{objectTerms}
+use Rattle.rules.specs.Claim.{Squares}
+use Rattle.rules.proofs.Facts.{InHall}
+
+-- the eleven channels that are not 3
+eleven : {k : ℕ} → List·Memᴰ k fullRange → (k < 12) × (k ≡ 3 → ⊥)
+unfolding every
+eleven {k} m =
+    let t = every→ (λ n. ltb n 12 && not (eqb n 3)) fullRange tt k m in
+    (ltb→lt k 12 (and-l (ltb k 12) (not (eqb k 3)) t), λ e. T-not (eqb k 3) (and-r (ltb k 12) (not (eqb k 3)) t) (subst (λ (n : ℕ). T (eqb n 3)) (sym e) tt))
+
+pub squared : (s : Source) → InHall s → T (eq (s .size) 0·0) → Squares s
+unfolding objectTerms
+squared s h z =
+    let p = pans714 (s .place) (h .place) in
+    record {
+      channels = λ t m. eleven (p .named (s .gain) (s .size) t m);
+      each = p .bounded (s .gain) (s .size) (h .gain) (h .size);
+      once = λ c. subst (λ (ts : List Term). length (onChannel c ts) ≤ 1) (sym (p .plain (s .gain) (s .size) z)) (p .once (s .gain) (s .size) (h .gain) (h .size) c);
+      sum = p .energy (s .gain) (s .size) (h .gain) z;
+    }
+
+pub stilled : (s : Source) → InHall s → T (eq (s .gain) 0·0) → objectTerms s ≡ []
+unfolding objectTerms
+stilled s h z = pans714 (s .place) (h .place) .none (s .gain) (s .size) z

@@ -1,0 +1,147 @@
+-- What holds of a push that no refusal turned away. Assumes nothing.
+use mathlib.Core.Path.{_≡_, refl, sym, subst}
+use mathlib.Core.Logic.{_⊎_, inl, inr, ⊎-elim}
+use mathlib.Core.Bool.{Bool, true, false, not, _&&_, _||_}
+use mathlib.Core.List.{List, map}
+use Prim.Native.Nat.{ℕ, zero, suc, _+_, _*_, _%_, _≤_, _<_}
+use native.Mathlib.Nat.{mul-le-mul-right, zero-add}
+use native.Mathlib.Omega.{arith}
+use borrow.Author.Tests.{leb-true, eqb-true, not-true}
+use lib.Dec.{T, eqb, leb, lit≤, lit<}
+use lib.ListN.{length}
+use Rattle.ieee.specs.Units.{One}
+use Rattle.ieee.specs.Bounds.{Bounded, All}
+use Rattle.words.specs.Words.{Bytes, floatAt}
+use Rattle.mixing.specs.Samples.{allPass}
+use Rattle.angles.specs.Angle.{Listed, r32000, r44100, r48000, r88200, r96000}
+use Rattle.rules.specs.Leaves.{Leaves}
+use Rattle.rules.specs.Mix.{sampleAt, samplesAt}
+use Rattle.rules.specs.Samples.{State}
+use Rattle.rules.specs.Refusals.{Args, Found, clear, stop, _then_, unless, every, room, sized, listed, lackingFrom, offsets, early, Sent, later}
+use Rattle.rules.specs.Calls.{found}
+use Rattle.rules.proofs.Passing.{sample-bounded}
+
+-- ---- tests
+pub stops : {n a b : ℕ} → stop n a b ≡ clear → ⊥
+stops e = let z : _≡_ {A = ℕ} 0 1 = cc in omega arith
+
+pub then-clear : (x y : Found) → (x then y) ≡ clear → (x ≡ clear) × (y ≡ clear)
+then-clear clear y e = (refl, e)
+then-clear (stop n a b) y e = absurd (stops e)
+
+pub unless-clear : (t : Bool) (n a b : ℕ) → unless t n a b ≡ clear → t ≡ true
+unless-clear true n a b e = refl
+unless-clear false n a b e = absurd (stops e)
+
+pub and-true : (a b : Bool) → (a && b) ≡ true → (a ≡ true) × (b ≡ true)
+and-true true b e = (refl, e)
+and-true false b e = absurd (subst T (sym e) tt)
+
+or-true : (a b : Bool) → (a || b) ≡ true → (a ≡ true) ⊎ (b ≡ true)
+or-true true b e = inl refl
+or-true false b e = inr e
+
+-- ---- a listed rate
+pub is-listed : (rate : ℕ) → listed rate ≡ true → Listed rate
+is-listed rate e =
+    ⊎-elim (λ e. ⊎-elim (λ e. ⊎-elim (λ e. ⊎-elim (is 32000 r32000) (is 44100 r44100) (or-true (eqb rate 32000) (eqb rate 44100) e)) (is 48000 r48000)
+    (or-true (eqb rate 32000 || eqb rate 44100) (eqb rate 48000) e)) (is 88200 r88200)
+    (or-true (eqb rate 32000 || eqb rate 44100 || eqb rate 48000) (eqb rate 88200) e)) (is 96000 r96000)
+    (or-true (eqb rate 32000 || eqb rate 44100 || eqb rate 48000 || eqb rate 88200) (eqb rate 96000) e)
+  where
+    is : (n : ℕ) → Listed n → eqb rate n ≡ true → Listed rate
+    is n l e = subst Listed (sym (eqb-true rate n e)) l
+
+-- a rate's size
+pub rate-low : {rate : ℕ} → Listed rate → 64 ≤ rate
+rate-low r32000 = lit≤ tt
+rate-low r44100 = lit≤ tt
+rate-low r48000 = lit≤ tt
+rate-low r88200 = lit≤ tt
+rate-low r96000 = lit≤ tt
+
+pub rate-high : {rate : ℕ} → Listed rate → rate < 16777216
+rate-high r32000 = lit< tt
+rate-high r44100 = lit< tt
+rate-high r48000 = lit< tt
+rate-high r88200 = lit< tt
+rate-high r96000 = lit< tt
+
+-- ---- the stride and the output
+pub record Roomy (stride bytes : ℕ) : Type 0 where
+  pub whole : stride % 64 ≡ 0
+  pub some : 64 ≤ stride
+  pub long : 48 * stride ≤ bytes
+
+pub is-roomy : (stride bytes : ℕ) → room stride bytes ≡ true → Roomy stride bytes
+is-roomy stride bytes e =
+    let a = and-true (eqb (stride % 64) 0 && leb 64 stride && leb stride 1536) (leb (48 * stride) bytes) e in
+    let b = and-true (eqb (stride % 64) 0 && leb 64 stride) (leb stride 1536) (a .0) in
+    let c = and-true (eqb (stride % 64) 0) (leb 64 stride) (b .0) in
+    record { whole = eqb-true (stride % 64) 0 (c .0); some = leb-true 64 stride (c .1); long = leb-true (48 * stride) bytes (a .1) }
+
+-- ---- the frame's length
+pub samples-fit : (a : Args) → sized a ≡ true → a .samples ≤ a .stride
+samples-fit a e =
+    let channels = length (a .codes) + a .objects in
+    let x1 = leb (a .samples) (a .stride) in
+    let x2 = leb (length (a .codes)) 18 in
+    let x3 = leb (a .objects) 16 in
+    let x4 = every (λ c. leb c 17) (a .codes) in
+    let x5 = eqb (length (a .pcm)) (4 * (channels * a .samples)) in
+    let y5 = and-true (x1 && x2 && x3 && x4 && x5) (eqb (a .samples) 0 || not (eqb channels 0)) e in
+    let y4 = and-true (x1 && x2 && x3 && x4) x5 (y5 .0) in
+    let y3 = and-true (x1 && x2 && x3) x4 (y4 .0) in
+    let y2 = and-true (x1 && x2) x3 (y3 .0) in
+    leb-true (a .samples) (a .stride) (and-true x1 x2 (y2 .0) .0)
+
+-- ---- a push
+module _ (L : Leaves) where
+  -- the updates as 9 to 14 see them
+  abbrev pub sentOf : List (L .Update) → List Sent
+  sentOf us = map (λ (u : L .Update). record { offset = L .offset u; shape = L .sent u }) us
+
+  pub record Passed (r : State L) (a : Args) : Type 0 where
+    pub room : room (a .stride) (length (a .out)) ≡ true
+    pub sized : sized a ≡ true
+    pub listed : listed (a .rate) ≡ true
+    pub position : r .position + a .samples ≤ 1099511627776
+    pub laidOut : L .laidOut (a .meta) ≡ true
+    pub inRange : L .inRange (a .meta) ≡ true
+    pub enough : lackingFrom L (offsets L (a .samples)) 0 (L .updates (a .meta)) (L .counts (r .meta)) ≡ false
+    pub pass : allPass (a .pcm) 0 ((length (a .codes) + a .objects) * a .samples) ≡ true
+    pub later : later (sentOf (L .updates (a .meta))) (a .objects) (a .codes) (a .samples) (a .rate) (r .rate) (L .shape (r .meta)) ≡ clear
+
+  pub is-passed : (r : State L) (a : Args) → found L r a ≡ clear → Passed r a
+  is-passed r a e =
+      let s = then-clear (early L r a) _ e in
+      let s1 = then-clear (unless (room (a .stride) (length (a .out))) 1 0 0) _ (s .0) in
+      let s2 = then-clear (unless (sized a) 2 0 0) _ (s1 .1) in
+      let s3 = then-clear (unless (listed (a .rate)) 3 0 0) _ (s2 .1) in
+      let s4 = then-clear (unless (leb (r .position + a .samples) 1099511627776) 4 0 0) _ (s3 .1) in
+      let s5 = then-clear (unless (L .laidOut (a .meta)) 5 0 0) _ (s4 .1) in
+      let s6 = then-clear (unless (L .inRange (a .meta)) 6 0 0) _ (s5 .1) in
+      let x7 = lackingFrom L (offsets L (a .samples)) 0 (L .updates (a .meta)) (L .counts (r .meta)) in
+      let s7 = then-clear (unless (not x7) 7 0 0) _ (s6 .1) in
+      record {
+        room = unless-clear (room (a .stride) (length (a .out))) 1 0 0 (s1 .0);
+        sized = unless-clear (sized a) 2 0 0 (s2 .0);
+        listed = unless-clear (listed (a .rate)) 3 0 0 (s3 .0);
+        position = leb-true (r .position + a .samples) 1099511627776 (unless-clear (leb (r .position + a .samples) 1099511627776) 4 0 0 (s4 .0));
+        laidOut = unless-clear (L .laidOut (a .meta)) 5 0 0 (s5 .0);
+        inRange = unless-clear (L .inRange (a .meta)) 6 0 0 (s6 .0);
+        enough = not-true x7 (unless-clear (not x7) 7 0 0 (s7 .0));
+        pass = unless-clear (allPass (a .pcm) 0 ((length (a .codes) + a .objects) * a .samples)) 8 0 0 (s7 .1);
+        later = s .1;
+      }
+
+-- ---- samples
+-- channel i at sample t
+pub sample-in : (pcm : List ℕ) (channels n : ℕ) → Bytes pcm → allPass pcm 0 (channels * n) ≡ true → (i t : ℕ) → i < channels → t < n → Bounded (16 * One) (sampleAt pcm n i t)
+sample-in pcm channels n b p i t h k =
+    let m : suc i * n ≤ channels * n = mul-le-mul-right n h in
+    subst (λ (at : ℕ). Bounded (16 * One) (floatAt pcm at)) (zero-add (4 * (i * n + t))) (sample-bounded pcm b 0 (channels * n) p (i * n + t) (omega arith))
+
+pub samples-in : (pcm : List ℕ) (channels n : ℕ) → Bytes pcm → allPass pcm 0 (channels * n) ≡ true → (k i t : ℕ) → i + k ≤ channels → t < n → All (Bounded (16 * One)) (samplesAt pcm n k i t)
+samples-in pcm channels n b p zero i t h l = tt
+samples-in pcm channels n b p (suc k) i t h l = (sample-in pcm channels n b p i t (omega arith) l, samples-in pcm channels n b p k (suc i) t (omega arith) l)
