@@ -1,8 +1,11 @@
 -- The walk of refusal 7: those sent for one time one after the other, times without an update passed over. Assumes nothing.
 use Prim.Native.Nat.{ℕ, zero, suc, _+_, _-_, _≤_, _<_}
 use mathlib.Core.Path.{_≡_, refl, sym, ap, _∙_}
+use mathlib.Core.Bool.{Bool, true, false}
 use mathlib.Core.List.{List, [], _∷_, _++_}
+use lib.Dec.{leb}
 use lib.ListN.{getD}
+use borrow.Author.Tests.{leb-true, leb-false}
 use native.Mathlib.Omega.{arith}
 use Rattle.fields.specs.Update.{offset}
 use Rattle.records.specs.Laid.{updateAt, count}
@@ -14,7 +17,14 @@ use Rattle.records.proofs.Times.{sent-none, first-sent, none-sent, next-within,
 use Rattle.updates.specs.declared.shape.Judged.{Judged}
 use Rattle.updates.specs.Said.{Update, updateOf}
 use Rattle.updates.specs.Shape.{judgedNext, judgedAll}
-use Rattle.updates.proofs.Sound.{at-most-or}
+
+-- a is at most b, or not
+at-most-or : {X : Type 0} (a b : ℕ) → (a ≤ b → X) → (b < a → X) → X
+at-most-or {X} a b f g = by (leb a b) refl
+  where
+    by : (t : Bool) → leb a b ≡ t → X
+    by true e = f (leb-true a b e)
+    by false e = g (leb-false a b e)
 
 module _ (f : ℕ → ℕ) (n t : ℕ) where
   -- i is the first from itself on
