@@ -13,10 +13,12 @@ use Rattle.fields.proofs.All.{and-left, and-right}
 use Rattle.fields.proofs.Raised.{raised-within}
 use Rattle.records.specs.Laid.{blockAt, elementAt, updateAt, laidOut, count}
 use Rattle.records.specs.Ranges.{inRange}
+use Rattle.records.specs.Answers.{IsLayout}
+use Rattle.records.specs.declared.layout.Layout.{Layout}
 use Rattle.records.proofs.Within.{element-within}
 use Rattle.records.proofs.Reached.{whole-records, update-whole, update-is, update-place, update-counts, element-whole, blocks-few}
 use Rattle.records.proofs.Meant.{all-within}
-use Rattle.updates.specs.Whole.{WholeElement, WholeUpdate}
+use Rattle.updates.specs.Whole.{WholeElement, WholeUpdate, WholeUpdates}
 
 module _ (m : List ℕ) (laid : laidOut m ≡ true) (fit : inRange m ≡ true) (bytes : Bytes m) (i : ℕ) (one : i < count m) where
   element-passes : (e : ℕ) → e < elements m (updateAt m i) → WholeElement m (objects m (updateAt m i)) (elementAt m (updateAt m i) e)
@@ -53,3 +55,11 @@ module _ (m : List ℕ) (laid : laidOut m ≡ true) (fit : inRange m ≡ true) (
         few-elements = k .few-elements;
         each = element-passes;
       }
+
+-- all updates, where the code's layout has them
+pub passes-all : (m : List ℕ) → laidOut m ≡ true → inRange m ≡ true → Bytes m → (l : Layout) → IsLayout m l → WholeUpdates m (l .first) (l .count)
+passes-all m laid fit bytes l g =
+    record {
+      few = rw (g .counted) (g .few);
+      all = λ i h. let one : i < count m = omega (arith, g .counted) in rw (g .firsts i one) (passes m laid fit bytes i one);
+    }

@@ -2,7 +2,7 @@
 -- update." Counts alone decide it, and what an update leaves of them depends on nothing else: so refusal 7 walks along the updates of a frame by counts. Assumes nothing.
 use Prim.Native.Nat.{ℕ, _-_}
 use mathlib.Core.Bool.{Bool, false, _&&_, _||_, cond}
-use mathlib.Core.List.{[], _∷_}
+use mathlib.Core.List.{List, [], _∷_}
 use lib.Dec.{eqb, ltb}
 use lib.ListN.{getD, set}
 use Rattle.timed.specs.Turns.{times}
@@ -50,3 +50,15 @@ nextShape u s = judged u s .shape
 -- refusal 7 of an update that meets these counts
 abbrev pub lacks : Update → Shape → Bool
 lacks u s = judged u s .lacks
+
+-- ---- the updates of a frame
+
+-- one update more
+abbrev pub judgedNext : Update → Judged → Judged
+judgedNext u j = record { shape = judged u (j .shape) .shape; lacks = j .lacks || judged u (j .shape) .lacks }
+
+-- updates in the order of a list
+unfoldable pub judgedAll : (ℕ → Update) → List ℕ → Judged → Judged
+unfolding judged
+judgedAll u [] j = j
+judgedAll u (i ∷ is) j = judgedAll u is (judgedNext (u i) j)

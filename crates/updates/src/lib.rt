@@ -3,3 +3,4 @@ pub mod element;
 pub mod info;
 pub mod shape;
 pub mod update;
+pub mod walk;

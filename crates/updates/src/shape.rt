@@ -43,7 +43,7 @@ pub fn shape_of(s: MetadataRendererState) -> Shape
     }
 }
 
-fn either(a: bool, b: bool) -> bool
+pub fn either(a: bool, b: bool) -> bool
     ensures { λ r. ⌜ r ≡ (a || b) ⌝ }
 {
     if a {
