@@ -2,15 +2,15 @@
 use mathlib.Core.Path.{_≡_, refl, sym, ap, ap₂, _∙_}
 use mathlib.Core.Bool.{Bool, true, false, _&&_}
 use mathlib.Core.List.{List, [], _∷_, _++_, append-assoc}
-use Prim.Native.Nat.{ℕ, zero, suc, _+_, _*_, _<_, _≤_}
-use native.Mathlib.Nat.{zero-mul, suc-mul}
+use Prim.Native.Nat.{ℕ, zero, suc, _*_, _≤_, _<_}
+use native.Mathlib.Nat.{zero-mul}
 use native.Mathlib.Omega.{arith}
 use lib.Dec.{T, leb, leb→le, le→leb}
 use lib.Ieee.Fits.{and-l, and-r}
 use lib.ListN.{length, getD, drop, length-append}
 use lib.Seq.{drop-at}
+use Rattle.ieee.specs.Bounds.{All}
 use Rattle.words.specs.Words.{Words}
-use Rattle.rules.specs.Parts.{All}
 use Rattle.store.specs.Table.{each, table, atMost, every}
 
 -- ---- tests
@@ -78,12 +78,12 @@ module _ {A : Type 0} {P : A → Type 0} {k : ℕ} {f : A → List ℕ} {g : Lis
 module _ {A : Type 0} (d : A) (p : A → ℕ) (limit j k : ℕ) where
   -- entries whose field p is at most `limit`, where word j of an entry is p of it
   pub at-most-in : {P : A → Type 0} {f : A → List ℕ} {g : List ℕ → A} → Entry P k f g → ((x : A) (t : List ℕ) → getD (f x ++ t) j 0 ≡ p x)
-      → (xs : List A) → All P xs → ((i : ℕ) → p (getD xs i d) ≤ limit) → (t : List ℕ) → T (atMost j k (length xs) limit (each f xs ++ t))
+      → (xs : List A) → All P xs → ((i : ℕ) → i < length xs → p (getD xs i d) ≤ limit) → (t : List ℕ) → T (atMost j k (length xs) limit (each f xs ++ t))
   unfolding atMost each
   at-most-in e same [] h low t = tt
   at-most-in {f = f} e same (x ∷ xs) h low t =
       rw (append-assoc (f x) (each f xs) t, drop-at (f x) (each f xs ++ t) k (e .long x (h .0)), same x (each f xs ++ t))
-      (and-in (leb (p x) limit) (atMost j k (length xs) limit (each f xs ++ t)) (le→leb (p x) limit (low 0)) (at-most-in e same xs (h .1) (λ i. low (suc i)) t))
+      (and-in (leb (p x) limit) (atMost j k (length xs) limit (each f xs ++ t)) (le→leb (p x) limit (low 0 (omega arith))) (at-most-in e same xs (h .1) (λ i l. low (suc i) (omega arith)) t))
 
   -- the same from the words, where p of what words hold is at most their word j
   pub at-most-out : (g : List ℕ → A) → ((w : List ℕ) → getD w j 0 ≤ limit → p (g w) ≤ limit) → p d ≤ limit → (n : ℕ) (w : List ℕ) → T (atMost j k n limit w) → (i : ℕ) → p (getD (table g k n w) i d) ≤ limit

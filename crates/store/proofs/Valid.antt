@@ -1,31 +1,29 @@
 -- The block of a renderer in range is valid. Assumes nothing.
-use mathlib.Core.Path.{_≡_, refl, sym, ap, ap₂, subst, _∙_}
-use mathlib.Core.Bool.{Bool, true, false, not, _||_, _&&_, cond}
-use mathlib.Core.List.{List, [], _∷_, _++_, append-assoc, append-nil}
-use Prim.Native.Nat.{ℕ, zero, suc, _+_, _*_, _<_, _≤_}
-use native.Mathlib.Nat.{zero-add}
+use mathlib.Core.Path.{_≡_, refl, sym, subst, _∙_}
+use mathlib.Core.Bool.{Bool, true, false, not, _||_, _&&_}
+use mathlib.Core.List.{List, [], _∷_, _++_, append-assoc}
+use Prim.Native.Nat.{ℕ, zero, suc, _<_, _≤_}
 use native.Mathlib.Omega.{arith}
-use lib.Dec.{T, eqb, ltb, leb, eqb→eq, le→leb, lt→ltb, eqb-refl, lit<, lit≤}
-use lib.Ieee.Bits.{is-true}
-use lib.ListN.{length, getD, take, drop}
+use lib.Dec.{T, eqb, eqb→eq, le→leb, lt→ltb, eqb-refl, lit<, lit≤}
+use lib.ListN.{length, getD, drop}
 use lib.Seq.{drop-at, drop-drop}
+use Rattle.ieee.specs.Bounds.{All}
 use Rattle.words.specs.Words.{wordsAt}
 use Rattle.timed.specs.Objects.{noTrack, noSource}
 use Rattle.timed.specs.Slot.{InRange, noBlock}
-use Rattle.timed.specs.State.{Timed, Within, noElement}
+use Rattle.timed.specs.State.{Timed, Within}
 use Rattle.timed.specs.State as timed
 use Rattle.timed.specs.declared.state.ElementRendererState.{ElementRendererState}
 use Rattle.timed.specs.declared.state.MetadataRendererState.{MetadataRendererState}
-use Rattle.rules.specs.Parts.{All}
 use Rattle.rules.specs.Samples.{Renderer}
 use Rattle.store.specs.declared.Small.{Small}
-use Rattle.store.specs.Table.{bit, each, table, atMost, every}
-use Rattle.store.specs.Fields.{codeWords, gainWords, sourceWords, blockWords, trackWords, elementWords, clockWords, countWords, filterWords, tableWords, smallWords, smallOf}
+use Rattle.store.specs.Table.{bit, each, every}
+use Rattle.store.specs.Fields.{gainWords, sourceWords, blockWords, trackWords, elementWords, clockWords, countWords, filterWords, tableWords, smallWords, smallOf}
 use Rattle.store.specs.Layout.{size, small, infosOf, encode}
 use Rattle.store.specs.Ranges.{clockTests, countTests, elementTests, partTests, wordTests, fieldTests, leastFlags, smallValid, headsValid, valid}
 use Rattle.store.specs.Ranged.{ElementRanged, StateRanged, Ranged}
-use Rattle.store.proofs.Tables.{Entry, entries, and-in, every-in, at-most-in}
-use Rattle.store.proofs.Back.{Brief, ElementFull, StateFull, codes-entry, sources-entry, blocks-entry, tracks-entry, elements-entry, drop-sources, drop-states, small-back}
+use Rattle.store.proofs.Tables.{entries, and-in, every-in, at-most-in}
+use Rattle.store.proofs.Back.{StateFull, codes-entry, sources-entry, blocks-entry, tracks-entry, elements-entry, drop-sources, drop-states, small-back}
 use Rattle.store.proofs.Stores.{two-elements}
 use Rattle.store.proofs.Whole.{element-full, state-full, small-full, words-back, infos-back, encode-long}
 
@@ -81,14 +79,14 @@ part-valid position least e r h t =
     let s = f .schedule .each in
     let n = h .schedule in
     every-in (partTests (elementWords e ++ t)) (
-      rw (append-assoc b k t, ← n) (at-most-in noBlock (λ x. x .offset) 2097152 0 3 blocks-entry (λ x u. refl) (e .schedule) s (r .ramps .offsets) (k ++ t)),
+      rw (append-assoc b k t, ← n) (at-most-in noBlock (λ x. x .offset) 2097152 0 3 blocks-entry (λ x u. refl) (e .schedule) s (λ i l. r .ramps .offsets i (omega arith)) (k ++ t)),
       (
-        rw (append-assoc b k t, ← n) (at-most-in noBlock (λ x. x .ramp) 2097152 1 3 blocks-entry (λ x u. refl) (e .schedule) s (r .ramps .ramps) (k ++ t)),
+        rw (append-assoc b k t, ← n) (at-most-in noBlock (λ x. x .ramp) 2097152 1 3 blocks-entry (λ x u. refl) (e .schedule) s (λ i l. r .ramps .ramps i (omega arith)) (k ++ t)),
         (
-          rw (append-assoc b k t, ← n) (at-most-in noBlock (λ x. bit (x .used)) 1 2 3 blocks-entry (λ x u. refl) (e .schedule) s (λ i. bit-most (getD (e .schedule) i noBlock .used)) (k ++ t)),
+          rw (append-assoc b k t, ← n) (at-most-in noBlock (λ x. bit (x .used)) 1 2 3 blocks-entry (λ x u. refl) (e .schedule) s (λ i l. bit-most (getD (e .schedule) i noBlock .used)) (k ++ t)),
           (
             rw (append-assoc b k t, drop-at b (k ++ t) 24 (entries blocks-entry 8 .long (e .schedule) (f .schedule)), ← h .tracks)
-                (at-most-in noTrack (λ x. bit (x .now)) 1 0 4 tracks-entry (λ x u. refl) (e .tracks) (h .targets) (λ i. bit-most (getD (e .tracks) i noTrack .now)) t),
+                (at-most-in noTrack (λ x. bit (x .now)) 1 0 4 tracks-entry (λ x u. refl) (e .tracks) (h .targets) (λ i l. bit-most (getD (e .tracks) i noTrack .now)) t),
             tt,
           ),
         ),
@@ -119,9 +117,9 @@ module _ (s : Small) (position : ℕ) (h : StateRanged position (s .state)) wher
       every-in (wordTests (smallWords s)) (
         le→leb _ _ (bit-most (s .state .initialized)),
         (
-          rw (← h .codes) (at-most-in 0 (λ c. c) 17 0 1 codes-entry (λ c u. refl) (s .state .codes) (h .listed) (every-most (s .state .codes) (h .listed)) (each gainWords (s .state .gains) ++ (each sourceWords (s .state .sources) ++ each elementWords (s .state .states)))),
+          rw (← h .codes) (at-most-in 0 (λ c. c) 17 0 1 codes-entry (λ c u. refl) (s .state .codes) (h .listed) (λ i l. every-most (s .state .codes) (h .listed) i) (each gainWords (s .state .gains) ++ (each sourceWords (s .state .sources) ++ each elementWords (s .state .states)))),
           (
-            rw (drop-sources (s .state) F, ← h .sources) (at-most-in noSource (λ x. bit (x .placed)) 1 5 6 sources-entry (λ x u. refl) (s .state .sources) (h .objects) (λ i. bit-most (getD (s .state .sources) i noSource .placed)) (each elementWords (s .state .states))),
+            rw (drop-sources (s .state) F, ← h .sources) (at-most-in noSource (λ x. bit (x .placed)) 1 5 6 sources-entry (λ x u. refl) (s .state .sources) (h .objects) (λ i l. bit-most (getD (s .state .sources) i noSource .placed)) (each elementWords (s .state .states))),
             (rw elements-at (part 0 (lit< tt) (elementWords (element 1) ++ [])), (rw second-at (part 1 (lit< tt) []), tt)),
           ),
         ),
