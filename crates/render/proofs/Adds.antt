@@ -2,7 +2,7 @@
 use mathlib.Core.Path.{_≡_, refl, sym, ap, subst, _∙_}
 use mathlib.Core.Bool.{Bool, true, false, cond}
 use mathlib.Core.List.{List, [], _∷_, _++_}
-use Prim.Native.Nat.{ℕ, zero, suc, _+_, _-_, _*_, _<_, _≤_}
+use Prim.Native.Nat.{ℕ, _+_, _-_, _*_, _<_, _≤_}
 use native.Mathlib.Omega.{arith}
 use borrow.Author.Tests.{eqb-true, eqb-false, ltb-true, ltb-false}
 use lib.Dec.{eqb, ltb}
@@ -16,7 +16,7 @@ use Rattle.mixing.specs.Sums.{plus, total}
 use Rattle.mixing.proofs.Laws.{length-full}
 use Rattle.mixing.proofs.Rows.{full-at, total-append}
 use Rattle.mixing.proofs.Parts.{length-part, part-before, part-within, part-past}
-use Rattle.panning.specs.Terms.{Term, term}
+use Rattle.panning.specs.Terms.{Term}
 use Rattle.rules.specs.Mix.{scaledOn}
 use Rattle.render.specs.Rows.{mixedTerm, mixedTerms}
 

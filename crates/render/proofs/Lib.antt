@@ -5,3 +5,5 @@ pub mod Routes
 pub mod Loops
 pub mod Adds
 pub mod Moments
+pub mod Filters
+pub mod Stores

@@ -1,10 +1,10 @@
 -- One bed and one object more of their loops: what is left to mix still gives `end`. Assumes nothing.
 use mathlib.Core.Path.{_≡_, refl, sym, ap, _∙_}
 use mathlib.Core.List.{List, [], _∷_, _++_, append-nil}
-use Prim.Native.Nat.{ℕ, zero, suc, _+_, _-_, _*_, _<_, _≤_}
+use Prim.Native.Nat.{ℕ, zero, suc, _+_, _-_, _<_, _≤_}
 use native.Mathlib.Omega.{arith}
 use native.Mathlib.Numerals.{add-one}
-use lib.ListN.{length, getD, set, take, drop, replicate, length-replicate}
+use lib.ListN.{length, getD, set, drop, replicate, length-replicate}
 use lib.Seq.{drop-cons, drop-length, set-at}
 use lib.Ieee.{Float, nan}
 use Rattle.beds.specs.Matching.{matching}
