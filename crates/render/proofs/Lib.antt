@@ -7,3 +7,4 @@ pub mod Adds
 pub mod Moments
 pub mod Filters
 pub mod Stores
+pub mod Behind
