@@ -10,7 +10,7 @@ use lib.Seq.{length-take-le, drop-drop}
 use lib.Ieee.{Float, binary32, fits, toBits}
 use lib.Ieee.Bits.{toBits-lt}
 use Rattle.ieee.specs.Bounds.{All}
-use Rattle.words.specs.Words.{word, withWord, wordsAt, withFloat}
+use Rattle.words.specs.Words.{withWord, wordsAt, withFloat}
 use Rattle.words.proofs.Back.{reads-back}
 use Rattle.words.proofs.Beside.{Kept, kept-twice, number-keeps, reads-before, words-before, words-past}
 use Rattle.words.proofs.Numbers.{length-kept}

@@ -8,3 +8,4 @@ pub mod Moments
 pub mod Filters
 pub mod Stores
 pub mod Behind
+pub mod Steps
