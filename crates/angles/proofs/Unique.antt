@@ -1,18 +1,18 @@
 -- There is one f32 meant at most. Each sum lies between the two before it, so once two neighbours round to r all later sums do. Assumes nothing.
 use mathlib.Core.Path.{_≡_, refl, sym, ap, _∙_, subst}
 use mathlib.Core.Logic.{_⊎_, inl, inr}
-use mathlib.Core.Bool.{Bool, true, false, cond}
+use mathlib.Core.Bool.{Bool, false, cond}
 use Prim.Native.Nat.{ℕ, zero, suc, _+_, _-_, _*_, _%_, _^_, _≤_, _<_}
 use native.Mathlib.Nat.{le-trans, le-of-eq, le-antisymm, eq-or-lt-of-le, eq-zero-or-pos, lt-irrefl, lt-of-le-of-lt, lt-of-lt-of-le, mul-comm, mul-one, one-mul, mul-right-comm, mul-le-mul, mul-le-mul-left, mul-le-mul-right, mul-pos, one-le-pow, pow-suc, pow-zero, pow-le-pow-left}
 use native.Mathlib.Omega.{arith}
 use borrow.Author.Tests.{eq-eqb, ne-eqb}
-use lib.Dec.{eqb, lit<}
 use lib.Pow.{pow-add}
 use lib.Ieee.{Float, binary32, round}
 use lib.Ieee.Positive.{num, den, den-pos}
-use Rattle.ieee.specs.Units.{One, Top, mag}
+use Rattle.ieee.specs.Units.{One, mag}
 use Rattle.ieee.proofs.Grid.{rnd, rnd-mono, rnd-le}
 use Rattle.ieee.proofs.Value.{Is, rounded, one-grid}
+use Rattle.ieee.proofs.Constants.{one-less}
 use Rattle.ieee.proofs.Unique.{unique}
 use Rattle.angles.specs.Angle.{grown, up, down, partial, Meant}
 
@@ -21,14 +21,10 @@ record Fraction (p q : ℕ) : Type 0 where
   some : 0 < q
   most : p ≤ q
 
-one-top : One < Top
-unfolding One Top
-one-top = lit< tt
-
 size-of : (p q : ℕ) → Fraction p q → Is (round binary32 false p q) false (rnd (p * One) q)
 size-of p q f =
     rounded false p q (p * One) q (f .some) (f .some) refl
-    (lt-of-le-of-lt (rnd-le one-grid (p * One) q (f .some) (le-trans (mul-le-mul-right One (f .most)) (le-of-eq (mul-comm q One)))) one-top)
+    (lt-of-le-of-lt (rnd-le one-grid (p * One) q (f .some) (le-trans (mul-le-mul-right One (f .most)) (le-of-eq (mul-comm q One)))) one-less)
 
 order : (p q p' q' : ℕ) → Fraction p q → Fraction p' q' → p * q' ≤ p' * q → rnd (p * One) q ≤ rnd (p' * One) q'
 order p q p' q' f f' h =

@@ -1,4 +1,5 @@
 // The coefficients of the source's `BiquadLowpassState`.
+#[repr(C)]
 pub struct Coefficients {
     pub a1: f32,
     pub a2: f32,

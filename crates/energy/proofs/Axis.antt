@@ -32,7 +32,7 @@ le-total x y f g = go (leb (P x + N y) (P y + N x)) (leb→le (P x + N y) (P y +
     go true h k = inl (→le x y f g (h tt))
     go false h k = inr (→le y x g f (le-of-lt (k tt)))
 
-pub le-through : (x y z : Float) → F32 x → F32 y → F32 z → T (le x y) → T (le y z) → T (le x z)
+le-through : (x y z : Float) → F32 x → F32 y → F32 z → T (le x y) → T (le y z) → T (le x z)
 le-through x y z f g h p q = →le x z f h (join (P x) (N x) (P y) (N y) (P z) (N z) (le→ x y f g p) (le→ y z g h q))
   where
     join : (a a' b b' c c' : ℕ) → a + b' ≤ b + a' → b + c' ≤ c + b' → a + c' ≤ c + a'
@@ -41,13 +41,13 @@ le-through x y z f g h p q = →le x z f h (join (P x) (N x) (P y) (N y) (P z) (
 le-both : (x y : Float) → F32 x → F32 y → T (le x y) → T (le y x) → T (eq x y)
 le-both x y f g p q = →eq x y f g (le-antisymm (le→ x y f g p) (le→ y x g f q))
 
-pub le-same : (x y : Float) → F32 x → F32 y → T (eq x y) → T (le x y) × T (le y x)
+le-same : (x y : Float) → F32 x → F32 y → T (eq x y) → T (le x y) × T (le y x)
 le-same x y f g e = let i = eq→ x y f g e in (→le x y f g (le-of-eq i), →le y x g f (le-of-eq (sym i)))
 
-pub le-order : Order le
+le-order : Order le
 le-order = record { self = le-self; total = le-total; trans = le-through; both = le-both; same = le-same }
 
-pub ge-order : Order ge
+ge-order : Order ge
 ge-order = record {
   self = le-self;
   total = λ x y f g. le-total y x g f;
@@ -93,13 +93,13 @@ module _ (r : Float → Float → Bool) (o : Order r) (c : ℕ → Float) where
             )
           ]
 
-  pub last-some : (l : List ℕ) → Each (λ s. F32 (c s)) l → Some l → Some (last r c l)
+  last-some : (l : List ℕ) → Each (λ s. F32 (c s)) l → Some l → Some (last r c l)
   unfolding last
   last-some l f m =
       let g = greatest l f m in
       (g .0, →keep (λ s. every (λ t. r (c t) (c s)) l) l (g .1) (→every (λ t. r (c t) (c (g .0))) l (g .2)))
 
-pub last→ : (r : Float → Float → Bool) (c : ℕ → Float) (l : List ℕ) {a : ℕ} → In a (last r c l) → In a l × Each (λ t. T (r (c t) (c a))) l
+last→ : (r : Float → Float → Bool) (c : ℕ → Float) (l : List ℕ) {a : ℕ} → In a (last r c l) → In a l × Each (λ t. T (r (c t) (c a))) l
 unfolding last
 last→ r c l {a} m =
     let k = keep→ (λ s. every (λ t. r (c t) (c s)) l) l m in
@@ -107,16 +107,16 @@ last→ r c l {a} m =
 
 -- ---- the ends about v
 module _ (c : ℕ → Float) (v : Float) (l : List ℕ) where
-  pub below→ : {a : ℕ} → In a (below c v l) → In a l × T (le (c a) v)
+  below→ : {a : ℕ} → In a (below c v l) → In a l × T (le (c a) v)
   unfolding below
   below→ m = keep→ (λ s. le (c s) v) l (last→ le c (keep (λ s. le (c s) v) l) m .0)
 
-  pub above→ : {a : ℕ} → In a (above c v l) → In a l × T (not (le (c a) v))
+  above→ : {a : ℕ} → In a (above c v l) → In a l × T (not (le (c a) v))
   unfolding above
   above→ m = keep→ (λ s. not (le (c s) v)) l (last→ ge c (keep (λ s. not (le (c s) v)) l) m .0)
 
   -- no speaker up to v is nearer
-  pub below-last : {a t : ℕ} → In a (below c v l) → In t l → T (le (c t) v) → T (le (c t) (c a))
+  below-last : {a t : ℕ} → In a (below c v l) → In t l → T (le (c t) v) → T (le (c t) (c a))
   unfolding below
   below-last {a} {t} m n h = last→ le c (keep (λ s. le (c s) v) l) m .1 t (→keep (λ s. le (c s) v) l n h)
 

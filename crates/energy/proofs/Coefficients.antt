@@ -3,7 +3,7 @@ use mathlib.Core.Path.{_≡_, refl, sym, ap, _∙_, subst}
 use mathlib.Core.Bool.{Bool, true, false, not, cond}
 use mathlib.Core.List.{List}
 use Prim.Native.Nat.{ℕ, _+_, _*_, _≤_, _<_, zero-le}
-use native.Mathlib.Nat.{zero-mul, mul-le-mul, mul-le-mul-left, mul-le-mul-right, mul-comm, le-refl}
+use native.Mathlib.Nat.{zero-mul, mul-le-mul, mul-le-mul-left, mul-le-mul-right}
 use native.Mathlib.Omega.{arith}
 use lib.Dec.{T, leb, leb→le, nleb→lt}
 use lib.Ieee.{Float, binary32, sub, mul, div, eq, ne, le}
@@ -13,13 +13,13 @@ use Rattle.ieee.proofs.Grid.{grid-zero}
 use Rattle.ieee.proofs.Value.{one-pos, one-grid}
 use Rattle.ieee.proofs.Ops.{small, div-rounds}
 use Rattle.ieee.proofs.Signed.{not-negative, at-most}
-use Rattle.ieee.proofs.Compare.{le→, →eq, eq→}
+use Rattle.ieee.proofs.Compare.{le→, eq→}
 use Rattle.ieee.proofs.Share.{one-f32, one-P, one-less, left-over}
 use Rattle.roots.specs.Root.{root}
 use Rattle.vectors.specs.declared.Vec3.{Vec3}
 use Rattle.panning.specs.Choice.{Corner, corner, 0·0, 1·0}
 use Rattle.panning.specs.Terms.{across, part, rowWeight, sideCoefficient, coefficient, innerGain, extra}
-use Rattle.panning.specs.Table.{Table, Position, 8·0, between}
+use Rattle.panning.specs.Table.{Table, Position}
 use Rattle.energy.proofs.Tables.{zero-f32, zero-P, Gain8, Size1}
 use Rattle.energy.proofs.Weighing.{Plus, Product, product, Eight·0, eight-is, eight-grid, eight-less, weight, weights, zero-left}
 
@@ -50,11 +50,11 @@ pub record Rooted (x : Float) (v : ℕ) : Type 0 where
   pub plus : N x ≡ 0
   pub root : Root (P x) (v * One)
 
-pub rooted-most : {x : Float} {v w : ℕ} → Rooted x v → OnGrid w → v * One ≤ w * w → Plus x w
+rooted-most : {x : Float} {v w : ℕ} → Rooted x v → OnGrid w → v * One ≤ w * w → Plus x w
 rooted-most {x} {v} {w} h g m = record { f32 = h .f32; plus = h .plus; most = root-most g (P x) (v * One) (h .root) m }
 
 module _ (near : Nearest root) where
-  pub rooted : (x : Float) → F32 x → N x ≡ 0 → Rooted (root x) (P x)
+  rooted : (x : Float) → F32 x → N x ≡ 0 → Rooted (root x) (P x)
   rooted x f n = record { f32 = near .f32 x f n; plus = near .plus x f n; root = near .near x f n }
 
   -- ---- the two sides of a row
@@ -62,9 +62,6 @@ module _ (near : Nearest root) where
   unfolding ne
   side-rooted w s d f h = go (eq w 0·0) (λ z. z)
     where
-      m : Float
-      m = mul binary32 w (part d s)
-
       none : T (eq w 0·0) → P (mul binary32 w (part d s)) ≡ 0
       none z = zero-left h (let e = eq→ w 0·0 (f .f32) zero-f32 z in omega (arith, e, f .plus, zero-P))
 

@@ -1,15 +1,15 @@
 -- The facts on panning, together: `Pans` holds of any table and any position. Assumes nothing.
-use mathlib.Core.Path.{_≡_, refl, sym, ap, _∙_, subst}
+use mathlib.Core.Path.{_≡_, refl, sym, ap, _∙_, subst, subst⁻¹}
 use mathlib.Core.Logic.{inl, inr}
 use mathlib.Core.Bool.{Bool, true, false, not, cond}
-use mathlib.Core.List.{List, [], _∷_, _++_, map, List·Memᴰ, List·Memᴰ·head, List·Memᴰ·not-nil, List·Memᴰ·append-cases}
-use Prim.Native.Nat.{ℕ, _+_, _*_}
+use mathlib.Core.List.{List, [], _++_, map, List·Memᴰ, List·Memᴰ·not-nil, List·Memᴰ·append-cases}
+use Prim.Native.Nat.{ℕ, _*_}
 use native.Mathlib.Nat.{zero-mul}
 use native.Mathlib.Omega.{arith}
 use lib.Dec.{T}
 use lib.Ieee.{Float, binary32, fits, mul, sub, le, eq, ne}
 use lib.Ieee.Fits.{and-i}
-use Rattle.ieee.specs.Units.{One, F32, mag, P, N}
+use Rattle.ieee.specs.Units.{One, F32, mag, P}
 use Rattle.ieee.specs.Nearest.{Root}
 use Rattle.ieee.proofs.Compare.{→le, →eq, eq→}
 use Rattle.ieee.proofs.Signed.{mag-is}
@@ -18,18 +18,18 @@ use Rattle.roots.specs.Root.{root}
 use Rattle.roots.proofs.Laws.{root-nearest}
 use Rattle.vectors.specs.declared.Vec3.{Vec3}
 use Rattle.panning.specs.declared.Panned.{Panned}
-use Rattle.panning.specs.Choice.{Corner, differ, corner, corners, 0·0, 1·0}
+use Rattle.panning.specs.Choice.{Corner, corner, corners, 0·0, 1·0}
 use Rattle.panning.specs.Terms.{up, ahead, across, part, rowWeight, coefficient, innerGain, extra, nothing, panned, Term, term, audible, paired, spread, cornerTerms, terms}
 use Rattle.panning.specs.Table.{Table, Position, 8·0, between}
-use Rattle.energy.specs.Facts.{Each, squareSum, AddsUp, apart, Pans}
+use Rattle.energy.specs.Facts.{Each, squares, AddsUp, Pans}
 use Rattle.energy.proofs.Tables.{zero-f32, zero-P, eight-f32, eight-P, Gain8, gain8, size1}
 use Rattle.energy.proofs.Shares.{Part}
 use Rattle.energy.proofs.Corners.{corner-in, up-part, ahead-part, across-part}
 use Rattle.energy.proofs.Weighing.{Plus, Eight·0, eight-is, weight, weights, part-plus}
 use Rattle.energy.proofs.Once.{once}
-use Rattle.energy.proofs.Sum.{root-zero, Eight, eight, squares}
-use Rattle.energy.proofs.Audible.{audible→, audible-none, map-in, square-audible, Differ, differs, apart-audible}
-use Rattle.energy.proofs.Coefficients.{Rooted, corner-rooted, corner-plus, extra-plus, inner-gain8}
+use Rattle.energy.proofs.Sum.{root-zero, Eight, eight, add-up}
+use Rattle.energy.proofs.Audible.{audible→, audible-none, map-in, allSquares, square-audible, by-channel, apart, apart-once, Differ, differs, apart-audible}
+use Rattle.energy.proofs.Coefficients.{corner-rooted, corner-plus, extra-plus, inner-gain8}
 
 part-between : (s : Float) → Part s → T (between 0·0 1·0 s)
 unfolding between
@@ -169,26 +169,31 @@ module _ (sp : ℕ → Vec3) (l : List ℕ) (t : Table sp l) (p : Vec3) (q : Pos
           };
     }
 
-    corner-squares : squareSum (audible (map (λ c. term (corner sp l p c) (x c)) corners)) ≡ eight (λ b c d. M b c d * M b c d)
-    unfolding squareSum M
+    corner-squares : allSquares (audible (map (λ c. term (corner sp l p c) (x c)) corners)) ≡ eight (λ b c d. M b c d * M b c d)
+    unfolding allSquares M
     corner-squares =
         square-audible (map (λ c. term (corner sp l p c) (x c)) corners) (λ u m. let i = map-in (λ c. term (corner sp l p c) (x c)) corners m in subst (λ (v : Term). F32 (v .coefficient)) (sym (i .2)) (corner-rooted root-nearest sp l t p q g G (i .0) .f32))
         ∙ omega arith
 
-  add-up : (n g s : Float) → T (between 0·0 8·0 g) → T (eq s 0·0) → AddsUp (squareSum (cornerTerms (panned sp l n p g s))) g
-  unfolding squareSum paired
-  add-up n g s h z =
-      by-gain sp l n p g s (λ r. AddsUp (squareSum (cornerTerms r)) g) none
-      (subst (λ (i : Float). AddsUp (squareSum (audible (map (λ c. term (corner sp l p c) (coefficient sp (corner sp l p) p i c)) corners))) g) (sym (inner-whole g s z))
-      (subst (λ (m : ℕ). AddsUp m g) (sym (corner-squares g (gain8 g h))) (squares (eight-corners g (gain8 g h)))))
+  corner-named : (n g s : Float) → Each (λ u. List·Memᴰ (u .channel) l) (cornerTerms (panned sp l n p g s))
+  unfolding paired
+  corner-named n g s = by-gain sp l n p g s (λ r. Each (λ u. List·Memᴰ (u .channel) l) (cornerTerms r)) (λ z. of-none (λ u. List·Memᴰ (u .channel) l) nothing-corners)
+      (λ u m. let i = map-in (of sp l n p g s) corners (audible→ (map (of sp l n p g s) corners) m) in subst⁻¹ (λ (v : Term). List·Memᴰ (v .channel) l) (i .2) (corner-in sp l t p (i .0 .top) (i .0 .front) (i .0 .right)))
+
+  corner-energy : (n g s : Float) → T (between 0·0 8·0 g) → T (eq s 0·0) → AddsUp (allSquares (cornerTerms (panned sp l n p g s))) g
+  unfolding allSquares paired
+  corner-energy n g s h z =
+      by-gain sp l n p g s (λ r. AddsUp (allSquares (cornerTerms r)) g) none
+      (subst⁻¹ (λ (i : Float). AddsUp (allSquares (audible (map (λ c. term (corner sp l p c) (coefficient sp (corner sp l p) p i c)) corners))) g) (inner-whole g s z)
+      (subst⁻¹ (λ (m : ℕ). AddsUp m g) (corner-squares g (gain8 g h)) (add-up (eight-corners g (gain8 g h)))))
     where
-      none : T (eq g 0·0) → AddsUp (squareSum (cornerTerms nothing)) g
+      none : T (eq g 0·0) → AddsUp (allSquares (cornerTerms nothing)) g
       none e =
           let G = gain8 g h in
           let i = eq→ g 0·0 (G .f32) zero-f32 e in
           let j : P g ≡ 0 = omega (arith, i, G .plus, zero-P) in
           let k : P g * One ≡ 0 = ap (λ (m : ℕ). m * One) j ∙ zero-mul One in
-          subst (λ (ts : List Term). AddsUp (squareSum ts) g) (sym nothing-corners) (record { above = omega arith; below = omega (arith, k) })
+          subst⁻¹ (λ (ts : List Term). AddsUp (allSquares ts) g) nothing-corners (record { above = omega arith; below = omega (arith, k) })
 
   pub pans : (n : Float) → F32 n → T (le 1·0 n) → Pans sp l n p
   unfolding apart paired
@@ -205,7 +210,9 @@ module _ (sp : ℕ → Vec3) (l : List ℕ) (t : Table sp l) (p : Vec3) (q : Pos
         let b = size1 s S in
         by-gain sp l n p g s (λ r. Each (λ u. T (between 0·0 8·0 (u .coefficient))) (terms l r)) (λ z. of-none (λ u. T (between 0·0 8·0 (u .coefficient))) (nothing-terms l))
         (terms-each (λ u. T (between 0·0 8·0 (u .coefficient))) sp l n p g s (λ k m. plus-between _ (extra-plus root-nearest n g s f o a b)) (λ c. plus-between _ (corner-plus root-nearest sp l t p q (innerGain g s) (inner-gain8 g s a b) c)));
-    once = λ g s G S. by-gain sp l n p g s (λ r. T (apart (cornerTerms r))) (λ z. subst (λ (ts : List Term). T (apart ts)) (sym nothing-corners) tt) (apart-corners (innerGain g s) (inner-gain8 g s (gain8 g G) (size1 s S)));
+    once = λ g s G S. apart-once (cornerTerms (panned sp l n p g s)) (by-gain sp l n p g s (λ r. T (apart (cornerTerms r))) (λ z. subst (λ (ts : List Term). T (apart ts)) (sym nothing-corners) tt) (apart-corners (innerGain g s) (inner-gain8 g s (gain8 g G) (size1 s S))));
     plain = λ g s. plain-terms sp l n p g s;
-    squares = λ g s G z. subst (λ (ts : List Term). AddsUp (squareSum ts) g) (sym (plain-terms sp l n p g s z)) (add-up n g s G z);
+    energy = λ g s G z.
+        subst⁻¹ (λ (ts : List Term). AddsUp (squares l ts) g) (plain-terms sp l n p g s z)
+        (subst⁻¹ (λ (m : ℕ). AddsUp m g) (by-channel sp l (t .distinct) (cornerTerms (panned sp l n p g s)) (corner-named n g s)) (corner-energy n g s G z));
   }

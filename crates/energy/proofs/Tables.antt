@@ -2,7 +2,7 @@
 use mathlib.Core.Path.{_≡_, refl, subst}
 use mathlib.Core.Logic.{inl, inr}
 use mathlib.Core.Bool.{Bool, true, false, not, _&&_}
-use mathlib.Core.List.{List, [], _∷_, List·Memᴰ·head}
+use mathlib.Core.List.{List, _∷_}
 use Prim.Native.Nat.{ℕ, _+_, _*_, _≤_}
 use native.Mathlib.Omega.{arith}
 use lib.Dec.{T, T-not, eqb, eqb-refl}
@@ -15,8 +15,8 @@ use Rattle.ieee.proofs.Signed.{one-sided}
 use Rattle.ieee.proofs.Share.{one-f32, one-P}
 use Rattle.vectors.specs.declared.Vec3.{Vec3}
 use Rattle.panning.specs.Choice.{every, 0·0, 1·0}
-use Rattle.panning.specs.Table.{minus-one, 8·0, between, placed, distinct, alike, occupied}
-use Rattle.energy.proofs.Lists.{In, Some, Each, every→}
+use Rattle.panning.specs.Table.{minus-one, 8·0, between, placed, distinct, alike}
+use Rattle.energy.proofs.Lists.{In, Each, every→}
 
 -- ---- what lies between two finite values is finite
 finite-between : (lo hi x : Float) → T (finite lo) → T (finite hi) → T (le lo x) → T (le x hi) → T (finite x)
@@ -48,7 +48,7 @@ minus-N : N minus-one ≡ One
 unfolding mag One
 minus-N = refl
 
-pub tame : (x : Float) → T (between minus-one 1·0 x) → Tame x
+tame : (x : Float) → T (between minus-one 1·0 x) → Tame x
 tame x t =
     let b = between→ minus-one 1·0 x minus-f32 one-f32 t in
     let p = one-P in

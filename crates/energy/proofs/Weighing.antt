@@ -71,7 +71,7 @@ pub record Weighed (a b g c : Float) : Type 0 where
   pub second : Product (mul binary32 a b) g Eight·0
   pub third : Product (mul binary32 (mul binary32 a b) g) c Eight·0
 
-pub weighed : (a b g c : Float) → Plus a One → Plus b One → Gain8 g → Plus c One → Weighed a b g c
+weighed : (a b g c : Float) → Plus a One → Plus b One → Gain8 g → Plus c One → Weighed a b g c
 weighed a b g c fa fb fg fc =
     let gp : Plus g Eight·0 = record { f32 = fg .f32; plus = fg .plus; most = omega (arith, fg .most, eight-is) } in
     let h1 : P a * P b ≤ One * One = mul-le-mul (fa .most) (fb .most) in
@@ -97,10 +97,6 @@ module _ (sp : ℕ → Vec3) (l : List ℕ) (t : Table sp l) (p : Vec3) (q : Pos
   pub weights : (b c d : Bool) → Weighed (part c (ahead sp (corner sp l p) p b)) (part b (up sp (corner sp l p) p)) g (part d (across sp (corner sp l p) p b c))
   weights b c d = weighed (part c (ahead sp (corner sp l p) p b)) (part b (up sp (corner sp l p) p)) g (part d (across sp (corner sp l p) p b c)) (part-plus c (ahead sp (corner sp l p) p b) (ahead-part sp l t p q b)) (part-plus b (up sp (corner sp l p) p) (up-part sp l t p q)) G (part-plus d (across sp (corner sp l p) p b c) (across-part sp l t p q b c))
 
-  pub weight-plus : (b c d : Bool) → Plus (weight sp l p g b c d) Eight·0
-  unfolding rowWeight
-  weight-plus b c d = weights b c d .third .plus
-
   -- a share that is 0 leaves its corners without weight
   pub no-up : (c d : Bool) → P (up sp (corner sp l p) p) ≡ 0 → P (weight sp l p g true c d) ≡ 0
   unfolding rowWeight
@@ -113,8 +109,3 @@ module _ (sp : ℕ → Vec3) (l : List ℕ) (t : Table sp l) (p : Vec3) (q : Pos
   pub no-across : (b c : Bool) → P (across sp (corner sp l p) p b c) ≡ 0 → P (weight sp l p g b c true) ≡ 0
   unfolding rowWeight
   no-across b c e = zero-right (weights b c true .third) e
-
-  -- and so does a gain that is 0
-  pub no-gain : (b c d : Bool) → P g ≡ 0 → P (weight sp l p g b c d) ≡ 0
-  unfolding rowWeight
-  no-gain b c d e = let w = weights b c d in zero-left (w .third) (zero-right (w .second) e)

@@ -1,38 +1,33 @@
 -- What holds of panning over any table of speakers, for a position of any floats: the corners exist, the shares lie from 0 to 1, no speaker gets two corners, and at size 0 the squares of the
 -- coefficients that are mixed add up to the gain. Assumes nothing.
-use Prim.Native.Nat.{ℕ, _+_, _*_}
+use Prim.Native.Nat.{ℕ, _+_, _*_, _≤_}
 use mathlib.Core.Path.{_≡_}
-use mathlib.Core.Bool.{Bool, true, _&&_, not}
+use mathlib.Core.Bool.{Bool}
 use mathlib.Core.List.{List, [], _∷_, List·Memᴰ}
-use lib.Dec.{T, eqb}
+use lib.Dec.{T}
+use lib.ListN.{length}
 use lib.Ieee.{Float, eq}
 use Rattle.ieee.specs.Units.{One, mag, P}
 use Rattle.ieee.specs.Nearest.{Within}
 use Rattle.vectors.specs.declared.Vec3.{Vec3}
-use Rattle.panning.specs.declared.Panned.{Panned}
 use Rattle.panning.specs.Choice.{Corner, corner, 0·0, 1·0}
 use Rattle.panning.specs.Terms as t
-use Rattle.panning.specs.Terms.{Term, panned, terms, cornerTerms}
+use Rattle.panning.specs.Terms.{Term, panned, terms, cornerTerms, onChannel}
 use Rattle.panning.specs.Table.{between, 8·0}
 
--- the sum of the exact squares of the coefficients, in units of 2 ^ -298
-unfoldable pub squareSum : List Term → ℕ
+-- the sum of the exact squares of a channel's coefficients, and of those of the channels l, in units of 2 ^ -298
+unfoldable pub squareSum : List Float → ℕ
 squareSum [] = 0
-squareSum (t ∷ ts) = mag (t .coefficient) * mag (t .coefficient) + squareSum ts
+squareSum (x ∷ xs) = mag x * mag x + squareSum xs
+
+unfoldable pub squares : List ℕ → List Term → ℕ
+unfolding squareSum
+squares [] ts = 0
+squares (c ∷ l) ts = squareSum (onChannel c ts) + squares l ts
 
 -- |sum - g| is at most g * 2 ^ -20 + 2 ^ -140, both sides taken 2 ^ 20 times. In units of 2 ^ -298 g is P g * One, and 2 ^ -140 is 512 * One.
 abbrev pub AddsUp : ℕ → Float → Type 0
 AddsUp sum g = Within (1048576 * sum) (1048576 * (P g * One)) (P g * One + 1048576 * (512 * One))
-
--- none of the terms is on channel k; no two are on one channel
-unfoldable pub absent : ℕ → List Term → Bool
-absent k [] = true
-absent k (t ∷ ts) = not (eqb k (t .channel)) && absent k ts
-
-unfoldable pub apart : List Term → Bool
-unfolding absent
-apart [] = true
-apart (t ∷ ts) = absent (t .channel) ts && apart ts
 
 abbrev pub Each : (Term → Type 0) → List Term → Type 0
 Each Q ts = (t : Term) → List·Memᴰ t ts → Q t
@@ -52,7 +47,7 @@ pub record Pans (sp : ℕ → Vec3) (l : List ℕ) (n : Float) (p : Vec3) : Type
   -- every coefficient is finite and lies from 0 to 8
   pub bounded : (g s : Float) → T (between 0·0 8·0 g) → T (between 0·0 1·0 s) → Each (λ t. T (between 0·0 8·0 (t .coefficient))) (terms l (panned sp l n p g s))
   -- no speaker gets two corners
-  pub once : (g s : Float) → T (between 0·0 8·0 g) → T (between 0·0 1·0 s) → T (apart (cornerTerms (panned sp l n p g s)))
-  -- at size 0 there are no other terms, and the squares add up to the gain
+  pub once : (g s : Float) → T (between 0·0 8·0 g) → T (between 0·0 1·0 s) → (c : ℕ) → length (onChannel c (cornerTerms (panned sp l n p g s))) ≤ 1
+  -- at size 0 there are no other terms, and the squares of the speakers' coefficients add up to the gain
   pub plain : (g s : Float) → T (eq s 0·0) → terms l (panned sp l n p g s) ≡ cornerTerms (panned sp l n p g s)
-  pub squares : (g s : Float) → T (between 0·0 8·0 g) → T (eq s 0·0) → AddsUp (squareSum (terms l (panned sp l n p g s))) g
+  pub energy : (g s : Float) → T (between 0·0 8·0 g) → T (eq s 0·0) → AddsUp (squares l (terms l (panned sp l n p g s))) g

@@ -45,6 +45,7 @@ pub fn is_block(meta: &[u8], r: usize) -> bool
 }
 
 // A block's record.
+#[repr(C)]
 pub struct Block {
     pub offset: i64,
     pub ramp: i64,

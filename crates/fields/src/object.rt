@@ -188,6 +188,7 @@ pub fn object_in_range(o: Object) -> bool
 }
 
 // What the record says as the state block keeps it: head (flags + 256 anchor + 65,536 depth) and bits.
+#[repr(C)]
 pub struct Info {
     pub head: u32,
     pub gain: u32,

@@ -6,6 +6,7 @@ ghost use Rattle.fields.specs.Update.{offset, headerOf, code, countsFit,
 use crate::bytes::byte_at;
 use crate::bytes::zeros;
 
+#[repr(C)]
 pub struct Header {
     pub offset: usize,
     pub objects: usize,

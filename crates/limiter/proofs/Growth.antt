@@ -1,4 +1,4 @@
--- The gain's growth, on values: it stays in (0, 1], and k blocks that do not lower it bring it to 1, or up by k times the decay less k roundings. The decay is length / rate within one part in
+-- The gain's growth, on values: it stays in [0, 1], does not fall, and k blocks that do not lower it bring it to 1, or up by k times the decay less k roundings. The decay is length / rate within one part in
 -- 2 ^ 24. Assumes nothing.
 use mathlib.Core.Path.{_≡_, refl, sym, ap, _∙_, subst}
 use mathlib.Core.Logic.{_⊎_, inl, inr}
@@ -18,7 +18,7 @@ use Rattle.ieee.proofs.Ops.{Rounds, small, add-rounds, div-rounds}
 use Rattle.ieee.proofs.Signed.{at-most, at-least, not-negative, near, near-ulp, P-grid}
 use Rattle.ieee.proofs.Compare.{nlt→}
 use Rattle.limiter.specs.Limiter.{grown}
-use Rattle.limiter.specs.Range.{decay, HalfUlp, grownTimes, Grows}
+use Rattle.limiter.specs.Range.{Fraction, decay, HalfUlp, grownTimes, Grows}
 
 -- ---- the decay
 pub record Decay (n rate : ℕ) : Type 0 where
@@ -60,14 +60,14 @@ half-twice : 2 ^ 125 ≡ 2 * HalfUlp
 unfolding HalfUlp
 half-twice = refl
 
-pub one-gain : Gain 1·0
-one-gain = record { f32 = one-f32; plus = refl; some = le-trans one-pos (le-of-eq (sym one-P)); most = le-of-eq one-P }
+one-fraction : Fraction 1·0
+one-fraction = record { f32 = one-f32; plus = refl; most = le-of-eq one-P }
 
 -- before the cap
 abbrev uncapped : ℕ → ℕ → Float → Float
 uncapped n rate g = add binary32 g (decay n rate)
 
-module _ (n rate : ℕ) (d : Decay n rate) (g : Float) (k : Gain g) where
+module _ (n rate : ℕ) (d : Decay n rate) (g : Float) (k : Fraction g) where
   sum-rounds : Rounds (uncapped n rate g) (P g + P (decay n rate)) (N g + N (decay n rate)) 1
   sum-rounds = add-rounds g (decay n rate) (k .f32) (d .f32) (small (whole-grid 2 (lit< tt)) two-less (P g + P (decay n rate)) (N g + N (decay n rate)) 1 (zero-lt-suc 0) (omega (arith, k, d)) (omega (arith, k, d)))
 
@@ -98,12 +98,20 @@ module _ (n rate : ℕ) (d : Decay n rate) (g : Float) (k : Gain g) where
       same-value 1·0 (uncapped n rate g) one-f32 (sum-rounds .f32) (le-antisymm m (at-least (zero-lt-suc 0) sum-rounds one-grid (omega (arith, k, d))) ∙ sym one-P) (sum-plus ∙ refl)
       (subst (λ (j : ℕ). 0 < j) (sym one-P) one-pos)
 
-  pub grown-gain : Gain (grown n rate g)
-  grown-gain = unfold grown in go (lt 1·0 (uncapped n rate g)) under-cap
+  grown-fraction : Fraction (grown n rate g)
+  grown-fraction = unfold grown in go (lt 1·0 (uncapped n rate g)) under-cap
     where
-      go : (b : Bool) → (T (not b) → P (uncapped n rate g) ≤ One) → Gain (cond b 1·0 (uncapped n rate g))
-      go true e = one-gain
-      go false e = record { f32 = sum-rounds .f32; plus = sum-plus; some = le-trans (k .some) sum-above; most = e tt }
+      go : (b : Bool) → (T (not b) → P (uncapped n rate g) ≤ One) → Fraction (cond b 1·0 (uncapped n rate g))
+      go true e = one-fraction
+      go false e = record { f32 = sum-rounds .f32; plus = sum-plus; most = e tt }
+
+  -- it does not fall
+  grown-above : P g ≤ P (grown n rate g)
+  grown-above = unfold grown in go (lt 1·0 (uncapped n rate g))
+    where
+      go : (b : Bool) → P g ≤ P (cond b 1·0 (uncapped n rate g))
+      go true = le-trans (k .most) (le-of-eq (sym one-P))
+      go false = sum-above
 
   grown-full : One ≤ P g + P (decay n rate) → grown n rate g ≡ 1·0
   grown-full l = unfold grown in go (lt 1·0 (uncapped n rate g)) under-cap
@@ -128,10 +136,10 @@ module _ (n rate : ℕ) (d : Decay n rate) (g : Float) (k : Gain g) where
 
 -- ---- many blocks
 one-stays : (n rate : ℕ) → Decay n rate → grown n rate 1·0 ≡ 1·0
-one-stays n rate d = grown-full n rate d 1·0 one-gain (omega (arith, one-P))
+one-stays n rate d = grown-full n rate d 1·0 one-fraction (omega (arith, one-P))
 
 next : (n rate k : ℕ) (g : Float) → Decay n rate → Grows k g n rate → Grows (suc k) g n rate
-next n rate k g d r = record { gain = grown-gain n rate d (grownTimes k n rate g) (r .gain); risen = go (r .risen) (grown-risen n rate d (grownTimes k n rate g) (r .gain)) }
+next n rate k g d r = record { gain = grown-fraction n rate d (grownTimes k n rate g) (r .gain); risen = go (r .risen) (grown-risen n rate d (grownTimes k n rate g) (r .gain)) }
   where
     more : (a b c e u : ℕ) → a + k * b ≤ c + k * u → c + b ≤ e + u → a + suc k * b ≤ e + suc k * u
     more a b c e u x y = omega arith
@@ -143,6 +151,13 @@ next n rate k g d r = record { gain = grown-gain n rate d (grownTimes k n rate g
     go (inr e) (inl t) = inl t
     go (inr e) (inr t) = inr (more (P g) (P (decay n rate)) (P (grownTimes k n rate g)) (P (grownTimes (suc k) n rate g)) HalfUlp e t)
 
-pub grows : (n rate : ℕ) → Decay n rate → (k : ℕ) (g : Float) → Gain g → Grows k g n rate
+pub grows : (n rate : ℕ) → Decay n rate → (k : ℕ) (g : Float) → Fraction g → Grows k g n rate
 grows n rate d zero g p = record { gain = p; risen = inr (omega arith) }
 grows n rate d (suc k) g p = next n rate k g d (grows n rate d k g p)
+
+-- a gain in (0, 1] stays there
+pub grown-gain : (n rate : ℕ) → Decay n rate → (g : Float) → Gain g → Gain (grown n rate g)
+grown-gain n rate d g k =
+    let f : Fraction g = record { f32 = k .f32; plus = k .plus; most = k .most } in
+    let h = grown-fraction n rate d g f in
+    record { f32 = h .f32; plus = h .plus; some = le-trans (k .some) (grown-above n rate d g f); most = h .most }

@@ -1,10 +1,11 @@
 pub mod Levels
 pub mod Peaks
 pub mod Laws
-pub mod Rows
 pub mod Runs
+pub mod Rows
 pub mod Lowered
 pub mod Growth
+pub mod Return
 pub mod Theorem
 pub mod Cases
 pub mod Sums

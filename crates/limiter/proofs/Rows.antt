@@ -4,17 +4,24 @@ use mathlib.Core.List.{List, [], _∷_, _++_, append-assoc}
 use Prim.Native.Nat.{ℕ, zero, suc, _+_, _-_, _*_, _≤_, _<_}
 use native.Mathlib.Nat.{lt-irrefl}
 use native.Mathlib.Omega.{arith}
-use borrow.Rule.Slice.PartMut.{putMid}
-use lib.ListN.{length, take, drop, length-drop, take-append-drop}
-use lib.Seq.{drop-drop, take-append-add, drop-append-add, length-take-le}
+use borrow.Rule.Slice.PartMut.{putMid, same-len-mid}
+use lib.ListN.{length, length-append, take, drop, length-drop, take-append-drop}
+use lib.Seq.{drop-drop, take-append-add, drop-append-add, length-take-le, take-at, drop-at}
 use lib.Ieee.{Float}
+use Rattle.ieee.specs.Bounds.{All}
 use Rattle.ieee.specs.Small.{absolute, larger}
 use Rattle.limiter.specs.Limiter.{peak, scaled, blockPeak, scaledBlock, channels, laid}
 use Rattle.limiter.proofs.Levels.{Level, level-abs}
+use Rattle.limiter.specs.Places.{floatsAt, withFloats, channelsAt, withChannels}
 use Rattle.limiter.proofs.Laws.{length-scaled}
+use Rattle.limiter.proofs.Runs.{length-floats}
 
 whole : (a n : ℕ) → a + n - a ≡ n
 whole a n = omega arith
+
+-- the part that is lent
+pub part-length : (n at : ℕ) (xs : List Float) → at + n ≤ length xs → length (take (at + n - at) (drop at xs)) ≡ n
+part-length n at xs h = ap (λ (j : ℕ). length (take j (drop at xs))) (whole at n) ∙ length-take-le n (drop at xs) (omega (arith, length-drop at xs))
 
 -- the first of k channels, and the others
 channels-next : (k n at : ℕ) (xs : List Float) → 0 < k → channels k n (drop at xs) ≡ take n (drop at xs) ∷ channels (k - 1) n (drop (at + 64) xs)
@@ -22,6 +29,25 @@ unfolding channels
 channels-next zero n at xs h = absurd (lt-irrefl 0 h)
 channels-next (suc k) n at xs h = ap (λ (l : List Float). take n (drop at xs) ∷ channels k n l) (drop-drop 64 at xs) ∙ ap (λ (j : ℕ). take n (drop at xs) ∷ channels j n (drop (at + 64) xs)) (same k)
   where
+    same : (k : ℕ) → k ≡ suc k - 1
+    same k = omega arith
+
+scaled-next-channel : (g : Float) (k n at : ℕ) (xs : List Float) → 0 < k → scaledBlock g (channels k n (drop at xs)) ≡ scaled g (take n (drop at xs)) ∷ scaledBlock g (channels (k - 1) n (drop (at + 64) xs))
+unfolding scaledBlock
+scaled-next-channel g k n at xs h = ap (scaledBlock g) (channels-next k n at xs h)
+
+laid-cons : (z : List Float) (cs : List (List Float)) (t : List Float) → laid (z ∷ cs) t ≡ z ++ (take (64 - length z) (drop (length z) t) ++ laid cs (drop 64 t))
+unfolding laid
+laid-cons z cs t = refl
+
+channels-at-next : (s : List ℕ) (k n at : ℕ) → 0 < k → channelsAt k n s (4 * at) ≡ floatsAt s (4 * at) n ∷ channelsAt (k - 1) n s (4 * (at + 64))
+unfolding channelsAt
+channels-at-next s zero n at h = absurd (lt-irrefl 0 h)
+channels-at-next s (suc k) n at h = ap (λ (j : ℕ). floatsAt s (4 * at) n ∷ channelsAt k n s j) (on at) ∙ ap (λ (j : ℕ). floatsAt s (4 * at) n ∷ channelsAt j n s (4 * (at + 64))) (same k)
+  where
+    on : (at : ℕ) → 4 * at + 256 ≡ 4 * (at + 64)
+    on at = omega arith
+
     same : (k : ℕ) → k ≡ suc k - 1
     same k = omega arith
 
@@ -38,7 +64,7 @@ unfolding blockPeak channels
 peak-end zero n xs m h = refl
 peak-end (suc k) n xs m h = absurd (native.Mathlib.Nat.not-suc-le-zero h)
 
--- ---- scaling: z in the place of the first n of the 64 from the end of p on
+-- ---- z in the place of the first n of the 64 from the end of p on
 module _ (p z t : List Float) (n : ℕ) (e : length z ≡ n) (h : n ≤ 64) where
   split : 64 ≡ length z + (64 - n)
   split = omega arith
@@ -52,34 +78,116 @@ module _ (p z t : List Float) (n : ℕ) (e : length z ≡ n) (h : n ≤ 64) wher
       back : (n : ℕ) → n ≤ 64 → n + (64 - n) ≡ 64
       back n h = omega arith
 
-laid-one : (g : Float) (k n : ℕ) (p t : List Float) → n ≤ 64 → 64 ≤ length t → let ys = p ++ (scaled g (take n t) ++ drop n t) in
-    take (length p + 64) ys ++ laid (scaledBlock g (channels k n (drop (length p + 64) ys))) (drop (length p + 64) ys) ≡ p ++ laid (scaledBlock g (take n t ∷ channels k n (drop 64 t))) t
-unfolding laid scaledBlock
-laid-one g k n p t h l =
-    let z = scaled g (take n t) in
-    let e : length z ≡ n = length-scaled g (take n t) ∙ length-take-le n t (omega arith) in
-    let rest = laid (scaledBlock g (channels k n (drop 64 t))) (drop 64 t) in
-    ap (λ (l : List Float). take (length p + 64) (p ++ (z ++ drop n t)) ++ laid (scaledBlock g (channels k n l)) l) (dropped p z t n e h)
-    ∙ ap (λ (l : List Float). l ++ rest) (taken p z t n e h)
-    ∙ append-assoc p (z ++ take (64 - n) (drop n t)) rest
-    ∙ ap (λ (l : List Float). p ++ l) (append-assoc z (take (64 - n) (drop n t)) rest)
-    ∙ ap (λ (j : ℕ). p ++ (z ++ (take (64 - j) (drop j t) ++ rest))) (sym e)
+  laid-one : (cs : List (List Float)) → let ys = p ++ (z ++ drop n t) in take (length p + 64) ys ++ laid cs (drop (length p + 64) ys) ≡ p ++ laid (z ∷ cs) t
+  laid-one cs =
+      ap (λ (l : List Float). take (length p + 64) (p ++ (z ++ drop n t)) ++ laid cs l) dropped
+      ∙ ap (λ (l : List Float). l ++ laid cs (drop 64 t)) taken
+      ∙ append-assoc p (z ++ take (64 - n) (drop n t)) (laid cs (drop 64 t))
+      ∙ ap (λ (l : List Float). p ++ l) (append-assoc z (take (64 - n) (drop n t)) (laid cs (drop 64 t)))
+      ∙ ap (λ (j : ℕ). p ++ (z ++ (take (64 - j) (drop j t) ++ laid cs (drop 64 t)))) (sym e)
+      ∙ sym (ap (λ (l : List Float). p ++ l) (laid-cons z cs t))
 
+-- the channel of n samples at `at`, written by a loop
+module _ (n at : ℕ) (xs z : List Float) (e : length z ≡ n) (h : n ≤ 64) (f : at + 64 ≤ length xs) where
+  front : length (take at xs) ≡ at
+  front = length-take-le at xs (omega arith)
+
+  written : putMid at (at + n - at) xs z ≡ take at xs ++ (z ++ drop n (drop at xs))
+  written = ap (λ (j : ℕ). take at xs ++ (z ++ drop j (drop at xs))) (whole at n)
+
+  pub row-laid : (cs : List (List Float)) → let ys = putMid at (at + n - at) xs z in take (at + 64) ys ++ laid cs (drop (at + 64) ys) ≡ take at xs ++ laid (z ∷ cs) (drop at xs)
+  row-laid cs =
+      ap (λ (ys : List Float). take (at + 64) ys ++ laid cs (drop (at + 64) ys)) written
+      ∙ subst (λ (b : ℕ). let ys = take at xs ++ (z ++ drop n (drop at xs)) in take (b + 64) ys ++ laid cs (drop (b + 64) ys) ≡ take at xs ++ laid (z ∷ cs) (drop at xs)) front (laid-one (take at xs) z (drop at xs) n e h cs)
+
+  pub row-rest : drop (at + 64) (putMid at (at + n - at) xs z) ≡ drop (at + 64) xs
+  row-rest = ap (drop (at + 64)) written ∙ subst (λ (b : ℕ). drop (b + 64) (take at xs ++ (z ++ drop n (drop at xs))) ≡ drop 64 (drop at xs)) front (dropped (take at xs) z (drop at xs) n e h) ∙ drop-drop 64 at xs
+
+  pub row-length : length (putMid at (at + n - at) xs z) ≡ length xs
+  row-length = same-len-mid at (at + n - at) xs z (e ∙ sym (ap (λ (j : ℕ). length (take j (drop at xs))) (whole at n) ∙ length-take-le n (drop at xs) (omega (arith, length-drop at xs))))
+
+-- ---- scaling in place
 pub laid-next : (g : Float) (k n at : ℕ) (xs z : List Float) → 0 < k → n ≤ 64 → at + 64 * k ≡ length xs → z ≡ scaled g (take (at + n - at) (drop at xs)) → let ys = putMid at (at + n - at) xs z in
-    take (at + 64) ys ++ laid (scaledBlock g (channels (k - 1) n (drop (at + 64) ys))) (drop (at + 64) ys) ≡ take at xs ++ laid (scaledBlock g (channels k n (drop at xs))) (drop at xs)
+    (length ys ≡ length xs) × (take (at + 64) ys ++ laid (scaledBlock g (channels (k - 1) n (drop (at + 64) ys))) (drop (at + 64) ys) ≡ take at xs ++ laid (scaledBlock g (channels k n (drop at xs))) (drop at xs))
 laid-next g k n at xs z h i f e =
     let t = drop at xs in
-    let p = take at xs in
-    let a : length p ≡ at = length-take-le at xs (omega arith) in
-    let l : 64 ≤ length t = omega (arith, length-drop at xs) in
-    let y : putMid at (at + n - at) xs z ≡ p ++ (scaled g (take n t) ++ drop n t) =
-    ap (λ (l : List Float). p ++ (l ++ drop (at + n - at) t)) (e ∙ ap (λ (j : ℕ). scaled g (take j t)) (whole at n)) ∙ ap (λ (j : ℕ). p ++ (scaled g (take n t) ++ drop j t)) (whole at n) in
-    ap (λ (ys : List Float). take (at + 64) ys ++ laid (scaledBlock g (channels (k - 1) n (drop (at + 64) ys))) (drop (at + 64) ys)) y
-    ∙ subst (λ (b : ℕ). take (b + 64) (p ++ (scaled g (take n t) ++ drop n t)) ++ laid (scaledBlock g (channels (k - 1) n (drop (b + 64) (p ++ (scaled g (take n t) ++ drop n t))))) (drop (b + 64) (p ++ (scaled g (take n t) ++ drop n t)))
-    ≡ p ++ laid (scaledBlock g (take n t ∷ channels (k - 1) n (drop 64 t))) t) a (laid-one g (k - 1) n p t i l)
-    ∙ ap (λ (cs : List (List Float)). p ++ laid (scaledBlock g cs) t) (ap (λ (l : List Float). take n t ∷ channels (k - 1) n l) (drop-drop 64 at xs) ∙ sym (channels-next k n at xs h))
+    let w : z ≡ scaled g (take n t) = e ∙ ap (λ (j : ℕ). scaled g (take j t)) (whole at n) in
+    let l : length z ≡ n = ap length w ∙ length-scaled g (take n t) ∙ length-take-le n t (omega (arith, length-drop at xs)) in
+    let m : at + 64 ≤ length xs = omega arith in
+    let ys = putMid at (at + n - at) xs z in (
+      row-length n at xs z l i m,
+      row-laid n at xs z l i m (scaledBlock g (channels (k - 1) n (drop (at + 64) ys)))
+          ∙ ap (λ (l : List Float). take at xs ++ laid (z ∷ scaledBlock g (channels (k - 1) n l)) t) (row-rest n at xs z l i m)
+          ∙ ap (λ (u : List Float). take at xs ++ laid (u ∷ scaledBlock g (channels (k - 1) n (drop (at + 64) xs))) t) w
+          ∙ sym (ap (λ (cs : List (List Float)). take at xs ++ laid cs t) (scaled-next-channel g k n at xs h)),
+    )
 
 pub laid-end : (g : Float) (k n at : ℕ) (xs : List Float) → k ≤ 0 → xs ≡ take at xs ++ laid (scaledBlock g (channels k n (drop at xs))) (drop at xs)
 unfolding laid scaledBlock channels
 laid-end g zero n at xs h = sym (take-append-drop at xs)
 laid-end g (suc k) n at xs h = absurd (native.Mathlib.Nat.not-suc-le-zero h)
+
+-- ---- from bytes
+pub load-next : (s : List ℕ) (k n at : ℕ) (xs z : List Float) → 0 < k → n ≤ 64 → at + 64 * k ≡ length xs → z ≡ floatsAt s (4 * at) n → let ys = putMid at (at + n - at) xs z in
+    (length ys ≡ length xs) × (take (at + 64) ys ++ laid (channelsAt (k - 1) n s (4 * (at + 64))) (drop (at + 64) ys) ≡ take at xs ++ laid (channelsAt k n s (4 * at)) (drop at xs))
+load-next s k n at xs z h i f e =
+    let l : length z ≡ n = ap length e ∙ length-floats s (4 * at) n in
+    let m : at + 64 ≤ length xs = omega arith in (
+      row-length n at xs z l i m,
+      row-laid n at xs z l i m (channelsAt (k - 1) n s (4 * (at + 64)))
+          ∙ ap (λ (u : List Float). take at xs ++ laid (u ∷ channelsAt (k - 1) n s (4 * (at + 64))) (drop at xs)) e
+          ∙ sym (ap (λ (cs : List (List Float)). take at xs ++ laid cs (drop at xs)) (channels-at-next s k n at h)),
+    )
+
+pub load-end : (s : List ℕ) (k n at : ℕ) (xs : List Float) → k ≤ 0 → xs ≡ take at xs ++ laid (channelsAt k n s (4 * at)) (drop at xs)
+unfolding laid channelsAt
+load-end s zero n at xs h = sym (take-append-drop at xs)
+load-end s (suc k) n at xs h = absurd (native.Mathlib.Nat.not-suc-le-zero h)
+
+-- ---- to bytes
+pub store-next : (g : Float) (k n at base step to : ℕ) (xs : List Float) (s t : List ℕ) → 0 < k → t ≡ withFloats s (base + to) (scaled g (take (at + n - at) (drop at xs)))
+    → withChannels (scaledBlock g (channels (k - 1) n (drop (at + 64) xs))) step (base + step + to) t ≡ withChannels (scaledBlock g (channels k n (drop at xs))) step (base + to) s
+unfolding withChannels
+store-next g k n at base step to xs s t h e =
+    ap (λ (j : ℕ). withChannels (scaledBlock g (channels (k - 1) n (drop (at + 64) xs))) step j t) (on base step to)
+    ∙ ap (withChannels (scaledBlock g (channels (k - 1) n (drop (at + 64) xs))) step (base + to + step)) (e ∙ ap (λ (j : ℕ). withFloats s (base + to) (scaled g (take j (drop at xs)))) (whole at n))
+    ∙ sym (ap (λ (cs : List (List Float)). withChannels cs step (base + to) s) (scaled-next-channel g k n at xs h))
+  where
+    on : (a b c : ℕ) → a + b + c ≡ a + c + b
+    on a b c = omega arith
+
+pub store-end : (g : Float) (k n step at : ℕ) (xs : List Float) (s : List ℕ) → k ≤ 0 → s ≡ withChannels (scaledBlock g (channels k n xs)) step at s
+unfolding withChannels scaledBlock channels
+store-end g zero n step at xs s h = refl
+store-end g (suc k) n step at xs s h = absurd (native.Mathlib.Nat.not-suc-le-zero h)
+
+-- the room that k channels need
+pub room-next : (k step : ℕ) → 0 < k → step + (k - 1) * step ≡ k * step
+room-next zero step h = absurd (lt-irrefl 0 h)
+room-next (suc k) step h = ap (λ (j : ℕ). step + j * step) (less k) ∙ more k step
+  where
+    less : (k : ℕ) → suc k - 1 ≡ k
+    less k = omega arith
+
+    more : (k step : ℕ) → step + k * step ≡ suc k * step
+    more k step = omega arith
+
+-- ---- what was laid is read back
+pub channels-laid : (k n : ℕ) (cs : List (List Float)) (xs : List Float) → length cs ≡ k → All (λ (c : List Float). length c ≡ n) cs → n ≤ 64 → 64 * k ≤ length xs → channels k n (laid cs xs) ≡ cs
+unfolding channels laid
+channels-laid zero n [] xs e a h f = refl
+channels-laid zero n (c ∷ cs) xs e a h f = absurd (native.Mathlib.Nat.suc-ne-zero (length cs) e)
+channels-laid (suc k) n [] xs e a h f = absurd (native.Mathlib.Nat.suc-ne-zero k (sym e))
+channels-laid (suc k) n (c ∷ cs) xs e a h f =
+    let m = take (64 - length c) (drop (length c) xs) in
+    let l : length m ≡ 64 - n = length-take-le (64 - length c) (drop (length c) xs) (omega (arith, length-drop (length c) xs, a .0)) ∙ omega (arith, a .0) in
+    let p : length (c ++ m) ≡ 64 = length-append c m ∙ omega (arith, a .0, l) in
+    let d : drop 64 (c ++ (m ++ laid cs (drop 64 xs))) ≡ laid cs (drop 64 xs) = ap (drop 64) (sym (append-assoc c m (laid cs (drop 64 xs)))) ∙ drop-at (c ++ m) (laid cs (drop 64 xs)) 64 p in
+    ap (λ (t : List Float). t ∷ channels k n (drop 64 (c ++ (m ++ laid cs (drop 64 xs))))) (take-at c (m ++ laid cs (drop 64 xs)) n (a .0))
+    ∙ ap (λ (t : List Float). c ∷ channels k n t) d
+    ∙ ap (λ (t : List (List Float)). c ∷ t) (channels-laid k n cs (drop 64 xs) (native.Mathlib.Nat.suc-inj e) (a .1) h (omega (arith, length-drop 64 xs)))
+
+pub channels-at-lengths : (k n : ℕ) (s : List ℕ) (at : ℕ) → (length (channelsAt k n s at) ≡ k) × All (λ (c : List Float). length c ≡ n) (channelsAt k n s at)
+unfolding channelsAt
+channels-at-lengths zero n s at = (refl, tt)
+channels-at-lengths (suc k) n s at = let r = channels-at-lengths k n s (at + 256) in (ap suc (r .0), (length-floats s at n, r .1))

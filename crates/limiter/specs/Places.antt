@@ -1,7 +1,8 @@
 -- The block in bytes: twelve channels of 64 places of four bytes in the state, and the samples given out, channel after channel at a stride of their own. Assumes nothing.
-use Prim.Native.Nat.{ℕ, zero, suc, _+_}
+use Prim.Native.Nat.{ℕ, zero, suc, _+_, _*_, _≤_}
 use mathlib.Core.Path.{_≡_}
 use mathlib.Core.List.{List, [], _∷_}
+use lib.ListN.{length}
 use lib.Ieee.{Float}
 use Rattle.words.specs.Words.{floatAt, withFloat}
 use Rattle.limiter.specs.Limiter.{blockGain, scaledBlock, grown}
@@ -25,6 +26,14 @@ channelsAt (suc k) n s at = floatsAt s at n ∷ channelsAt k n s (at + 256)
 unfoldable pub withChannels : List (List Float) → ℕ → ℕ → List ℕ → List ℕ
 withChannels [] step at out = out
 withChannels (c ∷ cs) step at out = withChannels cs step (at + step) (withFloats out at c)
+
+-- what such a block asks of its arguments
+pub record Room (places : List ℕ) (n rate : ℕ) (out : List ℕ) (step to : ℕ) : Type 0 where
+  pub block : length places ≡ 3072
+  pub samples : n ≤ 64
+  pub rates : rate ≤ 16777216
+  pub channel : to + 4 * n ≤ step
+  pub output : 12 * step ≤ length out
 
 -- one block of n samples at a rate: from the gain g, the places and the output to the gain h and the output
 pub record Given (g : Float) (n rate : ℕ) (places : List ℕ) (step at : ℕ) (out : List ℕ) (h : Float) (out' : List ℕ) : Type 0 where

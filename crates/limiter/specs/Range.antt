@@ -5,7 +5,7 @@ use mathlib.Core.Logic.{_⊎_}
 use mathlib.Core.List.{List}
 use lib.IntN.{pos}
 use lib.Ieee.{Float, binary32, div, ofInt}
-use Rattle.ieee.specs.Units.{P, Gain, Tame}
+use Rattle.ieee.specs.Units.{One, F32, P, N, Gain, Tame}
 use Rattle.ieee.specs.Bounds.{All}
 use Rattle.limiter.specs.Limiter.{1·0, scaledBlock, blockGain, grown}
 
@@ -14,6 +14,12 @@ pub record InRange (g : Float) (n rate : ℕ) (cs : List (List Float)) : Type 0 
   pub samples : All (All Tame) (scaledBlock (blockGain g cs) cs)
   pub scaling : Gain (blockGain g cs)
   pub next : Gain (grown n rate (blockGain g cs))
+
+-- a gain from 0 to 1, both ends with it: what growth asks
+pub record Fraction (g : Float) : Type 0 where
+  pub f32 : F32 g
+  pub plus : N g ≡ 0
+  pub most : P g ≤ One
 
 -- a length in seconds, as the limiter takes it
 abbrev pub decay : ℕ → ℕ → Float
@@ -30,5 +36,5 @@ grownTimes (suc k) n rate g = grown n rate (grownTimes k n rate g)
 
 -- it is 1, or has grown k times by the decay, each time less the rounding
 pub record Grows (k : ℕ) (g : Float) (n rate : ℕ) : Type 0 where
-  pub gain : Gain (grownTimes k n rate g)
+  pub gain : Fraction (grownTimes k n rate g)
   pub risen : (grownTimes k n rate g ≡ 1·0) ⊎ (P g + k * P (decay n rate) ≤ P (grownTimes k n rate g) + k * HalfUlp)

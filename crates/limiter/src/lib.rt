@@ -2,12 +2,13 @@
 pub mod places;
 
 ghost use mathlib.Core.Path.{_≡_};
-ghost use Prim.Native.Nat.{_≤_};
+ghost use Prim.Native.Nat.{_+_, _*_, _≤_};
 ghost use lib.ListN.{length};
 ghost use Rattle.ieee.specs.Small.{absolute, larger};
 ghost use Rattle.limiter.specs.Level.{Level};
 ghost use Rattle.limiter.specs.Limiter.{0·0, 1·0, peakFrom, peak, scaled, lowered, grown};
 ghost use Rattle.limiter.specs.Limiter.{blockPeak, blockGain, scaledBlock, channels, laid, Limited};
+ghost use Rattle.limiter.specs.Places.{Room, Given};
 
 pub struct Limiter {
     pub gain: f32,
@@ -135,6 +136,26 @@ impl Limiter {
     {
         let scaling = self.lower(block_peak(block, samples));
         scale_block(block, samples, scaling.gain);
+        scaling.grow(samples as u32, rate)
+    }
+
+    // One block from the places of a state block to the output, channel c at `to` + c x `step`.
+    pub fn limit_into(
+        self,
+        places: &[u8],
+        samples: usize,
+        rate: u32,
+        out: &mut [u8],
+        step: usize,
+        to: usize,
+    ) -> Self
+        requires { ⌜ Room (now places) samples rate (now out) step to ⌝ }
+        ensures { λ r. ⌜ Given (self .gain) samples rate (now (places .entry)) step to (now (out .entry)) (r .gain) (now (out .exit)) ⌝ }
+    {
+        let mut block = [0.0f32; 768];
+        places::load_block(places, samples, &mut block);
+        let scaling = self.lower(block_peak(&block, samples));
+        places::store_block(&block, samples, scaling.gain, out, step, to);
         scaling.grow(samples as u32, rate)
     }
 }

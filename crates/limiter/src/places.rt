@@ -2,8 +2,8 @@
 ghost use mathlib.Core.Path.{_≡_};
 ghost use Prim.Native.Nat.{_+_, _*_, _≤_};
 ghost use lib.ListN.{length};
-ghost use Rattle.limiter.specs.Limiter.{scaled};
-ghost use Rattle.limiter.specs.Places.{floatsAt, withFloats};
+ghost use Rattle.limiter.specs.Limiter.{scaled, scaledBlock, channels, laid};
+ghost use Rattle.limiter.specs.Places.{floatsAt, withFloats, channelsAt, withChannels};
 
 // The floats from `at` on, as many as `samples` has.
 pub fn load_samples(places: &[u8], at: usize, samples: &mut [f32])
@@ -26,5 +26,37 @@ pub fn store_scaled(samples: &[f32], gain: f32, out: &mut [u8], at: usize)
     while i < samples.len() {
         words::put_f32(out, at + 4 * i, samples[i] * gain);
         i += 1;
+    }
+}
+
+// The places of a state block, `samples` of each channel, in a block of floats.
+pub fn load_block(places: &[u8], samples: usize, block: &mut [f32])
+    requires { ⌜ (length (now places) ≡ 3072) × (length (now block) ≡ 768) × (samples ≤ 64) ⌝ }
+    ensures { λ _. ⌜ now (block .exit) ≡ laid (channelsAt 12 samples (now (places .entry)) 0) (now (block .entry)) ⌝ }
+{
+    let mut at: usize = 0;
+    let mut left: usize = 12;
+    while left > 0 {
+        let end = at + samples;
+        load_samples(places, 4 * at, &mut block[at..end]);
+        at += 64;
+        left -= 1;
+    }
+}
+
+// The block times the gain, channel c at `to` + c x `step`.
+pub fn store_block(block: &[f32], samples: usize, gain: f32, out: &mut [u8], step: usize, to: usize)
+    requires { ⌜ (length (now block) ≡ 768) × (samples ≤ 64) × (to + 4 * samples ≤ step) × (12 * step ≤ length (now out)) ⌝ }
+    ensures { λ _. ⌜ now (out .exit) ≡ withChannels (scaledBlock gain (channels 12 samples (now (block .entry)))) step to (now (out .entry)) ⌝ }
+{
+    let mut at: usize = 0;
+    let mut base: usize = 0;
+    let mut left: usize = 12;
+    while left > 0 {
+        let end = at + samples;
+        store_scaled(&block[at..end], gain, out, base + to);
+        at += 64;
+        base += step;
+        left -= 1;
     }
 }

@@ -4,7 +4,7 @@ use mathlib.Core.Bool.{Bool, true, false, not, _&&_, _||_, cond}
 use mathlib.Core.List.{List, [], _∷_}
 use Prim.Native.Nat.{ℕ, _+_, _<_, _≤_}
 use native.Mathlib.Omega.{arith}
-use lib.Dec.{T, T-not, not-T, eqb, eqb→eq, leb, lit<}
+use lib.Dec.{T, not-T, eqb, eqb→eq, leb, lit<}
 use lib.Ieee.{Float, nan, inf, fin, binary32, fits, le, lt, eq}
 use lib.Ieee.Fits.{and-i, and-l, and-r}
 use Rattle.ieee.specs.Units.{F32, P, N}

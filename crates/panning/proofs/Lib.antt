@@ -1,3 +1,4 @@
 pub mod Rows
 pub mod Corners714
 pub mod Cases
+pub mod Mixed

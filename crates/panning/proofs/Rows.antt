@@ -1,16 +1,17 @@
 -- The code's rows are the definition's: the two coefficients of a row, and the eight of the corners that the code has chosen. Assumes nothing.
-use mathlib.Core.Path.{_≡_, refl, sym, ap, _∙_, subst}
+use mathlib.Core.Path.{_≡_, refl, sym, ap, _∙_, subst, subst⁻¹}
 use mathlib.Core.Bool.{Bool, true, false, cond}
 use mathlib.Core.List.{List, [], _∷_, map}
-use Prim.Native.Nat.{ℕ}
+use Prim.Native.Nat.{ℕ, zero, suc, _<_}
+use lib.Dec.{lit<}
+use lib.ListN.{getD, replicate}
 use lib.Ieee.{Float, binary32, sub, mul, eq, ne}
 use Rattle.roots.specs.Root.{root}
 use Rattle.vectors.specs.declared.Vec3.{Vec3}
 use Rattle.panning.specs.Choice.{Corner, corner, corners, 0·0, 1·0}
-use Rattle.panning.specs.Terms.{ratio, up, ahead, across, rowWeight, sideCoefficient, coefficient, innerGain, extra, nothing, panned}
-use Rattle.panning.specs.Found.{RowIs, chosen}
+use Rattle.panning.specs.Terms.{ratio, up, ahead, across, rowWeight, coefficient, innerGain, extra, nothing, panned}
+use Rattle.panning.specs.Found.{Inside, RowIs, chosen}
 use Rattle.panning.specs.declared.Ends.{Ends}
-use Rattle.panning.specs.declared.Layer.{Layer}
 use Rattle.panning.specs.declared.Cube.{Cube}
 use Rattle.panning.specs.declared.Pair.{Pair}
 use Rattle.panning.specs.declared.Panned.{Panned}
@@ -28,15 +29,9 @@ row-no {a} {b} {v} {w} t = record {
   right-is = sym (ap (λ (y : Bool). cond y (root (mul binary32 w (ratio a b v))) 0·0) t);
 }
 
--- ---- structs of the code
+-- the two ends of a row
 pub ends-of : {l h l' h' : ℕ} → l ≡ l' → h ≡ h' → _≡_ {A = Ends} (record { low = l; high = h }) (record { low = l'; high = h' })
 ends-of p q = cc
-
-pub layer-of : {f r f' r' : Ends} → f ≡ f' → r ≡ r' → _≡_ {A = Layer} (record { front = f; rear = r }) (record { front = f'; rear = r' })
-layer-of p q = cc
-
-pub cube-of : {b t b' t' : Layer} → b ≡ b' → t ≡ t' → _≡_ {A = Cube} (record { bottom = b; top = t }) (record { bottom = b'; top = t' })
-cube-of p q = cc
 
 -- ---- the eight coefficients
 row-moved : {a b v w u : Float} {r : Pair} → w ≡ u → RowIs a b v w r → RowIs a b v u r
@@ -89,3 +84,26 @@ module _ (sp : ℕ → Vec3) (l : List ℕ) (n : Float) (p : Vec3) (g s : Float)
     where
       joined : {k k' : List ℕ} {c c' : List Float} {e e' : Float} → k ≡ k' → c ≡ c' → e ≡ e' → _≡_ {A = Panned} (record { corners = k; coefficients = c; extra = e }) (record { corners = k'; coefficients = c'; extra = e' })
       joined a b c = cc
+
+-- ---- the corners are channels
+zeros : (n i : ℕ) → _≡_ {A = ℕ} (getD (replicate n 0) i 0) 0
+zeros zero i = refl
+zeros (suc n) zero = refl
+zeros (suc n) (suc i) = zeros n i
+
+pub none-less : {r : Panned} → r ≡ nothing → (i : ℕ) → getD (r .corners) i 0 < 12
+none-less e i = subst⁻¹ (λ (q : Panned). getD (q .corners) i 0 < 12) e (subst⁻¹ (λ (n : ℕ). n < 12) (zeros 8 i) (lit< tt))
+
+inside-less : {c : Cube} → Inside c → (i : ℕ) → getD (map (chosen c) corners) i 0 < 12
+inside-less h zero = h .bfl
+inside-less h (suc zero) = h .bfr
+inside-less h (suc (suc zero)) = h .brl
+inside-less h (suc (suc (suc zero))) = h .brr
+inside-less h (suc (suc (suc (suc zero)))) = h .tfl
+inside-less h (suc (suc (suc (suc (suc zero))))) = h .tfr
+inside-less h (suc (suc (suc (suc (suc (suc zero)))))) = h .trl
+inside-less h (suc (suc (suc (suc (suc (suc (suc zero))))))) = h .trr
+inside-less h (suc (suc (suc (suc (suc (suc (suc (suc i)))))))) = lit< tt
+
+pub some-less : {c : Cube} {ks : List ℕ} → Inside c → ks ≡ map (chosen c) corners → (i : ℕ) → getD ks i 0 < 12
+some-less h e i = subst⁻¹ (λ (l : List ℕ). getD l i 0 < 12) e (inside-less h i)

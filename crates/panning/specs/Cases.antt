@@ -5,11 +5,10 @@ use mathlib.Core.Bool.{true, false}
 use mathlib.Core.List.{List, [], _∷_, map}
 use lib.IntN.{pos, negsuc}
 use lib.Ieee.{Float, nan, fin}
-use Rattle.vectors.specs.declared.Vec3.{Vec3}
 use Rattle.roots.specs.Root.{root}
 use Rattle.panning.specs.Choice.{0·0, 1·0}
-use Rattle.panning.specs.Terms.{term, terms, panned}
-use Rattle.panning.specs.Hall.{hall714, fullRange, 12·0}
+use Rattle.panning.specs.Terms.{term}
+use Rattle.panning.specs.Hall.{terms714}
 
 abbrev 0·25 : Float
 0·25 = fin false 1 (negsuc 1)
@@ -25,7 +24,7 @@ abbrev −1·0 : Float
 
 -- at gain g and the position (x, y, z), `value` is mixed on the channels `on` and nothing on the others
 abbrev pub Mixed : Float → Float → Float → Float → List ℕ → Float → Type 0
-Mixed g x y z on value = terms fullRange (panned hall714 fullRange 12·0 (record { x = x; y = y; z = z }) g 0·0) ≡ map (λ k. term k value) on
+Mixed g x y z on value = terms714 (record { x = x; y = y; z = z }) g 0·0 ≡ map (λ k. term k value) on
 
 pub record PanCases : Type 0 where
   -- "(0, 0, 1): 1 on channel 2. With gain 0.25: 0.5."

@@ -1,12 +1,15 @@
--- The 7.1.4 hall: `RENDER_714_CHANNEL_POSITIONS`. Assumes nothing.
-use Prim.Native.Nat.{ℕ}
+-- The 7.1.4 hall: `RENDER_714_CHANNEL_POSITIONS`, and what is mixed of an object in it. Assumes nothing.
+use Prim.Native.Nat.{ℕ, _<_}
+use mathlib.Core.Path.{_≡_}
 use mathlib.Core.Bool.{Bool, true, false}
 use mathlib.Core.List.{List, [], _∷_}
 use lib.IntN.{pos, negsuc}
 use lib.ListN.{getD}
 use lib.Ieee.{Float, nan, fin}
 use Rattle.vectors.specs.declared.Vec3.{Vec3}
+use Rattle.panning.specs.declared.Panned.{Panned}
 use Rattle.panning.specs.Choice.{0·0}
+use Rattle.panning.specs.Terms.{Term, panned, terms, onChannel}
 
 -- 0.70710677, 0.48368952 and 1, with a sign
 abbrev pub diagonal : Bool → Float
@@ -44,3 +47,20 @@ fullRange = 0 ∷ 1 ∷ 2 ∷ 4 ∷ 5 ∷ 6 ∷ 7 ∷ 8 ∷ 9 ∷ 10 ∷ 11 ∷ 
 -- how many channels there are, the bass channel too: what a size is divided by
 abbrev pub 12·0 : Float
 12·0 = fin false 3 (pos 2)
+
+-- ---- `render_object_timeslot_to_714`, at the place p, for the gain g and the size s
+
+abbrev pub panned714 : Vec3 → Float → Float → Panned
+panned714 p g s = panned hall714 fullRange 12·0 p g s
+
+abbrev pub terms714 : Vec3 → Float → Float → List Term
+terms714 p g s = terms fullRange (panned714 p g s)
+
+-- the coefficients that it adds on channel c
+abbrev pub pan714 : Vec3 → Float → Float → ℕ → List Float
+pan714 p g s c = onChannel c (terms714 p g s)
+
+-- what `pan` answers: the eight corners are channels
+pub record PannedIs (p : Vec3) (g s : Float) (r : Panned) : Type 0 where
+  pub is : r ≡ panned714 p g s
+  pub less : (i : ℕ) → getD (r .corners) i 0 < 12

@@ -3,6 +3,7 @@
 use Prim.Native.Nat.{ℕ}
 use mathlib.Core.Bool.{Bool, true, false, cond}
 use mathlib.Core.List.{List, [], _∷_, _++_, map}
+use lib.Dec.{eqb}
 use lib.ListN.{replicate}
 use lib.Ieee.{Float, binary32, sub, mul, div, eq, ne}
 use Rattle.vectors.specs.declared.Vec3.{Vec3}
@@ -102,3 +103,8 @@ cornerTerms r = audible (paired (r .corners) (r .coefficients))
 -- what is mixed: first the size's coefficient on every speaker of l, in their order, then the corners
 abbrev pub terms : List ℕ → Panned → List Term
 terms l r = audible (spread l (r .extra)) ++ cornerTerms r
+
+-- the coefficients on channel c, in the order in which they are mixed
+unfoldable pub onChannel : ℕ → List Term → List Float
+onChannel c [] = []
+onChannel c (t ∷ ts) = cond (eqb c (t .channel)) (t .coefficient ∷ onChannel c ts) (onChannel c ts)

@@ -4,8 +4,8 @@ ghost use mathlib.Core.Bool.{true, false, cond};
 ghost use mathlib.Core.List.{map};
 ghost use Prim.Native.Nat.{_<_};
 ghost use Rattle.panning.specs.Choice.{corners};
-ghost use Rattle.panning.specs.Terms.{ratio, innerGain, extra, coefficient, panned, nothing};
-ghost use Rattle.panning.specs.Hall.{hall714, fullRange, 12·0};
+ghost use Rattle.panning.specs.Terms.{ratio, innerGain, extra, coefficient, nothing};
+ghost use Rattle.panning.specs.Hall.{hall714, 12·0, PannedIs};
 ghost use Rattle.panning.specs.Corners714.{pairEnds, narrowEnds, wideEnds, frontEnds, floorEnds, ceilingEnds, cube714};
 ghost use Rattle.panning.specs.Found.{chosen, Inside, RowIs};
 use roots::sqrt;
@@ -282,7 +282,7 @@ fn silent() -> Panned
 
 // What `render_object_timeslot_to_714` mixes of an object.
 pub fn pan(place: Vec3, gain: f32, size: f32) -> Panned
-    ensures { λ r. ⌜ r ≡ panned hall714 fullRange 12·0 place gain size ⌝ }
+    ensures { λ r. ⌜ PannedIs place gain size r ⌝ }
 {
     if gain == 0.0 {
         return silent();

@@ -3,6 +3,7 @@ ghost use mathlib.Core.Path.{_≡_};
 ghost use Prim.Native.Nat.{_≤_};
 ghost use lib.ListN.{length};
 ghost use Rattle.limiter.specs.Limiter.{peak, scaled, Limited};
+ghost use Rattle.limiter.specs.Places.{Room, Given};
 
 #[no_mangle]
 pub extern "C" fn probe_max_abs_slice(samples: &[f32]) -> f32
@@ -38,5 +39,39 @@ pub extern "C" fn probe_apply_output_limiter_block(
         return gain;
     }
     let next = Limiter { gain }.apply_output_limiter_block(block, samples, rate);
+    next.gain
+}
+
+#[no_mangle]
+pub extern "C" fn probe_limit_into(
+    gain: f32,
+    places: &[u8],
+    samples: usize,
+    rate: u32,
+    out: &mut [u8],
+    step: usize,
+    to: usize,
+) -> f32
+    ensures { λ r. ⌜ (Room (now (places .entry)) samples rate (now (out .entry)) step to → Given gain samples rate (now (places .entry)) step to (now (out .entry)) r (now (out .exit))) ⌝ }
+{
+    if places.len() != 3072 {
+        return gain;
+    }
+    if samples > 64 {
+        return gain;
+    }
+    if rate > 16777216 {
+        return gain;
+    }
+    if step > out.len() / 12 {
+        return gain;
+    }
+    if to > step {
+        return gain;
+    }
+    if 4 * samples > step - to {
+        return gain;
+    }
+    let next = Limiter { gain }.limit_into(places, samples, rate, out, step, to);
     next.gain
 }

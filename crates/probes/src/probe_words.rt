@@ -1,9 +1,47 @@
 ghost use mathlib.Core.Path.{_≡_};
-ghost use lib.Ieee.{binary32, toBits};
+ghost use Prim.Native.Nat.{_+_, _≤_};
+ghost use lib.ListN.{length};
+ghost use lib.Ieee.{binary32, ofBits, toBits};
+ghost use Rattle.words.specs.Words.{half, word, signedAt, withWord, withSigned};
 
 #[no_mangle]
 pub extern "C" fn probe_bits_of(x: f32) -> u32
     ensures { λ r. ⌜ r ≡ toBits binary32 x ⌝ }
 {
     words::bits_of(x)
+}
+
+#[no_mangle]
+pub extern "C" fn probe_f32_of(n: u32) -> f32
+    ensures { λ r. ⌜ r ≡ ofBits binary32 n ⌝ }
+{
+    words::f32_of(n)
+}
+
+// The signed number at byte `at`; 0 where it is not there.
+#[no_mangle]
+pub extern "C" fn probe_i64_at(s: &[u8], at: usize) -> i64
+    ensures { λ r. ⌜ (at + 8 ≤ length (now (s .entry)) → r ≡ signedAt (now (s .entry)) at) ⌝ }
+{
+    if s.len() < 8 {
+        return 0;
+    }
+    if at > s.len() - 8 {
+        return 0;
+    }
+    words::i64_at(s, at)
+}
+
+// Writes a signed number at byte `at`, where there is room.
+#[no_mangle]
+pub extern "C" fn probe_put_i64(s: &mut [u8], at: usize, z: i64)
+    ensures { λ _. ⌜ (at + 8 ≤ length (now (s .entry)) → now (s .exit) ≡ withSigned (now (s .entry)) at z) ⌝ }
+{
+    if s.len() < 8 {
+        return;
+    }
+    if at > s.len() - 8 {
+        return;
+    }
+    words::put_i64(s, at, z);
 }

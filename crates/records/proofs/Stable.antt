@@ -1,8 +1,9 @@
 -- Visiting the times upwards, and at each the updates in the order sent, is the stable order of the updates by sample offset: the list `applied` rises
--- strictly in (offset, number), and has just the updates at offset 0 or below the frame's samples. So does the Rust's `sort_by_key`, and no other list.
+-- strictly in (offset, number), and has just the updates at offset 0 or below the frame's samples. So has what the Rust's `sort_by_key`
+-- leaves, and there is no other such list.
 -- Assumes nothing.
 use Prim.Native.Nat.{ℕ, zero, suc, _+_, _-_, _<_, _≤_}
-use mathlib.Core.Path.{_≡_, refl, sym, ap, _∙_}
+use mathlib.Core.Path.{_≡_, refl, sym, ap, ap₂, subst, _∙_}
 use mathlib.Core.Bool.{Bool, true, false, cond}
 use mathlib.Core.List.{List, [], _∷_, _++_}
 use mathlib.Core.Logic.{_⊎_, inl, inr, ⊎-elim}
@@ -137,3 +138,46 @@ module _ (f : ℕ → ℕ) where
           (λ (z : f i ≡ 0). in-first i (sent f 0 n 0) (during f n (samples - 1) 1) (sent-in 0 n 0 i (omega arith) (omega arith) z))
           (λ (z : 0 < f i). in-second i (sent f 0 n 0) (during f n (samples - 1) 1) (during-in (samples - 1) 1 i h z (⊎-elim (λ e. absurd (omega arith)) (λ l. omega arith) c)))
           (eq-zero-or-pos (f i))
+
+-- ---- no other list rises so and has the same updates
+
+every-at : (P : ℕ → Type 0) (l : List ℕ) (i : ℕ) → Every P l → In i l → P i
+every-at P (j ∷ l) i p h = ⊎-elim (λ (e : i ≡ j). subst P (sym e) (p .0)) (λ t. every-at P l i (p .1) t) h
+
+module _ (f : ℕ → ℕ) where
+  not-both : (i j : ℕ) → Before f i j → Before f j i → ⊥
+  not-both i j p q =
+      ⊎-elim
+      (λ a. ⊎-elim (λ b. omega arith) (λ b. let e = b .0 in omega arith) q)
+      (λ a. let e = a .0 in let l = a .1 in ⊎-elim (λ b. omega arith) (λ b. let g = b .1 in omega arith) q)
+      p
+
+  -- of two lists with the same numbers the first ones agree
+  same-head : (i j : ℕ) (a b : List ℕ) → Every (Before f i) a → Every (Before f j) b → In i (j ∷ b) → In j (i ∷ a) → i ≡ j
+  same-head i j a b p q s t =
+      ⊎-elim
+      (λ (e : i ≡ j). e)
+      (λ (u : In i b). ⊎-elim (λ (e : j ≡ i). sym e) (λ (v : In j a). absurd (not-both i j (every-at (Before f i) a j p v) (every-at (Before f j) b i q u))) t)
+      s
+
+  -- what comes after i is not i
+  tail-in : (i k : ℕ) (a b : List ℕ) → Every (Before f i) a → In k a → In k (i ∷ b) → In k b
+  tail-in i k a b p s t =
+      ⊎-elim
+      (λ (e : k ≡ i). let q = every-at (Before f i) a k p s in let r : Before f i i = subst (Before f i) e q in absurd (not-both i i r r))
+      (λ (u : In k b). u)
+      t
+
+  pub rising-same : (a b : List ℕ) → Rising f a → Rising f b → ((i : ℕ) → In i a → In i b) → ((i : ℕ) → In i b → In i a) → a ≡ b
+  rising-same [] [] p q s t = refl
+  rising-same [] (j ∷ b) p q s t = absurd (t j (inl refl))
+  rising-same (i ∷ a) [] p q s t = absurd (s i (inl refl))
+  rising-same (i ∷ a) (j ∷ b) p q s t =
+      let e : i ≡ j = same-head i j a b (p .0) (q .0) (s i (inl refl)) (t j (inl refl)) in
+      let q′ : Every (Before f i) b = subst (λ (x : ℕ). Every (Before f x) b) (sym e) (q .0) in
+      let s′ : (k : ℕ) → In k (i ∷ a) → In k (i ∷ b) = λ k h. subst (λ (x : ℕ). In k (x ∷ b)) (sym e) (s k h) in
+      let t′ : (k : ℕ) → In k (i ∷ b) → In k (i ∷ a) = λ k h. t k (subst (λ (x : ℕ). In k (x ∷ b)) e h) in
+      ap₂ (λ (x : ℕ) (l : List ℕ). x ∷ l) e
+      (rising-same a b (p .1) (q .1)
+      (λ k h. tail-in i k a b (p .0) h (s′ k (inr h)))
+      (λ k h. tail-in i k b a q′ h (t′ k (inr h))))

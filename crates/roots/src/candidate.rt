@@ -1,5 +1,5 @@
 // Numbers close to the roots of an f32. Nothing is claimed of them but their size: exact tests decide.
-ghost use Prim.Native.Nat.{_+_, _^_, _<_};
+ghost use Prim.Native.Nat.{_^_, _<_};
 
 // For each of 64 equal parts of the digits' range, at an even exponent field and then at an odd one, a parabola close to the digits of the
 // square root: at t of 131,072 steps through the part it is a / 16 + b * t / 2 ^ 20 + d * t * (131072 - t) / 2 ^ 39, a half included so that

@@ -1,14 +1,13 @@
 -- No object is in the bass feed: with the row of an object replaced, an accepted push is accepted, and the same number is fed at each sample. Assumes nothing beyond `Facts`.
 use mathlib.Core.Path.{_≡_, refl, sym, ap, ap₂, _∙_, subst}
 use mathlib.Core.Logic.{inl, inr}
-use mathlib.Core.Bool.{Bool, true, false, cond, not, _&&_, _||_}
-use mathlib.Core.List.{List, [], _∷_, _++_, map, List·Memᴰ, List·Memᴰ·head, List·Memᴰ·tail}
+use mathlib.Core.Bool.{Bool, true, not, _&&_, _||_}
+use mathlib.Core.List.{List, [], _∷_, _++_}
 use Prim.Native.Nat.{ℕ, zero, suc, _+_, _-_, _*_, _≤_, _<_}
-use native.Mathlib.Nat.{le-trans, le-of-lt, mul-le-mul-right, not-suc-le-zero, zero-add}
+use native.Mathlib.Nat.{mul-le-mul-right}
 use native.Mathlib.Omega.{arith}
-use borrow.Author.Tests.{ne-eqb}
-use lib.Dec.{T, eqb, leb}
-use lib.ListN.{length, getD}
+use lib.Dec.{eqb, leb}
+use lib.ListN.{length}
 use lib.Ieee.{Float, binary32, ofBits}
 use lib.Ieee.Bits.{is-true}
 use Rattle.ieee.specs.Bounds.{All}
@@ -24,50 +23,32 @@ use Rattle.beds.specs.declared.Found.the-variants.{At, Nothing}
 use Rattle.beds.specs.Matching.{matching}
 use Rattle.beds.proofs.Matches.{Judged, judged}
 use Rattle.panning.specs.Terms.{Term}
-use Rattle.panning.specs.Hall.{fullRange}
-use Rattle.energy.specs.Facts.{Each}
 use Rattle.rules.specs.Parts.{0·0}
-use Rattle.rules.specs.Leaves.{Leaves, Source, Bed, started}
-use Rattle.rules.specs.Mix.{Moment, objectTerms, bedTerms, sampleAt, scaledOn, fedBy, bedsOn, objectsOn, heard, fed}
-use Rattle.rules.specs.Samples.{Frame, State}
+use Rattle.rules.specs.Leaves.{Leaves, Source, Bed}
+use Rattle.rules.specs.Mix.{Moment, addsOf, sampleAt, scaledBy, fedBy, bedsOn, objectsOn, heard, fed}
+use Rattle.rules.specs.Samples.{State}
 use Rattle.rules.specs.Refusals.{Args, Found, clear, unless, _then_, every, room, sized, listed, lackingFrom, offsets, later}
 use Rattle.rules.specs.Calls.{found}
 use Rattle.rules.specs.Claim.{Replaced, withPcm}
 use Rattle.rules.proofs.Facts.{InHall}
-use Rattle.rules.proofs.Terms.{object-named}
-use Rattle.rules.proofs.Judged.{Passed, is-passed, sentOf}
+use Rattle.rules.proofs.Terms.{object-no-bass}
+use Rattle.rules.proofs.Judged.{is-passed, sentOf}
 
 -- ---- an object adds nothing on channel 3
-full-range : {k : ℕ} → List·Memᴰ k fullRange → eqb 3 k ≡ false
-full-range {k} m = ne-eqb 3 k (λ e. not-three fullRange tt (subst (λ (n : ℕ). List·Memᴰ n fullRange) (sym e) m))
-  where
-    but-three : List ℕ → Bool
-    but-three [] = true
-    but-three (n ∷ ns) = not (eqb 3 n) && but-three ns
-
-    not-three : (ns : List ℕ) → T (but-three ns) → List·Memᴰ 3 ns → ⊥
-    not-three (n ∷ ns) t (List·Memᴰ·head e) = lib.Dec.T-not (eqb 3 n) (lib.Ieee.Fits.and-l (not (eqb 3 n)) (but-three ns) t) (subst (λ (k : ℕ). T (eqb 3 k)) e tt)
-    not-three (n ∷ ns) t (List·Memᴰ·tail m) = not-three ns (lib.Ieee.Fits.and-r (not (eqb 3 n)) (but-three ns) t) m
-
-no-terms : (ts : List Term) (x : Float) → Each (λ t. List·Memᴰ (t .channel) fullRange) ts → scaledOn 3 ts x ≡ []
-no-terms [] x h = refl
-no-terms (t ∷ ts) x h =
-    ap (λ (b : Bool). cond b (record { coef = t .coefficient; sample = x } ∷ scaledOn 3 ts x) (scaledOn 3 ts x)) (full-range (h t (List·Memᴰ·head refl))) ∙ no-terms ts x (λ u m. h u (List·Memᴰ·tail m))
-
 no-objects : (ss : List Source) (own : List Float) → All InHall ss → objectsOn 3 ss own ≡ []
 no-objects [] own h = refl
 no-objects (s ∷ ss) [] h = refl
-no-objects (s ∷ ss) (x ∷ own) h = ap (λ (ts : List sums.Term). ts ++ objectsOn 3 ss own) (no-terms (objectTerms s) x (object-named s (h .0))) ∙ no-objects ss own (h .1)
+no-objects (s ∷ ss) (x ∷ own) h = ap (λ (ks : List Float). scaledBy ks x ++ objectsOn 3 ss own) (object-no-bass s (h .0)) ∙ no-objects ss own (h .1)
 
 -- ---- beds read the rows below their number
-same-fed : (ts : List Term) (code : ℕ) (codes : List ℕ) (f : matched.Found) (x y : ℕ → Float) → Judged code codes f → ((i : ℕ) → i < length codes → x i ≡ y i) → fedBy 3 ts f x ≡ fedBy 3 ts f y
-same-fed ts code codes (At i) x y j h = ap (scaledOn 3 ts) (h i (j .0))
-same-fed ts code codes Nothing x y j h = refl
+same-fed : (ks : List Float) (code : ℕ) (codes : List ℕ) (f : matched.Found) (x y : ℕ → Float) → Judged code codes f → ((i : ℕ) → i < length codes → x i ≡ y i) → fedBy ks f x ≡ fedBy ks f y
+same-fed ks code codes (At i) x y j h = ap (scaledBy ks) (h i (j .0))
+same-fed ks code codes Nothing x y j h = refl
 
 same-beds : (bs : List Bed) (codes : List ℕ) (x y : ℕ → Float) → ((i : ℕ) → i < length codes → x i ≡ y i) → bedsOn 3 bs codes x ≡ bedsOn 3 bs codes y
 same-beds [] codes x y h = refl
 same-beds (b ∷ bs) codes x y h =
-    ap₂ (λ (s t : List sums.Term). s ++ t) (same-fed (bedTerms b) (b .code) codes (matching (b .code) codes) x y (judged (b .code) codes) h) (same-beds bs codes x y h)
+    ap₂ (λ (s t : List sums.Term). s ++ t) (same-fed (addsOf b 3) (b .code) codes (matching (b .code) codes) x y (judged (b .code) codes) h) (same-beds bs codes x y h)
 
 -- two moments with the same sources and the same samples of beds
 pub record Akin (m n : Moment) : Type 0 where
@@ -125,14 +106,15 @@ module _ (L : Leaves) (r : State L) (a : Args) where
       then unless (leb (r .position + a .samples) 1099511627776) 4 0 0
       then unless (L .laidOut (a .meta)) 5 0 0
       then unless (L .inRange (a .meta)) 6 0 0
-      then unless (not (lackingFrom L (offsets L (a .samples)) 0 (L .updates (a .meta)) (r .meta))) 7 0 0
+      then unless (not (lackingFrom L (offsets L (a .samples)) 0 (L .updates (a .meta)) (L .counts (r .meta)))) 7 0 0
       then unless pass 8 0 0)
       then later (sentOf L (L .updates (a .meta))) (a .objects) (a .codes) (a .samples) (a .rate) (r .rate) (L .shape (r .meta))
 
   same-size : (qcm : List ℕ) → length qcm ≡ length (a .pcm) → sized (withPcm qcm a) ≡ sized a
   same-size qcm e =
       let channels = length (a .codes) + a .objects in
-      ap (λ (n : ℕ). leb (a .samples) (a .stride) && leb (length (a .codes)) 18 && leb (a .objects) 16 && every (λ c. leb c 17) (a .codes) && eqb n (4 * (channels * a .samples)) && (eqb (a .samples) 0 || not (eqb channels 0))) e
+      ap (λ (n : ℕ). leb (a .samples) (a .stride) && leb (length (a .codes)) 18 && leb (a .objects) 16 && every (λ c. leb c 17) (a .codes)
+      && eqb n (4 * (channels * a .samples)) && (eqb (a .samples) 0 || not (eqb channels 0))) e
 
   pub still-clear : (j : ℕ) (qcm : List ℕ) → Replaced (a .samples) j (a .pcm) qcm → found L r a ≡ clear → found L r (withPcm qcm a) ≡ clear
   still-clear j qcm p e =

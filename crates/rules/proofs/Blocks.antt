@@ -1,6 +1,6 @@
 -- On the block of a renderer a call is what the rules say of the renderer, and leaves the next renderer's block; refused calls count as never sent, to the byte. Assumes nothing beyond `Facts`.
 use Prim.Native.Nat.{ℕ}
-use mathlib.Core.Path.{_≡_, refl, sym, ap, ap₂, _∙_, subst}
+use mathlib.Core.Path.{_≡_, refl, sym, ap, _∙_, subst}
 use mathlib.Core.Bool.{Bool, true, false, cond}
 use mathlib.Core.List.{List, [], _∷_}
 use lib.Dec.{T, eqb}
@@ -10,8 +10,8 @@ use Rattle.rules.specs.Leaves.{Leaves}
 use Rattle.rules.specs.Samples.{State, fresh}
 use Rattle.rules.specs.Refusals.{Args, Found, clear, stop, room}
 use Rattle.rules.specs.Calls.{Call, push, flush, reset, Answer, refused, rendered, nothing, cleared, found, Result, isRefused, asked, drained, step}
-use Rattle.rules.specs.Block.{Layout, Outcome, left, outOf, strideOf, takes, made, runOn, finalOn, keptOn, acceptedOn, Seen, seen}
-use Rattle.rules.proofs.Facts.{Facts}
+use Rattle.rules.specs.Block.{Layout, Outcome, left, outOf, strideOf, takes, made, runOn, finalOn, keptOn, acceptedOn, seen}
+use Rattle.rules.proofs.Facts.{Facts, InRanges}
 
 -- what an answer says of the renderer after it
 abbrev Means : (L : Leaves) → Answer → State L → State L → Type 0
@@ -88,13 +88,13 @@ module _ (L : Leaves) (B : Layout L) where
   reset-block b e = ap (λ (t : Bool). cond t (left L B cleared (fresh L) [] 0 b) (record { answer = refused 1 0 0; state = b; out = [] }) .state) (eq-eqb (length b) (B .size) e)
 
   module _ (F : Facts L B) where
-    takes-it : (c : Call) (r : State L) → F .Ranged r → takes L B c (B .encode r) ≡ true
+    takes-it : (c : Call) (r : State L) → InRanges F r → takes L B c (B .encode r) ≡ true
     takes-it (push a) r g = F .valid r g
     takes-it (flush out stride) r g = F .valid r g
     takes-it reset r g = eq-eqb (length (B .encode r)) (B .size) (F .size r g)
 
     -- on the block of r, a call is what the rules say of r
-    pub made-is : (c : Call) (r : State L) → F .Ranged r → made L B c (B .encode r) ≡ left L B (step L r c .answer) (step L r c .next) (outOf c) (strideOf c) (B .encode r)
+    pub made-is : (c : Call) (r : State L) → InRanges F r → made L B c (B .encode r) ≡ left L B (step L r c .answer) (step L r c .next) (outOf c) (strideOf c) (B .encode r)
     made-is c r g =
         ap (λ (t : Bool). cond t (by (B .decode b)) (record { answer = refused 1 0 0; state = b; out = outOf c })) (takes-it c r g) ∙ ap by (F .back r g)
       where
@@ -111,7 +111,7 @@ module _ (L : Leaves) (B : Layout L) where
     left-state cleared s r out n m = ap (B .encode) (sym m)
 
     -- and the block after it is the next renderer's
-    pub made-state : (c : Call) (r : State L) → F .Ranged r → made L B c (B .encode r) .state ≡ B .encode (step L r c .next)
+    pub made-state : (c : Call) (r : State L) → InRanges F r → made L B c (B .encode r) .state ≡ B .encode (step L r c .next)
     made-state c r g = ap (λ (o : Outcome). o .state) (made-is c r g) ∙ left-state (step L r c .answer) (step L r c .next) r (outOf c) (strideOf c) (step-means L r c)
 
     pub same-seen : (a : Answer) (s : State L) (out : List ℕ) (n : ℕ) (b : List ℕ) → seen L B (left L B a s out n b) ≡ seen L B (left L B a s out n [])

@@ -1,28 +1,27 @@
--- One call keeps the invariants, and the samples that it gives out are read from the output's bytes as finite and from -1 to 1. Assumes nothing beyond `Facts`.
-use mathlib.Core.Path.{_≡_, refl, sym, ap, _∙_, subst}
-use mathlib.Core.Logic.{_⊎_, inl, inr}
+-- One call keeps the invariant, and the samples that it gives out are read from the output's bytes as finite and from -1 to 1. Assumes nothing beyond `Facts`.
+use mathlib.Core.Path.{_≡_, refl, ap}
+use mathlib.Core.Logic.{inl, inr}
 use mathlib.Core.Bool.{Bool, true, false}
 use mathlib.Core.List.{List, []}
-use Prim.Native.Nat.{ℕ, zero, suc, _+_, _*_, _%_, _/_, _≤_, _<_, zero-le}
-use native.Mathlib.Nat.{le-trans, le-of-eq, le-of-lt, not-suc-le-zero, eq-zero-or-pos}
+use Prim.Native.Nat.{ℕ, _+_, _*_, _%_, _≤_, _<_, zero-le}
+use native.Mathlib.Nat.{le-trans, le-of-eq, le-of-lt, not-suc-le-zero}
 use native.Mathlib.Omega.{arith}
 use borrow.Author.Tests.{eqb-false}
 use lib.Dec.{eqb, lit<}
 use lib.ListN.{length}
 use Rattle.ieee.specs.Units.{Tame}
 use Rattle.ieee.specs.Bounds.{All}
-use Rattle.words.specs.Words.{Bytes}
 use Rattle.rules.specs.Parts.{Channels}
 use Rattle.rules.specs.Leaves.{Leaves}
 use Rattle.rules.specs.Samples.{State, fresh, pushed, flushed}
 use Rattle.rules.specs.Refusals.{Args, Found, clear, stop, room}
-use Rattle.rules.specs.Calls.{Call, push, flush, reset, Answer, refused, rendered, nothing, cleared, frameOf, found, Result, asked, drained, step}
-use Rattle.rules.specs.Block.{Layout, Outcome, left, outOf, strideOf, written}
+use Rattle.rules.specs.Calls.{Call, push, flush, reset, refused, rendered, nothing, cleared, frameOf, found, Result, asked, drained, step}
+use Rattle.rules.specs.Block.{Layout, Outcome, left, outOf, strideOf}
 use Rattle.rules.specs.Claim.{ready, InRange, Lent}
 use Rattle.rules.proofs.Facts.{Facts}
-use Rattle.rules.proofs.Judged.{Passed, is-passed, Roomy, is-roomy, samples-fit}
-use Rattle.rules.proofs.Kept.{Steady, Good, Idle, Rest, Fine, fresh-rest}
-use Rattle.rules.proofs.Frames.{Drained, pushed-fine, flushed-fine}
+use Rattle.rules.proofs.Judged.{is-passed, is-roomy, samples-fit}
+use Rattle.rules.proofs.Kept.{Steady, Good, Rest, fresh-rest}
+use Rattle.rules.proofs.Frames.{pushed-fine, flushed-fine}
 use Rattle.rules.proofs.Written.{written-tame, length-written}
 
 -- whole blocks of what was pending, below a block, and of at most a stride of samples
@@ -31,7 +30,8 @@ blocks-fit blocks left p n stride e l h w = omega arith
 
 module _ (L : Leaves) (B : Layout L) (F : Facts L B) where
   -- samples that are given out, of which each channel has n
-  given-range : (g : Channels) (n stride : ℕ) (s : State L) (out b : List ℕ) → n ≤ stride → 48 * stride ≤ length out → ((c : ℕ) → c < 12 → All Tame (g c)) → ((c : ℕ) → c < 12 → length (g c) ≡ n)
+  given-range : (g : Channels) (n stride : ℕ) (s : State L) (out b : List ℕ) → n ≤ stride → 48 * stride ≤ length out
+      → ((c : ℕ) → c < 12 → All Tame (g c)) → ((c : ℕ) → c < 12 → length (g c) ≡ n)
       → InRange stride out (left L B (rendered g) s out stride b)
   given-range g n stride s out b few room tamed long =
       let e = long 0 (lit< tt) in
@@ -47,25 +47,24 @@ module _ (L : Leaves) (B : Layout L) (F : Facts L B) where
 
   pub record Called (c : Call) (x : Result L) : Type 0 where
     pub rest : Rest L B F (x .next)
-    pub ranged : F .Ranged (x .next)
     pub range : (b : List ℕ) → InRange (strideOf c) (outOf c) (left L B (x .answer) (x .next) (outOf c) (strideOf c) b)
 
   steady : {r : State L} → Rest L B F r → Steady L B F r
   steady (inl g) = g .steady
   steady (inr g) = g .steady
 
-  module _ (r : State L) (rest : Rest L B F r) (ranged : F .Ranged r) where
+  module _ (r : State L) (rest : Rest L B F r) where
     asked-called : (a : Args) → Lent (push a) → (v : Found) → found L r a ≡ v → Called (push a) (asked L v a r)
-    asked-called a h (stop n x y) e = record { rest = rest; ranged = ranged; range = λ b. quiet (a .stride) (a .out) (left L B (refused n x y) r (a .out) (a .stride) b) refl refl }
+    asked-called a h (stop n x y) e = record { rest = rest; range = λ b. quiet (a .stride) (a .out) (left L B (refused n x y) r (a .out) (a .stride) b) refl refl }
     asked-called a h clear e =
         let p = is-passed L r a e in
         let q = is-roomy (a .stride) (length (a .out)) (p .room) in
         let d = pushed-fine L B F r a (h .0) (h .1) p rest in
         let y = pushed L (frameOf L a) r in
+        let fit = blocks-fit (d .blocks) (y .next .pending) (r .pending) (a .samples) (a .stride) (d .all) (steady rest .few) (samples-fit a (p .sized)) (q .whole) in
         record {
           rest = inr (d .next);
-          ranged = F .push r a (h .0) (h .1) (h .3) ranged e;
-          range = λ b. given-range (y .given) (64 * d .blocks) (a .stride) (y .next) (a .out) b (blocks-fit (d .blocks) (y .next .pending) (r .pending) (a .samples) (a .stride) (d .all) (steady rest .few) (samples-fit a (p .sized)) (q .whole)) (q .long) (d .given) (d .length);
+          range = λ b. given-range (y .given) (64 * d .blocks) (a .stride) (y .next) (a .out) b fit (q .long) (d .given) (d .length);
         }
 
     -- something waits, so there is a rate
@@ -77,8 +76,8 @@ module _ (L : Leaves) (B : Layout L) (F : Facts L B) where
         go (inr g) = g
 
     drained-called : (out : List ℕ) (stride : ℕ) (t e : Bool) → room stride (length out) ≡ t → eqb (r .pending) 0 ≡ e → Called (flush out stride) (drained L t e r)
-    drained-called out stride false e p q = record { rest = rest; ranged = ranged; range = λ b. quiet stride out (left L B (refused 1 0 0) r out stride b) refl refl }
-    drained-called out stride true true p q = record { rest = rest; ranged = ranged; range = λ b. quiet stride out (left L B nothing r out stride b) refl refl }
+    drained-called out stride false e p q = record { rest = rest; range = λ b. quiet stride out (left L B (refused 1 0 0) r out stride b) refl refl }
+    drained-called out stride true true p q = record { rest = rest; range = λ b. quiet stride out (left L B nothing r out stride b) refl refl }
     drained-called out stride true false p q =
         let g = waiting q in
         let d = flushed-fine L B F r g in
@@ -86,14 +85,10 @@ module _ (L : Leaves) (B : Layout L) (F : Facts L B) where
         let y = flushed L r in
         record {
           rest = inr (d .next);
-          ranged = F .flush r ranged (some (eqb-false (r .pending) 0 q));
           range = λ b. given-range (y .given) (r .pending) stride (y .next) out b (le-trans (le-of-lt (g .steady .few)) (w .some)) (w .long) (d .given) (d .length);
         }
-      where
-        some : (r .pending ≡ 0 → ⊥) → 0 < r .pending
-        some n = elim (eq-zero-or-pos (r .pending)) [ inl z ↦ absurd (n z) | inr p ↦ p ]
 
     pub called : (c : Call) → Lent c → Called c (step L r c)
     called (push a) h = asked-called a h (found L r a) refl
     called (flush out stride) h = drained-called out stride (room stride (length out)) (eqb (r .pending) 0) refl refl
-    called reset h = record { rest = fresh-rest L B F; ranged = F .new; range = λ b. quiet 0 [] (left L B cleared (fresh L) [] 0 b) refl refl }
+    called reset h = record { rest = fresh-rest L B F; range = λ b. quiet 0 [] (left L B cleared (fresh L) [] 0 b) refl refl }

@@ -1,15 +1,30 @@
--- The clock and the timed state do not depend on the samples: two renderers that agree on them do so after a sample of two frames with the same updates. Assumes nothing.
-use mathlib.Core.Path.{_≡_, refl, ap}
-use mathlib.Core.Bool.{Bool, cond, not, _&&_, _||_}
+-- What updates leave as it was; and the clock and the timed state do not depend on the samples: two renderers that agree on them do so after a sample of two frames with the same updates.
+-- Assumes nothing.
+use mathlib.Core.Path.{_≡_, refl, ap, _∙_}
+use mathlib.Core.Bool.{cond, not, _&&_, _||_}
 use mathlib.Core.List.{List, [], _∷_}
 use Prim.Native.Nat.{ℕ, suc, _+_}
 use lib.Dec.{eqb, leb}
 use Rattle.rules.specs.Leaves.{Leaves, started}
 use Rattle.rules.specs.Mix.{Moment}
 use Rattle.rules.specs.Samples.{State, applied, updated, slotted, passed}
-use Rattle.rules.proofs.Lists.{both}
+use Rattle.rules.proofs.Lists.{either, both}
 
 module _ (L : Leaves) where
+  -- updates leave the rate, the stream's position and the pending samples
+  pub record Untouched (r s : State L) : Type 0 where
+    pub rate : s .rate ≡ r .rate
+    pub position : s .position ≡ r .position
+    pub pending : s .pending ≡ r .pending
+
+  pub untouched : (t : ℕ) (us : List (L .Update)) (r : State L) → Untouched r (updated L t us r)
+  untouched t [] r = record { rate = refl; position = refl; pending = refl }
+  untouched t (u ∷ us) r =
+      let s = cond (eqb (L .offset u) t) (applied L t u r) r in
+      let h = untouched t us s in
+      let k : Untouched r s = either (Untouched r) (eqb (L .offset u) t) (record { rate = refl; position = refl; pending = refl }) (record { rate = refl; position = refl; pending = refl }) in
+      record { rate = h .rate ∙ k .rate; position = h .position ∙ k .position; pending = h .pending ∙ k .pending }
+
   pub record Alike (r s : State L) : Type 0 where
     pub position : r .position ≡ s .position
     pub phase : r .phase ≡ s .phase

@@ -1,15 +1,15 @@
 -- What an object of the hall adds, at size 0 and at gain 0: document 01's squares. Assumes nothing.
-use mathlib.Core.Path.{_≡_, refl, sym, ap, _∙_, subst}
-use mathlib.Core.Bool.{Bool, true, false, not, _&&_}
-use mathlib.Core.List.{List, [], _∷_, List·Memᴰ}
-use Prim.Native.Nat.{ℕ, _<_}
+use mathlib.Core.Path.{_≡_, sym, subst}
+use mathlib.Core.Bool.{not, _&&_}
+use mathlib.Core.List.{List, [], List·Memᴰ}
+use Prim.Native.Nat.{ℕ, _≤_, _<_}
 use lib.Dec.{T, T-not, eqb, ltb, ltb→lt}
-use lib.Ieee.{Float, eq}
+use lib.ListN.{length}
+use lib.Ieee.{eq}
 use lib.Ieee.Fits.{and-l, and-r}
 use Rattle.panning.specs.Choice.{every}
-use Rattle.panning.specs.Terms.{Term, panned, cornerTerms}
-use Rattle.panning.specs.Hall.{hall714, fullRange, 12·0}
-use Rattle.energy.specs.Facts.{apart, Pans}
+use Rattle.panning.specs.Terms.{Term, onChannel}
+use Rattle.panning.specs.Hall.{fullRange}
 use Rattle.energy.proofs.Lists.{every→}
 use Rattle.energy.proofs.Hall.{pans714}
 use Rattle.rules.specs.Parts.{0·0}
@@ -17,7 +17,6 @@ use Rattle.rules.specs.Leaves.{Source}
 use Rattle.rules.specs.Mix.{objectTerms}
 use Rattle.rules.specs.Claim.{Squares}
 use Rattle.rules.proofs.Facts.{InHall}
-use Rattle.rules.proofs.Terms.{object-bounded, object-named}
 
 -- the eleven channels that are not 3
 eleven : {k : ℕ} → List·Memᴰ k fullRange → (k < 12) × (k ≡ 3 → ⊥)
@@ -31,10 +30,10 @@ unfolding objectTerms
 squared s h z =
     let p = pans714 (s .place) (h .place) in
     record {
-      channels = λ t m. eleven (object-named s h t m);
-      each = object-bounded s h;
-      apart = subst (λ (ts : List Term). T (apart ts)) (sym (p .plain (s .gain) (s .size) z)) (p .once (s .gain) (s .size) (h .gain) (h .size));
-      sum = p .squares (s .gain) (s .size) (h .gain) z;
+      channels = λ t m. eleven (p .named (s .gain) (s .size) t m);
+      each = p .bounded (s .gain) (s .size) (h .gain) (h .size);
+      once = λ c. subst (λ (ts : List Term). length (onChannel c ts) ≤ 1) (sym (p .plain (s .gain) (s .size) z)) (p .once (s .gain) (s .size) (h .gain) (h .size) c);
+      sum = p .energy (s .gain) (s .size) (h .gain) z;
     }
 
 pub stilled : (s : Source) → InHall s → T (eq (s .gain) 0·0) → objectTerms s ≡ []

@@ -1,7 +1,7 @@
 -- What the theorem over every list of calls takes from the crates `timed`, `records` and `store`. All else is taken from the proofs of the crates below. Assumes nothing.
-use Prim.Native.Nat.{ℕ, _≤_, _<_}
+use Prim.Native.Nat.{ℕ, _≤_}
 use mathlib.Core.Path.{_≡_}
-use mathlib.Core.Bool.{true}
+use mathlib.Core.Bool.{true, false}
 use mathlib.Core.List.{List}
 use lib.Dec.{T}
 use lib.ListN.{length}
@@ -11,9 +11,8 @@ use Rattle.panning.specs.Choice.{1·0}
 use Rattle.panning.specs.Table.{between, 8·0, Position}
 use Rattle.rules.specs.Parts.{0·0}
 use Rattle.rules.specs.Leaves.{Leaves, Source, Bed, started}
-use Rattle.rules.specs.Samples.{State, fresh, pushed, flushed}
-use Rattle.rules.specs.Refusals.{Args, clear}
-use Rattle.rules.specs.Calls.{frameOf, found}
+use Rattle.rules.specs.Samples.{State}
+use Rattle.rules.specs.Ranges.{Ranged}
 use Rattle.rules.specs.Block.{Layout}
 
 -- a gain from 0 to 8, a size from 0 to 1, a place of f32 values
@@ -30,25 +29,35 @@ pub record Mixable (bs : List Bed) (ss : List Source) : Type 0 where
   pub objects : All InHall ss
 
 pub record Facts (L : Leaves) (B : Layout L) : Type 1 where
-  -- ---- the timed state and the records
-  -- what refusals 5 and 6 leave of an update; a timed state that only such updates made
+  -- what refusals 5 and 6 leave of each update
   pub Checked : L .Update → Type 0
-  pub Sound : L .Meta → Type 0
   pub checked : (meta : List ℕ) → Bytes meta → L .laidOut meta ≡ true → L .inRange meta ≡ true → All Checked (L .updates meta)
-  pub blank : Sound (L .blank)
-  pub apply : (n : ℕ) (u : L .Update) (m : L .Meta) → Checked u → Sound m → Sound (L .apply n u m)
-  pub slot : (n : ℕ) (m : L .Meta) → Sound m → Sound (L .slot n m)
+  -- a timed state that such updates made from the blank one: gains from 0 to 8 and sizes from 0 to 1
+  pub Sound : L .Meta → Type 0
+  pub sound-blank : Sound (L .blank)
+  pub sound-apply : (n : ℕ) (u : L .Update) (m : L .Meta) → Checked u → Sound m → Sound (L .apply n u m)
+  pub sound-slot : (n : ℕ) (m : L .Meta) → Sound m → Sound (L .slot n m)
   pub mixable : (m : L .Meta) → Sound m → Mixable (L .beds m) (L .objects m)
-  -- the shape after an update is the update's; a slot keeps it; it counts the objects
-  pub shape-apply : (n : ℕ) (u : L .Update) (m : L .Meta) → L .shape (L .apply n u m) ≡ L .sent u
-  pub shape-slot : (n : ℕ) (m : L .Meta) → L .shape (L .slot n m) ≡ L .shape m
-  pub shape-objects : (m : L .Meta) → started L m ≡ true → length (L .objects m) ≡ L .shape m .objects
-  -- ---- the state block
-  -- a renderer within document 01's ranges
-  pub Ranged : State L → Type 0
-  pub new : Ranged (fresh L)
-  pub push : (r : State L) (a : Args) → Bytes (a .pcm) → Bytes (a .meta) → Bytes (a .codes) → Ranged r → found L r a ≡ clear → Ranged (pushed L (frameOf L a) r .next)
-  pub flush : (r : State L) → Ranged r → 0 < r .pending → Ranged (flushed L r .next)
-  pub size : (r : State L) → Ranged r → length (B .encode r) ≡ B .size
-  pub valid : (r : State L) → Ranged r → B .valid (B .encode r) ≡ true
-  pub back : (r : State L) → Ranged r → B .decode (B .encode r) ≡ r
+  -- the shape after an update is the update's, and started; a slot keeps it; it counts the objects
+  pub shape-apply : (n : ℕ) (u : L .Update) (m : L .Meta) → Checked u → Sound m → L .shape (L .apply n u m) ≡ L .sent u
+  pub sent-started : (u : L .Update) → Checked u → L .sent u .started ≡ true
+  pub shape-slot : (n : ℕ) (m : L .Meta) → Sound m → L .shape (L .slot n m) ≡ L .shape m
+  pub shape-objects : (m : L .Meta) → Sound m → started L m ≡ true → length (L .objects m) ≡ L .shape m .objects
+  -- the timed state's ranges at a stream position, gains of any bits
+  pub Within : ℕ → L .Meta → Type 0
+  pub within-blank : Within 0 (L .blank)
+  pub within-later : (n k : ℕ) (m : L .Meta) → n ≤ k → Within n m → Within k m
+  pub within-apply : (n : ℕ) (u : L .Update) (m : L .Meta) → n ≤ 1099511627776 → Checked u → L .lacks u (L .counts m) ≡ false → Within n m → Within n (L .apply n u m)
+  pub within-slot : (n start : ℕ) (m : L .Meta) → start ≤ n → n ≤ 1099511627776 → Within n m → Within n (L .slot start m)
+  -- what an update leaves of the counts depends on the counts alone, and a slot keeps them
+  pub counts-apply : (n : ℕ) (u : L .Update) (m : L .Meta) → Checked u → Within n m → L .counts (L .apply n u m) ≡ L .nextCounts u (L .counts m)
+  pub counts-slot : (n start : ℕ) (m : L .Meta) → Within n m → L .counts (L .slot start m) ≡ L .counts m
+  -- the block of a renderer in its ranges is as long as it should be, valid, and gives the renderer back; a valid block holds a renderer in its ranges
+  pub size : (r : State L) → Ranged L Within r → length (B .encode r) ≡ B .size
+  pub valid : (r : State L) → Ranged L Within r → B .valid (B .encode r) ≡ true
+  pub back : (r : State L) → Ranged L Within r → B .decode (B .encode r) ≡ r
+  pub decoded : (b : List ℕ) → Bytes b → B .valid b ≡ true → Ranged L Within (B .decode b)
+
+-- a renderer within document 01's ranges
+abbrev pub InRanges : {L : Leaves} {B : Layout L} → Facts L B → State L → Type 0
+InRanges {L} F r = Ranged L (F .Within) r

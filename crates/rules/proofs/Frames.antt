@@ -1,28 +1,27 @@
 -- A frame and a flush keep the invariant: a frame gives out whole blocks of 64, a flush what was pending. Assumes nothing beyond `Facts`.
-use mathlib.Core.Path.{_≡_, refl, sym, ap, _∙_, subst}
-use mathlib.Core.Bool.{Bool, true, false, cond}
-use mathlib.Core.List.{List, [], _∷_, _++_}
+use mathlib.Core.Path.{_≡_, refl, _∙_, subst}
 use Prim.Native.Nat.{ℕ, zero, suc, _+_, _*_, _≤_, _<_}
 use native.Mathlib.Nat.{le-of-lt, le-refl}
 use native.Mathlib.Omega.{arith}
-use lib.Dec.{eqb, lit<}
+use lib.Dec.{lit<}
 use lib.ListN.{length, take, length-append}
 use lib.Seq.{length-take-le}
-use lib.Ieee.{Float, binary32, ofBits}
-use Rattle.ieee.specs.Units.{One, F32, Tame}
-use Rattle.ieee.specs.Bounds.{Bounded, All}
+use lib.Ieee.{binary32, ofBits}
+use Rattle.ieee.specs.Units.{F32, Tame}
+use Rattle.ieee.specs.Bounds.{All}
 use Rattle.words.specs.Words.{Bytes}
 use Rattle.rules.specs.Parts.{Channels, floats}
 use Rattle.rules.specs.Leaves.{Leaves}
-use Rattle.rules.specs.Samples.{Frame, State, limited, applied, updated, slotted, moment, After, sampled, framed, opened, pushed, flushed}
-use Rattle.rules.specs.Refusals.{Args, clear}
-use Rattle.rules.specs.Calls.{frameOf, found}
+use Rattle.rules.specs.Samples.{Frame, State, updated, slotted, moment, After, sampled, framed, opened, pushed, flushed}
+use Rattle.rules.specs.Refusals.{Args}
+use Rattle.rules.specs.Calls.{frameOf}
 use Rattle.rules.specs.Block.{Layout}
-use Rattle.rules.proofs.Lists.{either, all-map, all-take, all-append, length-map}
+use Rattle.rules.proofs.Lists.{all-map, all-take, all-append, length-map}
 use Rattle.rules.proofs.Facts.{Facts}
 use Rattle.rules.proofs.Judged.{Passed, is-listed, sample-in, samples-in}
 use Rattle.rules.proofs.Limited.{limited-tame, gain-kept, length-limited}
-use Rattle.rules.proofs.Kept.{Finite, Admitted, Steady, Good, Rest, Fine, before-good, opened-good, moment-hearable, passed-fine}
+use Rattle.rules.proofs.Clock.{untouched}
+use Rattle.rules.proofs.Kept.{Admitted, Good, Rest, Fine, before-good, opened-good, moment-hearable, passed-fine}
 
 module _ (L : Leaves) (B : Layout L) (F : Facts L B) where
   -- an accepted push's frame
@@ -36,17 +35,12 @@ module _ (L : Leaves) (B : Layout L) (F : Facts L B) where
         own = λ t l. samples-in (a .pcm) channels (a .samples) b (p .pass) (a .objects) (length (a .codes)) t (le-refl channels) l;
       }
 
-  updated-pending : (t : ℕ) (us : List (L .Update)) (r : State L) → updated L t us r .pending ≡ r .pending
-  updated-pending t [] r = refl
-  updated-pending t (u ∷ us) r =
-      updated-pending t us (cond (eqb (L .offset u) t) (applied L t u r) r) ∙ either (λ (s : State L). s .pending ≡ r .pending) (eqb (L .offset u) t) refl refl
-
   module _ (f : Frame (L .Update)) (k : Admitted L B F f) where
     pub sampled-fine : (t : ℕ) → t < f .samples → (r : State L) → Good L B F r → Fine L B F (r .pending) 1 (sampled L f t r)
     sampled-fine t h r g =
         let s = slotted L (updated L t (f .updates) r) in
         let i = before-good L B F t (f .updates) r (k .updates) g in
-        subst (λ (p : ℕ). Fine L B F p 1 (sampled L f t r)) (updated-pending t (f .updates) r)
+        subst (λ (p : ℕ). Fine L B F p 1 (sampled L f t r)) (untouched L t (f .updates) r .pending)
         (passed-fine L B F (moment L f t (s .meta)) (moment-hearable L B F f k t h (s .meta) (i .steady .meta)) s i)
 
     pub framed-fine : (n t : ℕ) → t + n ≤ f .samples → (r : State L) → Good L B F r → Fine L B F (r .pending) n (framed L f n t r)

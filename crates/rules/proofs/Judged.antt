@@ -1,21 +1,20 @@
 -- What holds of a push that no refusal turned away. Assumes nothing.
-use mathlib.Core.Path.{_≡_, refl, sym, ap, _∙_, subst}
+use mathlib.Core.Path.{_≡_, refl, sym, subst}
 use mathlib.Core.Logic.{_⊎_, inl, inr, ⊎-elim}
-use mathlib.Core.Bool.{Bool, true, false, cond, not, _&&_, _||_}
-use mathlib.Core.List.{List, [], _∷_, map}
+use mathlib.Core.Bool.{Bool, true, false, not, _&&_, _||_}
+use mathlib.Core.List.{List, map}
 use Prim.Native.Nat.{ℕ, zero, suc, _+_, _*_, _%_, _≤_, _<_}
-use native.Mathlib.Nat.{le-trans, mul-le-mul-right, zero-add}
+use native.Mathlib.Nat.{mul-le-mul-right, zero-add}
 use native.Mathlib.Omega.{arith}
 use borrow.Author.Tests.{leb-true, eqb-true, not-true}
 use lib.Dec.{T, eqb, leb, lit≤, lit<}
 use lib.ListN.{length}
-use lib.Ieee.{Float}
 use Rattle.ieee.specs.Units.{One}
 use Rattle.ieee.specs.Bounds.{Bounded, All}
 use Rattle.words.specs.Words.{Bytes, floatAt}
 use Rattle.mixing.specs.Samples.{allPass}
 use Rattle.angles.specs.Angle.{Listed, r32000, r44100, r48000, r88200, r96000}
-use Rattle.rules.specs.Leaves.{Leaves, Shape}
+use Rattle.rules.specs.Leaves.{Leaves}
 use Rattle.rules.specs.Mix.{sampleAt, samplesAt}
 use Rattle.rules.specs.Samples.{State}
 use Rattle.rules.specs.Refusals.{Args, Found, clear, stop, _then_, unless, every, room, sized, listed, lackingFrom, offsets, early, Sent, later}
@@ -109,7 +108,7 @@ module _ (L : Leaves) where
     pub position : r .position + a .samples ≤ 1099511627776
     pub laidOut : L .laidOut (a .meta) ≡ true
     pub inRange : L .inRange (a .meta) ≡ true
-    pub enough : lackingFrom L (offsets L (a .samples)) 0 (L .updates (a .meta)) (r .meta) ≡ false
+    pub enough : lackingFrom L (offsets L (a .samples)) 0 (L .updates (a .meta)) (L .counts (r .meta)) ≡ false
     pub pass : allPass (a .pcm) 0 ((length (a .codes) + a .objects) * a .samples) ≡ true
     pub later : later (sentOf (L .updates (a .meta))) (a .objects) (a .codes) (a .samples) (a .rate) (r .rate) (L .shape (r .meta)) ≡ clear
 
@@ -122,7 +121,8 @@ module _ (L : Leaves) where
       let s4 = then-clear (unless (leb (r .position + a .samples) 1099511627776) 4 0 0) _ (s3 .1) in
       let s5 = then-clear (unless (L .laidOut (a .meta)) 5 0 0) _ (s4 .1) in
       let s6 = then-clear (unless (L .inRange (a .meta)) 6 0 0) _ (s5 .1) in
-      let s7 = then-clear (unless (not (lackingFrom L (offsets L (a .samples)) 0 (L .updates (a .meta)) (r .meta))) 7 0 0) _ (s6 .1) in
+      let x7 = lackingFrom L (offsets L (a .samples)) 0 (L .updates (a .meta)) (L .counts (r .meta)) in
+      let s7 = then-clear (unless (not x7) 7 0 0) _ (s6 .1) in
       record {
         room = unless-clear (room (a .stride) (length (a .out))) 1 0 0 (s1 .0);
         sized = unless-clear (sized a) 2 0 0 (s2 .0);
@@ -130,7 +130,7 @@ module _ (L : Leaves) where
         position = leb-true (r .position + a .samples) 1099511627776 (unless-clear (leb (r .position + a .samples) 1099511627776) 4 0 0 (s4 .0));
         laidOut = unless-clear (L .laidOut (a .meta)) 5 0 0 (s5 .0);
         inRange = unless-clear (L .inRange (a .meta)) 6 0 0 (s6 .0);
-        enough = not-true (lackingFrom L (offsets L (a .samples)) 0 (L .updates (a .meta)) (r .meta)) (unless-clear (not (lackingFrom L (offsets L (a .samples)) 0 (L .updates (a .meta)) (r .meta))) 7 0 0 (s7 .0));
+        enough = not-true x7 (unless-clear (not x7) 7 0 0 (s7 .0));
         pass = unless-clear (allPass (a .pcm) 0 ((length (a .codes) + a .objects) * a .samples)) 8 0 0 (s7 .1);
         later = s .1;
       }

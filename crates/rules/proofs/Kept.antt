@@ -1,16 +1,14 @@
 -- The invariant of the renderer, kept by every update, slot, sample and frame; what is given out is from -1 to 1, in whole blocks of 64. Assumes nothing beyond `Facts`.
 use mathlib.Core.Path.{_≡_, refl, sym, ap, _∙_, subst}
 use mathlib.Core.Logic.{_⊎_, inl, inr}
-use mathlib.Core.Bool.{Bool, true, false, cond, not, _&&_, _||_}
-use mathlib.Core.List.{List, [], _∷_, _++_, map}
-use Prim.Native.Nat.{ℕ, zero, suc, _+_, _*_, _≤_, _<_}
-use native.Mathlib.Nat.{le-refl, le-of-lt}
+use mathlib.Core.Bool.{Bool, true, false, cond, _&&_}
+use mathlib.Core.List.{List, [], _∷_}
+use Prim.Native.Nat.{ℕ, suc, _+_, _*_, _≤_, _<_}
 use native.Mathlib.Omega.{arith}
-use borrow.Author.Tests.{leb-true, leb-false, eq-eqb, eqb-false}
-use lib.Dec.{T, eqb, leb, ltb, lit≤, lit<}
-use lib.ListN.{length, take, replicate, length-append}
-use lib.Seq.{length-take-le}
-use lib.Ieee.{Float, binary32, fits, toBits, ofBits}
+use borrow.Author.Tests.{leb-true, eq-eqb}
+use lib.Dec.{eqb, leb, ltb, lit≤, lit<}
+use lib.ListN.{length}
+use lib.Ieee.{Float, binary32, toBits, ofBits}
 use lib.Ieee.Bits.{ofBits-toBits}
 use Rattle.ieee.specs.Units.{One, F32, Gain, Tame}
 use Rattle.ieee.specs.Bounds.{Bounded, All}
@@ -20,13 +18,13 @@ use Rattle.lowpass.specs.Lowpass.{output, next, new}
 use Rattle.lowpass.proofs.Calm.{Calm, calm-next, output-bounded}
 use Rattle.lowpass.proofs.Rates.{calm-listed}
 use Rattle.angles.specs.Angle.{Listed}
-use Rattle.rules.specs.Parts.{1·0, Channels, none, joined, Places, floats, laid, zeros}
-use Rattle.rules.specs.Leaves.{Leaves, Source, Bed, started}
+use Rattle.rules.specs.Parts.{1·0, none, Places, floats, laid, zeros}
+use Rattle.rules.specs.Leaves.{Leaves, started}
 use Rattle.rules.specs.Mix.{sampleAt, Moment, heard, fed}
-use Rattle.rules.specs.Samples.{Frame, State, fresh, limited, row, applied, updated, slotted, moment, After, passed, sampled, framed, opened, pushed, flushed}
+use Rattle.rules.specs.Samples.{Frame, State, fresh, limited, row, applied, updated, slotted, moment, After, passed, opened}
 use Rattle.rules.specs.Block.{Layout}
-use Rattle.rules.proofs.Lists.{either, all-laid, length-laid, all-same, all-map, all-take, all-append, length-map}
-use Rattle.rules.proofs.Facts.{InHall, Mixable, Facts}
+use Rattle.rules.proofs.Lists.{either, all-laid, length-laid, all-same, all-map, length-map, zeros-long, few-left}
+use Rattle.rules.proofs.Facts.{Mixable, Facts}
 use Rattle.rules.proofs.Sums.{Most, most-range, Hearable, heard-bounded}
 use Rattle.rules.proofs.Limited.{limited-tame, gain-kept, length-limited}
 
@@ -46,9 +44,6 @@ one-gain = record { f32 = one-f32; plus = refl; some = subst (λ (n : ℕ). 0 < 
 
 zeros-finite : (c : ℕ) → All Finite (zeros c)
 zeros-finite c = either (All Finite) (ltb c 12) (all-same Finite 64 0 zero-finite) tt
-
-zeros-long : (c : ℕ) → c < 12 → length (zeros c) ≡ 64
-zeros-long c h = ap (λ (b : Bool). length {A = ℕ} (cond b (replicate 64 0) [])) (borrow.Author.Tests.lt-ltb c 12 h)
 
 module _ (L : Leaves) (B : Layout L) (F : Facts L B) where
   -- what refusals 3, 5, 6 and 8 leave of a frame
@@ -83,15 +78,15 @@ module _ (L : Leaves) (B : Layout L) (F : Facts L B) where
   Rest r = Idle r ⊎ Good r
 
   pub fresh-rest : Rest (fresh L)
-  fresh-rest = inl (record { rate = refl; none = refl; steady = record { meta = F .blank; gain = one-gain; places = zeros-finite; long = zeros-long; few = lit< tt } })
+  fresh-rest = inl (record { rate = refl; none = refl; steady = record { meta = F .sound-blank; gain = one-gain; places = zeros-finite; long = zeros-long; few = lit< tt } })
 
   -- ---- updates, slots, a rate
   applied-good : (t : ℕ) (u : L .Update) (r : State L) → F .Checked u → Good r → Good (applied L t u r)
   applied-good t u r k g =
       let s = g .steady in
-      record { rate = g .rate; calm = g .calm; steady = record { meta = F .apply (r .position) u (r .meta) k (s .meta); gain = s .gain; places = s .places; long = s .long; few = s .few } }
+      record { rate = g .rate; calm = g .calm; steady = record { meta = F .sound-apply (r .position) u (r .meta) k (s .meta); gain = s .gain; places = s .places; long = s .long; few = s .few } }
 
-  updated-good : (t : ℕ) (us : List (L .Update)) (r : State L) → All (F .Checked) us → Good r → Good (updated L t us r)
+  pub updated-good : (t : ℕ) (us : List (L .Update)) (r : State L) → All (F .Checked) us → Good r → Good (updated L t us r)
   updated-good t [] r k g = g
   updated-good t (u ∷ us) r k g = updated-good t us (cond (eqb (L .offset u) t) (applied L t u r) r) (k .1) (either Good (eqb (L .offset u) t) (applied-good t u r (k .0) g) g)
 
@@ -102,7 +97,7 @@ module _ (L : Leaves) (B : Layout L) (F : Facts L B) where
         rate = g .rate;
         calm = g .calm;
         steady = record {
-          meta = either (F .Sound) (started L (r .meta) && eqb (r .phase) 0) (F .slot (r .start) (r .meta) (s .meta)) (s .meta);
+          meta = either (F .Sound) (started L (r .meta) && eqb (r .phase) 0) (F .sound-slot (r .start) (r .meta) (s .meta)) (s .meta);
           gain = s .gain;
           places = s .places;
           long = s .long;
@@ -172,10 +167,6 @@ module _ (L : Leaves) (B : Layout L) (F : Facts L B) where
     floats-long : (c : ℕ) → c < 12 → length (floats places c) ≡ 64
     floats-long c l = length-map (ofBits binary32) (places c) ∙ places-long c l
 
-    few-left : (b : Bool) → leb 64 (suc (r .pending)) ≡ b → cond b 0 (suc (r .pending)) < 64
-    few-left true e = lit< tt
-    few-left false e = leb-false 64 (suc (r .pending)) e
-
     passed-good : Good (passed L m r .next)
     passed-good =
         record {
@@ -186,7 +177,7 @@ module _ (L : Leaves) (B : Layout L) (F : Facts L B) where
             gain = either Gain (leb 64 (suc (r .pending))) (gain-kept (floats places) floats-finite 64 (r .rate) (g .rate) (lit≤ tt) (r .gain) (g .steady .gain)) (g .steady .gain);
             places = places-finite;
             long = places-long;
-            few = few-left (leb 64 (suc (r .pending))) refl;
+            few = few-left (r .pending) (leb 64 (suc (r .pending))) refl;
           };
         }
 
@@ -199,7 +190,8 @@ module _ (L : Leaves) (B : Layout L) (F : Facts L B) where
             let most = leb-true 64 (suc (r .pending)) e in
             record {
               next = passed-good;
-              given = λ c l. subst (λ (b : Bool). All Tame (cond b (limited (r .gain) (floats places)) none c)) (sym e) (limited-tame (floats places) floats-finite 64 (r .rate) (g .rate) (lit≤ tt) (r .gain) (g .steady .gain) c l);
+              given = λ c l. subst (λ (b : Bool). All Tame (cond b (limited (r .gain) (floats places)) none c)) (sym e)
+                  (limited-tame (floats places) floats-finite 64 (r .rate) (g .rate) (lit≤ tt) (r .gain) (g .steady .gain) c l);
               blocks = 1;
               length = λ c l. ap (λ (b : Bool). length (cond b (limited (r .gain) (floats places)) none c)) e ∙ length-limited (r .gain) (floats places) c ∙ floats-long c l;
               all = ap (λ (b : Bool). 64 * 1 + cond b 0 (suc (r .pending))) e ∙ (omega arith);

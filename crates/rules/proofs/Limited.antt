@@ -1,14 +1,13 @@
 -- The limiter on the twelve channels: what it gives out is from -1 to 1, and its gain stays above 0 and at most 1. Assumes nothing.
-use mathlib.Core.Path.{_≡_, sym, ap, _∙_, subst}
-use mathlib.Core.List.{List, [], _∷_}
-use Prim.Native.Nat.{ℕ, _+_, _≤_, _<_, zero-le}
+use mathlib.Core.Path.{_≡_}
+use Prim.Native.Nat.{ℕ, _≤_, _<_, zero-le}
 use native.Mathlib.Nat.{le-trans, lt-of-lt-of-le}
 use native.Mathlib.Omega.{arith}
 use lib.Dec.{lit<}
 use lib.ListN.{length}
 use lib.Ieee.{Float}
 use Rattle.ieee.specs.Units as units
-use Rattle.ieee.specs.Units.{F32, P, N, Gain}
+use Rattle.ieee.specs.Units.{F32, Gain}
 use Rattle.ieee.specs.Bounds.{All}
 use Rattle.ieee.proofs.Constants.{one-f32, one-P}
 use Rattle.ieee.proofs.Ops.{neg-f32, neg-P, neg-N}

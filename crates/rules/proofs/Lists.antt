@@ -1,13 +1,15 @@
--- What holds of each element of a list. Assumes nothing.
-use mathlib.Core.Path.{_≡_, refl, sym, ap, _∙_}
+-- What holds of each element of a list, and of the lists of places. Assumes nothing.
+use mathlib.Core.Path.{_≡_, refl, ap, _∙_}
 use mathlib.Core.Bool.{Bool, true, false, cond}
 use mathlib.Core.List.{List, [], _∷_, _++_, map}
-use Prim.Native.Nat.{ℕ, zero, suc, _+_, _≤_, _<_}
+use Prim.Native.Nat.{ℕ, zero, suc, _+_, _<_}
 use native.Mathlib.Nat.{not-suc-le-zero, le-of-suc-le-suc}
-use lib.ListN.{length, getD, set, take, replicate}
+use borrow.Author.Tests.{lt-ltb, leb-false}
+use lib.Dec.{leb, lit<}
+use lib.ListN.{length, getD, set, take, replicate, length-set}
 use lib.Ieee.{Float, binary32, toBits}
 use Rattle.ieee.specs.Bounds.{All}
-use Rattle.rules.specs.Parts.{laid}
+use Rattle.rules.specs.Parts.{laid, zeros}
 
 -- P in both branches
 pub either {ℓ} : {A : Type ℓ} (P : A → Type 0) (b : Bool) {x y : A} → P x → P y → P (cond b x y)
@@ -64,4 +66,13 @@ all-laid P k (x ∷ xs) ws h p = all-laid P (suc k) xs (set ws k (toBits binary3
 
 pub length-laid : (k : ℕ) (xs : List Float) (ws : List ℕ) → length (laid k xs ws) ≡ length ws
 length-laid k [] ws = refl
-length-laid k (x ∷ xs) ws = length-laid (suc k) xs (set ws k (toBits binary32 x)) ∙ lib.ListN.length-set ws k (toBits binary32 x)
+length-laid k (x ∷ xs) ws = length-laid (suc k) xs (set ws k (toBits binary32 x)) ∙ length-set ws k (toBits binary32 x)
+
+-- ---- places and their count
+pub zeros-long : (c : ℕ) → c < 12 → length (zeros c) ≡ 64
+zeros-long c h = ap (λ (b : Bool). length {A = ℕ} (cond b (replicate 64 0) [])) (lt-ltb c 12 h)
+
+-- p pending samples and one more, or none where that makes a block
+pub few-left : (p : ℕ) (b : Bool) → leb 64 (suc p) ≡ b → cond b 0 (suc p) < 64
+few-left p true e = lit< tt
+few-left p false e = leb-false 64 (suc p) e

@@ -1,6 +1,5 @@
 -- The moments of a frame, one for each sample: a fact that each sample gives of its moment, from an invariant that each sample keeps, holds of the moment at each place. Assumes nothing.
-use mathlib.Core.Path.{_≡_, refl, sym, ap, _∙_, subst}
-use mathlib.Core.List.{List, [], _∷_, _++_}
+use mathlib.Core.Path.{_≡_, refl, ap, _∙_, subst}
 use Prim.Native.Nat.{ℕ, zero, suc, _+_, _≤_, _<_}
 use native.Mathlib.Nat.{not-suc-le-zero}
 use native.Mathlib.Omega.{arith}
@@ -9,6 +8,7 @@ use Rattle.rules.specs.Leaves.{Leaves}
 use Rattle.rules.specs.Mix.{Moment, fed}
 use Rattle.rules.specs.Samples.{Frame, State, updated, slotted, moment, sampled, framed}
 use Rattle.rules.specs.Claim.{silent}
+use Rattle.rules.proofs.Clock.{untouched}
 
 module _ (L : Leaves) (f : Frame (L .Update)) where
   -- what sample t is heard with
@@ -21,6 +21,10 @@ module _ (L : Leaves) (f : Frame (L .Update)) where
   pub moments-count : (n t : ℕ) (r : State L) → length (framed L f n t r .moments) ≡ n
   moments-count zero t r = refl
   moments-count (suc n) t r = ap suc (moments-count n (suc t) (sampled L f t r .next))
+
+  pub rate-kept : (n t : ℕ) (r : State L) → framed L f n t r .next .rate ≡ r .rate
+  rate-kept zero t r = refl
+  rate-kept (suc n) t r = rate-kept n (suc t) (sampled L f t r .next) ∙ untouched L t (f .updates) r .rate
 
   -- what enters the filter is what it then remembers
   pub enters : (n t k : ℕ) (r : State L) → k < n → framed L f (suc k) t r .next .filter .x1 ≡ fed (momentIn n t r k)

@@ -3,16 +3,15 @@ use mathlib.Core.Path.{_≡_, refl, sym, ap, _∙_, subst}
 use mathlib.Core.Logic.{inl, inr}
 use mathlib.Core.Bool.{Bool, true, false, not, cond}
 use mathlib.Core.List.{List}
-use Prim.Native.Nat.{ℕ, suc, _+_, _-_, _*_, _/_, _%_, _^_, _≤_, _<_}
-use native.Mathlib.Nat.{le-trans, le-of-eq, le-of-lt, lt-of-lt-of-le, mul-le-mul, mul-le-mul-left, lt-irrefl}
+use Prim.Native.Nat.{ℕ, _+_, _-_, _*_, _/_, _%_, _^_, _≤_, _<_}
+use native.Mathlib.Nat.{le-trans, le-of-eq, le-of-lt, mul-le-mul}
 use native.Mathlib.Omega.{arith}
 use borrow.Author.Tests.{leb-true, le-ltb, lt-ltb}
-use lib.Dec.{T, leb, lit<, lit≤}
+use lib.Dec.{T, lit≤}
 use lib.Pow.{pow-mono}
-use lib.IntN.{ℤ}
 use lib.Ieee.{Float, nan, inf, fin, binary32, fits, isNan, toBits, ofBits}
 use lib.Ieee.Bits.{ofBits-fits, toBits-ofBits}
-use Rattle.ieee.specs.Units.{One, F32, mag}
+use Rattle.ieee.specs.Units.{One}
 use Rattle.ieee.specs.Bounds.{Bounded}
 use Rattle.words.specs.Words.{Bytes, word, floatAt}
 use Rattle.words.proofs.Small.{number-small}

@@ -1,23 +1,27 @@
--- Refusal 11: at each sample of an accepted push the objects are as many as the push brings, or there are none yet. Assumes nothing beyond `Facts`.
+-- Refusal 11: at each sample of an accepted push the objects are as many as the push brings, or there are none before the first update. Assumes nothing beyond `Facts`.
 use mathlib.Core.Path.{_≡_, refl, sym, ap, _∙_, subst}
-use mathlib.Core.Logic.{_⊎_, inl, inr}
 use mathlib.Core.Bool.{Bool, true, false, cond, not, _&&_, _||_}
-use mathlib.Core.List.{List, [], _∷_, map}
-use Prim.Native.Nat.{ℕ, zero, suc, _+_, _≤_, _<_}
-use native.Mathlib.Nat.{not-suc-le-zero}
+use mathlib.Core.List.{List, [], _∷_}
+use Prim.Native.Nat.{ℕ, zero, suc, _+_, _<_}
+use native.Mathlib.Nat.{not-suc-le-zero, zero-add}
 use native.Mathlib.Omega.{arith}
 use borrow.Author.Tests.{eqb-true}
 use lib.Dec.{T, eqb}
 use lib.ListN.{length}
-use Rattle.rules.specs.Leaves.{Leaves, Source, Shape, started}
+use Rattle.ieee.specs.Bounds.{All}
+use Rattle.rules.specs.Leaves.{Leaves, Shape, started}
 use Rattle.rules.specs.Mix.{Moment}
-use Rattle.rules.specs.Samples.{Frame, State, applied, updated, slotted, moment, sampled, framed, opened, pushed}
-use Rattle.rules.specs.Refusals.{Args, Found, clear, stop, _then_, unless, Sent, objectsMatch, countsAt, shapeAt, mixes, walk, later, none}
+use Rattle.rules.specs.Samples.{Frame, State, applied, updated, slotted, sampled, opened, pushed}
+use Rattle.rules.specs.Refusals.{Args, Found, clear, _then_, unless, Sent, objectsMatch, countsAt, shapeAt, mixes, walk, later, none}
 use Rattle.rules.specs.Calls.{frameOf}
 use Rattle.rules.specs.Block.{Layout}
-use Rattle.rules.specs.Claim.{momentAt}
+use Rattle.rules.specs.Claim.{begun, momentAt}
+use Rattle.rules.proofs.Lists.{either}
 use Rattle.rules.proofs.Facts.{Facts}
 use Rattle.rules.proofs.Judged.{then-clear, unless-clear, sentOf, Passed}
+use Rattle.rules.proofs.Kept.{Good, Admitted, updated-good, before-good}
+use Rattle.rules.proofs.Frames.{sampled-fine}
+use Rattle.rules.proofs.Begun.{at, before, begins, updated-started}
 use Rattle.rules.proofs.Moments.{momentOf, each-moment}
 
 module _ (all : List Sent) (objects : ℕ) (codes : List ℕ) where
@@ -39,85 +43,113 @@ module _ (all : List Sent) (objects : ℕ) (codes : List ℕ) where
       go true e st = match-clear (u .shape) e
       go false e st = m st
 
+  abbrev counts : ℕ → Found
+  counts t = countsAt all objects codes t all
+
+  abbrev after : ℕ → Shape → Shape
+  after t s = shapeAt all objects codes t all s
+
   -- 11 for the updates of every sample
-  walked : (n t k : ℕ) (s : Shape) → walk all objects codes n t s ≡ clear → k < n → countsAt all objects codes (t + k) all ≡ clear
+  walked : (n t k : ℕ) (s : Shape) → walk all objects codes n t s ≡ clear → k < n → counts (t + k) ≡ clear
   walked zero t k s e h = absurd (not-suc-le-zero h)
-  walked (suc n) t zero s e h = ap (λ (u : ℕ). countsAt all objects codes u all) (let q : t + 0 ≡ t = omega arith in q) ∙ then-clear (countsAt all objects codes t all) (mixes all objects codes (shapeAt all objects codes t all s) then walk all objects codes n (suc t) (shapeAt all objects codes t all s)) e .0
+  walked (suc n) t zero s e h = ap counts (let q : t + 0 ≡ t = omega arith in q) ∙ then-clear (counts t) _ e .0
   walked (suc n) t (suc k) s e h =
-      let p = then-clear (countsAt all objects codes t all) (mixes all objects codes (shapeAt all objects codes t all s) then walk all objects codes n (suc t) (shapeAt all objects codes t all s)) e .1 in
-      ap (λ (u : ℕ). countsAt all objects codes u all) (let q : t + suc k ≡ suc t + k = omega arith in q)
-      ∙ walked n (suc t) k (shapeAt all objects codes t all s) (then-clear (mixes all objects codes (shapeAt all objects codes t all s)) (walk all objects codes n (suc t) (shapeAt all objects codes t all s)) p .1) (omega arith)
+      let p = then-clear (mixes all objects codes (after t s)) (walk all objects codes n (suc t) (after t s)) (then-clear (counts t) _ e .1) in
+      ap counts (let q : t + suc k ≡ suc t + k = omega arith in q) ∙ walked n (suc t) k (after t s) (p .1) (omega arith)
 
   record Judged (n : ℕ) (s : Shape) : Type 0 where
-    first : Matches (shapeAt all objects codes 0 all s)
-    then-all : (k : ℕ) → k < n → countsAt all objects codes k all ≡ clear
+    first : Matches (after 0 s)
+    then-all : (k : ℕ) → k < n → counts k ≡ clear
 
   judged : (n rate old : ℕ) (s : Shape) → later all objects codes n rate old s ≡ clear → Judged n s
   judged n rate old s e =
-      let first = shapeAt all objects codes 0 all s in
       let p1 = then-clear (unless (eqb old 0 || eqb old rate) 9 old rate) _ e .1 in
       let p2 = then-clear (unless (s .started || not (none all objects codes all)) 10 0 0) _ p1 .1 in
-      let p3 = then-clear (countsAt all objects codes 0 all) _ p2 .1 in
+      let p3 = then-clear (counts 0) _ p2 .1 in
       let p4 = then-clear (unless (not (eqb n 0)) 12 0 0) _ p3 .1 in
-      let p5 = then-clear (cond (first .started) (objectsMatch all objects codes first) clear) (walk all objects codes n 0 s) p4 in
-      record { first = go (first .started) refl (p5 .0); then-all = λ k h. ap (λ (u : ℕ). countsAt all objects codes u all) (let q : k ≡ 0 + k = omega arith in q) ∙ walked n 0 k s (p5 .1) h }
+      let p5 = then-clear (cond (after 0 s .started) (objectsMatch all objects codes (after 0 s)) clear) (walk all objects codes n 0 s) p4 in
+      record { first = go (after 0 s .started) refl (p5 .0); then-all = λ k h. ap counts (let q : k ≡ 0 + k = omega arith in q) ∙ walked n 0 k s (p5 .1) h }
     where
-      go : (b : Bool) → shapeAt all objects codes 0 all s .started ≡ b → cond b (objectsMatch all objects codes (shapeAt all objects codes 0 all s)) clear ≡ clear → Matches (shapeAt all objects codes 0 all s)
-      go true q e st = match-clear (shapeAt all objects codes 0 all s) e
+      go : (b : Bool) → after 0 s .started ≡ b → cond b (objectsMatch all objects codes (after 0 s)) clear ≡ clear → Matches (after 0 s)
+      go true q e st = match-clear (after 0 s) e
       go false q e st = absurd (subst T (sym st ∙ q) tt)
 
 module _ (L : Leaves) (B : Layout L) (F : Facts L B) where
-  -- the shape that sample t is heard with
-  updated-shape : (all : List Sent) (objects : ℕ) (codes : List ℕ) (t : ℕ) (us : List (L .Update)) (r : State L) → L .shape (updated L t us r .meta) ≡ shapeAt all objects codes t (sentOf L us) (L .shape (r .meta))
-  updated-shape all objects codes t [] r = refl
-  updated-shape all objects codes t (u ∷ us) r =
-      updated-shape all objects codes t us (cond (eqb (L .offset u) t) (applied L t u r) r) ∙ ap (shapeAt all objects codes t (sentOf L us)) (go (eqb (L .offset u) t))
-    where
-      go : (b : Bool) → L .shape (cond b (applied L t u r) r .meta) ≡ cond b (L .sent u) (L .shape (r .meta))
-      go true = F .shape-apply (r .position) u (r .meta)
-      go false = refl
+  abbrev Sound : State L → Type 0
+  Sound r = F .Sound (r .meta)
 
-  slotted-shape : (r : State L) → L .shape (slotted L r .meta) ≡ L .shape (r .meta)
-  slotted-shape r = go (started L (r .meta) && eqb (r .phase) 0)
+  -- the shape that sample t is heard with
+  module _ (all : List Sent) (objects : ℕ) (codes : List ℕ) (t : ℕ) where
+    updated-shape : (us : List (L .Update)) (r : State L) → All (F .Checked) us → Sound r → L .shape (updated L t us r .meta) ≡ shapeAt all objects codes t (sentOf L us) (L .shape (r .meta))
+    updated-shape [] r k s = refl
+    updated-shape (u ∷ us) r k s =
+        let x = either Sound (eqb (L .offset u) t) {x = applied L t u r} {y = r} (F .sound-apply (r .position) u (r .meta) (k .0) s) s in
+        updated-shape us (cond (eqb (L .offset u) t) (applied L t u r) r) (k .1) x ∙ ap (shapeAt all objects codes t (sentOf L us)) (go (eqb (L .offset u) t))
+      where
+        go : (b : Bool) → L .shape (cond b (applied L t u r) r .meta) ≡ cond b (L .sent u) (L .shape (r .meta))
+        go true = F .shape-apply (r .position) u (r .meta) (k .0) s
+        go false = refl
+
+  slotted-shape : (r : State L) → Sound r → L .shape (slotted L r .meta) ≡ L .shape (r .meta)
+  slotted-shape r s = go (started L (r .meta) && eqb (r .phase) 0)
     where
       go : (b : Bool) → L .shape (cond b (L .slot (r .start) (r .meta)) (r .meta)) ≡ L .shape (r .meta)
-      go true = F .shape-slot (r .start) (r .meta)
+      go true = F .shape-slot (r .start) (r .meta) s
       go false = refl
 
-  module _ (r : State L) (a : Args) (p : Passed L r a) where
+  module _ (r : State L) (a : Args) (p : Passed L r a) (k : Admitted L B F (frameOf L a)) where
     abbrev f : Frame (L .Update)
     f = frameOf L a
 
     abbrev sent : List Sent
     sent = sentOf L (f .updates)
 
+    abbrev Fit : Shape → Type 0
+    Fit = Matches sent (a .objects) (a .codes)
+
+    abbrev shaped : ℕ → Shape → Shape
+    shaped t s = shapeAt sent (a .objects) (a .codes) t sent s
+
     abbrev Inv : ℕ → State L → Type 0
-    Inv t s = t < a .samples → Matches sent (a .objects) (a .codes) (shapeAt sent (a .objects) (a .codes) t sent (L .shape (s .meta)))
+    Inv t s = Good L B F s × (started L (s .meta) ≡ before L r a t) × (t < a .samples → Fit (shaped t (L .shape (s .meta))))
 
     abbrev met : ℕ → State L → State L
     met t s = slotted L (updated L t (f .updates) s)
 
-    met-shape : (t : ℕ) (s : State L) → L .shape (met t s .meta) ≡ shapeAt sent (a .objects) (a .codes) t sent (L .shape (s .meta))
-    met-shape t s = slotted-shape (updated L t (f .updates) s) ∙ updated-shape sent (a .objects) (a .codes) t (f .updates) s
+    met-good : (t : ℕ) (s : State L) → Good L B F s → Good L B F (met t s)
+    met-good t s g = before-good L B F t (f .updates) s (k .updates) g
+
+    met-shape : (t : ℕ) (s : State L) → Good L B F s → L .shape (met t s .meta) ≡ shaped t (L .shape (s .meta))
+    met-shape t s g =
+        slotted-shape (updated L t (f .updates) s) (updated-good L B F t (f .updates) s (k .updates) g .steady .meta) ∙ updated-shape sent (a .objects) (a .codes) t (f .updates) s (k .updates) (g .steady .meta)
+
+    met-started : (t : ℕ) (s : State L) → Good L B F s → started L (s .meta) ≡ before L r a t → started L (met t s .meta) ≡ begun L r a t
+    met-started t s g e =
+        ap (λ (s : Shape). s .started) (slotted-shape (updated L t (f .updates) s) (updated-good L B F t (f .updates) s (k .updates) g .steady .meta))
+        ∙ updated-started L B F t (f .updates) s (k .updates) (g .steady .meta) ∙ ap (λ (b : Bool). b || at L t (f .updates)) e ∙ begins L r a t
 
     j : Judged sent (a .objects) (a .codes) (a .samples) (L .shape (r .meta))
     j = judged sent (a .objects) (a .codes) (a .samples) (a .rate) (r .rate) (L .shape (r .meta)) (p .later)
 
     keep : (t : ℕ) (s : State L) → t < a .samples → Inv t s → Inv (suc t) (sampled L f t s .next)
-    keep t s h i l =
-        matches-on sent (a .objects) (a .codes) (suc t) sent (L .shape (met t s .meta)) (j .then-all (suc t) l)
-        (subst (Matches sent (a .objects) (a .codes)) (sym (met-shape t s)) (i h))
+    keep t s h i = (
+      sampled-fine L B F f k t h s (i .0) .next,
+      met-started t s (i .0) (i .1),
+      λ l.
+          matches-on sent (a .objects) (a .codes) (suc t) sent (L .shape (met t s .meta)) (j .then-all (suc t) l) (subst Fit (sym (met-shape t s (i .0))) (i .2 h)),
+    )
 
-    abbrev Q : Moment → Type 0
-    Q m = (m .objects ≡ []) ⊎ (length (m .objects) ≡ a .objects)
+    abbrev Q : ℕ → Moment → Type 0
+    Q t m = length (m .objects) ≡ cond (begun L r a t) (a .objects) 0
 
-    here : (t : ℕ) (s : State L) → t < a .samples → Inv t s → Q (momentOf L f t s)
-    here t s h i = go (started L (met t s .meta)) refl
+    here : (t : ℕ) (s : State L) → t < a .samples → Inv t s → Q t (momentOf L f t s)
+    here t s h i = go (started L (met t s .meta)) refl ∙ ap (λ (b : Bool). cond b (a .objects) 0) (met-started t s (i .0) (i .1))
       where
-        go : (b : Bool) → started L (met t s .meta) ≡ b → (cond b (L .objects (met t s .meta)) [] ≡ []) ⊎ (length (cond b (L .objects (met t s .meta)) []) ≡ a .objects)
-        go true e = inr (F .shape-objects (met t s .meta) e ∙ subst (Matches sent (a .objects) (a .codes)) (sym (met-shape t s)) (i h) e)
-        go false e = inl refl
+        go : (b : Bool) → started L (met t s .meta) ≡ b → length (cond b (L .objects (met t s .meta)) []) ≡ cond b (a .objects) 0
+        go true e = F .shape-objects (met t s .meta) (met-good t s (i .0) .steady .meta) e ∙ subst Fit (sym (met-shape t s (i .0))) (i .2 h) e
+        go false e = refl
 
-    pub objects-match : (t : ℕ) → t < a .samples → Q (momentAt L r a t)
+    pub objects-match : Good L B F (opened L (a .rate) r) → (t : ℕ) → t < a .samples → Q t (momentAt L r a t)
     unfolding pushed
-    objects-match t h = each-moment L f Inv (λ u m. Q m) keep here (a .samples) 0 t (opened L (a .rate) r) (omega arith) h (λ l. j .first)
+    objects-match g t h =
+        subst (λ (u : ℕ). Q u (momentAt L r a t)) (zero-add t) (each-moment L f Inv Q keep here (a .samples) 0 t (opened L (a .rate) r) (omega arith) h (g, refl, λ l. j .first))

@@ -1,15 +1,15 @@
 -- The sum of each channel at a sample is finite and at most 82,688: 18 beds and 16 objects, at most 19 terms each, samples within 16 and coefficients within 8. Assumes nothing.
 use mathlib.Core.Path.{_≡_, refl, sym, ap, _∙_, subst}
-use mathlib.Core.Bool.{Bool, true, false, _&&_, cond}
+use mathlib.Core.Bool.{Bool, true, _&&_, cond}
 use mathlib.Core.List.{List, [], _∷_, _++_, map}
-use Prim.Native.Nat.{ℕ, zero, suc, _+_, _*_, _^_, _≤_, _<_}
-use native.Mathlib.Nat.{le-trans, le-of-eq, le-refl, mul-le-mul-left}
+use Prim.Native.Nat.{ℕ, zero, suc, _+_, _*_, _≤_, _<_}
+use native.Mathlib.Nat.{le-trans, le-of-eq, le-refl}
 use native.Mathlib.Omega.{arith}
 use lib.Dec.{T, eqb, lit<, lit≤}
 use lib.ListN.{length, getD, length-append}
-use lib.Ieee.{Float, binary32, fits, ofBits, round, mul, add, le, lt, eq}
+use lib.Ieee.{Float, binary32, fits, ofBits, round, neg, mul, add, le, lt, eq}
 use lib.Ieee.Fits.{and-l, and-r}
-use Rattle.ieee.specs.Units.{One, F32, mag}
+use Rattle.ieee.specs.Units.{One, mag}
 use Rattle.ieee.specs.Bounds.{Bounded, All}
 use Rattle.ieee.proofs.Constants.{whole-grid, whole-less}
 use Rattle.ieee.proofs.Bound.{mul-bounded}
@@ -25,20 +25,19 @@ use Rattle.beds.specs.declared.Found.the-variants.{At, Nothing}
 use Rattle.beds.specs.Routes.{routeOf, bassGain}
 use Rattle.beds.specs.Positions.{positions, bedPosition}
 use Rattle.beds.specs.Matching.{matching}
+use Rattle.beds.specs.Terms.{alone, routed, bedAdds}
 use Rattle.beds.proofs.Matches.{Judged, judged}
 use Rattle.vectors.specs.declared.Vec3.{Vec3}
 use Rattle.lowpass.specs.Bound.{Range}
 use Rattle.panning.specs.Choice.{1·0}
-use Rattle.panning.specs.Terms.{Term, terms, panned}
-use Rattle.panning.specs.Hall.{hall714, fullRange, 12·0}
 use Rattle.panning.specs.Table.{Position, between, 8·0}
-use Rattle.energy.proofs.Hall.{pans714}
+use Rattle.panning.specs.Hall.{pan714}
 use Rattle.rules.specs.Parts.{0·0}
 use Rattle.rules.specs.Leaves.{Source, Bed}
-use Rattle.rules.specs.Mix.{Moment, objectTerms, routeTerms, bedTerms, scaledOn, fedBy, bedsOn, objectsOn, heard}
-use Rattle.rules.proofs.Lists.{either, all-append, all-at-or, length-map}
+use Rattle.rules.specs.Mix.{Moment, objectAdds, addsOf, scaledBy, fedBy, bedsOn, objectsOn, heard}
+use Rattle.rules.proofs.Lists.{either, all-append, length-map}
 use Rattle.rules.proofs.Facts.{InHall, Mixable}
-use Rattle.rules.proofs.Terms.{eight-bounded, each-all, terms-few, object-bounded, object-few}
+use Rattle.rules.proofs.Terms.{eight-bounded, Modest, panned-modest, object-modest}
 
 -- ---- the sum of the terms, in the words of the limiter's bound
 abbrev told : sums.Term → bound.Term
@@ -74,23 +73,6 @@ total-bounded ts h q =
     subst (Bounded Most) (sym (as-mixed 0·0 ts))
     (mixed-bounded 16 8 (lit< tt) 646 82688 (map told ts) (le-trans (le-of-eq (length-map told ts)) h) (lit≤ tt) (lit≤ tt) (all-told ts q))
 
--- ---- the terms of one source on one channel
-abbrev Coefs : List Term → Type 0
-Coefs ts = All (λ (t : Term). Bounded (8 * One) (t .coefficient)) ts
-
-scaled-few : (c : ℕ) (ts : List Term) (x : Float) → length (scaledOn c ts x) ≤ length ts
-scaled-few c [] x = le-refl 0
-scaled-few c (t ∷ ts) x = go (eqb c (t .channel)) (scaled-few c ts x)
-  where
-    go : (b : Bool) → length (scaledOn c ts x) ≤ length ts → length (cond b (record { coef = t .coefficient; sample = x } ∷ scaledOn c ts x) (scaledOn c ts x)) ≤ suc (length ts)
-    go true h = omega arith
-    go false h = omega arith
-
-scaled-small : (c : ℕ) (ts : List Term) (x : Float) → Bounded (16 * One) x → Coefs ts → All Small (scaledOn c ts x)
-scaled-small c [] x h k = tt
-scaled-small c (t ∷ ts) x h k =
-    either (All Small) (eqb c (t .channel)) (record { sample = h; coef = k .0 }, scaled-small c ts x h (k .1)) (scaled-small c ts x h (k .1))
-
 -- ---- beds
 abbrev fitting : Vec3 → Bool
 fitting v = fits binary32 (v .x) && (fits binary32 (v .y) && fits binary32 (v .z))
@@ -110,37 +92,29 @@ at-fitting (v ∷ vs) zero d p t = and-l (fitting v) (all-fitting vs) t
 at-fitting (v ∷ vs) (suc i) d p t = at-fitting vs i d p (and-r (fitting v) (all-fitting vs) t)
 
 bed-place : (code : ℕ) → Position (bedPosition code)
-unfolding bedPosition positions round fits
+unfolding bedPosition positions round fits neg ofBits
 bed-place code = fitting-position (bedPosition code) (at-fitting positions code (record { x = 0·0; y = 0·0; z = 0·0 }) tt tt)
 
 bass-bounded : (g : Float) → Bounded (8 * One) g → Bounded (8 * One) (bassGain g)
 unfolding round fits mag One
 bass-bounded g h = mul-bounded {b = One} (whole-grid 8 (lit< tt)) (whole-less 8 (lit≤ tt)) (le-refl (8 * One * One)) h (record { f32 = record { fine = tt; fit = tt }; most = lit≤ tt })
 
--- at most 19 terms, each coefficient at most 8
-record Modest (ts : List Term) : Type 0 where
-  few : length ts ≤ 19
-  coefs : Coefs ts
-
-all-eight : (ts : List Term) → All (λ (t : Term). T (between 0·0 8·0 (t .coefficient))) ts → Coefs ts
-all-eight [] h = tt
-all-eight (t ∷ ts) h = (eight-bounded (t .coefficient) (h .0), all-eight ts (h .1))
+alone-modest : (k : ℕ) (g : Float) (c : ℕ) → Bounded (8 * One) g → Modest (alone k g c)
+alone-modest k g c h = either Modest (eqb c k) (record { few = lit≤ tt; small = (h, tt) }) (record { few = lit≤ tt; small = tt })
 
 zero-size : T (between 0·0 1·0 0·0)
 unfolding between fits le lt eq
 zero-size = tt
 
-route-modest : (r : Route) (code : ℕ) (g : Float) → T (between 0·0 8·0 g) → Modest (routeTerms r code g)
-unfolding routeTerms
-route-modest Bass code g h = record { few = lit≤ tt; coefs = (bass-bounded g (eight-bounded g h), tt) }
-route-modest Folded code g h =
-    let ts = terms fullRange (panned hall714 fullRange 12·0 (bedPosition code) g 0·0) in
-    record { few = terms-few (bedPosition code) g 0·0; coefs = all-eight ts (each-all (λ t. T (between 0·0 8·0 (t .coefficient))) ts (pans714 (bedPosition code) (bed-place code) .bounded g 0·0 h zero-size)) }
-route-modest (Direct k) code g h = record { few = lit≤ tt; coefs = (eight-bounded g h, tt) }
-route-modest Unsupported code g h = record { few = lit≤ tt; coefs = tt }
+routed-modest : (r : Route) (code : ℕ) (g : Float) (c : ℕ) → T (between 0·0 8·0 g) → Modest (routed (λ p g c. pan714 p g 0·0 c) (bedPosition code) r g c)
+routed-modest Bass code g c h = alone-modest 3 (bassGain g) c (bass-bounded g (eight-bounded g h))
+routed-modest Folded code g c h = panned-modest (bedPosition code) (bed-place code) g 0·0 h zero-size c
+routed-modest (Direct k) code g c h = alone-modest k g c (eight-bounded g h)
+routed-modest Unsupported code g c h = record { few = lit≤ tt; small = tt }
 
-object-modest : (s : Source) → InHall s → Modest (objectTerms s)
-object-modest s h = record { few = object-few s h; coefs = all-eight (objectTerms s) (each-all (λ t. T (between 0·0 8·0 (t .coefficient))) (objectTerms s) (object-bounded s h)) }
+bed-modest : (b : Bed) (c : ℕ) → T (between 0·0 8·0 (b .gain)) → Modest (addsOf b c)
+unfolding bedAdds
+bed-modest b c h = routed-modest (routeOf (b .code)) (b .code) (b .gain) c h
 
 -- ---- all of them
 -- at most n, and small
@@ -148,29 +122,42 @@ record Fewer (n : ℕ) (ts : List sums.Term) : Type 0 where
   few : length ts ≤ n
   small : All Small ts
 
-modest-on : (c : ℕ) (ts : List Term) (x : Float) → Modest ts → Bounded (16 * One) x → Fewer 19 (scaledOn c ts x)
-modest-on c ts x m h = record { few = le-trans (scaled-few c ts x) (m .few); small = scaled-small c ts x h (m .coefs) }
+modest-by : (ks : List Float) (x : Float) → Modest ks → Bounded (16 * One) x → Fewer 19 (scaledBy ks x)
+modest-by ks x m h = record { few = le-trans (le-of-eq (count ks)) (m .few); small = all ks (m .small) }
+  where
+    count : (ks : List Float) → length (scaledBy ks x) ≡ length ks
+    count [] = refl
+    count (k ∷ ks) = ap suc (count ks)
+
+    all : (ks : List Float) → All (Bounded (8 * One)) ks → All Small (scaledBy ks x)
+    all [] q = tt
+    all (k ∷ ks) q = (record { sample = h; coef = q .0 }, all ks (q .1))
+
+one-more : (n : ℕ) → 19 + n * 19 ≡ suc n * 19
+one-more n = omega arith
 
 joined : {m n : ℕ} (ss ts : List sums.Term) → Fewer m ss → Fewer n ts → Fewer (m + n) (ss ++ ts)
 joined ss ts a b = let e = length-append ss ts in record { few = omega arith; small = all-append Small ss ts (a .small) (b .small) }
 
-fed-fewer : (c : ℕ) (ts : List Term) (code : ℕ) (codes : List ℕ) (f : Found) (inputs : ℕ → Float) → Judged code codes f → Modest ts → ((i : ℕ) → i < length codes → Bounded (16 * One) (inputs i)) → Fewer 19 (fedBy c ts f inputs)
-fed-fewer c ts code codes (At i) inputs j m h = modest-on c ts (inputs i) m (h i (j .0))
-fed-fewer c ts code codes Nothing inputs j m h = record { few = lit≤ tt; small = tt }
+fed-fewer : (ks : List Float) (code : ℕ) (codes : List ℕ) (f : Found) (inputs : ℕ → Float) → Judged code codes f → Modest ks
+    → ((i : ℕ) → i < length codes → Bounded (16 * One) (inputs i)) → Fewer 19 (fedBy ks f inputs)
+fed-fewer ks code codes (At i) inputs j m h = modest-by ks (inputs i) m (h i (j .0))
+fed-fewer ks code codes Nothing inputs j m h = record { few = lit≤ tt; small = tt }
 
-beds-fewer : (c : ℕ) (bs : List Bed) (codes : List ℕ) (inputs : ℕ → Float) → All (λ (b : Bed). T (between 0·0 8·0 (b .gain))) bs → ((i : ℕ) → i < length codes → Bounded (16 * One) (inputs i)) → Fewer (length bs * 19) (bedsOn c bs codes inputs)
+beds-fewer : (c : ℕ) (bs : List Bed) (codes : List ℕ) (inputs : ℕ → Float) → All (λ (b : Bed). T (between 0·0 8·0 (b .gain))) bs
+    → ((i : ℕ) → i < length codes → Bounded (16 * One) (inputs i)) → Fewer (length bs * 19) (bedsOn c bs codes inputs)
 beds-fewer c [] codes inputs g h = record { few = lit≤ tt; small = tt }
 beds-fewer c (b ∷ bs) codes inputs g h =
-    subst (λ (n : ℕ). Fewer n (bedsOn c (b ∷ bs) codes inputs)) (let e : 19 + length bs * 19 ≡ suc (length bs) * 19 = omega arith in e)
-    (joined (fedBy c (bedTerms b) (matching (b .code) codes) inputs) (bedsOn c bs codes inputs)
-    (fed-fewer c (bedTerms b) (b .code) codes (matching (b .code) codes) inputs (judged (b .code) codes) (route-modest (routeOf (b .code)) (b .code) (b .gain) (g .0)) h) (beds-fewer c bs codes inputs (g .1) h))
+    subst (λ (n : ℕ). Fewer n (bedsOn c (b ∷ bs) codes inputs)) (one-more (length bs))
+    (joined (fedBy (addsOf b c) (matching (b .code) codes) inputs) (bedsOn c bs codes inputs)
+    (fed-fewer (addsOf b c) (b .code) codes (matching (b .code) codes) inputs (judged (b .code) codes) (bed-modest b c (g .0)) h) (beds-fewer c bs codes inputs (g .1) h))
 
 objects-fewer : (c : ℕ) (ss : List Source) (own : List Float) → All InHall ss → All (Bounded (16 * One)) own → Fewer (length ss * 19) (objectsOn c ss own)
 objects-fewer c [] own g h = record { few = lit≤ tt; small = tt }
 objects-fewer c (s ∷ ss) [] g h = record { few = omega arith; small = tt }
 objects-fewer c (s ∷ ss) (x ∷ own) g h =
-    subst (λ (n : ℕ). Fewer n (objectsOn c (s ∷ ss) (x ∷ own))) (let e : 19 + length ss * 19 ≡ suc (length ss) * 19 = omega arith in e)
-    (joined (scaledOn c (objectTerms s) x) (objectsOn c ss own) (modest-on c (objectTerms s) x (object-modest s (g .0)) (h .0)) (objects-fewer c ss own (g .1) (h .1)))
+    subst (λ (n : ℕ). Fewer n (objectsOn c (s ∷ ss) (x ∷ own))) (one-more (length ss))
+    (joined (scaledBy (objectAdds s c) x) (objectsOn c ss own) (modest-by (objectAdds s c) x (object-modest s (g .0) c) (h .0)) (objects-fewer c ss own (g .1) (h .1)))
 
 -- a moment whose sources are in range and whose samples refusal 8 let pass
 pub record Hearable (m : Moment) : Type 0 where

@@ -2,16 +2,16 @@
 use mathlib.Core.Path.{_≡_, refl, sym, ap, ap₂, _∙_, subst}
 use mathlib.Core.List.{List, [], _∷_}
 use Prim.Native.Nat.{ℕ}
-use lib.ListN.{length}
-use Rattle.words.specs.Words.{Bytes}
 use Rattle.rules.specs.Leaves.{Leaves}
 use Rattle.rules.specs.Samples.{State, fresh}
 use Rattle.rules.specs.Calls.{Call, push, flush, reset, step, final}
-use Rattle.rules.specs.Block.{Layout, Outcome, outOf, strideOf, left, made, finalOn, Seen, seen, seenOn, told}
+use Rattle.rules.specs.Block.{Layout, outOf, strideOf, left, finalOn, Seen, seen, seenOn, told}
 use Rattle.rules.specs.Claim.{InRange, Lent, AllLent, CallHolds, AllHold, AllInRange, Demand3, EveryList}
-use Rattle.rules.proofs.Facts.{Facts}
+use Rattle.rules.proofs.Facts.{Facts, InRanges}
 use Rattle.rules.proofs.Kept.{Rest, fresh-rest}
+use Rattle.rules.proofs.Ranged.{fresh-ranged}
 use Rattle.rules.proofs.Called.{called}
+use Rattle.rules.proofs.Keeps.{step-ranged}
 use Rattle.rules.proofs.Pushes.{push-holds}
 use Rattle.rules.proofs.Erased.{forgotten, same}
 use Rattle.rules.proofs.Blocks.{erased, erased-left, reset-block, made-is, made-state, same-seen}
@@ -29,12 +29,12 @@ module _ (L : Leaves) (B : Layout L) (F : Facts L B) where
     block : finalOn L B (B .encode r) cs ≡ B .encode (final L r cs)
     pushes : AllHold L r cs
 
-  runs : (cs : List Call) (r : State L) → Rest L B F r → F .Ranged r → AllLent cs → Run r cs
+  runs : (cs : List Call) (r : State L) → Rest L B F r → InRanges F r → AllLent cs → Run r cs
   runs [] r g k h = record { range = tt; seen = refl; block = refl; pushes = tt }
   runs (c ∷ cs) r g k h =
       let x = step L r c in
-      let d = called L B F r g k c (h .0) in
-      let n = runs cs (x .next) (d .rest) (d .ranged) (h .1) in
+      let d = called L B F r g c (h .0) in
+      let n = runs cs (x .next) (d .rest) (step-ranged L B F r c (h .0) k) (h .1) in
       let is = made-is L B F c r k in
       let at = made-state L B F c r k in
       record {
@@ -47,7 +47,7 @@ module _ (L : Leaves) (B : Layout L) (F : Facts L B) where
 
   from-fresh : (cs : List Call) → AllLent cs → Demand3 L B (B .encode (fresh L)) cs
   from-fresh cs h =
-      let n = runs cs (fresh L) (fresh-rest L B F) (F .new) h in
+      let n = runs cs (fresh L) (fresh-rest L B F) (fresh-ranged L B F) h in
       record {
         start = refl;
         range = n .range;

@@ -2,15 +2,15 @@
 use mathlib.Core.Path.{_≡_, refl, sym, ap, _∙_, subst}
 use mathlib.Core.Logic.{inl, inr}
 use mathlib.Core.List.{List, [], _∷_, map}
-use Prim.Native.Nat.{ℕ, zero, suc, _+_, _*_, _^_, _≤_, _<_, zero-le}
-use native.Mathlib.Nat.{le-trans, le-of-eq, not-suc-le-zero, eq-or-lt-of-le, mul-le-mul-right}
+use Prim.Native.Nat.{ℕ, zero, suc, _+_, _*_, _≤_, _<_, zero-le}
+use native.Mathlib.Nat.{not-suc-le-zero, eq-or-lt-of-le, mul-le-mul-right}
 use native.Mathlib.Omega.{arith}
 use lib.ListN.{length, getD, List·getD-map}
 use lib.Ieee.{Float, binary32, toBits, ofBits}
 use lib.Ieee.Bits.{ofBits-toBits, toBits-lt}
 use Rattle.ieee.specs.Units as units
 use Rattle.ieee.specs.Bounds.{All}
-use Rattle.words.specs.Words.{Words, number, word, floatAt, wordsAt, withWords}
+use Rattle.words.specs.Words.{Words, word, floatAt, wordsAt, withWords}
 use Rattle.words.proofs.Back.{words-read-back}
 use Rattle.words.proofs.Beside.{words-keep, reads-before}
 use Rattle.words.proofs.Runs.{run-length-kept}
@@ -46,7 +46,8 @@ module _ (given : Channels) (stride n : ℕ) (few : n ≤ stride) where
 
   module _ (tamed : (c : ℕ) → c < 12 → All units.Tame (given c)) (long : (c : ℕ) → c < 12 → length (given c) ≡ n) where
     -- the channel that is written first
-    first : (c : ℕ) (out : List ℕ) (i : ℕ) → c < 12 → i < n → 4 * (suc c * stride) ≤ length out → word (withWords out (4 * (c * stride)) (map (toBits binary32) (given c))) (4 * (c * stride) + 4 * i) ≡ toBits binary32 (getD (given c) i 0·0)
+    first : (c : ℕ) (out : List ℕ) (i : ℕ) → c < 12 → i < n → 4 * (suc c * stride) ≤ length out
+        → word (withWords out (4 * (c * stride)) (map (toBits binary32) (given c))) (4 * (c * stride) + 4 * i) ≡ toBits binary32 (getD (given c) i 0·0)
     first c out i l h r =
         let ws = map (toBits binary32) (given c) in
         let e : length ws ≡ n = length-map (toBits binary32) (given c) ∙ long c l in
@@ -54,7 +55,8 @@ module _ (given : Channels) (stride n : ℕ) (few : n ≤ stride) where
         ∙ ap (λ (l : List ℕ). getD l i (toBits binary32 0·0)) (words-read-back out (4 * (c * stride)) ws (omega arith) (bits-words (given c) (tamed c l)))
         ∙ List·getD-map (toBits binary32) (given c) i 0·0
 
-    reads : (k c d : ℕ) (out : List ℕ) (i : ℕ) → c ≤ d → d < c + k → d < 12 → i < n → 4 * ((c + k) * stride) ≤ length out → word (writtenFrom k c given stride out) (4 * (d * stride + i)) ≡ toBits binary32 (getD (given d) i 0·0)
+    reads : (k c d : ℕ) (out : List ℕ) (i : ℕ) → c ≤ d → d < c + k → d < 12 → i < n → 4 * ((c + k) * stride) ≤ length out
+        → word (writtenFrom k c given stride out) (4 * (d * stride + i)) ≡ toBits binary32 (getD (given d) i 0·0)
     reads zero c d out i l u t h r = absurd (omega arith)
     reads (suc k) c d out i l u t h r = elim (eq-or-lt-of-le l) [
       | inl e ↦ here e

@@ -1,16 +1,15 @@
 -- The calls as the host makes them, on the bytes of a state block. Assumes nothing.
-use Prim.Native.Nat.{ℕ, zero, suc, _+_, _*_}
-use mathlib.Core.Bool.{Bool, true, false, cond}
+use Prim.Native.Nat.{ℕ, zero, suc, _*_}
+use mathlib.Core.Bool.{Bool, cond}
 use mathlib.Core.List.{List, [], _∷_, map}
 use lib.Dec.{eqb}
 use lib.ListN.{length}
-use lib.Ieee.{Float, binary32, toBits}
+use lib.Ieee.{binary32, toBits}
 use Rattle.words.specs.Words.{withWords}
 use Rattle.rules.specs.Parts.{Channels}
 use Rattle.rules.specs.Leaves.{Leaves}
 use Rattle.rules.specs.Samples.{State, fresh}
-use Rattle.rules.specs.Refusals.{Args}
-use Rattle.rules.specs.Calls.{Call, push, flush, reset, Answer, refused, rendered, nothing, cleared, Result, isRefused, step}
+use Rattle.rules.specs.Calls.{Call, push, flush, reset, Answer, refused, rendered, nothing, cleared, isRefused, step}
 
 -- The block's layout: how long it is, which blocks have every field in its range, the renderer that a block holds, and the block that holds a renderer.
 pub record Layout (L : Leaves) : Type 0 where

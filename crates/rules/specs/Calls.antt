@@ -1,14 +1,14 @@
 -- Calls in a row: what each answers, gives out and leaves, on a renderer. Assumes nothing.
-use Prim.Native.Nat.{ℕ, _+_}
+use Prim.Native.Nat.{ℕ}
 use mathlib.Core.Bool.{Bool, true, false, cond}
-use mathlib.Core.List.{List, [], _∷_, _++_, map}
+use mathlib.Core.List.{List, [], _∷_, map}
 use lib.Dec.{eqb}
 use lib.ListN.{length}
 use Rattle.rules.specs.Parts.{Channels, none}
 use Rattle.rules.specs.Leaves.{Leaves}
 use Rattle.rules.specs.Mix.{Moment}
-use Rattle.rules.specs.Samples.{Frame, Renderer, State, After, fresh, pushed, flushed}
-use Rattle.rules.specs.Refusals.{Args, Found, clear, stop, _then_, room, early, later, Sent}
+use Rattle.rules.specs.Samples.{Frame, State, fresh, pushed, flushed}
+use Rattle.rules.specs.Refusals.{Args, Found, clear, stop, _then_, room, early, later}
 
 -- A call, with all that the host lends besides the state block. Later requests add their calls here.
 pub data Call : Type 0 where

@@ -1,23 +1,22 @@
 -- Demand 3: one claim about a whole list of calls, from a block that reset has filled. Assumes nothing.
-use Prim.Native.Nat.{ℕ, zero, suc, _+_, _*_, _≤_, _<_}
+use Prim.Native.Nat.{ℕ, suc, _+_, _*_, _≤_, _<_}
 use mathlib.Core.Path.{_≡_}
-use mathlib.Core.Logic.{_⊎_}
-use mathlib.Core.Bool.{true}
+use mathlib.Core.Bool.{Bool, true, false, cond, _||_}
 use mathlib.Core.List.{List, [], _∷_}
-use lib.Dec.{T}
+use lib.Dec.{T, leb}
 use lib.ListN.{length, getD}
-use lib.Ieee.{Float, eq}
+use lib.Ieee.{eq}
 use Rattle.words.specs.Words.{Bytes, floatAt}
 use Rattle.mixing.specs.Samples.{allPass}
-use Rattle.energy.specs.Facts.{squareSum, AddsUp, apart, Each}
-use Rattle.panning.specs.Terms.{Term}
+use Rattle.energy.specs.Facts.{squares, AddsUp, Each}
+use Rattle.panning.specs.Hall.{fullRange}
 use Rattle.panning.specs.Table.{between, 8·0}
 use Rattle.rules.specs.Parts.{0·0, Tame}
-use Rattle.rules.specs.Leaves.{Leaves, Source}
-use Rattle.rules.specs.Mix.{Moment, objectTerms, samplesAt, fed}
-use Rattle.rules.specs.Samples.{Frame, State, fresh, opened, framed, pushed}
-use Rattle.rules.specs.Refusals.{Args, Found, clear}
-use Rattle.rules.specs.Calls.{Call, push, flush, reset, Answer, refused, rendered, nothing, cleared, frameOf, found, step, run, final, kept, accepted}
+use Rattle.rules.specs.Leaves.{Leaves, Source, started}
+use Rattle.rules.specs.Mix.{Moment, objectTerms, objectAdds, samplesAt, fed}
+use Rattle.rules.specs.Samples.{State, fresh, opened, framed, pushed}
+use Rattle.rules.specs.Refusals.{Args, clear}
+use Rattle.rules.specs.Calls.{Call, push, flush, reset, Answer, refused, rendered, nothing, cleared, isRefused, frameOf, found, step, run, final, kept, accepted}
 use Rattle.rules.specs.Block.{Layout, Outcome, strideOf, outOf, made, runOn, finalOn, keptOn, acceptedOn, seenOn, told}
 
 -- ---- an object
@@ -33,8 +32,8 @@ nobody = record { gain = 0·0; size = 0·0; place = record { x = 0·0; y = 0·0;
 pub record Squares (s : Source) : Type 0 where
   pub channels : Each (λ t. (t .channel < 12) × (t .channel ≡ 3 → ⊥)) (objectTerms s)
   pub each : Each (λ t. T (between 0·0 8·0 (t .coefficient))) (objectTerms s)
-  pub apart : T (apart (objectTerms s))
-  pub sum : AddsUp (squareSum (objectTerms s)) (s .gain)
+  pub once : (c : ℕ) → length (objectAdds s c) ≤ 1
+  pub sum : AddsUp (squares fullRange (objectTerms s)) (s .gain)
 
 -- ---- a push that was accepted, on the renderer r that the rules worked out from the list's start
 
@@ -58,11 +57,24 @@ module _ (L : Leaves) where
   abbrev pub objectAt : State L → Args → ℕ → ℕ → Source
   objectAt r a t j = getD (momentAt r a t .objects) j nobody
 
+  -- an update was applied before the push, or one of its own at an offset up to t is
+  abbrev pub upTo : ℕ → List (L .Update) → Bool
+  upTo t [] = false
+  upTo t (u ∷ us) = leb (L .offset u) t || upTo t us
+
+  abbrev pub begun : State L → Args → ℕ → Bool
+  begun r a t = started L (r .meta) || upTo t (L .updates (a .meta))
+
   pub record PushHolds (r : State L) (a : Args) : Type 0 where
-    -- as many moments as samples; the own samples are the PCM's; an object for each, or silence; what is fed is what the filter then remembers
+    -- whole blocks are ready, and the remainder waits
+    pub ready : length (pushed L (frameOf L a) r .given 0) + pushed L (frameOf L a) r .next .pending ≡ r .pending + a .samples
+    pub waits : pushed L (frameOf L a) r .next .pending < 64
+    -- as many moments as samples, at the push's rate; the own samples are the PCM's; an object for each from the first update on, "silent samples pan no object"; what is fed is what the
+    -- filter then remembers
     pub moments : length (pushed L (frameOf L a) r .moments) ≡ a .samples
+    pub rate : pushed L (frameOf L a) r .next .rate ≡ a .rate
     pub own : (t : ℕ) → t < a .samples → momentAt r a t .own ≡ samplesAt (a .pcm) (a .samples) (a .objects) (length (a .codes)) t
-    pub objects : (t : ℕ) → t < a .samples → (momentAt r a t .objects ≡ []) ⊎ (length (momentAt r a t .objects) ≡ a .objects)
+    pub objects : (t : ℕ) → t < a .samples → length (momentAt r a t .objects) ≡ cond (begun r a t) (a .objects) 0
     pub enters : (t : ℕ) → t < a .samples → framed L (frameOf L a) (suc t) 0 (opened L (a .rate) r) .next .filter .x1 ≡ fed (momentAt r a t)
     -- "each object of size zero puts nothing into the bass feed": with its row of the PCM replaced by any that refusal 8 lets pass, the push is accepted and the same number is fed
     pub bass : (t j : ℕ) → t < a .samples → j < a .objects → T (eq (objectAt r a t j .size) 0·0) → (qcm : List ℕ) → Replaced (a .samples) (length (a .codes) + j) (a .pcm) qcm
@@ -132,3 +144,7 @@ module _ (L : Leaves) (B : Layout L) where
   -- Document 01, demand 3, for every list of calls with any arguments, from what reset leaves of any block of the right length
   abbrev pub EveryList : Type 0
   EveryList = (b : List ℕ) → Bytes b → length b ≡ B .size → (cs : List Call) → AllLent cs → Demand3 (made L B reset b .state) cs
+
+  -- "every block that an accepted call leaves lies within these": from a block of any bytes
+  abbrev pub Keeps : Type 0
+  Keeps = (b : List ℕ) → Bytes b → (c : Call) → Lent c → isRefused (made L B c b .answer) ≡ false → B .valid (made L B c b .state) ≡ true

@@ -3,6 +3,7 @@ pub mod Leaves
 pub mod Mix
 pub mod Samples
 pub mod Refusals
+pub mod Ranges
 pub mod Calls
 pub mod Block
 pub mod Claim

@@ -1,6 +1,6 @@
 -- Samples of twelve channels, and what a sample may be. Assumes nothing.
-use Prim.Native.Nat.{ℕ, zero, suc, _+_, _*_}
-use mathlib.Core.Bool.{Bool, true, false, cond}
+use Prim.Native.Nat.{ℕ, suc, _+_}
+use mathlib.Core.Bool.{false, cond}
 use mathlib.Core.List.{List, [], _∷_, _++_, map}
 use lib.ListN.{set, replicate}
 use lib.Dec.{T, ltb}
@@ -13,23 +13,10 @@ abbrev pub 0·0 : Float
 abbrev pub 1·0 : Float
 1·0 = fin false 1 (pos 0)
 
-abbrev pub 16·0 : Float
-16·0 = fin false 1 (pos 4)
-
 -- Document 01, demand 3: "finite and from -1 to 1". No NaN and no infinity compares so.
 pub record Tame (x : Float) : Type 0 where
   pub low : T (le (neg 1·0) x)
   pub high : T (le x 1·0)
-
--- A sample that refusal 8 lets pass.
-pub record Passes (x : Float) : Type 0 where
-  pub low : T (le (neg 16·0) x)
-  pub high : T (le x 16·0)
-
--- P of every element
-abbrev pub All {ℓ} : {A : Type ℓ} → (A → Type 0) → List A → Type 0
-All P [] = Unit {0}
-All P (x ∷ xs) = P x × All P xs
 
 -- The samples of each channel, in order. There are twelve channels; any further one is empty.
 abbrev pub Channels : Type 0

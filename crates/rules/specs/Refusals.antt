@@ -1,9 +1,8 @@
 -- "Who can cause a refusal": the refusals of a push in document 01's order, for a renderer whose block is in range. Assumes nothing.
 use Prim.Native.Nat.{ℕ, zero, suc, _+_, _*_, _%_}
-use mathlib.Core.Path.{_≡_}
 use mathlib.Core.Bool.{Bool, true, false, cond, not, _&&_, _||_}
 use mathlib.Core.List.{List, [], _∷_}
-use lib.Dec.{eqb, leb, ltb}
+use lib.Dec.{eqb, leb}
 use lib.ListN.{length}
 use Rattle.mixing.specs.Samples.{allPass}
 use Rattle.beds.specs.Matching.{counted}
@@ -57,25 +56,21 @@ abbrev pub listed : ℕ → Bool
 listed rate = eqb rate 32000 || eqb rate 44100 || eqb rate 48000 || eqb rate 88200 || eqb rate 96000
 
 module _ (L : Leaves) where
-  -- "One at or past the frame's end is dropped, offset 0 excepted."
-  abbrev pub taken : ℕ → L .Update → Bool
-  taken n u = eqb (L .offset u) 0 || ltb (L .offset u) n
+  -- 7 along the updates whose offset is t, in the order sent; the counts after them
+  abbrev pub lacking : ℕ → List (L .Update) → L .Counts → Bool
+  lacking t [] k = false
+  lacking t (u ∷ us) k = cond (eqb (L .offset u) t) (L .lacks u k || lacking t us (L .nextCounts u k)) (lacking t us k)
 
-  -- 7 along the updates whose offset is t, in the order sent; the timed state after them
-  abbrev pub lacking : ℕ → List (L .Update) → L .Meta → Bool
-  lacking t [] m = false
-  lacking t (u ∷ us) m = cond (eqb (L .offset u) t) (L .lacks u m || lacking t us (L .apply 0 u m)) (lacking t us m)
-
-  abbrev pub metaAfter : ℕ → List (L .Update) → L .Meta → L .Meta
-  metaAfter t [] m = m
-  metaAfter t (u ∷ us) m = metaAfter t us (cond (eqb (L .offset u) t) (L .apply 0 u m) m)
+  abbrev pub countsAfter : ℕ → List (L .Update) → L .Counts → L .Counts
+  countsAfter t [] k = k
+  countsAfter t (u ∷ us) k = countsAfter t us (cond (eqb (L .offset u) t) (L .nextCounts u k) k)
 
   -- 7 along all updates that would be applied, in time order: n offsets from t on
-  abbrev pub lackingFrom : ℕ → ℕ → List (L .Update) → L .Meta → Bool
-  lackingFrom zero t us m = false
-  lackingFrom (suc n) t us m = lacking t us m || lackingFrom n (suc t) us (metaAfter t us m)
+  abbrev pub lackingFrom : ℕ → ℕ → List (L .Update) → L .Counts → Bool
+  lackingFrom zero t us k = false
+  lackingFrom (suc n) t us k = lacking t us k || lackingFrom n (suc t) us (countsAfter t us k)
 
-  -- at least the offset 0
+  -- "One at or past the frame's end is dropped, offset 0 excepted": at least the offset 0 counts
   abbrev pub offsets : ℕ → ℕ
   offsets n = cond (eqb n 0) 1 n
 
@@ -88,7 +83,7 @@ module _ (L : Leaves) where
       then unless (leb (r .position + a .samples) 1099511627776) 4 0 0
       then unless (L .laidOut (a .meta)) 5 0 0
       then unless (L .inRange (a .meta)) 6 0 0
-      then unless (not (lackingFrom (offsets (a .samples)) 0 us (r .meta))) 7 0 0
+      then unless (not (lackingFrom (offsets (a .samples)) 0 us (L .counts (r .meta)))) 7 0 0
       then unless (allPass (a .pcm) 0 ((length (a .codes) + a .objects) * a .samples)) 8 0 0
 
 -- ---- 9 to 14

@@ -1,6 +1,6 @@
 //! The limiter against the Rust's own, bit for bit: runs of 2,000 blocks of drawn, extreme and
-//! constant samples at the five rates, whole blocks and shorter last ones; the peak at every length
-//! up to 200; scaling.
+//! constant samples at the five rates, whole blocks and shorter last ones, as floats and from bytes to
+//! bytes; the peak at every length up to 200; scaling.
 
 use compare::probe::limiter;
 use compare::{Generator, all_same, same};
@@ -135,6 +135,62 @@ fn peaks_and_scaling() {
             limiter::scale_slice_in_place(&mut ours, gain);
             leaf::scale_slice_in_place(&mut theirs, gain);
             assert!(all_same(&ours, &theirs), "scaling by {gain:?}");
+        }
+    }
+}
+
+/// From bytes to bytes: what is given out, and that nothing else of the output is touched.
+#[test]
+#[cfg_attr(no_sources, ignore = "Rust sources not at hand")]
+fn from_places_to_output() {
+    let mut inputs = Generator::new(9);
+    for rate in RATES {
+        let (mut ours, mut theirs) = (1.0f32, 1.0f32);
+        for index in 0..BLOCKS {
+            let words = [(); 768].map(|()| {
+                if index % 2 == 0 {
+                    inputs.float()
+                } else {
+                    inputs.between(-2.0, 2.0)
+                }
+            });
+            let mut places = [0u8; 3072];
+            for (bytes, word) in places.chunks_mut(4).zip(words) {
+                bytes.copy_from_slice(&word.to_bits().to_le_bytes());
+            }
+            let stride = 64 * (1 + inputs.below(4) as usize);
+            let samples = if inputs.chance(4) {
+                inputs.below(65) as usize
+            } else {
+                64
+            };
+            let ready = inputs.below((stride - samples + 1) as u64) as usize;
+            let mut out = vec![0xa5u8; 48 * stride + inputs.below(9) as usize];
+            let mut expected = out.clone();
+            let mut channels: Vec<Vec<f32>> =
+                words.chunks(64).map(|c| c[..samples].to_vec()).collect();
+            leaf::apply_output_limiter_block(&mut channels, &mut theirs, rate, 0, samples);
+            for (c, channel) in channels.iter().enumerate() {
+                for (i, x) in channel.iter().enumerate() {
+                    let bits = if x.is_nan() { 0x7fc0_0000 } else { x.to_bits() };
+                    expected[4 * (c * stride + ready + i)..][..4]
+                        .copy_from_slice(&bits.to_le_bytes());
+                }
+            }
+            ours = limiter::limit_into(
+                ours,
+                &places,
+                samples,
+                rate,
+                &mut out,
+                4 * stride,
+                4 * ready,
+            );
+            assert!(
+                same(ours, theirs),
+                "gain of block {index} at {rate}: {ours:?} {theirs:?}"
+            );
+            assert!(out == expected, "block {index} at {rate}");
         }
     }
 }

@@ -1,5 +1,7 @@
 //! Panning against `render_object_timeslot_to_714`, mixed term by term: every combination of
 //! special positions, gains and sizes (1,906,624 coefficient sets), and 9,000,000 random ones.
+//! Which speakers are chosen depends on how a position compares with the speakers' coordinates:
+//! the special positions have every outcome.
 
 use compare::{Generator, all_same, probe::panning};
 use oracle::leaf::render_object_timeslot_to_714;
@@ -31,7 +33,9 @@ impl Mix {
         for (channel, coefficient) in panning::pan(position, gain, size).terms() {
             expected[channel] += self.sample * coefficient;
         }
-        self.channels.iter_mut().for_each(|channel| channel[0] = start);
+        self.channels
+            .iter_mut()
+            .for_each(|channel| channel[0] = start);
         let source = Source {
             gain,
             size,
@@ -91,8 +95,16 @@ fn random_positions() {
             _ => inputs.between(-1.25, 1.25),
         };
         let position = [coordinate(), coordinate(), coordinate()];
-        let gain = if round % 4 == 0 { inputs.near(0.0, 8.0) } else { inputs.between(0.0, 1.0) };
-        let size = if round % 3 == 0 { inputs.near(0.0, 1.0) } else { 0.0 };
+        let gain = if round % 4 == 0 {
+            inputs.near(0.0, 8.0)
+        } else {
+            inputs.between(0.0, 1.0)
+        };
+        let size = if round % 3 == 0 {
+            inputs.near(0.0, 1.0)
+        } else {
+            0.0
+        };
         mix.sample = inputs.between(-1.0, 1.0);
         let start = inputs.between(-1.0, 1.0);
         mix.compare(position, gain, size, start);

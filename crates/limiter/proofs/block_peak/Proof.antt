@@ -1,9 +1,9 @@
 -- `limiter::block_peak` meets its contract. Assumes nothing.
 use borrow.Author.Needs.{needs}
-use mathlib.Core.Path.{_≡_, refl, sym, ap, subst, _∙_}
-use Prim.Native.Nat.{ℕ, _+_, _-_, _*_, _≤_}
+use mathlib.Core.Path.{_≡_, refl, _∙_}
+use Prim.Native.Nat.{_+_, _*_}
 use native.Mathlib.Omega.{arith}
-use lib.ListN.{length, take, drop}
+use lib.ListN.{drop}
 use lib.Ieee.{ofBits}
 use Rattle.limiter.specs.Limiter.{0·0, blockPeak, channels}
 use Rattle.limiter.proofs.Levels.{Level}
@@ -11,10 +11,6 @@ use Rattle.limiter.proofs.Peaks.{zero-level}
 use Rattle.limiter.proofs.Rows.{peak-next, peak-end}
 use Rattle.limiter.proofs.block_peak.Statement.{statement}
 use Rattle.limiter.proofs.block_peak.Tie as tie
-use Rattle.limiter.proofs.block_peak.Reads as reads
-use Rattle.limiter.proofs.block_peak.Lts as lts
-use Rattle.limiter.proofs.max_abs_slice.Reads as max-abs-slice-reads
-use Rattle.limiter.proofs.raise.Reads as raise-reads
 
 abbrev Inv-loop : tie.InvT-loop
 Inv-loop block samples max₀ at₀ left₀ max at left = (at + 64 * left ≡ 768) × Level max × (blockPeak max (channels left samples (drop at block)) ≡ blockPeak 0·0 (channels 12 samples block))

@@ -1,18 +1,14 @@
 -- `limiter::max_abs_from` meets its contract. Assumes nothing.
-use borrow.Author.Needs.{needs, scaled-fits}
-use mathlib.Core.Path.{_≡_, refl, sym, ap, subst, _∙_}
-use Prim.Native.Nat.{ℕ, _-_, _≤_}
+use borrow.Author.Needs.{needs}
+use mathlib.Core.Path.{_≡_, refl, _∙_}
+use Prim.Native.Nat.{_-_, _≤_}
 use native.Mathlib.Omega.{arith}
-use lib.ListN.{length, drop, getD}
-use lib.Ieee.{nan}
+use lib.ListN.{length, drop}
 use Rattle.limiter.specs.Limiter.{peakFrom}
 use Rattle.limiter.proofs.Levels.{Level}
 use Rattle.limiter.proofs.Peaks.{from-next, from-end}
 use Rattle.limiter.proofs.max_abs_from.Statement.{statement}
 use Rattle.limiter.proofs.max_abs_from.Tie as tie
-use Rattle.limiter.proofs.max_abs_from.Reads as reads
-use Rattle.limiter.proofs.max_abs_from.Lts as lts
-use Rattle.limiter.proofs.raise.Reads as raise-reads
 
 abbrev Inv-loop : tie.InvT-loop
 Inv-loop max samples m₀ i₀ m i = (i ≤ length samples) × Level m × (peakFrom m (drop i samples) ≡ peakFrom max samples)

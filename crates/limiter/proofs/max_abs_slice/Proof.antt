@@ -1,11 +1,11 @@
 -- `limiter::max_abs_slice` meets its contract: the four maxima and what is left have the bounds of the whole. Assumes nothing.
 use borrow.Author.Needs.{needs}
-use mathlib.Core.Path.{_≡_, refl, sym, ap, _∙_}
-use Prim.Native.Nat.{ℕ, _-_, _≤_}
+use mathlib.Core.Path.{_∙_}
+use Prim.Native.Nat.{_-_, _≤_}
 use native.Mathlib.Omega.{arith}
-use lib.ListN.{length, drop, getD}
-use lib.Ieee.{nan, ofBits}
-use Rattle.limiter.proofs.Levels.{Level, Raised, raised-by}
+use lib.ListN.{drop}
+use lib.Ieee.{ofBits}
+use Rattle.limiter.proofs.Levels.{Raised, raised-by}
 use Rattle.limiter.proofs.Peaks.{Lanes, lanes-start, lanes-again, lanes-rest}
 use Rattle.limiter.proofs.max_abs_slice.Statement.{statement}
 use Rattle.limiter.proofs.max_abs_slice.Tie as tie

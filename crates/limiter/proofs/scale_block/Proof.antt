@@ -1,19 +1,14 @@
 -- `limiter::scale_block` meets its contract. Assumes nothing.
 use borrow.Author.Needs.{needs}
-use mathlib.Core.Path.{_≡_, refl, sym, ap, subst, _∙_}
+use mathlib.Core.Path.{_≡_, refl, _∙_}
 use mathlib.Core.List.{_++_}
-use Prim.Native.Nat.{ℕ, _+_, _-_, _*_, _≤_}
+use Prim.Native.Nat.{_+_, _*_}
 use native.Mathlib.Omega.{arith}
 use lib.ListN.{length, take, drop}
-use Rattle.limiter.specs.Limiter.{scaled, scaledBlock, channels, laid}
-use borrow.Rule.Slice.PartMut.{same-len-mid}
-use Rattle.limiter.proofs.Laws.{length-scaled}
+use Rattle.limiter.specs.Limiter.{scaledBlock, channels, laid}
 use Rattle.limiter.proofs.Rows.{laid-next, laid-end}
 use Rattle.limiter.proofs.scale_block.Statement.{statement}
 use Rattle.limiter.proofs.scale_block.Tie as tie
-use Rattle.limiter.proofs.scale_block.Reads as reads
-use Rattle.limiter.proofs.scale_block.Lts as lts
-use Rattle.limiter.proofs.scale_slice_in_place.Reads as scale-slice-in-place-reads
 
 abbrev Inv-loop : tie.InvT-loop
 Inv-loop block₀ samples gain at₀ unscaled₀ block at unscaled = (at + 64 * unscaled ≡ 768) × (length block ≡ 768) × (take at block ++ laid (scaledBlock gain (channels unscaled samples (drop at block))) (drop at block) ≡ laid (scaledBlock gain (channels 12 samples block₀)) block₀)
@@ -56,7 +51,8 @@ loop-again c =
     let l = c .before .before .before .before .before .loop in
     let a = c .before .before .before .before .before .before .before .args in
     let z = c .before .before .scale-slice-in-place in
-    (omega arith, same-len-mid (l .at) (l .at + a .samples - l .at) (l .block) (z .last .0) (ap length (z .ensures) ∙ length-scaled (a .gain) (take (l .at + a .samples - l .at) (drop (l .at) (l .block)))) ∙ l .inv .1, laid-next (a .gain) (l .unscaled) (a .samples) (l .at) (l .block) (z .last .0) (omega arith) (omega arith) (omega arith) (z .ensures) ∙ l .inv .2)
+    let n = laid-next (a .gain) (l .unscaled) (a .samples) (l .at) (l .block) (z .last .0) (omega arith) (omega arith) (omega arith) (z .ensures) in
+    (omega arith, n .0 ∙ l .inv .1, n .1 ∙ l .inv .2)
 
 same-length : tie.Need-same-length Inv-loop μ-loop
 same-length c = search needs

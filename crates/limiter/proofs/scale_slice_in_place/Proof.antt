@@ -1,20 +1,15 @@
 -- `limiter::scale_slice_in_place` meets its contract. Assumes nothing.
-use borrow.Author.Needs.{needs, scaled-fits}
-use mathlib.Core.Path.{_≡_, refl, sym, ap, subst, _∙_}
+use borrow.Author.Needs.{needs}
+use mathlib.Core.Path.{_≡_, refl, _∙_}
 use mathlib.Core.List.{_++_}
-use Prim.Native.Nat.{ℕ, _-_, _*_, _≤_}
+use Prim.Native.Nat.{_-_, _≤_}
 use native.Mathlib.Omega.{arith}
 use lib.ListN.{length, getD, set, take, drop, length-set}
 use lib.Ieee.{nan, binary32, mul}
-use denote.Ref.{now}
-use mir.Syntax.{w64}
-use mir.Val.{Fits}
 use Rattle.limiter.specs.Limiter.{scaled}
 use Rattle.limiter.proofs.Laws.{scaled-next, scaled-end}
 use Rattle.limiter.proofs.scale_slice_in_place.Statement.{statement}
 use Rattle.limiter.proofs.scale_slice_in_place.Tie as tie
-use Rattle.limiter.proofs.scale_slice_in_place.Reads as reads
-use Rattle.limiter.proofs.scale_slice_in_place.Lts as lts
 
 abbrev Inv-loop : tie.InvT-loop
 Inv-loop samples₀ gain i₀ samples i = (i ≤ length samples) × (length samples ≡ length samples₀) × (take i samples ++ scaled gain (drop i samples) ≡ scaled gain samples₀)

@@ -2,7 +2,7 @@
 use borrow.Author.Needs.{needs}
 use mathlib.Core.Path.{sym, ap, _∙_}
 use mathlib.Core.Bool.{Bool, cond}
-use lib.Ieee.{ofBits, Float, binary32, mul, div}
+use lib.Ieee.{ofBits, binary32, mul, div}
 use Rattle.roots.specs.Root.{root}
 use Rattle.panning.specs.Choice.{0·0}
 use Rattle.panning.specs.Hall.{12·0}

@@ -6,7 +6,7 @@ use lib.Dec.{T}
 use Rattle.panning.specs.Hall.{hall714, fullRange, 12·0}
 use Rattle.panning.specs.Found.{chosen, Inside}
 use Rattle.panning.proofs.Corners714.{chosen-is, inside}
-use Rattle.panning.proofs.Rows.{pan-none, pan-some}
+use Rattle.panning.proofs.Rows.{pan-none, pan-some, none-less, some-less}
 use Rattle.panning.proofs.pan.Statement.{statement}
 use Rattle.panning.proofs.pan.Tie as tie
 
@@ -15,7 +15,9 @@ silent-requires c κs = search needs
 
 returns : tie.Need-returns
 unfolding ofBits
-returns c = let s = c .before .before .args in pan-none hall714 fullRange 12·0 (s .place) (s .gain) (s .size) (c .before .if1 .taken) (c .silent .ensures)
+returns c =
+    let s = c .before .before .args in
+    record { is = pan-none hall714 fullRange 12·0 (s .place) (s .gain) (s .size) (c .before .if1 .taken) (c .silent .ensures); less = none-less (c .silent .ensures) }
 
 cube-714-requires : tie.Need-cube-714-requires
 cube-714-requires c κs = search needs
@@ -37,7 +39,11 @@ unfolding ofBits
 returns-2 c =
     let s = c .before .before .before .before .before .before in
     let w : T (fits binary32 (s .args .place .x)) = search (needs, s .good .0) in
-    pan-some hall714 fullRange 12·0 (s .args .place) (s .args .gain) (s .args .size) (c .before .before .before .before .before .if1 .left) (ap chosen (c .before .before .before .before .cube-714 .ensures) ∙ chosen-is (s .args .place) w) (c .before .before .before .inner-gain .ensures) (c .before .before .coefficients .ensures) (c .before .channels .ensures) (c .extra .ensures)
+    let cube = c .before .before .before .before .cube-714 .ensures in
+    record {
+      is = pan-some hall714 fullRange 12·0 (s .args .place) (s .args .gain) (s .args .size) (c .before .before .before .before .before .if1 .left) (ap chosen cube ∙ chosen-is (s .args .place) w) (c .before .before .before .inner-gain .ensures) (c .before .before .coefficients .ensures) (c .before .channels .ensures) (c .extra .ensures);
+      less = some-less (subst⁻¹ Inside cube (inside (s .args .place))) (c .before .channels .ensures);
+    }
 
 pub pan-spec : {M : Type 1} → statement M
 pan-spec =

@@ -1,68 +1,48 @@
--- `roots::root_power` meets its contract. Assumes nothing.
+-- `roots::root_power` meets its contract: what its tests say of y. Assumes nothing.
 use mathlib.Core.Path.{_≡_, refl, sym, _∙_, subst}
-use mathlib.Core.Bool.{cond}
+use mathlib.Core.Bool.{true, false}
 use Prim.Native.Nat.{ℕ}
-use native.Mathlib.Omega.{arith}
 use borrow.Author.Needs.{needs}
-use lib.Dec.{T, lit≤}
-use lib.Ieee.{Float, nan, binary32, toBits, ofBits}
-use lib.Ieee.Compare.{differs-from-itself}
-use Rattle.words.proofs.Nan.{not-above, self-equal}
+use lib.Dec.{lit≤}
+use lib.Ieee.{Float, inf, ofBits}
+use Rattle.words.proofs.Nan.{not-above}
 use Rattle.roots.specs.Root.{rootPower}
-use Rattle.roots.proofs.Sorts.{PowerCases, power-cases}
+use Rattle.roots.proofs.Sorts.{zero-is, neither, low-is}
 use Rattle.roots.proofs.root_power.Statement.{statement}
 use Rattle.roots.proofs.root_power.Tie as tie
 
-nan-power : (p : ℕ) (x : Float) → x ≡ nan → x ≡ rootPower p x
+low-power : (p : ℕ) (y : Float) → y ≡ inf true → inf false ≡ rootPower p y
 unfolding rootPower
-nan-power p x e = subst (λ (y : Float). y ≡ rootPower p y) (sym e) refl
+low-power p y e = subst (λ (z : Float). inf false ≡ rootPower p z) (sym e) refl
+
+positive-root-requires : tie.Need-positive-root-requires
+unfolding ofBits
+positive-root-requires c κs = c .if1 .taken
 
 returns : tie.Need-returns
-returns c = nan-power _ (c .before .args .y) (differs-from-itself (c .before .args .y) (subst T (sym (c .if1 .taken)) tt))
-
-float-to-bits-b : tie.Need-float-to-bits-b
-float-to-bits-b c = self-equal (c .before .args .y) (c .if1 .left)
-
-cases : (c : tie.Else1) → PowerCases (cond (c .before .args .fourth) 4 2) (c .before .args .y) (toBits binary32 (c .before .args .y))
-cases c = power-cases (cond (c .before .args .fourth) 4 2) (c .before .args .y) (subst T (sym (c .before .good .0 .1)) tt) (self-equal (c .before .args .y) (c .if1 .left))
+returns c = c .positive-root .ensures
 
 returns-2 : tie.Need-returns-2
 unfolding ofBits
-returns-2 c = cases (c .before) .zero (c .if2 .taken)
+returns-2 c = zero-is _ (c .if2 .taken) .power-is _
+
+float-from-bits-if3 : tie.Need-float-from-bits-if3
+float-from-bits-if3 c = not-above 0xff80_0000 (lit≤ tt)
 
 float-from-bits-result : tie.Need-float-from-bits-result
 float-from-bits-result c = not-above 0x7f80_0000 (lit≤ tt)
 
 returns-3 : tie.Need-returns-3
 unfolding ofBits
-returns-3 c = cases (c .before .before) .top (c .if3 .taken)
+returns-3 c = low-power _ _ (low-is _ (c .if3 .taken))
 
 nan-requires : tie.Need-nan-requires
 nan-requires c κs = search needs
 
 returns-4 : tie.Need-returns-4
-returns-4 c = c .nan .ensures ∙ cases (c .before .before .before .before) .negative (c .before .if4 .taken) (c .before .before .before .if2 .left) (c .before .before .if3 .left)
-
-either-bits-requires : tie.Need-either-bits-requires
-either-bits-requires c κs = search needs
-
-float-from-bits-result-2 : tie.Need-float-from-bits-result-2
-float-from-bits-result-2 c = not-above _ (omega (arith, c .either-bits .ensures .0))
-
-returns-5 : tie.Need-returns-5
-returns-5 c = sym (cases (c .before .before .before .before) .positive (omega arith) (omega arith) ∙ c .either-bits .ensures .1)
+unfolding ofBits
+returns-4 c = c .nan .ensures ∙ neither _ (c .before .before .before .if1 .left) (c .before .before .if2 .left) .power-is _ (c .before .if3 .left)
 
 pub root-power-spec : {M : Type 1} → statement M
 root-power-spec =
-    tie.close
-    (tie.spec
-    returns
-    float-to-bits-b
-    returns-2
-    float-from-bits-result
-    returns-3
-    nan-requires
-    returns-4
-    either-bits-requires
-    float-from-bits-result-2
-    returns-5)
+    tie.close (tie.spec positive-root-requires returns returns-2 float-from-bits-if3 float-from-bits-result returns-3 nan-requires returns-4)

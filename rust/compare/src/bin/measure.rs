@@ -107,8 +107,42 @@ fn read_row(pcm: &[u8], row: &mut [f32]) {
     }
 }
 
+/// Objects at random places above the floor, each panned and mixed over a slot.
+fn panning() {
+    let mut inputs = Generator::new(5);
+    let samples: Vec<f32> = (0..64).map(|_| inputs.between(-1.0, 1.0)).collect();
+    let mut coordinate = |low| inputs.between(low, 1.0);
+    let places: Vec<_> = (0..20_000)
+        .map(|_| [coordinate(-1.0), coordinate(0.0), coordinate(-1.0)])
+        .collect();
+    let mut output = vec![vec![0.0; 64]; 12];
+    let mut mixed = output.clone();
+    compare_times(
+        "pan and mix_segment, 20,000 slots of 64 samples",
+        || {
+            for &place in &places {
+                for (channel, gain) in probe::panning::pan(place, 0.7, 0.0).terms() {
+                    probe::mixing::mix_segment(&samples, &mut mixed[channel], 0, gain);
+                }
+            }
+        },
+        || {
+            for &place in &places {
+                let source = oracle::state::Source {
+                    gain: 0.7,
+                    size: 0.0,
+                    cubical_position: place,
+                    position_valid: true,
+                };
+                oracle::leaf::render_object_timeslot_to_714(&samples, &mut output, 0, &source);
+            }
+        },
+    );
+}
+
 fn main() {
     lowpass();
+    panning();
     let mut inputs = Generator::new(1);
     let floats: Vec<f32> = (0..1_000_000).map(|_| inputs.float()).collect();
     compare_times(
@@ -120,18 +154,36 @@ fn main() {
         },
         || floats.iter().for_each(|&x| _ = black_box(to_bits(x))),
     );
-    mixing();
     limiter("limiter, quiet", &mut inputs, 0.9);
     limiter("limiter, loud", &mut inputs, 3.0);
 }
 
-/// 10,000 blocks of 12 channels by 64 samples, each copied first, since scaling is in place.
+const BLOCKS: usize = 10_000;
+
+/// 10,000 blocks of 12 channels by 64 samples, from bytes to bytes and in place. In place each
+/// block is copied first.
 fn limiter(name: &str, inputs: &mut Generator, size: f32) {
-    const BLOCKS: usize = 10_000;
     let block = [(); 768].map(|()| inputs.between(-size, size));
     let channels: Vec<Vec<f32>> = block.chunks(64).map(<[f32]>::to_vec).collect();
+    let mut bytes = [0u8; 3072];
+    for (to, x) in bytes.chunks_mut(4).zip(block) {
+        to.copy_from_slice(&x.to_bits().to_le_bytes());
+    }
+    let mut out = [0u8; 3072];
     compare_times(
-        &format!("{name}, {BLOCKS} blocks"),
+        &format!("{name}, {BLOCKS} blocks from bytes to bytes"),
+        || {
+            let mut gain = 1.0;
+            for _ in 0..BLOCKS {
+                gain = probe::limiter::limit_into(gain, &bytes, 64, 48_000, &mut out, 256, 0);
+                black_box(&out);
+            }
+            black_box(gain);
+        },
+        || rust_limiter(&channels),
+    );
+    compare_times(
+        &format!("{name}, {BLOCKS} blocks in place"),
         || {
             let (mut gain, mut places) = (1.0, block);
             for _ in 0..BLOCKS {
@@ -141,16 +193,19 @@ fn limiter(name: &str, inputs: &mut Generator, size: f32) {
             }
             black_box(gain);
         },
-        || {
-            let (mut gain, mut places) = (1.0, channels.clone());
-            for _ in 0..BLOCKS {
-                for (to, from) in places.iter_mut().zip(&channels) {
-                    to.copy_from_slice(from);
-                }
-                leaf::apply_output_limiter_block(&mut places, &mut gain, 48_000, 0, 64);
-                black_box(&places);
-            }
-            black_box(gain);
-        },
+        || rust_limiter(&channels),
     );
+}
+
+fn rust_limiter(channels: &[Vec<f32>]) {
+    let (mut gain, mut places) = (1.0, channels.to_vec());
+    for _ in 0..BLOCKS {
+        for (to, from) in places.iter_mut().zip(channels) {
+            to.copy_from_slice(from);
+        }
+        leaf::apply_output_limiter_block(&mut places, &mut gain, 48_000, 0, 64);
+        black_box(&places);
+    }
+    black_box(gain);
+    mixing();
 }

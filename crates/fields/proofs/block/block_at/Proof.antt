@@ -1,8 +1,8 @@
+-- `fields::block::block_at`: field by field. Assumes nothing.
 use mathlib.Core.Path.{_≡_, ap₂, _∙_}
 use lib.IntN.{ℤ}
 use mir.Syntax.{w64}
 use mir.Val.{toZ, ofZ}
--- `fields::block::block_at`: field by field. Assumes nothing.
 use borrow.Author.Needs.{needs}
 use Rattle.fields.proofs.block.block_at.Statement.{statement}
 use Rattle.fields.proofs.block.block_at.Tie as tie

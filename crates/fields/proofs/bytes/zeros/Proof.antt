@@ -1,4 +1,4 @@
--- `records::zeros` meets its contract. Assumes nothing.
+-- `fields::bytes::zeros`. Invariant: the bytes passed are zero. Assumes nothing.
 use Prim.Native.Nat.{_≤_, _-_}
 use mathlib.Core.Path.{_≡_, sym}
 use mathlib.Core.Bool.{true}

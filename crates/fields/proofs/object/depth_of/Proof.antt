@@ -1,4 +1,4 @@
--- `fields::object::depth_of` meets its contract. Assumes nothing.
+-- `fields::object::depth_of`: each factor in turn. Assumes nothing.
 use lib.Ieee.{ofBits}
 use Rattle.fields.specs.Object.{depthOf}
 use Rattle.fields.proofs.object.depth_of.Statement.{statement}

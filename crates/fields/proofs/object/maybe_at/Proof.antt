@@ -1,4 +1,4 @@
--- `fields::object::maybe_at` meets its contract. Assumes nothing.
+-- `fields::object::maybe_at`: by the flag. Assumes nothing.
 use mathlib.Core.Path.{sym, ap, _∙_}
 use borrow.Author.Needs.{needs}
 use Rattle.fields.specs.Object.{maybeOf}

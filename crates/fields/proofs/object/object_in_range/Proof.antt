@@ -1,4 +1,4 @@
--- `fields::object::object_in_range` meets its contract. Assumes nothing.
+-- `fields::object::object_in_range`: gain, size, depth. Assumes nothing.
 use mathlib.Core.Path.{sym, _∙_}
 use lib.Ieee.{ofBits}
 use borrow.Author.Tests.{not-true, not-false}

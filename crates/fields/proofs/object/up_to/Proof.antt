@@ -1,4 +1,4 @@
--- `fields::object::up_to` meets its contract. Assumes nothing.
+-- `fields::object::up_to`: absent, or between both ends. Assumes nothing.
 use lib.Ieee.{ofBits}
 use borrow.Author.Needs.{needs}
 use Rattle.fields.proofs.object.up_to.Statement.{statement}

@@ -1,4 +1,4 @@
--- `fields::object::value_fits` meets its contract. Assumes nothing.
+-- `fields::object::value_fits`: by the flag. Assumes nothing.
 use mathlib.Core.Path.{sym, _∙_}
 use borrow.Author.Needs.{needs}
 use Rattle.fields.proofs.object.value_fits.Statement.{statement}

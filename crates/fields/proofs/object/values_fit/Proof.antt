@@ -1,4 +1,4 @@
--- `fields::object::values_fit` meets its contract. Assumes nothing.
+-- `fields::object::values_fit`: each value in turn. Assumes nothing.
 use mathlib.Core.Path.{sym, _∙_}
 use borrow.Author.Tests.{not-true, not-false}
 use borrow.Author.Needs.{needs}

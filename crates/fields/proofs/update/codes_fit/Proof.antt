@@ -1,4 +1,4 @@
--- `records::codes_fit` meets its contract. Assumes nothing.
+-- `fields::update::codes_fit`. Invariant: the codes passed fit. Assumes nothing.
 use Prim.Native.Nat.{_≤_, _-_, _+_}
 use mathlib.Core.Path.{_≡_, sym}
 use mathlib.Core.Bool.{true}

@@ -1,4 +1,4 @@
--- `fields::update::counts_fit` meets its contract. Assumes nothing.
+-- `fields::update::counts_fit`: each limit in turn. Assumes nothing.
 use borrow.Author.Tests.{le-leb, lt-leb}
 use borrow.Author.Needs.{needs}
 use Rattle.fields.proofs.update.counts_fit.Statement.{statement}

@@ -1,4 +1,4 @@
--- `fields::update::header_at` meets its contract. Assumes nothing.
+-- `fields::update::header_at`: field by field. Assumes nothing.
 use borrow.Author.Needs.{needs}
 use Rattle.fields.proofs.update.header_at.Statement.{statement}
 use Rattle.fields.proofs.update.header_at.Tie as tie

@@ -1,4 +1,4 @@
--- `fields::update::most_at` meets its contract. Assumes nothing.
+-- `fields::update::most_at`: a bed channel, or past them. Assumes nothing.
 use borrow.Author.Tests.{lt-ltb, le-ltb}
 use Rattle.fields.proofs.update.most_at.Statement.{statement}
 use Rattle.fields.proofs.update.most_at.Tie as tie

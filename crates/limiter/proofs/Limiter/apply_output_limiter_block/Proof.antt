@@ -5,12 +5,6 @@ use lib.Ieee.{Float}
 use Rattle.limiter.specs.Limiter.{lowered, grown, blockGain, scaledBlock, channels, laid}
 use Rattle.limiter.proofs.Limiter.apply_output_limiter_block.Statement.{statement}
 use Rattle.limiter.proofs.Limiter.apply_output_limiter_block.Tie as tie
-use Rattle.limiter.proofs.Limiter.apply_output_limiter_block.Reads as reads
-use Rattle.limiter.proofs.Limiter.apply_output_limiter_block.Lts as lts
-use Rattle.limiter.proofs.Limiter.grow.Reads as grow-reads
-use Rattle.limiter.proofs.Limiter.lower.Reads as lower-reads
-use Rattle.limiter.proofs.block_peak.Reads as block-peak-reads
-use Rattle.limiter.proofs.scale_block.Reads as scale-block-reads
 
 block-peak-requires : tie.Need-block-peak-requires
 block-peak-requires c κs = search needs

@@ -1,5 +1,4 @@
 -- `limiter::Limiter::grow` meets its contract. Assumes nothing.
-use borrow.Author.Needs.{needs}
 use mathlib.Core.Path.{sym, ap}
 use mathlib.Core.Bool.{Bool, cond}
 use lib.Dec.{le→leb}

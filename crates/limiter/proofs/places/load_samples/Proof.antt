@@ -10,9 +10,6 @@ use Rattle.limiter.specs.Places.{floatsAt}
 use Rattle.limiter.proofs.Runs.{read-more}
 use Rattle.limiter.proofs.places.load_samples.Statement.{statement}
 use Rattle.limiter.proofs.places.load_samples.Tie as tie
-use Rattle.limiter.proofs.places.load_samples.Reads as reads
-use Rattle.limiter.proofs.places.load_samples.Lts as lts
-use Rattle.words.proofs.f32_at.Reads as f32-at-reads
 
 abbrev Inv-loop : tie.InvT-loop
 Inv-loop places at samples₀ i₀ samples i = (i ≤ length samples) × (length samples ≡ length samples₀) × (take i samples ≡ floatsAt places at i)

@@ -1,17 +1,14 @@
 -- `limiter::places::store_scaled` meets its contract. Assumes nothing.
 use borrow.Author.Needs.{needs}
 use native.Mathlib.Omega.{arith}
-use mathlib.Core.Path.{_≡_, refl, sym, ap, _∙_}
-use Prim.Native.Nat.{ℕ, _+_, _*_, _-_, _≤_, _<_}
+use mathlib.Core.Path.{_≡_, refl, ap, _∙_}
+use Prim.Native.Nat.{ℕ, _+_, _*_, _-_, _≤_}
 use lib.ListN.{length, drop}
 use Rattle.limiter.specs.Limiter.{scaled}
 use Rattle.limiter.specs.Places.{withFloats}
 use Rattle.limiter.proofs.Runs.{write-more, write-end}
 use Rattle.limiter.proofs.places.store_scaled.Statement.{statement}
 use Rattle.limiter.proofs.places.store_scaled.Tie as tie
-use Rattle.limiter.proofs.places.store_scaled.Reads as reads
-use Rattle.limiter.proofs.places.store_scaled.Lts as lts
-use Rattle.words.proofs.put_f32.Reads as put-f32-reads
 
 abbrev Inv-loop : tie.InvT-loop
 Inv-loop samples gain out₀ at i₀ out i = (i ≤ length samples) × (length out ≡ length out₀) × (withFloats out (at + 4 * i) (scaled gain (drop i samples)) ≡ withFloats out₀ at (scaled gain samples))

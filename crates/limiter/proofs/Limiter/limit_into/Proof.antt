@@ -1,0 +1,76 @@
+-- `limiter::Limiter::limit_into` meets its contract. Assumes nothing.
+use mathlib.Core.Path.{_≡_, ap, _∙_}
+use mathlib.Core.List.{List}
+use lib.Dec.{lit≤}
+use lib.Ieee.{Float}
+use Rattle.limiter.specs.Limiter.{0·0, lowered, grown, blockPeak, blockGain, scaledBlock, channels}
+use Rattle.limiter.specs.Places.{channelsAt, withChannels}
+use Rattle.limiter.proofs.Rows.{channels-laid, channels-at-lengths}
+use borrow.Author.Needs.{needs}
+use Rattle.limiter.proofs.Limiter.limit_into.Statement.{statement}
+use Rattle.limiter.proofs.Limiter.limit_into.Tie as tie
+
+slice-aggregate-load-block : tie.Need-slice-aggregate-load-block
+slice-aggregate-load-block c = search needs
+
+load-block-requires : tie.Need-load-block-requires
+load-block-requires c κs = search needs
+
+slice-aggregate-block-peak : tie.Need-slice-aggregate-block-peak
+slice-aggregate-block-peak c = search needs
+
+block-peak-requires : tie.Need-block-peak-requires
+block-peak-requires c κs = search needs
+
+lower-requires : tie.Need-lower-requires
+lower-requires c κs = search needs
+
+slice-aggregate-store-block : tie.Need-slice-aggregate-store-block
+slice-aggregate-store-block c = search needs
+
+store-block-requires : tie.Need-store-block-requires
+store-block-requires c κs = search needs
+
+cast-grow : tie.Need-cast-grow
+cast-grow c = search needs
+
+grow-requires : tie.Need-grow-requires
+grow-requires c κs = search needs
+
+same-length : tie.Need-same-length
+same-length c = search needs
+
+returns : tie.Need-returns
+returns c =
+    let b = c .before .before .before in
+    let start = b .before .before .before .before .before .before .before .before .before .before .before in
+    let a = start .args in
+    let low = b .before .before .before .lower in
+    let top = b .before .before .before .before .block-peak in
+    let load = b .before .before .before .before .before .before .before .load-block in
+    let n = a .samples in
+    let s = a .places .now in
+    let cs = channelsAt 12 n s 0 in
+    let ls = channels-at-lengths 12 n s 0 in
+    let e : channels 12 n (load .last .1 .1 .0) ≡ cs = ap (channels 12 n) (load .ensures) ∙ channels-laid 12 n cs _ (ls .0) (ls .1) (start .pre .samples) (lit≤ tt) in
+    let f : low .result .gain ≡ blockGain (a .self .gain) cs = low .ensures ∙ ap (λ (p : Float). lowered p (a .self .gain)) (top .ensures ∙ ap (blockPeak 0·0) e) in
+    record {
+      gain = c .grow .ensures ∙ ap (grown n (a .rate)) f;
+      samples = b .store-block .ensures ∙ ap (λ (ds : List (List Float)). withChannels (scaledBlock (low .result .gain) ds) (a .step) (a .to) (a .out .now)) e ∙ ap (λ (g : Float). withChannels (scaledBlock g cs) (a .step) (a .to) (a .out .now)) f;
+    }
+
+pub limit-into-spec : {M : Type 1} → statement M
+limit-into-spec =
+    tie.close
+    (tie.spec
+    slice-aggregate-load-block
+    load-block-requires
+    slice-aggregate-block-peak
+    block-peak-requires
+    lower-requires
+    slice-aggregate-store-block
+    store-block-requires
+    cast-grow
+    grow-requires
+    same-length
+    returns)

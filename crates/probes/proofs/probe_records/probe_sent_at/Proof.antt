@@ -1,0 +1,32 @@
+-- The layout has the offsets of the updates. Assumes nothing.
+use mathlib.Core.Path.{subst}
+use Prim.Native.Nat.{ℕ}
+use lib.ListN.{getD}
+use Rattle.fields.specs.Update.{offset}
+use Rattle.records.specs.Laid.{updateAt, count}
+use Rattle.records.specs.Order.{FirstAt}
+use Rattle.records.proofs.Times.{first-same}
+use borrow.Author.Needs.{needs}
+use Rattle.probes.proofs.probe_records.probe_sent_at.Statement.{statement}
+use Rattle.probes.proofs.probe_records.probe_sent_at.Tie as tie
+
+layout-of-requires : tie.Need-layout-of-requires
+layout-of-requires c κs = search needs
+
+returns : tie.Need-returns
+returns c = search needs
+
+sent-at-requires : tie.Need-sent-at-requires
+sent-at-requires c κs = search needs
+
+returns-2 : tie.Need-returns-2
+returns-2 c =
+    let a = c .before .before .before .before .before .args in
+    let m = a .meta .now in
+    let l = c .before .before .before .layout-of in
+    λ h.
+    first-same (λ i. getD (l .result .offset) i 0) (λ i. offset m (updateAt m i)) (count m) (a .t) (a .from) (c .sent-at .result) (l .ensures .offsets)
+    (subst (λ (n : ℕ). FirstAt (λ i. getD (l .result .offset) i 0) n (a .t) (a .from) (c .sent-at .result)) (l .ensures .counted) (c .sent-at .ensures))
+
+pub probe-sent-at-spec : {M : Type 1} → statement M
+probe-sent-at-spec = tie.close (tie.spec layout-of-requires returns sent-at-requires returns-2)

@@ -1,0 +1,210 @@
+-- Every accepted call leaves a renderer within document 01's ranges, from any renderer within them. Assumes nothing beyond `Facts`.
+use mathlib.Core.Path.{_≡_, refl, sym, ap, _∙_, subst}
+use mathlib.Core.Logic.{_⊎_, inl, inr}
+use mathlib.Core.Bool.{Bool, true, false, cond, not, _&&_, _||_}
+use mathlib.Core.List.{List, [], _∷_}
+use Prim.Native.Nat.{ℕ, zero, suc, _+_, _≤_, _<_, zero-le}
+use native.Mathlib.Omega.{arith}
+use borrow.Author.Tests.{leb-true, leb-false, eqb-false, le-ltb}
+use lib.Dec.{T, eqb, leb, ltb, lit≤, lit<, eqb·suc-zero}
+use lib.ListN.{replicate}
+use lib.Ieee.{binary32, fits}
+use lib.Ieee.Fits.{sub-fits}
+use Rattle.ieee.specs.Bounds.{All}
+use Rattle.words.specs.Words.{Bytes, Words}
+use Rattle.rules.specs.Parts.{laid}
+use Rattle.rules.specs.Leaves.{Leaves, started}
+use Rattle.rules.specs.Mix.{Moment}
+use Rattle.rules.specs.Samples.{Frame, State, fresh, row, applied, updated, slotted, moment, passed, sampled, framed, opened, pushed, flushed}
+use Rattle.rules.specs.Refusals.{Args, listed, lacking, countsAfter, lackingFrom, offsets}
+use Rattle.rules.specs.Ranges.{Fits, FilterFits, Ranged}
+use Rattle.rules.specs.Calls.{frameOf}
+use Rattle.rules.specs.Block.{Layout}
+use Rattle.rules.proofs.Lists.{either, length-laid, zeros-long, few-left}
+use Rattle.rules.proofs.Facts.{Facts}
+use Rattle.rules.proofs.Fitting.{heard-fits, grown-fits, new-fits, laid-words, laid-none, same-words, row-fits}
+use Rattle.rules.proofs.Judged.{Passed}
+use Rattle.rules.proofs.Clock.{untouched}
+
+module _ (L : Leaves) (B : Layout L) (F : Facts L B) where
+  abbrev R : State L → Type 0
+  R = Ranged L (F .Within)
+
+  pub fresh-ranged : R (fresh L)
+  unfolding fits
+  fresh-ranged = record {
+    rate = inl refl;
+    position = zero-le;
+    phase = lit< tt;
+    start = lit≤ tt;
+    gain = tt;
+    filter = record { a1 = tt; a2 = tt; b0 = tt; b1 = tt; b2 = tt; x1 = tt; x2 = tt; y1 = tt; y2 = tt };
+    meta = F .within-blank;
+    pending = lit< tt;
+    idle = λ e. refl;
+    long = zeros-long;
+    words = λ c. either Words (ltb c 12) (same-words 64 0 (lit< tt)) tt;
+    none = λ c h. ap (λ (b : Bool). cond b (replicate 64 0) []) (le-ltb c 12 h);
+  }
+
+  -- ---- updates and slots
+  applied-ranged : (t : ℕ) (u : L .Update) (r : State L) → F .Checked u → L .lacks u (L .counts (r .meta)) ≡ false → R r → R (applied L t u r)
+  applied-ranged t u r k l g =
+      let s = slot-kept (not (started L (r .meta)) || eqb t 0) in
+      record {
+        rate = g .rate;
+        position = g .position;
+        phase = s .0;
+        start = s .1;
+        gain = g .gain;
+        filter = g .filter;
+        meta = F .within-apply (r .position) u (r .meta) (g .position) k l (g .meta);
+        pending = g .pending;
+        idle = g .idle;
+        long = g .long;
+        words = g .words;
+        none = g .none;
+      }
+    where
+      slot-kept : (b : Bool) → (cond b 0 (r .phase) < 64) × (cond b (r .position) (r .start) + cond b 0 (r .phase) ≤ r .position)
+      slot-kept true = (lit< tt, omega arith)
+      slot-kept false = (g .phase, g .start)
+
+  slotted-ranged : (r : State L) → R r → R (slotted L r)
+  slotted-ranged r g =
+      let s = g .start in
+      record {
+        rate = g .rate;
+        position = g .position;
+        phase = g .phase;
+        start = g .start;
+        gain = g .gain;
+        filter = g .filter;
+        meta = either (F .Within (r .position)) (started L (r .meta) && eqb (r .phase) 0) (F .within-slot (r .position) (r .start) (r .meta) (omega arith) (g .position) (g .meta)) (g .meta);
+        pending = g .pending;
+        idle = g .idle;
+        long = g .long;
+        words = g .words;
+        none = g .none;
+      }
+
+  -- ---- a sample
+  passed-ranged : (m : Moment) (r : State L) → listed (r .rate) ≡ true → suc (r .position) ≤ 1099511627776 → R r → R (passed L m r .next)
+  passed-ranged m r l h g =
+      let s = slot-kept (started L (r .meta)) (leb 64 (suc (r .phase))) refl in
+      record {
+        rate = inr l;
+        position = h;
+        phase = s .0;
+        start = s .1;
+        gain = either Fits (leb 64 (suc (r .pending))) (grown-fits 64 (r .rate) _) (g .gain);
+        filter = record { a1 = g .filter .a1; a2 = g .filter .a2; b0 = g .filter .b0; b1 = g .filter .b1; b2 = g .filter .b2; x1 = heard-fits m 3; x2 = g .filter .x1; y1 = sub-fits binary32 _ _; y2 = g .filter .y1 };
+        meta = F .within-later (r .position) (suc (r .position)) (r .meta) (omega arith) (g .meta);
+        pending = few-left (r .pending) (leb 64 (suc (r .pending))) refl;
+        idle = λ e. absurd (subst T (sym l ∙ ap listed e) tt);
+        long = λ c k. length-laid (r .pending) (row m (r .filter) c) (r .places c) ∙ g .long c k;
+        words = λ c. laid-words (r .pending) (row m (r .filter) c) (r .places c) (row-fits m (r .filter) c) (g .words c);
+        none = λ c k. ap (laid (r .pending) (row m (r .filter) c)) (g .none c k) ∙ laid-none (r .pending) (row m (r .filter) c);
+      }
+    where
+      slot-kept : (run last : Bool) → leb 64 (suc (r .phase)) ≡ last
+          → (cond run (cond last 0 (suc (r .phase))) (r .phase) < 64) × (cond (run && last) (r .start + 64) (r .start) + cond run (cond last 0 (suc (r .phase))) (r .phase) ≤ suc (r .position))
+      slot-kept true true e = let p = g .phase in let s = g .start in let k = leb-true 64 (suc (r .phase)) e in (lit< tt, omega arith)
+      slot-kept true false e = let s = g .start in (leb-false 64 (suc (r .phase)) e, omega arith)
+      slot-kept false last e = let s = g .start in (g .phase, omega arith)
+
+  -- ---- refusal 7 as the frame meets it: the counts are those of the walk
+  or-false : (a b : Bool) → (a || b) ≡ false → (a ≡ false) × (b ≡ false)
+  or-false true b e = absurd (subst T e tt)
+  or-false false b e = (refl, e)
+
+  abbrev Met : L .Counts → State L → Type 0
+  Met k s = R s × (L .counts (s .meta) ≡ k)
+
+  updated-ranged : (t : ℕ) (us : List (L .Update)) (r : State L) (k : L .Counts) → All (F .Checked) us → lacking L t us k ≡ false → Met k r → Met (countsAfter L t us k) (updated L t us r)
+  updated-ranged t [] r k c e g = g
+  updated-ranged t (u ∷ us) r k c e g = go (eqb (L .offset u) t) e (λ s o i h. updated-ranged t us s o (c .1) i h)
+    where
+      go : (b : Bool) → cond b (L .lacks u k || lacking L t us (L .nextCounts u k)) (lacking L t us k) ≡ false
+          → ((s : State L) (o : L .Counts) → lacking L t us o ≡ false → Met o s → Met (countsAfter L t us o) (updated L t us s))
+          → Met (countsAfter L t us (cond b (L .nextCounts u k) k)) (updated L t us (cond b (applied L t u r) r))
+      go true e rec =
+          let p = or-false (L .lacks u k) (lacking L t us (L .nextCounts u k)) e in
+          rec (applied L t u r) (L .nextCounts u k) (p .1)
+          (applied-ranged t u r (c .0) (ap (L .lacks u) (g .1) ∙ p .0) (g .0), F .counts-apply (r .position) u (r .meta) (c .0) (g .0 .meta) ∙ ap (L .nextCounts u) (g .1))
+      go false e rec = rec r k e g
+
+  slotted-met : (k : L .Counts) (r : State L) → Met k r → Met k (slotted L r)
+  slotted-met k r g =
+      (slotted-ranged r (g .0), either (λ (m : L .Meta). L .counts m ≡ k) (started L (r .meta) && eqb (r .phase) 0) (F .counts-slot (r .position) (r .start) (r .meta) (g .0 .meta) ∙ g .1) (g .1))
+
+  -- ---- a frame
+  framed-ranged : (f : Frame (L .Update)) → All (F .Checked) (f .updates) → (n t : ℕ) (r : State L) (m : L .Counts) → lackingFrom L n t (f .updates) m ≡ false
+      → listed (r .rate) ≡ true → r .position + n ≤ 1099511627776 → Met m r → R (framed L f n t r .next)
+  framed-ranged f k zero t r m e l h g = g .0
+  framed-ranged f k (suc n) t r m e l h g =
+      let p = or-false (lacking L t (f .updates) m) (lackingFrom L n (suc t) (f .updates) (countsAfter L t (f .updates) m)) e in
+      let s = slotted L (updated L t (f .updates) r) in
+      let i = slotted-met (countsAfter L t (f .updates) m) (updated L t (f .updates) r) (updated-ranged t (f .updates) r m k (p .0) g) in
+      let u = untouched L t (f .updates) r in
+      let w : listed (s .rate) ≡ true = ap listed (u .rate) ∙ l in
+      let v = u .position in
+      framed-ranged f k n (suc t) (sampled L f t r .next) (countsAfter L t (f .updates) m) (p .1) w (omega arith)
+      (passed-ranged (moment L f t (s .meta)) s w (omega arith) (i .0), i .1)
+
+  opened-ranged : (rate : ℕ) (r : State L) → listed rate ≡ true → R r → R (opened L rate r) × (listed (opened L rate r .rate) ≡ true)
+  opened-ranged rate r l g = (
+    record {
+      rate = inr now;
+      position = g .position;
+      phase = g .phase;
+      start = g .start;
+      gain = g .gain;
+      filter = either FilterFits (eqb (r .rate) 0) (new-fits rate) (g .filter);
+      meta = g .meta;
+      pending = g .pending;
+      idle = λ e. absurd (subst T (sym now ∙ ap listed e) tt);
+      long = g .long;
+      words = g .words;
+      none = g .none;
+    },
+    now,
+  )
+    where
+      at : (b : Bool) → eqb (r .rate) 0 ≡ b → (r .rate ≡ 0) ⊎ (listed (r .rate) ≡ true) → listed (cond b rate (r .rate)) ≡ true
+      at true e w = l
+      at false e (inl z) = absurd (eqb-false (r .rate) 0 e z)
+      at false e (inr w) = w
+
+      now : listed (cond (eqb (r .rate) 0) rate (r .rate)) ≡ true
+      now = at (eqb (r .rate) 0) refl (g .rate)
+
+  pub pushed-ranged : (r : State L) (a : Args) → Bytes (a .meta) → Passed L r a → R r → R (pushed L (frameOf L a) r .next)
+  unfolding pushed
+  pushed-ranged r a b p g = go (a .samples) (p .enough) (p .position)
+    where
+      o : R (opened L (a .rate) r) × (listed (opened L (a .rate) r .rate) ≡ true)
+      o = opened-ranged (a .rate) r (p .listed) g
+
+      go : (n : ℕ) → lackingFrom L (offsets L n) 0 (L .updates (a .meta)) (L .counts (r .meta)) ≡ false → r .position + n ≤ 1099511627776 → R (framed L (frameOf L a) n 0 (opened L (a .rate) r) .next)
+      go zero e h = o .0
+      go (suc n) e h =
+          framed-ranged (frameOf L a) (F .checked (a .meta) b (p .laidOut) (p .inRange)) (suc n) 0 (opened L (a .rate) r) (L .counts (r .meta))
+          (ap (λ (t : Bool). lackingFrom L (cond t 1 (suc n)) 0 (L .updates (a .meta)) (L .counts (r .meta))) (sym (eqb·suc-zero n)) ∙ e) (o .1) h (o .0, refl)
+
+  pub flushed-ranged : (r : State L) → R r → R (flushed L r .next)
+  unfolding flushed
+  flushed-ranged r g = record {
+    rate = g .rate;
+    position = g .position;
+    phase = g .phase;
+    start = g .start;
+    gain = grown-fits (r .pending) (r .rate) _;
+    filter = g .filter;
+    meta = g .meta;
+    pending = lit< tt;
+    idle = λ e. refl;
+    long = g .long;
+    words = g .words;
+    none = g .none;
+  }
