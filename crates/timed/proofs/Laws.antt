@@ -1,9 +1,9 @@
--- Turns one by one, for the loops. Assumes nothing.
-use Prim.Native.Nat.{ℕ, zero, suc, _+_, _-_, _<_, _≤_, _^_}
+-- Turns of a loop, a number that an f32 holds, and an applied block from what was read. Assumes nothing.
+use Prim.Native.Nat.{ℕ, suc, _+_, _-_, _<_, _≤_, _^_}
 use lib.Dec.{T, le→leb}
 use lib.IntN.{pos}
 use lib.Ieee.{inFloat, binary32}
-use mathlib.Core.Path.{_≡_, refl, sym, ap, _∙_}
+use mathlib.Core.Path.{_≡_}
 use native.Mathlib.Numerals.{add-one}
 use native.Mathlib.Omega.{arith}
 use mathlib.Core.Bool.{Bool}
@@ -22,6 +22,11 @@ unfolding times
 turn n i f s h =
     let e : n - i ≡ suc (n - (i + 1)) = omega arith in
     rw (e, add-one)
+
+-- the last turn is over
+pub ended : {S : Type 0} (n i : ℕ) (f : ℕ → S → S) (s : S) → n - i ≡ 0 → times (n - i) i f s ≡ s
+unfolding times
+ended n i f s e = rw e
 
 -- a number that an f32 holds
 pub in-float : (m : ℕ) → m ≤ 2 ^ 24 → T (inFloat binary32 (pos m))

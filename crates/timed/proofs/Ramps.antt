@@ -1,14 +1,14 @@
 -- A slot keeps the ranges of an element's offsets, ramps and remaining ramp. Assumes nothing.
-use Prim.Native.Nat.{ℕ, zero, suc, _+_, _-_, _*_, _≤_, _<_}
-use mathlib.Core.Path.{_≡_, refl, sym, subst}
+use Prim.Native.Nat.{ℕ, _+_, _-_, _*_, _≤_, _<_}
+use mathlib.Core.Path.{_≡_, sym, subst}
 use mathlib.Core.Bool.{Bool, true, false, cond}
-use mathlib.Core.List.{List, [], _∷_}
+use mathlib.Core.List.{List}
 use lib.Dec.{T, ltb, leb}
-use lib.ListN.{getD, set}
+use lib.ListN.{getD}
 use native.Mathlib.Omega.{arith}
 use borrow.Author.Tests.{ltb-true, leb-false}
-use Rattle.timed.specs.Turns.{times}
-use Rattle.timed.specs.Slot.{InTime, Ramps, InRange, Work, middle, noBlock, due, leftAfter, blockApplied, blockAt, blocksApplied, rampApplied, updatedSources}
+use Rattle.timed.proofs.Keeps.{times-in, cond-keeps, set-each}
+use Rattle.timed.specs.Slot.{Ramps, InRange, Work, middle, noBlock, due, blockApplied, blockAt, blocksApplied, rampApplied, updatedSources}
 use Rattle.timed.specs.declared.state.BlockState.{BlockState}
 use Rattle.timed.specs.declared.state.Track.{Track}
 use Rattle.timed.specs.declared.state.DynamicSourceState.{DynamicSourceState}
@@ -17,24 +17,6 @@ use Rattle.timed.specs.declared.slot.Timing.{Timing}
 use Rattle.timed.specs.declared.slot.Reach.{Reach}
 use Rattle.timed.specs.declared.slot.Slot.{Slot}
 use lib.Ieee.{Float}
-
--- ---- what holds of every turn, every entry, either way
-
-pub times-keeps : {S : Type 0} (P : S → Type 0) (f : ℕ → S → S) → ((i : ℕ) (s : S) → P s → P (f i s)) → (n i : ℕ) (s : S) → P s → P (times n i f s)
-unfolding times
-times-keeps P f k zero i s h = h
-times-keeps P f k (suc n) i s h = times-keeps P f k n (suc i) (f i s) (k i s h)
-
-pub cond-keeps : {S : Type 0} (P : S → Type 0) (t : Bool) (a b : S) → (t ≡ true → P a) → (t ≡ false → P b) → P (cond t a b)
-cond-keeps P true a b f g = f refl
-cond-keeps P false a b f g = g refl
-
-pub set-keeps : {A : Type 0} (P : A → Type 0) (l : List A) (j : ℕ) (x d : A) → P x → ((i : ℕ) → P (getD l i d)) → (i : ℕ) → P (getD (set l j x) i d)
-set-keeps P [] j x d p h i = h i
-set-keeps P (y ∷ l) zero x d p h zero = p
-set-keeps P (y ∷ l) zero x d p h (suc i) = h (suc i)
-set-keeps P (y ∷ l) (suc j) x d p h zero = h zero
-set-keeps P (y ∷ l) (suc j) x d p h (suc i) = set-keeps P l j x d p (λ k. h (suc k)) i
 
 -- ---- blocks
 
@@ -51,24 +33,24 @@ most ramp offset payload start h d = omega arith
 least : (ramp offset payload start : ℕ) → middle ≤ middle + ramp + offset + payload - (start + 2097152) + (2097152 + 64 * start)
 least ramp offset payload start = omega arith
 
-applied-ramps : (w : Timing) (r : Reach) (b : ℕ) (k : Work) → due w (getD (k .slot .schedule) b noBlock) ≡ true → InSlot (w .start) k → InSlot (w .start) (blockApplied w r b k)
+applied-ramps : (w : Timing) (r : Reach) (b : ℕ) (k : Work) → b < 8 → due w (getD (k .slot .schedule) b noBlock) ≡ true → InSlot (w .start) k → InSlot (w .start) (blockApplied w r b k)
 unfolding blockApplied
-applied-ramps w r b k d h =
+applied-ramps w r b k l d h =
     let x = getD (k .slot .schedule) b noBlock in
     let t = ltb-true (w .payload + x .offset) (w .start + 1048576) (both (x .used) (ltb (w .payload + x .offset) (w .start + 1048576)) d) in
     record {
-      offsets = set-keeps (λ (y : BlockState). y .offset ≤ 2097152) (k .slot .schedule) b (record { offset = x .offset; ramp = x .ramp; used = true }) noBlock (h .offsets b) (h .offsets);
-      ramps = set-keeps (λ (y : BlockState). y .ramp ≤ 2097152) (k .slot .schedule) b (record { offset = x .offset; ramp = x .ramp; used = true }) noBlock (h .ramps b) (h .ramps);
-      most = most (x .ramp) (x .offset) (w .payload) (w .start) (h .ramps b) t;
+      offsets = set-each (λ (i : ℕ) (y : BlockState). i < 8 → y .offset ≤ 2097152) (k .slot .schedule) b (record { offset = x .offset; ramp = x .ramp; used = true }) noBlock (h .offsets b) (h .offsets);
+      ramps = set-each (λ (i : ℕ) (y : BlockState). i < 8 → y .ramp ≤ 2097152) (k .slot .schedule) b (record { offset = x .offset; ramp = x .ramp; used = true }) noBlock (h .ramps b) (h .ramps);
+      most = most (x .ramp) (x .offset) (w .payload) (w .start) (h .ramps b l) t;
       least = least (x .ramp) (x .offset) (w .payload) (w .start);
     }
 
-pub blocks-ramps : (w : Timing) (r : Reach) (n : ℕ) (k : Work) → Ramps (w .start) (k .slot .schedule) (k .slot .remaining) → Ramps (w .start) (blocksApplied w r n k .slot .schedule) (blocksApplied w r n k .slot .remaining)
+pub blocks-ramps : (w : Timing) (r : Reach) (n : ℕ) (k : Work) → n ≤ 8 → Ramps (w .start) (k .slot .schedule) (k .slot .remaining) → Ramps (w .start) (blocksApplied w r n k .slot .schedule) (blocksApplied w r n k .slot .remaining)
 unfolding blocksApplied
-blocks-ramps w r n k h =
-    times-keeps (InSlot (w .start)) (blockAt w r)
-    (λ b s i. cond-keeps (InSlot (w .start)) (due w (getD (s .slot .schedule) b noBlock)) (blockApplied w r b s) s (λ d. applied-ramps w r b s d i) (λ _. i))
-    n 0 k h
+blocks-ramps w r n k few h =
+    times-in (InSlot (w .start)) (blockAt w r) n
+    (λ b s l i. cond-keeps (InSlot (w .start)) (due w (getD (s .slot .schedule) b noBlock)) (blockApplied w r b s) s (λ d. applied-ramps w r b s (omega arith) d i) (λ _. i))
+    n 0 (omega arith) k h
 
 -- ---- the ramp
 
@@ -83,7 +65,7 @@ ramp-ramps p before n s h =
 pub sources-range : (w : Timing) (r : Reach) (e : ElementRendererState) (gains : List Float) (sources : List DynamicSourceState) (is : List ℕ) → InRange (w .start) e → InRange (w .start) (updatedSources w r e gains sources is .updated .element)
 unfolding updatedSources
 sources-range w r e gains sources is h =
-    record { blocks = h .blocks; ramps = ramp-ramps (w .start) (e .tracks) (r .count) _ (blocks-ramps w r (e .blocks) _ (h .ramps)) }
+    record { blocks = h .blocks; ramps = ramp-ramps (w .start) (e .tracks) (r .count) _ (blocks-ramps w r (e .blocks) _ (h .blocks) (h .ramps)) }
 
 pub later : (p q : ℕ) (e : ElementRendererState) → p ≤ q → InRange p e → InRange q e
 later p q e l h = record { blocks = h .blocks; ramps = record { offsets = h .ramps .offsets; ramps = h .ramps .ramps; most = h .ramps .most; least = omega (arith, h .ramps .least) } }

@@ -1,12 +1,12 @@
 -- A slot of the whole state, case by case: the element that it takes, and what it does. Assumes nothing.
 use Prim.Native.Nat.{ℕ, zero, suc, _+_, _-_, _*_, _<_, _≤_}
 use mathlib.Core.Path.{_≡_, refl}
-use mathlib.Core.Bool.{Bool, true, false, cond}
+use mathlib.Core.Bool.{true, false, cond}
 use mathlib.Core.List.{List}
 use lib.ListN.{getD}
 use native.Mathlib.Omega.{arith}
 use borrow.Author.Tests.{eq-eqb, ne-eqb}
-use Rattle.timed.proofs.Ramps.{cond-keeps}
+use Rattle.timed.proofs.Keeps.{cond-keeps}
 use Rattle.timed.specs.Slot.{begins, active, updatedSources, IsUpdated}
 use Rattle.timed.specs.State.{Timed, noElement, taken, elementOf, timingOf, slotLeft, slotOf, slotAt, IsTimed}
 use Rattle.timed.specs.declared.state.ElementRendererState.{ElementRendererState}

@@ -1,6 +1,6 @@
 -- The object infos as bytes: 512 records of 44 bytes, info k at 44 * k. Words, in order: head (flags + 256 anchor + 65,536 depth code), gain, size, distance, screen factor,
 -- position x, y, z, last absolute position x, y, z. Assumes nothing.
-use Prim.Native.Nat.{ℕ, zero, suc, _+_, _*_, _/_, _%_}
+use Prim.Native.Nat.{ℕ, _+_, _*_, _/_, _%_}
 use mathlib.Core.Bool.{Bool, cond}
 use mathlib.Core.List.{List}
 use lib.Dec.{eqb}

@@ -1,6 +1,6 @@
 -- What a block that is applied and a ramp do to beds and dynamic objects: `update_source_state`, `update_bed_source_state` and the loops of `update_sources` over objects.
 -- Assumes nothing.
-use Prim.Native.Nat.{ℕ, zero, suc, _+_, _*_}
+use Prim.Native.Nat.{ℕ, _+_, _*_}
 use mathlib.Core.Path.{_≡_}
 use mathlib.Core.Bool.{Bool, true, false, _&&_, _||_, cond}
 use mathlib.Core.List.{List}

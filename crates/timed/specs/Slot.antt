@@ -1,8 +1,8 @@
 -- A slot of an element: `update_sources`. Offsets and ramps are kept plus 2 ^ 20, a remaining ramp plus 2 ^ 47, so that none is below 0; the timecode is the slot's start less
 -- the last applied update's stream position. Assumes nothing.
-use Prim.Native.Nat.{ℕ, zero, suc, _+_, _-_, _*_, _≤_, _<_}
+use Prim.Native.Nat.{ℕ, _+_, _-_, _*_, _≤_, _<_}
 use mathlib.Core.Path.{_≡_}
-use mathlib.Core.Bool.{Bool, true, false, not, _&&_, cond}
+use mathlib.Core.Bool.{Bool, true, false, cond}
 use mathlib.Core.List.{List}
 use lib.Dec.{eqb, leb, ltb}
 use lib.IntN.{pos}
@@ -45,8 +45,8 @@ noBlock = record { offset = 0; ramp = 0; used = false }
 
 -- "an offset or ramp outside ±1,048,576" is refused; "a remaining ramp from -2^21 - 64 × the stream's position to 2^20"
 pub record Ramps (position : ℕ) (schedule : List BlockState) (remaining : ℕ) : Type 0 where
-  pub offsets : (b : ℕ) → getD schedule b noBlock .offset ≤ 2097152
-  pub ramps : (b : ℕ) → getD schedule b noBlock .ramp ≤ 2097152
+  pub offsets : (b : ℕ) → b < 8 → getD schedule b noBlock .offset ≤ 2097152
+  pub ramps : (b : ℕ) → b < 8 → getD schedule b noBlock .ramp ≤ 2097152
   pub most : remaining ≤ 140737489403904
   pub least : middle ≤ remaining + (2097152 + 64 * position)
 

@@ -3,6 +3,7 @@ ghost use mathlib.Core.Path.{_≡_};
 ghost use Prim.Native.Nat.{_+_, _≤_};
 
 // A sample counted from the stream's start.
+#[repr(C)]
 pub struct StreamSample(pub u64);
 
 // A sample counted from the frame's start.

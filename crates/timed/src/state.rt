@@ -5,6 +5,7 @@ use crate::clock::StreamSample;
 use vectors::Vec3;
 
 // A dynamic object as it is panned; `place` is the source's `cubical_position`, `placed` its `position_valid`.
+#[repr(C)]
 pub struct DynamicSourceState {
     pub gain: f32,
     pub size: f32,
@@ -13,12 +14,14 @@ pub struct DynamicSourceState {
 }
 
 // Whether the element moves an object (`update_now`), and where to.
+#[repr(C)]
 pub struct Track {
     pub now: bool,
     pub future: Vec3,
 }
 
 // A block's offset and ramp, each plus 2^20, and whether it was applied since the last update.
+#[repr(C)]
 pub struct BlockState {
     pub offset: u32,
     pub ramp: u32,
@@ -26,6 +29,7 @@ pub struct BlockState {
 }
 
 // An element: how many blocks it has, how many objects have a flag, and the remaining ramp (`future_distance`) plus 2^47.
+#[repr(C)]
 pub struct ElementRendererState {
     pub blocks: usize,
     pub flags: usize,
@@ -35,6 +39,7 @@ pub struct ElementRendererState {
 }
 
 // The last applied update's stream position and counts (`isf` is its `bed_or_isf_objects`), and what beds, objects and elements are since then.
+#[repr(C)]
 pub struct MetadataRendererState {
     pub initialized: bool,
     pub payload: StreamSample,

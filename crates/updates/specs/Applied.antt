@@ -1,5 +1,5 @@
 -- An applied update: `apply_update` and `apply_element`. Assumes nothing.
-use Prim.Native.Nat.{ℕ, _+_, _-_, _*_}
+use Prim.Native.Nat.{ℕ, _-_, _*_}
 use mathlib.Core.Path.{_≡_}
 use mathlib.Core.Bool.{Bool, true, false, not, _&&_, cond}
 use mathlib.Core.List.{List}
@@ -8,9 +8,8 @@ use lib.ListN.{getD, set, replicate}
 use lib.Ieee.{Float, binary32, ofBits}
 use Rattle.vectors.specs.Vectors.{0·0, zeroVec3}
 use Rattle.timed.specs.Turns.{times}
-use Rattle.timed.specs.Slot.{middle, noBlock}
+use Rattle.timed.specs.Slot.{middle}
 use Rattle.timed.specs.State.{Timed, noElement}
-use Rattle.timed.specs.declared.clock.StreamSample.{StreamSample}
 use Rattle.timed.specs.declared.state.BlockState.{BlockState}
 use Rattle.timed.specs.declared.state.Track.{Track}
 use Rattle.timed.specs.declared.state.DynamicSourceState.{DynamicSourceState}
@@ -82,9 +81,9 @@ pub record IsElement (same : Bool) (c : Counts) (x : Element) (first : ℕ) (s :
   pub element : r ≡ elementNext (isKept same (s .blocks) (x .blocks)) (c .dynamic) x s
   pub infos : out ≡ objectsStored (not (isKept same (s .blocks) (x .blocks))) (c .isf) x first (c .objects) is
 
-unfoldable pub elementAt : Bool → Update → ℕ → Work → Work
+unfoldable pub elementGiven : Bool → Update → ℕ → Work → Work
 unfolding elementNext objectsStored
-elementAt same u e w =
+elementGiven same u e w =
     let s = getD (w .states) e noElement in
     let kept = isKept same (s .blocks) (u .element e .blocks) in
     record {
@@ -94,8 +93,8 @@ elementAt same u e w =
 
 -- the elements in order
 unfoldable pub elementsApplied : Bool → Update → List ElementRendererState → List ℕ → Work
-unfolding times elementAt
-elementsApplied same u states is = times (u .elements) 0 (elementAt same u) (record { states = states; infos = is })
+unfolding times elementGiven
+elementsApplied same u states is = times (u .elements) 0 (elementGiven same u) (record { states = states; infos = is })
 
 pub record IsWork (w : Work) (es : List ElementRendererState) (is : List ℕ) : Type 0 where
   pub states : es ≡ w .states

@@ -34,18 +34,18 @@ unfoldable pub withInfo : Bool → Bool → Info → ℕ → List ℕ → List �
 unfolding withHead cleared withPlace
 withInfo fresh bed i at is = withPlace i (at + 20) (cleared fresh (at + 20) (withHead (headOf bed i) i at is))
 
-abbrev pub infoAt : Bool → Bool → Element → ℕ → ℕ → ℕ → List ℕ → List ℕ
-infoAt fresh bed x first o b is = withInfo fresh bed (x .info o b) (44 * (first + b)) is
+abbrev pub infoGiven : Bool → Bool → Element → ℕ → ℕ → ℕ → List ℕ → List ℕ
+infoGiven fresh bed x first o b is = withInfo fresh bed (x .info o b) (44 * (first + b)) is
 
 -- object o in each block; its infos are those from `first` on
 unfoldable pub objectStored : Bool → Bool → Element → ℕ → ℕ → List ℕ → List ℕ
 unfolding times withInfo
-objectStored fresh bed x first o is = times (x .blocks) 0 (infoAt fresh bed x first o) is
+objectStored fresh bed x first o is = times (x .blocks) 0 (infoGiven fresh bed x first o) is
 
-abbrev pub objectAt : Bool → ℕ → Element → ℕ → ℕ → List ℕ → List ℕ
-objectAt fresh isf x first o is = objectStored fresh (ltb o isf) x (first + 8 * o) o is
+abbrev pub objectGiven : Bool → ℕ → Element → ℕ → ℕ → List ℕ → List ℕ
+objectGiven fresh isf x first o is = objectStored fresh (ltb o isf) x (first + 8 * o) o is
 
 -- n objects, the first `isf` of them beds or ISF; the infos are those from `first` on
 unfoldable pub objectsStored : Bool → ℕ → Element → ℕ → ℕ → List ℕ → List ℕ
 unfolding times objectStored
-objectsStored fresh isf x first n is = times n 0 (objectAt fresh isf x first) is
+objectsStored fresh isf x first n is = times n 0 (objectGiven fresh isf x first) is

@@ -2,7 +2,7 @@
 -- pass are so. Assumes nothing.
 use Prim.Native.Nat.{ℕ, _+_, _-_, _*_, _≤_, _<_}
 use mathlib.Core.List.{List}
-use lib.ListN.{length}
+use lib.ListN.{length, getD}
 use Rattle.fields.specs.Update.{objects, bedOrIsf, beds, elements}
 use Rattle.fields.specs.Block.{blocks, raised}
 use Rattle.records.specs.Laid.{blockAt, elementEnd, elementAt}
@@ -29,3 +29,8 @@ pub record WholeUpdate (m : List ℕ) (u : ℕ) : Type 0 where
   pub no-more-beds : beds m u ≤ objects m u
   pub few-elements : elements m u ≤ 2
   pub each : (e : ℕ) → e < elements m u → WholeElement m (objects m u) (elementAt m u e)
+
+-- the updates of a list: update i is at record getD first i
+pub record WholeUpdates (m first : List ℕ) (count : ℕ) : Type 0 where
+  pub few : count ≤ 16
+  pub all : (i : ℕ) → i < count → WholeUpdate m (getD first i 0)

@@ -102,7 +102,7 @@ fn new_tracks() -> [Track; 16]
 }
 
 // Whether an element is kept; `same` is of elements and objects.
-fn is_kept(same: bool, blocks: usize, next: usize) -> bool
+pub fn is_kept(same: bool, blocks: usize, next: usize) -> bool
     ensures { λ r. ⌜ r ≡ isKept same blocks next ⌝ }
 {
     if same {

@@ -20,7 +20,11 @@ use timed::state::ElementRendererState;
 use timed::state::MetadataRendererState;
 
 // The dynamic objects where there were `was` and are `count` of them.
-fn next_sources(sources: [DynamicSourceState; 16], was: usize, count: usize) -> [DynamicSourceState; 16]
+fn next_sources(
+    sources: [DynamicSourceState; 16],
+    was: usize,
+    count: usize,
+) -> [DynamicSourceState; 16]
     ensures { λ r. ⌜ r ≡ nextSources was count sources ⌝ }
 {
     if was == count {
@@ -87,7 +91,7 @@ fn apply_elements(
 }
 
 // Whether elements and objects are as many as before.
-fn same_counts(elements: usize, given: usize, objects: usize, sent: usize) -> bool
+pub fn same_counts(elements: usize, given: usize, objects: usize, sent: usize) -> bool
     ensures { λ r. ⌜ r ≡ (eqb elements given && eqb objects sent) ⌝ }
 {
     if elements == given {

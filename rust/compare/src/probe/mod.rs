@@ -12,5 +12,6 @@ pub mod ieee;
 pub mod limiter;
 pub mod records;
 pub mod roots;
+pub mod timed;
 pub mod vectors;
 pub mod words;

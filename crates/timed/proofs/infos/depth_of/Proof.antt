@@ -1,22 +1,17 @@
+-- `timed::infos::depth_of`: each code by its arm. Assumes nothing.
 use borrow.Author.Tests.{ne-eqb}
 use Rattle.timed.proofs.infos.depth_of.Statement.{statement}
 use Rattle.timed.proofs.infos.depth_of.Tie as tie
-use Rattle.timed.proofs.infos.depth_of.Reads as reads
-use Rattle.timed.proofs.infos.depth_of.Lts as lts
 
--- src/infos.rt:22:1
 returns : tie.Need-returns
 returns c = rw (c .match .keys1)
 
--- src/infos.rt:22:1
 returns-2 : tie.Need-returns-2
 returns-2 c = rw (c .match .keys2)
 
--- src/infos.rt:22:1
 returns-3 : tie.Need-returns-3
 returns-3 c = rw (c .match .keys3)
 
--- src/infos.rt:22:1
 returns-4 : tie.Need-returns-4
 returns-4 c = let n = c .before .args .n in simp (ne-eqb n 0 (c .match .rest .0 .0 .1), ne-eqb n 1 (c .match .rest .0 .1), ne-eqb n 2 (c .match .rest .1))
 

@@ -1,43 +1,31 @@
-use Rattle.timed.specs.Infos.{maybeAt}
+-- `timed::infos::maybe_at`: by the flag in the head. Assumes nothing.
 use borrow.Author.Needs.{needs}
+use Rattle.timed.specs.Infos.{maybeAt}
 use Rattle.timed.proofs.infos.maybe_at.Statement.{statement}
 use Rattle.timed.proofs.infos.maybe_at.Tie as tie
-use Rattle.timed.proofs.infos.maybe_at.Reads as reads
-use Rattle.timed.proofs.infos.maybe_at.Lts as lts
-use Rattle.timed.proofs.infos.has.Reads as has-reads
-use Rattle.words.proofs.f32_at.Reads as f32-at-reads
-use Rattle.words.proofs.u32_at.Reads as u32-at-reads
 
--- src/infos.rt:46:37
 mul-u32-at : tie.Need-mul-u32-at
 mul-u32-at c = search needs
 
--- src/infos.rt:46:9
 u32-at-requires : tie.Need-u32-at-requires
 u32-at-requires c κs = search needs
 
--- src/infos.rt:47:8
 has-requires : tie.Need-has-requires
 has-requires c κs = search needs
 
--- src/infos.rt:48:50
 mul-f32-at : tie.Need-mul-f32-at
 mul-f32-at c = search needs
 
--- src/infos.rt:48:50
 add-f32-at : tie.Need-add-f32-at
 add-f32-at c = search needs
 
--- src/infos.rt:48:29
 f32-at-requires : tie.Need-f32-at-requires
 f32-at-requires c κs = search needs
 
--- src/infos.rt:48:9
 returns : tie.Need-returns
 unfolding maybeAt
 returns c = rw (← c .before .before .before .u32-at .ensures, ← c .before .before .has .ensures, c .before .if1 .taken, c .f32-at .ensures)
 
--- src/infos.rt:42:1
 returns-2 : tie.Need-returns-2
 unfolding maybeAt
 returns-2 c = rw (← c .before .before .u32-at .ensures, ← c .before .has .ensures, c .if1 .left)

@@ -1,36 +1,27 @@
-use Rattle.timed.specs.Infos.{withVec}
+-- `timed::infos::put_vec`: the three words in order. Assumes nothing.
 use borrow.Author.Needs.{needs}
+use Rattle.timed.specs.Infos.{withVec}
 use Rattle.timed.proofs.infos.put_vec.Statement.{statement}
 use Rattle.timed.proofs.infos.put_vec.Tie as tie
-use Rattle.timed.proofs.infos.put_vec.Reads as reads
-use Rattle.timed.proofs.infos.put_vec.Lts as lts
-use Rattle.words.proofs.put_f32.Reads as put-f32-reads
 
--- src/infos.rt:69:5
 put-f32-requires : tie.Need-put-f32-requires
 put-f32-requires c κs = search needs
 
--- src/infos.rt:70:27
 add-put-f32 : tie.Need-add-put-f32
 add-put-f32 c = search needs
 
--- src/infos.rt:70:5
 put-f32-requires-2 : tie.Need-put-f32-requires-2
 put-f32-requires-2 c κs = search needs
 
--- src/infos.rt:71:27
 add-put-f32-2 : tie.Need-add-put-f32-2
 add-put-f32-2 c = search needs
 
--- src/infos.rt:71:5
 put-f32-requires-3 : tie.Need-put-f32-requires-3
 put-f32-requires-3 c κs = search needs
 
--- src/infos.rt:65:1
 same-length : tie.Need-same-length
 same-length c = search needs
 
--- src/infos.rt:65:1
 returns : tie.Need-returns
 unfolding withVec
 returns c = cc

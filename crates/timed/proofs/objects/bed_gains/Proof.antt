@@ -1,18 +1,15 @@
-use borrow.Author.Needs.{needs}
+-- `timed::objects::bed_gains`: the turns left lead from the gains now to those at the end. Assumes nothing.
 use Prim.Native.Nat.{_≤_, _-_}
 use mathlib.Core.Path.{_≡_, refl, sym, _∙_}
 use native.Mathlib.Omega.{arith}
 use native.Mathlib.Numerals.{unary-clauses}
+use denote.Ref.{now}
+use borrow.Author.Needs.{needs}
 use Rattle.timed.proofs.Laws.{turn}
 use Rattle.timed.specs.Turns.{times}
-use denote.Ref.{now}
 use Rattle.timed.specs.Objects.{bedAt, bedGains}
 use Rattle.timed.proofs.objects.bed_gains.Statement.{statement}
 use Rattle.timed.proofs.objects.bed_gains.Tie as tie
-use Rattle.timed.proofs.objects.bed_gains.Reads as reads
-use Rattle.timed.proofs.objects.bed_gains.Lts as lts
-use Rattle.timed.proofs.infos.maybe_at.Reads as maybe-at-reads
-use Rattle.timed.proofs.objects.or_else.Reads as or-else-reads
 
 abbrev Inv-loop : tie.InvT-loop
 Inv-loop infos first count next₀ i₀ next i = (i ≤ count) × (times (count - i) i (bedAt infos first) next ≡ times count 0 (bedAt infos first) next₀)
@@ -20,58 +17,45 @@ Inv-loop infos first count next₀ i₀ next i = (i ≤ count) × (times (count 
 abbrev μ-loop : tie.MeasureT-loop
 μ-loop infos first count next₀ i₀ next i = count - i
 
--- src/objects.rt:146:5
 loop-holds : tie.Need-loop-holds Inv-loop μ-loop
 loop-holds c = (search needs, simp unary-clauses)
 
--- src/objects.rt:147:58
 mul-maybe-at : tie.Need-mul-maybe-at Inv-loop μ-loop
 mul-maybe-at c = search needs
 
--- src/objects.rt:147:50
 add-maybe-at : tie.Need-add-maybe-at Inv-loop μ-loop
 add-maybe-at c = omega (arith, c .before .before .before .pre .2 (c .before .loop .i) (search needs))
 
--- src/objects.rt:147:27
 maybe-at-requires : tie.Need-maybe-at-requires Inv-loop μ-loop
 maybe-at-requires c κs = let h = c .before .before .before .pre .2 (c .before .loop .i) (search needs) in (omega arith, omega arith, omega arith, omega arith)
 
--- src/objects.rt:147:72
 mul-or-else : tie.Need-mul-or-else Inv-loop μ-loop
 mul-or-else c = search needs
 
--- src/objects.rt:147:72
 array-read-or-else : tie.Need-array-read-or-else Inv-loop μ-loop
 array-read-or-else c = search needs
 
--- src/objects.rt:147:19
 or-else-requires : tie.Need-or-else-requires Inv-loop μ-loop
 or-else-requires c κs = search needs
 
--- src/objects.rt:147:9
 mul-next : tie.Need-mul-next Inv-loop μ-loop
 mul-next c = search needs
 
--- src/objects.rt:147:9
 array-write-next : tie.Need-array-write-next Inv-loop μ-loop
 array-write-next c = search needs
 
--- src/objects.rt:148:9
 add-i : tie.Need-add-i Inv-loop μ-loop
 add-i c = search needs
 
--- src/objects.rt:146:5
 loop-less : tie.Need-loop-less Inv-loop μ-loop
 loop-less c = search needs
 
--- src/objects.rt:146:5
 loop-again : tie.Need-loop-again Inv-loop μ-loop
 loop-again c =
     let l = c .before .before .before .loop in
     let s = c .before .before .before .before .before .args in
     (search needs, rw (c .or-else .ensures, c .before .maybe-at .ensures) (sym (turn (s .count) (l .i) (bedAt (now (s .infos)) (s .first)) (l .next) (search needs)) ∙ l .inv .1))
 
--- src/objects.rt:140:1
 returns : tie.Need-returns Inv-loop μ-loop
 unfolding bedGains times
 returns c =

@@ -1,31 +1,24 @@
-use Rattle.timed.specs.Objects.{ramped}
+-- `timed::objects::ramp_one`: by the object's flag, its flag before, and whether it has a place. Assumes nothing.
 use borrow.Author.Needs.{needs}
+use Rattle.timed.specs.Objects.{ramped}
 use Rattle.timed.proofs.objects.ramp_one.Statement.{statement}
 use Rattle.timed.proofs.objects.ramp_one.Tie as tie
-use Rattle.timed.proofs.objects.ramp_one.Reads as reads
-use Rattle.timed.proofs.objects.ramp_one.Lts as lts
-use Rattle.vectors.proofs.lerp_vec3.Reads as lerp-vec3-reads
 
--- src/objects.rt:124:28
 lerp-vec3-requires : tie.Need-lerp-vec3-requires
 lerp-vec3-requires c κs = search needs
 
--- src/objects.rt:121:17
 returns : tie.Need-returns
 unfolding ramped
 returns c = rw (c .before .before .before .if1 .taken, c .before .before .if2 .taken, c .before .if3 .taken, c .lerp-vec3 .ensures)
 
--- src/objects.rt:129:9
 returns-2 : tie.Need-returns-2
 unfolding ramped
 returns-2 c = rw (c .before .before .if1 .taken, c .before .if2 .taken, c .if3 .left)
 
--- src/objects.rt:129:9
 returns-3 : tie.Need-returns-3
 unfolding ramped
 returns-3 c = rw (c .before .if1 .taken, c .if2 .left)
 
--- src/objects.rt:113:1
 returns-4 : tie.Need-returns-4
 unfolding ramped
 returns-4 c = rw (c .if1 .left)

@@ -1,71 +1,50 @@
-use denote.Ref.{now}
-use Rattle.timed.proofs.Laws.{moved-by}
-use Rattle.timed.specs.Objects.{moved}
+-- `timed::objects::update_source_state`: by whether the position is valid and the ramp over; the info as the two stores leave it. Assumes nothing.
 use native.Mathlib.Omega.{arith}
+use denote.Ref.{now}
 use borrow.Author.Needs.{needs}
+use Rattle.timed.proofs.Laws.{moved-by}
 use Rattle.timed.proofs.objects.update_source_state.Statement.{statement}
 use Rattle.timed.proofs.objects.update_source_state.Tie as tie
-use Rattle.timed.proofs.objects.update_source_state.Reads as reads
-use Rattle.timed.proofs.objects.update_source_state.Lts as lts
-use Rattle.timed.proofs.infos.block_position.Reads as block-position-reads
-use Rattle.timed.proofs.infos.maybe_at.Reads as maybe-at-reads
-use Rattle.timed.proofs.infos.put_vec.Reads as put-vec-reads
-use Rattle.timed.proofs.objects.or_else.Reads as or-else-reads
-use Rattle.vectors.proofs.update_source_position.Reads as update-source-position-reads
 
--- src/objects.rt:32:24
 maybe-at-requires : tie.Need-maybe-at-requires
 maybe-at-requires c κs = search needs
 
--- src/objects.rt:32:9
 or-else-requires : tie.Need-or-else-requires
 or-else-requires c κs = search needs
 
--- src/objects.rt:33:24
 maybe-at-requires-2 : tie.Need-maybe-at-requires-2
 maybe-at-requires-2 c κs = search needs
 
--- src/objects.rt:33:9
 or-else-requires-2 : tie.Need-or-else-requires-2
 or-else-requires-2 c κs = search needs
 
--- src/objects.rt:35:9
 block-position-requires : tie.Need-block-position-requires
 block-position-requires c κs = search needs
 
--- src/objects.rt:36:9
 update-source-position-requires : tie.Need-update-source-position-requires
 update-source-position-requires c κs = search needs
 
--- src/objects.rt:38:27
 mul-put-vec : tie.Need-mul-put-vec
 mul-put-vec c = omega (arith, c .before .before .before .before .before .before .before .before .before .before .before .before .before .pre)
 
--- src/objects.rt:38:27
 add-put-vec : tie.Need-add-put-vec
 add-put-vec c = omega (arith, c .before .before .before .before .before .before .before .before .before .before .before .before .before .pre)
 
--- src/objects.rt:38:5
 put-vec-requires : tie.Need-put-vec-requires
 put-vec-requires c κs = omega (arith, c .before .before .before .before .before .before .before .before .before .before .before .before .before .pre)
 
--- src/objects.rt:39:27
 mul-put-vec-2 : tie.Need-mul-put-vec-2
 mul-put-vec-2 c = omega (arith, c .before .before .before .before .before .before .before .before .before .before .before .before .before .before .before .before .before .pre)
 
--- src/objects.rt:39:27
 add-put-vec-2 : tie.Need-add-put-vec-2
 add-put-vec-2 c = omega (arith, c .before .before .before .before .before .before .before .before .before .before .before .before .before .before .before .before .before .pre)
 
--- src/objects.rt:39:5
 put-vec-requires-2 : tie.Need-put-vec-requires-2
 put-vec-requires-2 c κs = omega (arith, c .before .before .before .before .before .before .before .before .before .before .before .before .before .before .before .before .before .pre, c .before .before .before .put-vec .kept)
 
--- src/objects.rt:46:13
 same-length : tie.Need-same-length
 same-length c = search needs
 
--- src/objects.rt:46:13
 returns : tie.Need-returns
 returns c =
     let s = c .before .before .before .before .before .before .before .before .before .before .before .before .before .before .before .before .before .before .before .before .before .before .args in
@@ -77,11 +56,9 @@ returns c =
       infos = rw (e, c .before .before .before .before .put-vec2 .ensures, c .before .before .before .before .before .before .before .before .put-vec .ensures);
     }
 
--- src/objects.rt:28:1
 same-length-2 : tie.Need-same-length-2
 same-length-2 c = search needs
 
--- src/objects.rt:28:1
 returns-2 : tie.Need-returns-2
 returns-2 c =
     let s = c .before .before .before .before .before .before .before .before .before .before .before .before .before .before .before .before .before .before .before .before .before .before .args in
@@ -93,11 +70,9 @@ returns-2 c =
       infos = rw (e, c .before .before .before .before .put-vec2 .ensures, c .before .before .before .before .before .before .before .before .put-vec .ensures);
     }
 
--- src/objects.rt:28:1
 same-length-3 : tie.Need-same-length-3
 same-length-3 c = search needs
 
--- src/objects.rt:28:1
 returns-3 : tie.Need-returns-3
 returns-3 c =
     let s = c .before .before .before .before .before .before .before .before .before .before .before .before .before .before .before .before .before .before .before .before .before .args in

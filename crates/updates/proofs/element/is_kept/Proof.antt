@@ -1,14 +1,11 @@
+-- `updates::element::is_kept`: by `same`. Assumes nothing.
 use borrow.Author.Needs.{needs}
 use Rattle.updates.proofs.element.is_kept.Statement.{statement}
 use Rattle.updates.proofs.element.is_kept.Tie as tie
-use Rattle.updates.proofs.element.is_kept.Reads as reads
-use Rattle.updates.proofs.element.is_kept.Lts as lts
 
--- src/element.rt:109:9
 returns : tie.Need-returns
 returns c = rw (c .if1 .taken)
 
--- src/element.rt:105:1
 returns-2 : tie.Need-returns-2
 returns-2 c = search needs
 

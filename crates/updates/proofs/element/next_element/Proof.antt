@@ -1,26 +1,22 @@
+-- `updates::element::next_element`: by whether the element is kept. Assumes nothing.
 use borrow.Author.Needs.{needs}
+use Rattle.updates.specs.Applied.{elementNext}
 use Rattle.updates.proofs.element.next_element.Statement.{statement}
 use Rattle.updates.proofs.element.next_element.Tie as tie
-use Rattle.updates.proofs.element.next_element.Reads as reads
-use Rattle.updates.proofs.element.next_element.Lts as lts
-use Rattle.updates.proofs.element.new_tracks.Reads as new-tracks-reads
-use Rattle.updates.proofs.element.schedule_of.Reads as schedule-of-reads
 
--- src/element.rt:127:9
 schedule-of-requires : tie.Need-schedule-of-requires
 schedule-of-requires c κs = search needs
 
--- src/element.rt:130:9
 returns : tie.Need-returns
-returns c = ?
+unfolding elementNext
+returns c = rw (c .before .if1 .taken, c .before .before .schedule-of .ensures, c .before .before .before .before .before .pre .0)
 
--- src/element.rt:138:9
 new-tracks-requires : tie.Need-new-tracks-requires
 new-tracks-requires c κs = search needs
 
--- src/element.rt:115:1
 returns-2 : tie.Need-returns-2
-returns-2 c = ?
+unfolding elementNext
+returns-2 c = rw (c .before .if1 .left, c .before .before .schedule-of .ensures, c .new-tracks .ensures, c .before .before .before .before .before .pre .0)
 
 pub next-element-spec : {M : Type 1} → statement M
 next-element-spec = tie.close (tie.spec schedule-of-requires returns new-tracks-requires returns-2)

@@ -1,76 +1,71 @@
-use Rattle.fields.specs.Block.{blocks}
-use borrow.Author.Needs.{needs}
+-- `updates::element::put_objects`: the turns left lead from the infos now to those at the end; each object's records are within the element. Assumes nothing.
 use Prim.Native.Nat.{_≤_, _-_}
-use mathlib.Core.Path.{_≡_, refl, sym, _∙_}
+use mathlib.Core.Path.{_≡_, sym, _∙_}
 use native.Mathlib.Omega.{arith}
 use native.Mathlib.Numerals.{unary-clauses}
-use Rattle.timed.proofs.Laws.{turn}
-use Rattle.timed.specs.Turns.{times}
-use denote.Ref.{now}
 use lib.ListN.{length}
+use denote.Ref.{now}
+use borrow.Author.Needs.{needs}
+use Rattle.fields.specs.Block.{blocks}
+use Rattle.timed.proofs.Laws.{turn, ended}
+use Rattle.timed.specs.Turns.{times}
 use Rattle.updates.specs.Said.{elementOf}
-use Rattle.updates.specs.Stored.{objectAt, objectsStored}
-use Rattle.updates.proofs.Laws.{ended, cell-below}
+use Rattle.updates.specs.Stored.{objectGiven, objectsStored}
+use Rattle.updates.proofs.Laws.{cell-below}
 use Rattle.updates.proofs.element.put_objects.Statement.{statement}
 use Rattle.updates.proofs.element.put_objects.Tie as tie
-use Rattle.updates.proofs.element.put_objects.Reads as reads
-use Rattle.updates.proofs.element.put_objects.Lts as lts
-use Rattle.updates.proofs.element.put_object.Reads as put-object-reads
 
 abbrev Inv-loop : tie.InvT-loop
-Inv-loop infos₀ meta p n first fresh objects isf o₀ infos o = (o ≤ objects) × ((length infos ≡ 22528) × (times (objects - o) o (objectAt fresh isf (elementOf meta p) first) infos ≡ times objects 0 (objectAt fresh isf (elementOf meta p) first) infos₀))
+Inv-loop infos₀ meta p n first fresh objects isf o₀ infos o = (o ≤ objects) × ((length infos ≡ 22528) × (times (objects - o) o (objectGiven fresh isf (elementOf meta p) first) infos ≡ times objects 0 (objectGiven fresh isf (elementOf meta p) first) infos₀))
 
 abbrev μ-loop : tie.MeasureT-loop
 μ-loop infos₀ meta p n first fresh objects isf o₀ infos o = objects - o
 
--- src/element.rt:67:5
 loop-holds : tie.Need-loop-holds Inv-loop μ-loop
 loop-holds c = (search needs, (search needs, simp unary-clauses))
 
--- src/element.rt:68:47
 mul-put-object : tie.Need-mul-put-object Inv-loop μ-loop
 mul-put-object c = search needs
 
--- src/element.rt:68:39
 add-put-object : tie.Need-add-put-object Inv-loop μ-loop
 add-put-object c = search needs
 
--- src/element.rt:68:9
 put-object-requires : tie.Need-put-object-requires Inv-loop μ-loop
-put-object-requires c κs = 
+put-object-requires c κs =
     let s = c .before .before .before .before .before .args in
     let l = c .before .before .loop in
     let h = c .before .before .before .before .before .pre in
-    let w = h .4 in
-    (omega arith, h .1, omega (arith, w .given .few), omega arith, omega arith, omega (arith, w .given .within),
-    λ b i. omega (arith, cell-below (l .o) (s .counts .objects) b (blocks (now (s .meta)) (s .p)) (omega arith) (omega arith), w .within))
+    let w = h .4 in (
+      omega arith,
+      h .1,
+      omega (arith, w .given .few),
+      omega arith,
+      omega arith,
+      omega (arith, w .given .within),
+      λ b i. omega (arith, cell-below (l .o) (s .counts .objects) b (blocks (now (s .meta)) (s .p)) (omega arith) (omega arith), w .within),
+    )
 
--- src/element.rt:69:9
 add-o : tie.Need-add-o Inv-loop μ-loop
 add-o c = search needs
 
--- src/element.rt:67:5
 loop-less : tie.Need-loop-less Inv-loop μ-loop
 loop-less c = search needs
 
--- src/element.rt:67:5
 loop-again : tie.Need-loop-again Inv-loop μ-loop
-loop-again c = 
+loop-again c =
     let l = c .before .before .before .before .before .loop in
     let s = c .before .before .before .before .before .before .before .before .args in
-    (search needs, (omega (arith, c .before .before .put-object .kept), rw (c .before .before .put-object .ensures) (sym (turn (s .counts .objects) (l .o) (objectAt (s .fresh) (s .counts .isf) (elementOf (now (s .meta)) (s .p)) (s .first)) (l .infos) (search needs)) ∙ l .inv .1 .1)))
+    (search needs, (omega (arith, c .before .before .put-object .kept), rw (c .before .before .put-object .ensures) (sym (turn (s .counts .objects) (l .o) (objectGiven (s .fresh) (s .counts .isf) (elementOf (now (s .meta)) (s .p)) (s .first)) (l .infos) (search needs)) ∙ l .inv .1 .1)))
 
--- src/element.rt:52:1
 same-length : tie.Need-same-length Inv-loop μ-loop
 same-length c = search needs
 
--- src/element.rt:52:1
 returns : tie.Need-returns Inv-loop μ-loop
 unfolding objectsStored
-returns c = 
+returns c =
     let l = c .before .loop in
     let s = c .before .before .before .before .args in
-    sym (ended (s .counts .objects) (l .o) (objectAt (s .fresh) (s .counts .isf) (elementOf (now (s .meta)) (s .p)) (s .first)) (l .infos) (omega arith)) ∙ l .inv .1 .1
+    sym (ended (s .counts .objects) (l .o) (objectGiven (s .fresh) (s .counts .isf) (elementOf (now (s .meta)) (s .p)) (s .first)) (l .infos) (omega arith)) ∙ l .inv .1 .1
 
 pub put-objects-spec : {M : Type 1} → statement M
 put-objects-spec =

@@ -1,20 +1,16 @@
-use borrow.Author.Needs.{needs}
+-- `updates::element::schedule_of`: the turns left lead from the schedule now to that at the end; offsets and ramps fit their words. Assumes nothing.
 use Prim.Native.Nat.{_≤_, _-_}
-use mathlib.Core.Path.{_≡_, refl, sym, _∙_}
+use mathlib.Core.Path.{_≡_, sym, _∙_}
 use native.Mathlib.Omega.{arith}
 use native.Mathlib.Numerals.{unary-clauses}
-use Rattle.timed.proofs.Laws.{turn}
-use Rattle.timed.specs.Turns.{times}
 use denote.Ref.{now}
+use borrow.Author.Needs.{needs}
+use Rattle.timed.proofs.Laws.{turn, ended}
+use Rattle.timed.specs.Turns.{times}
 use Rattle.updates.specs.Said.{elementOf}
 use Rattle.updates.specs.Applied.{blockGiven, scheduled}
-use Rattle.updates.proofs.Laws.{ended}
 use Rattle.updates.proofs.element.schedule_of.Statement.{statement}
 use Rattle.updates.proofs.element.schedule_of.Tie as tie
-use Rattle.updates.proofs.element.schedule_of.Reads as reads
-use Rattle.updates.proofs.element.schedule_of.Lts as lts
-use Rattle.fields.proofs.block.raised_block_at.Reads as raised-block-at-reads
-use Rattle.records.proofs.layout.block_place.Reads as block-place-reads
 
 abbrev Inv-loop : tie.InvT-loop
 Inv-loop meta p n next₀ b₀ next b = (b ≤ n) × (times (n - b) b (blockGiven (elementOf meta p)) next ≡ times n 0 (blockGiven (elementOf meta p)) next₀)
@@ -22,61 +18,50 @@ Inv-loop meta p n next₀ b₀ next b = (b ≤ n) × (times (n - b) b (blockGive
 abbrev μ-loop : tie.MeasureT-loop
 μ-loop meta p n next₀ b₀ next b = n - b
 
--- src/element.rt:80:5
 loop-holds : tie.Need-loop-holds Inv-loop μ-loop
 loop-holds c = (search needs, simp unary-clauses)
 
--- src/element.rt:81:43
 block-place-requires : tie.Need-block-place-requires Inv-loop μ-loop
 block-place-requires c κs = search needs
 
--- src/element.rt:81:13
 raised-block-at-requires : tie.Need-raised-block-at-requires Inv-loop μ-loop
 raised-block-at-requires c κs = omega (arith, c .block-place .ensures, c .before .before .before .before .pre)
 
--- src/element.rt:83:21
 cast-t11 : tie.Need-cast-t11 Inv-loop μ-loop
-cast-t11 c = 
+cast-t11 c =
     let l = c .before .before .before .before .loop in
     let w = c .before .before .before .before .before .before .pre in
     let h : c .before .raised-block-at .result .offset ≤ 2097152 = rw (c .before .raised-block-at .ensures, c .before .before .block-place .ensures) (w .1 .offsets (l .b) (omega (arith, w .0, c .before .before .before .loop-test))) in
     omega arith
 
--- src/element.rt:84:19
 cast-t12 : tie.Need-cast-t12 Inv-loop μ-loop
-cast-t12 c = 
+cast-t12 c =
     let l = c .before .before .before .before .before .loop in
     let w = c .before .before .before .before .before .before .before .pre in
     let h : c .before .before .raised-block-at .result .ramp ≤ 2097152 = rw (c .before .before .raised-block-at .ensures, c .before .before .before .block-place .ensures) (w .1 .ramps (l .b) (omega (arith, w .0, c .before .before .before .before .loop-test))) in
     omega arith
 
--- src/element.rt:87:9
 mul-next : tie.Need-mul-next Inv-loop μ-loop
 mul-next c = search needs
 
--- src/element.rt:87:9
 array-set-from-next : tie.Need-array-set-from-next Inv-loop μ-loop
 array-set-from-next c = search needs
 
--- src/element.rt:88:9
 add-b : tie.Need-add-b Inv-loop μ-loop
 add-b c = search needs
 
--- src/element.rt:80:5
 loop-less : tie.Need-loop-less Inv-loop μ-loop
 loop-less c = search needs
 
--- src/element.rt:80:5
 loop-again : tie.Need-loop-again Inv-loop μ-loop
-loop-again c = 
+loop-again c =
     let l = c .before .before .before .before .before .loop in
     let s = c .before .before .before .before .before .before .before .args in
     (search needs, rw (c .before .before .raised-block-at .ensures, c .before .before .before .block-place .ensures) (sym (turn (s .n) (l .b) (blockGiven (elementOf (now (s .meta)) (s .p))) (l .next) (search needs)) ∙ l .inv .1))
 
--- src/element.rt:74:1
 returns : tie.Need-returns Inv-loop μ-loop
 unfolding scheduled
-returns c = 
+returns c =
     let l = c .before .loop in
     let s = c .before .before .before .args in
     let a = sym (ended (s .n) (l .b) (blockGiven (elementOf (now (s .meta)) (s .p))) (l .next) (omega arith)) ∙ l .inv .1 in

@@ -1,33 +1,25 @@
-use Rattle.updates.specs.Stored.{cleared}
+-- `updates::info::clear`: by whether the info is new. Assumes nothing.
 use borrow.Author.Needs.{needs}
+use Rattle.updates.specs.Stored.{cleared}
 use Rattle.updates.proofs.info.clear.Statement.{statement}
 use Rattle.updates.proofs.info.clear.Tie as tie
-use Rattle.updates.proofs.info.clear.Reads as reads
-use Rattle.updates.proofs.info.clear.Lts as lts
-use Rattle.updates.proofs.info.put_three.Reads as put-three-reads
 
--- src/info.rt:23:9
 put-three-requires : tie.Need-put-three-requires
 put-three-requires c κs = search needs
 
--- src/info.rt:24:26
 add-put-three : tie.Need-add-put-three
 add-put-three c = search needs
 
--- src/info.rt:24:9
 put-three-requires-2 : tie.Need-put-three-requires-2
 put-three-requires-2 c κs = search needs
 
--- src/info.rt:18:1
 same-length : tie.Need-same-length
 same-length c = search needs
 
--- src/info.rt:18:1
 returns : tie.Need-returns
 unfolding cleared
 returns c = rw (c .before .before .before .before .before .before .before .before .if1 .taken, c .before .before .put-three2 .ensures, c .before .before .before .before .before .before .put-three .ensures)
 
--- src/info.rt:18:1
 returns-2 : tie.Need-returns-2
 unfolding cleared
 returns-2 c = rw (c .if1 .left)

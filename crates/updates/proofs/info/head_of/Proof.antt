@@ -1,26 +1,20 @@
+-- `updates::info::head_of`: by whether the object is a bed or ISF. Assumes nothing.
 use borrow.Author.Needs.{needs}
 use Rattle.updates.proofs.info.head_of.Statement.{statement}
 use Rattle.updates.proofs.info.head_of.Tie as tie
-use Rattle.updates.proofs.info.head_of.Reads as reads
-use Rattle.updates.proofs.info.head_of.Lts as lts
 
--- src/info.rt:43:16
 add-result : tie.Need-add-result
 add-result c = search needs
 
--- src/info.rt:43:37
 mul-result : tie.Need-mul-result
 mul-result c = search needs
 
--- src/info.rt:43:16
 add-result-2 : tie.Need-add-result-2
 add-result-2 c = search needs
 
--- src/info.rt:43:9
 returns : tie.Need-returns
 returns c = rw (c .before .before .if1 .taken)
 
--- src/info.rt:39:1
 returns-2 : tie.Need-returns-2
 returns-2 c = search needs
 

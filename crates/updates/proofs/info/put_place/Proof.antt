@@ -1,27 +1,21 @@
-use borrow.Author.Tests.{eq-eqb, ne-eqb}
+-- `updates::info::put_place`: by the position's flag. Assumes nothing.
 use Prim.Native.Nat.{_/_, _%_}
-use Rattle.updates.specs.Stored.{withPlace}
+use borrow.Author.Tests.{eq-eqb, ne-eqb}
 use borrow.Author.Needs.{needs}
+use Rattle.updates.specs.Stored.{withPlace}
 use Rattle.updates.proofs.info.put_place.Statement.{statement}
 use Rattle.updates.proofs.info.put_place.Tie as tie
-use Rattle.updates.proofs.info.put_place.Reads as reads
-use Rattle.updates.proofs.info.put_place.Lts as lts
-use Rattle.updates.proofs.info.put_three.Reads as put-three-reads
 
--- src/info.rt:34:9
 put-three-requires : tie.Need-put-three-requires
 put-three-requires c κs = search needs
 
--- src/info.rt:29:1
 same-length : tie.Need-same-length
 same-length c = search needs
 
--- src/info.rt:29:1
 returns : tie.Need-returns
 unfolding withPlace
 returns c = rw (eq-eqb (c .before .before .before .before .before .before .before .args .i .head / 8 % 2) 1 (c .before .before .before .before .if1 .taken), c .before .before .put-three .ensures)
 
--- src/info.rt:29:1
 returns-2 : tie.Need-returns-2
 unfolding withPlace
 returns-2 c = rw (ne-eqb (c .before .before .before .args .i .head / 8 % 2) 1 (c .if1 .left))

@@ -1,16 +1,13 @@
+-- `updates::update::next_gains`: by whether their number changes. Assumes nothing.
 use borrow.Author.Tests.{eq-eqb, ne-eqb}
 use Rattle.updates.specs.Applied.{nextGains}
 use Rattle.updates.proofs.update.next_gains.Statement.{statement}
 use Rattle.updates.proofs.update.next_gains.Tie as tie
-use Rattle.updates.proofs.update.next_gains.Reads as reads
-use Rattle.updates.proofs.update.next_gains.Lts as lts
 
--- src/update.rt:44:9
 returns : tie.Need-returns
 unfolding nextGains
 returns c = rw (eq-eqb (c .before .args .was) (c .before .args .count) (c .if1 .taken))
 
--- src/update.rt:40:1
 returns-2 : tie.Need-returns-2
 unfolding nextGains
 returns-2 c = rw (ne-eqb (c .before .args .was) (c .before .args .count) (c .if1 .left))

@@ -1,22 +1,17 @@
+-- `updates::update::next_sources`: by whether their number changes. Assumes nothing.
 use borrow.Author.Tests.{eq-eqb, ne-eqb}
-use Rattle.updates.specs.Applied.{nextSources}
 use borrow.Author.Needs.{needs}
+use Rattle.updates.specs.Applied.{nextSources}
 use Rattle.updates.proofs.update.next_sources.Statement.{statement}
 use Rattle.updates.proofs.update.next_sources.Tie as tie
-use Rattle.updates.proofs.update.next_sources.Reads as reads
-use Rattle.updates.proofs.update.next_sources.Lts as lts
-use Rattle.vectors.proofs.zero_vec3.Reads as zero-vec3-reads
 
--- src/update.rt:27:9
 returns : tie.Need-returns
 unfolding nextSources
 returns c = rw (eq-eqb (c .before .args .was) (c .before .args .count) (c .if1 .taken))
 
--- src/update.rt:29:9
 zero-vec3-requires : tie.Need-zero-vec3-requires
 zero-vec3-requires c κs = search needs
 
--- src/update.rt:23:1
 returns-2 : tie.Need-returns-2
 unfolding nextSources
 returns-2 c = rw (ne-eqb (c .before .before .args .was) (c .before .before .args .count) (c .before .if1 .left), c .zero-vec3 .ensures)

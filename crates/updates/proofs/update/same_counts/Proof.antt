@@ -1,14 +1,11 @@
+-- `updates::update::same_counts`: by the elements, then the objects. Assumes nothing.
 use borrow.Author.Tests.{eq-eqb, ne-eqb}
 use Rattle.updates.proofs.update.same_counts.Statement.{statement}
 use Rattle.updates.proofs.update.same_counts.Tie as tie
-use Rattle.updates.proofs.update.same_counts.Reads as reads
-use Rattle.updates.proofs.update.same_counts.Lts as lts
 
--- src/update.rt:94:9
 returns : tie.Need-returns
 returns c = rw (eq-eqb (c .before .args .elements) (c .before .args .given) (c .if1 .taken))
 
--- src/update.rt:90:1
 returns-2 : tie.Need-returns-2
 returns-2 c = rw (ne-eqb (c .before .args .elements) (c .before .args .given) (c .if1 .left))
 

@@ -1,18 +1,16 @@
-use denote.Ref.{now}
-use borrow.Author.Needs.{needs}
+-- `timed::objects::Moving::apply_block`: the turns left lead from objects and infos now to those at the end. Assumes nothing.
 use Prim.Native.Nat.{_≤_, _-_}
 use mathlib.Core.Path.{_≡_, refl, sym, _∙_, ap}
 use native.Mathlib.Omega.{arith}
 use native.Mathlib.Numerals.{unary-clauses}
+use lib.ListN.{length}
+use denote.Ref.{now}
+use borrow.Author.Needs.{needs}
 use Rattle.timed.proofs.Laws.{turn}
 use Rattle.timed.specs.Turns.{times}
-use lib.ListN.{length}
 use Rattle.timed.specs.Objects.{movedAt, movedAll, Work}
 use Rattle.timed.proofs.objects.Moving.apply_block.Statement.{statement}
 use Rattle.timed.proofs.objects.Moving.apply_block.Tie as tie
-use Rattle.timed.proofs.objects.Moving.apply_block.Reads as reads
-use Rattle.timed.proofs.objects.Moving.apply_block.Lts as lts
-use Rattle.timed.proofs.objects.update_source_state.Reads as update-source-state-reads
 
 abbrev Inv-loop : tie.InvT-loop
 Inv-loop infos₀ first count arrived next₀ d₀ infos next d = (d ≤ count) × ((length infos ≡ 22528) × (times (count - d) d (movedAt arrived first) (record { moving = next; infos = infos }) ≡ times count 0 (movedAt arrived first) (record { moving = next₀; infos = infos₀ })))
@@ -20,55 +18,42 @@ Inv-loop infos₀ first count arrived next₀ d₀ infos next d = (d ≤ count) 
 abbrev μ-loop : tie.MeasureT-loop
 μ-loop infos₀ first count arrived next₀ d₀ infos next d = count - d
 
--- src/objects.rt:82:9
 loop-holds : tie.Need-loop-holds Inv-loop μ-loop
 loop-holds c = (search needs, (search needs, simp unary-clauses))
 
--- src/objects.rt:83:26
 mul-source : tie.Need-mul-source Inv-loop μ-loop
 mul-source c = search needs
 
--- src/objects.rt:83:26
 element-copy-out-source : tie.Need-element-copy-out-source Inv-loop μ-loop
 element-copy-out-source c = search needs
 
--- src/objects.rt:84:56
 mul-update-source-state : tie.Need-mul-update-source-state Inv-loop μ-loop
 mul-update-source-state c = search needs
 
--- src/objects.rt:84:48
 add-update-source-state : tie.Need-add-update-source-state Inv-loop μ-loop
 add-update-source-state c = omega (arith, c .before .before .before .before .before .pre .2 (c .before .before .before .loop .d) (search needs))
 
--- src/objects.rt:84:17
 update-source-state-requires : tie.Need-update-source-state-requires Inv-loop μ-loop
 update-source-state-requires c κs = let h = c .before .before .before .before .before .pre .2 (c .before .before .before .loop .d) (search needs) in (omega arith, omega arith)
 
--- src/objects.rt:87:13
 mul-s : tie.Need-mul-s Inv-loop μ-loop
 mul-s c = search needs
 
--- src/objects.rt:87:13
 element-set-from-s : tie.Need-element-set-from-s Inv-loop μ-loop
 element-set-from-s c = search needs
 
--- src/objects.rt:88:13
 mul-t : tie.Need-mul-t Inv-loop μ-loop
 mul-t c = search needs
 
--- src/objects.rt:88:13
 element-set-from-t : tie.Need-element-set-from-t Inv-loop μ-loop
 element-set-from-t c = search needs
 
--- src/objects.rt:89:13
 add-d : tie.Need-add-d Inv-loop μ-loop
 add-d c = search needs
 
--- src/objects.rt:82:9
 loop-less : tie.Need-loop-less Inv-loop μ-loop
 loop-less c = search needs
 
--- src/objects.rt:82:9
 loop-again : tie.Need-loop-again Inv-loop μ-loop
 loop-again c =
     let l = c .before .before .before .before .before .before .before .before .loop in
@@ -76,11 +61,9 @@ loop-again c =
     let m = c .before .before .before .before .update-source-state in
     (search needs, (omega (arith, m .kept), rw (m .ensures .object, m .ensures .infos) (sym (turn (s .count) (l .d) (movedAt (s .arrived) (s .first)) (record { moving = l .next; infos = l .infos }) (search needs)) ∙ l .inv .1 .1)))
 
--- src/objects.rt:76:5
 same-length : tie.Need-same-length Inv-loop μ-loop
 same-length c = search needs
 
--- src/objects.rt:76:5
 returns : tie.Need-returns Inv-loop μ-loop
 unfolding movedAll times
 returns c =

@@ -1,16 +1,14 @@
-use borrow.Author.Needs.{needs}
+-- `timed::objects::Moving::ramp`: the turns left lead from the objects now to those at the end. Assumes nothing.
 use Prim.Native.Nat.{_≤_, _-_}
 use mathlib.Core.Path.{_≡_, refl, sym, _∙_}
 use native.Mathlib.Omega.{arith}
 use native.Mathlib.Numerals.{unary-clauses}
+use borrow.Author.Needs.{needs}
 use Rattle.timed.proofs.Laws.{turn}
 use Rattle.timed.specs.Turns.{times}
 use Rattle.timed.specs.Objects.{rampedAt, rampedAll}
 use Rattle.timed.proofs.objects.Moving.ramp.Statement.{statement}
 use Rattle.timed.proofs.objects.Moving.ramp.Tie as tie
-use Rattle.timed.proofs.objects.Moving.ramp.Reads as reads
-use Rattle.timed.proofs.objects.Moving.ramp.Lts as lts
-use Rattle.timed.proofs.objects.ramp_one.Reads as ramp-one-reads
 
 abbrev Inv-loop : tie.InvT-loop
 Inv-loop count t before next₀ d₀ next d = (d ≤ count) × (times (count - d) d (rampedAt t before) next ≡ times count 0 (rampedAt t before) next₀)
@@ -18,62 +16,48 @@ Inv-loop count t before next₀ d₀ next d = (d ≤ count) × (times (count - d
 abbrev μ-loop : tie.MeasureT-loop
 μ-loop count t before next₀ d₀ next d = count - d
 
--- src/objects.rt:101:9
 loop-holds : tie.Need-loop-holds Inv-loop μ-loop
 loop-holds c = (search needs, simp unary-clauses)
 
--- src/objects.rt:102:26
 mul-source : tie.Need-mul-source Inv-loop μ-loop
 mul-source c = search needs
 
--- src/objects.rt:102:26
 element-copy-out-source : tie.Need-element-copy-out-source Inv-loop μ-loop
 element-copy-out-source c = search needs
 
--- src/objects.rt:103:25
 mul-track : tie.Need-mul-track Inv-loop μ-loop
 mul-track c = search needs
 
--- src/objects.rt:103:25
 element-copy-out-track : tie.Need-element-copy-out-track Inv-loop μ-loop
 element-copy-out-track c = search needs
 
--- src/objects.rt:104:24
 mul-last : tie.Need-mul-last Inv-loop μ-loop
 mul-last c = search needs
 
--- src/objects.rt:104:24
 array-copy-out-last : tie.Need-array-copy-out-last Inv-loop μ-loop
 array-copy-out-last c = search needs
 
--- src/objects.rt:105:31
 ramp-one-requires : tie.Need-ramp-one-requires Inv-loop μ-loop
 ramp-one-requires c κs = search needs
 
--- src/objects.rt:105:13
 mul-t12 : tie.Need-mul-t12 Inv-loop μ-loop
 mul-t12 c = search needs
 
--- src/objects.rt:105:13
 element-set-from-next : tie.Need-element-set-from-next Inv-loop μ-loop
 element-set-from-next c = search needs
 
--- src/objects.rt:106:13
 add-d : tie.Need-add-d Inv-loop μ-loop
 add-d c = search needs
 
--- src/objects.rt:101:9
 loop-less : tie.Need-loop-less Inv-loop μ-loop
 loop-less c = search needs
 
--- src/objects.rt:101:9
 loop-again : tie.Need-loop-again Inv-loop μ-loop
 loop-again c =
     let l = c .before .before .before .before .before .loop in
     let s = c .before .before .before .before .before .before .args in
     (search needs, rw (c .ramp-one .ensures) (sym (turn (s .count) (l .d) (rampedAt (s .t) (s .t2)) (l .next) (search needs)) ∙ l .inv .1))
 
--- src/objects.rt:95:5
 returns : tie.Need-returns Inv-loop μ-loop
 unfolding rampedAll times
 returns c =

@@ -1,21 +1,17 @@
-use mathlib.Core.Logic.{⊎-elim}
-use borrow.Author.Needs.{needs}
+-- `timed::slot::Slot::apply_blocks`: the turns left lead from the slot now to that at the end, where a block is due and where not. Assumes nothing.
 use Prim.Native.Nat.{_≤_, _-_}
-use mathlib.Core.Path.{_≡_, refl, sym, _∙_}
+use mathlib.Core.Logic.{⊎-elim}
+use mathlib.Core.Path.{_≡_, refl, sym, _∙_, ap}
 use native.Mathlib.Omega.{arith}
 use native.Mathlib.Numerals.{unary-clauses}
+use lib.ListN.{length}
+use denote.Ref.{now}
+use borrow.Author.Needs.{needs}
 use Rattle.timed.proofs.Laws.{turn}
 use Rattle.timed.specs.Turns.{times}
-use mathlib.Core.Path.{ap}
-use denote.Ref.{now}
-use lib.ListN.{length}
 use Rattle.timed.specs.Slot.{Work, blockAt, blocksApplied}
 use Rattle.timed.proofs.slot.Slot.apply_blocks.Statement.{statement}
 use Rattle.timed.proofs.slot.Slot.apply_blocks.Tie as tie
-use Rattle.timed.proofs.slot.Slot.apply_blocks.Reads as reads
-use Rattle.timed.proofs.slot.Slot.apply_blocks.Lts as lts
-use Rattle.timed.proofs.slot.Slot.apply_block.Reads as apply-block-reads
-use Rattle.timed.proofs.state.BlockState.due.Reads as due-reads
 
 abbrev Inv-loop : tie.InvT-loop
 Inv-loop infos₀ n when reach next₀ b₀ infos next b = (b ≤ n) × ((length infos ≡ 22528) × (times (n - b) b (blockAt when reach) (record { slot = next; infos = infos }) ≡ times n 0 (blockAt when reach) (record { slot = next₀; infos = infos₀ })))
@@ -23,35 +19,27 @@ Inv-loop infos₀ n when reach next₀ b₀ infos next b = (b ≤ n) × ((length
 abbrev μ-loop : tie.MeasureT-loop
 μ-loop infos₀ n when reach next₀ b₀ infos next b = n - b
 
--- src/slot.rt:107:9
 loop-holds : tie.Need-loop-holds Inv-loop μ-loop
 loop-holds c = (search needs, (search needs, simp unary-clauses))
 
--- src/slot.rt:108:25
 mul-block : tie.Need-mul-block Inv-loop μ-loop
 mul-block c = search needs
 
--- src/slot.rt:108:25
 element-copy-out-block : tie.Need-element-copy-out-block Inv-loop μ-loop
 element-copy-out-block c = search needs
 
--- src/slot.rt:109:16
 due-requires : tie.Need-due-requires Inv-loop μ-loop
 due-requires c κs = search needs
 
--- src/slot.rt:110:24
 apply-block-requires : tie.Need-apply-block-requires Inv-loop μ-loop
 apply-block-requires c κs = search needs
 
--- src/slot.rt:112:13
 add-b : tie.Need-add-b Inv-loop μ-loop
 add-b c = search needs
 
--- src/slot.rt:107:9
 loop-less : tie.Need-loop-less Inv-loop μ-loop
 loop-less c = search needs
 
--- src/slot.rt:107:9
 loop-again : tie.Need-loop-again Inv-loop μ-loop
 loop-again c =
     let l = c .before .before .before .before .loop in
@@ -63,11 +51,9 @@ loop-again c =
     (λ w. (search needs, (omega (arith, ap length (w .1)), rw (w .1, w .2) (sym (rw (← c .before .due .ensures, w .0 .left) at t) ∙ l .inv .1 .1))))
     (c .if1 .came)
 
--- src/slot.rt:101:5
 same-length : tie.Need-same-length Inv-loop μ-loop
 same-length c = search needs
 
--- src/slot.rt:101:5
 returns : tie.Need-returns Inv-loop μ-loop
 unfolding blocksApplied times
 returns c =

@@ -1,31 +1,23 @@
+-- `timed::slot::Slot::ramp`: by whether a ramp remains. Assumes nothing.
 use borrow.Author.Tests.{le-leb, lt-leb}
-use Rattle.timed.specs.Slot.{rampApplied}
 use borrow.Author.Needs.{needs}
+use Rattle.timed.specs.Slot.{rampApplied}
 use Rattle.timed.proofs.slot.Slot.ramp.Statement.{statement}
 use Rattle.timed.proofs.slot.Slot.ramp.Tie as tie
-use Rattle.timed.proofs.slot.Slot.ramp.Reads as reads
-use Rattle.timed.proofs.slot.Slot.ramp.Lts as lts
-use Rattle.timed.proofs.objects.Moving.ramp.Reads as ramp-reads
-use Rattle.timed.proofs.slot.share.Reads as share-reads
 
--- src/slot.rt:124:13
 returns : tie.Need-returns
 unfolding rampApplied
 returns c = rw (le-leb (c .before .args .self .remaining) 140737488355328 (c .if1 .taken))
 
--- src/slot.rt:132:48
 share-requires : tie.Need-share-requires
 share-requires c κs = search needs
 
--- src/slot.rt:132:13
 ramp-requires : tie.Need-ramp-requires
 ramp-requires c κs = search needs
 
--- src/slot.rt:138:24
 sub-t14 : tie.Need-sub-t14
 sub-t14 c = search needs
 
--- src/slot.rt:118:5
 returns-2 : tie.Need-returns-2
 unfolding rampApplied
 returns-2 c = rw (lt-leb (c .before .before .before .before .before .before .before .before .args .self .remaining) 140737488355328 (c .before .before .before .before .before .before .before .if1 .left), c .before .before .before .ramp .ensures, c .before .before .before .before .share .ensures)

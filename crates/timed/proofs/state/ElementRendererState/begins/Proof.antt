@@ -1,37 +1,28 @@
-use Rattle.timed.specs.Slot.{begins}
+-- `timed::state::ElementRendererState::begins`: an element that does nothing does not begin. Assumes nothing.
 use borrow.Author.Needs.{needs}
+use Rattle.timed.specs.Slot.{begins}
 use Rattle.timed.proofs.state.ElementRendererState.begins.Statement.{statement}
 use Rattle.timed.proofs.state.ElementRendererState.begins.Tie as tie
-use Rattle.timed.proofs.state.ElementRendererState.begins.Reads as reads
-use Rattle.timed.proofs.state.ElementRendererState.begins.Lts as lts
-use Rattle.timed.proofs.state.ElementRendererState.active.Reads as active-reads
 
--- src/slot.rt:159:12
 active-requires : tie.Need-active-requires
 active-requires c κs = search needs
 
--- src/slot.rt:161:25
 array-copy-out-block : tie.Need-array-copy-out-block
 array-copy-out-block c = search needs
 
--- src/slot.rt:162:36
 cast-result : tie.Need-cast-result
 cast-result c = search needs
 
--- src/slot.rt:162:20
 add-result : tie.Need-add-result
 add-result c = search needs
 
--- src/slot.rt:162:60
 add-result-2 : tie.Need-add-result-2
 add-result-2 c = search needs
 
--- src/slot.rt:162:13
 returns : tie.Need-returns
 unfolding begins
 returns c = rw (← c .before .before .before .before .before .before .active .ensures, c .before .before .before .before .before .if1 .taken)
 
--- src/slot.rt:155:5
 returns-2 : tie.Need-returns-2
 unfolding begins
 returns-2 c = rw (← c .before .active .ensures, c .if1 .left)

@@ -1,13 +1,11 @@
-use borrow.Author.Needs.{needs}
+-- `timed::state::MetadataRendererState::element_at`: the search from i on finds what the whole search finds. Assumes nothing.
 use Prim.Native.Nat.{_≤_}
 use mathlib.Core.Path.{_≡_, refl, sym, _∙_}
+use borrow.Author.Needs.{needs}
 use Rattle.timed.specs.State.{taken}
 use Rattle.timed.proofs.Slots.{taken-more}
 use Rattle.timed.proofs.state.MetadataRendererState.element_at.Statement.{statement}
 use Rattle.timed.proofs.state.MetadataRendererState.element_at.Tie as tie
-use Rattle.timed.proofs.state.MetadataRendererState.element_at.Reads as reads
-use Rattle.timed.proofs.state.MetadataRendererState.element_at.Lts as lts
-use Rattle.timed.proofs.state.ElementRendererState.begins.Reads as begins-reads
 
 abbrev Inv-loop : tie.InvT-loop
 Inv-loop when states i₀ i = (i ≤ 2) × (taken when states i ≡ taken when states i₀)
@@ -15,43 +13,34 @@ Inv-loop when states i₀ i = (i ≤ 2) × (taken when states i ≡ taken when s
 abbrev μ-loop : tie.MeasureT-loop
 μ-loop when states i₀ i = i
 
--- src/timeslot.rt:21:13
 loop-holds : tie.Need-loop-holds Inv-loop μ-loop
 loop-holds c = (search needs, refl)
 
--- src/timeslot.rt:25:13
 sub-i : tie.Need-sub-i Inv-loop μ-loop
 sub-i c = search needs
 
--- src/timeslot.rt:26:27
 mul-element : tie.Need-mul-element Inv-loop μ-loop
 mul-element c = search needs
 
--- src/timeslot.rt:26:27
 array-copy-out-element : tie.Need-array-copy-out-element Inv-loop μ-loop
 array-copy-out-element c = search needs
 
--- src/timeslot.rt:27:16
 begins-requires : tie.Need-begins-requires Inv-loop μ-loop
 begins-requires c κs = search needs
 
--- src/timeslot.rt:21:13
 loop-less : tie.Need-loop-less Inv-loop μ-loop
 loop-less c = search needs
 
--- src/timeslot.rt:21:13
 loop-again : tie.Need-loop-again Inv-loop μ-loop
 loop-again c =
     let l = c .before .before .before .before .loop in
     let s = c .before .before .before .before .before .before .args in
     (search needs, sym (rw (← c .before .begins .ensures, c .if2 .left) at (taken-more (s .when) (s .self .states) (l .i) (c .before .before .before .if1 .left))) ∙ l .inv .1)
 
--- src/timeslot.rt:15:5
 returns : tie.Need-returns Inv-loop μ-loop
 unfolding taken
 returns c = rw (c .if1 .taken) at (c .before .loop .inv .1)
 
--- src/timeslot.rt:15:5
 returns-2 : tie.Need-returns-2 Inv-loop μ-loop
 returns-2 c =
     let l = c .before .before .before .before .loop in

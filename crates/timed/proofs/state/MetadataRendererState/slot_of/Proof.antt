@@ -1,44 +1,32 @@
-use denote.Ref.{now}
-use Rattle.timed.proofs.Slots.{slot-left}
+-- `timed::state::MetadataRendererState::slot_of`: where the element finds its infos follows from the counts. Assumes nothing.
 use native.Mathlib.Omega.{arith}
-use Rattle.timed.specs.State.{slotOf}
+use denote.Ref.{now}
 use borrow.Author.Needs.{needs}
+use Rattle.timed.proofs.Slots.{slot-left}
 use Rattle.timed.proofs.state.MetadataRendererState.slot_of.Statement.{statement}
 use Rattle.timed.proofs.state.MetadataRendererState.slot_of.Tie as tie
-use Rattle.timed.proofs.state.MetadataRendererState.slot_of.Reads as reads
-use Rattle.timed.proofs.state.MetadataRendererState.slot_of.Lts as lts
-use Rattle.timed.proofs.state.ElementRendererState.update_sources.Reads as update-sources-reads
-use Rattle.timed.proofs.state.dynamic.Reads as dynamic-reads
 
--- src/timeslot.rt:40:19
 mul-element : tie.Need-mul-element
 mul-element c = search needs
 
--- src/timeslot.rt:42:20
 mul-t17 : tie.Need-mul-t17
 mul-t17 c = search needs
 
--- src/timeslot.rt:42:34
 mul-t18 : tie.Need-mul-t18
 mul-t18 c = search needs
 
--- src/timeslot.rt:42:20
 add-t19 : tie.Need-add-t19
 add-t19 c = search needs
 
--- src/timeslot.rt:43:20
 dynamic-requires : tie.Need-dynamic-requires
 dynamic-requires c κs = search needs
 
--- src/timeslot.rt:46:23
 mul-element-2 : tie.Need-mul-element-2
 mul-element-2 c = search needs
 
--- src/timeslot.rt:46:23
 array-copy-out-element : tie.Need-array-copy-out-element
 array-copy-out-element c = search needs
 
--- src/timeslot.rt:49:13
 update-sources-requires : tie.Need-update-sources-requires
 update-sources-requires c κs =
     let s = c .before .before .before .before .before .before .before .before .args in
@@ -47,19 +35,15 @@ update-sources-requires c κs =
     let e = c .before .before .before .before .before .dynamic .ensures in
     (search needs, c .before .before .before .before .before .before .before .before .pre .2, record { few = h .beds; some = omega arith; beds = λ i l. omega arith; objects = λ d l. omega arith; near = omega arith; low = omega arith }, h .states (s .index) j)
 
--- src/timeslot.rt:51:9
 mul-states : tie.Need-mul-states
 mul-states c = search needs
 
--- src/timeslot.rt:51:9
 array-set-from-states : tie.Need-array-set-from-states
 array-set-from-states c = search needs
 
--- src/timeslot.rt:35:5
 same-length : tie.Need-same-length
 same-length c = search needs
 
--- src/timeslot.rt:35:5
 returns : tie.Need-returns
 returns c =
     let s = c .before .before .before .before .before .before .before .before .before .before .before .before .before .before .before .before .args in

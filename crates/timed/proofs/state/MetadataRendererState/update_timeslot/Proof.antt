@@ -1,53 +1,40 @@
-use native.Mathlib.Omega.{arith}
-use denote.Ref.{now}
+-- `timed::state::MetadataRendererState::update_timeslot`: by whether there is an element, and whether it does anything. Assumes nothing.
 use Prim.Native.Nat.{_<_}
 use mathlib.Core.Path.{sym, _∙_}
-use Rattle.timed.proofs.Slots.{taken-low, slot-empty, slot-idle, slot-moves}
+use native.Mathlib.Omega.{arith}
+use denote.Ref.{now}
 use borrow.Author.Needs.{needs}
+use Rattle.timed.proofs.Slots.{taken-low, slot-empty, slot-idle, slot-moves}
 use Rattle.timed.proofs.state.MetadataRendererState.update_timeslot.Statement.{statement}
 use Rattle.timed.proofs.state.MetadataRendererState.update_timeslot.Tie as tie
-use Rattle.timed.proofs.state.MetadataRendererState.update_timeslot.Reads as reads
-use Rattle.timed.proofs.state.MetadataRendererState.update_timeslot.Lts as lts
-use Rattle.timed.proofs.state.ElementRendererState.active.Reads as active-reads
-use Rattle.timed.proofs.state.MetadataRendererState.element_at.Reads as element-at-reads
-use Rattle.timed.proofs.state.MetadataRendererState.slot_of.Reads as slot-of-reads
 
--- src/timeslot.rt:76:13
 returns : tie.Need-returns
 returns c = slot-empty (c .before .before .before .args .start .0) (record { state = c .before .before .before .args .self; infos = now (c .before .before .before .args .infos) }) (c .if1 .taken)
 
--- src/timeslot.rt:83:13
 element-at-requires : tie.Need-element-at-requires
 element-at-requires c κs = (omega (arith, c .before .before .before .before .pre .2 .elements), record { start = c .before .before .before .before .pre .1; payload = c .before .before .before .before .pre .2 .payload })
 
--- src/timeslot.rt:85:23
 mul-element : tie.Need-mul-element
 mul-element c = let h : c .before .element-at .result < 2 = rw (c .before .element-at .ensures) (taken-low _ _ (c .before .before .before .before .before .before .args .self .elements) (omega (arith, c .before .before .before .before .before .before .pre .2 .elements))) in omega arith
 
--- src/timeslot.rt:85:23
 array-copy-out-element : tie.Need-array-copy-out-element
 array-copy-out-element c = rw (c .before .element-at .ensures) (taken-low _ _ (c .before .before .before .before .before .before .args .self .elements) (omega (arith, c .before .before .before .before .before .before .pre .2 .elements)))
 
--- src/timeslot.rt:86:12
 active-requires : tie.Need-active-requires
 active-requires c κs = search needs
 
--- src/timeslot.rt:87:13
 slot-of-requires : tie.Need-slot-of-requires
 slot-of-requires c κs = let p = c .before .before .before .before .before .before .before .before .before .before .pre in (omega (arith, p), rw (c .before .before .before .before .before .element-at .ensures) (taken-low _ _ (c .before .before .before .before .before .before .before .before .before .before .args .self .elements) (omega (arith, c .before .before .before .before .before .before .before .before .before .before .pre .2 .elements))), record { start = p .1; payload = p .2 .payload }, p .2)
 
--- src/timeslot.rt:87:13
 same-length : tie.Need-same-length
 same-length c = search needs
 
--- src/timeslot.rt:87:13
 returns-2 : tie.Need-returns-2
 returns-2 c =
     let s = c .before .before .before .before .before .before .before .before .before .before .before .before .before .args in
     let u = c .before .before .slot-of in
     slot-moves (s .start .0) (record { state = s .self; infos = now (s .infos) }) (c .before .before .before .before .before .before .before .before .element-at .result) (c .before .before .before .before .before .before .before .before .before .before .if1 .left) (c .before .before .before .before .before .before .before .before .element-at .ensures) (u .result) (u .last .1 .0) (sym (c .before .before .before .before .before .active .ensures) ∙ c .before .before .before .before .if2 .taken) (u .ensures)
 
--- src/timeslot.rt:71:5
 returns-3 : tie.Need-returns-3
 returns-3 c =
     let s = c .before .before .before .before .before .before .before .before .before .args in

@@ -1,0 +1,140 @@
+// The timed state crosses by value, the infos as bytes. Where the state is not within its ranges, the infos are not 22,528 bytes or the metadata is refused, nothing is done.
+ghost use mathlib.Core.Path.{_≡_};
+ghost use mathlib.Core.Bool.{true};
+ghost use mathlib.Core.Logic.{_⊎_};
+ghost use Prim.Native.Nat.{ℕ, _-_, _≤_, _<_};
+ghost use lib.ListN.{getD};
+ghost use Rattle.timed.specs.Slot.{InRange, noBlock};
+ghost use Rattle.timed.specs.State.{Within, IsTimed, slotAt};
+ghost use Rattle.records.specs.Laid.{updateAt};
+ghost use Rattle.updates.specs.Said.{updateOf};
+ghost use Rattle.updates.specs.Applied.{applied};
+use timed::clock::StreamSample;
+use timed::state;
+use timed::state::BlockState;
+use timed::state::ElementRendererState;
+use timed::state::MetadataRendererState;
+
+fn schedule_fits(schedule: [BlockState; 8]) -> bool
+    ensures { λ r. ⌜ (r ≡ true → (b : ℕ) → b < 8 → (getD schedule b noBlock .offset ≤ 2097152) × (getD schedule b noBlock .ramp ≤ 2097152)) ⌝ }
+{
+    let mut b = 0usize;
+    while b < 8 {
+        let block = schedule[b];
+        if block.offset > 2097152 {
+            return false;
+        }
+        if block.ramp > 2097152 {
+            return false;
+        }
+        b += 1;
+    }
+    true
+}
+
+fn element_fits(e: ElementRendererState, position: u64) -> bool
+    requires { ⌜ position ≤ 1099511627776 ⌝ }
+    ensures { λ r. ⌜ (r ≡ true → InRange position e) ⌝ }
+{
+    if e.blocks > 8 {
+        return false;
+    }
+    let schedule = e.schedule;
+    if !schedule_fits(schedule) {
+        return false;
+    }
+    let remaining = e.remaining;
+    if remaining > 140737489403904 {
+        return false;
+    }
+    140737488355328 <= remaining + (2097152 + 64 * position)
+}
+
+fn counts_fit(s: MetadataRendererState) -> bool
+    ensures { λ r. ⌜ (r ≡ true → (s .objects ≤ 32) × (s .isf ≤ 255) × (s .objects - s .isf ≤ 16) × (s .beds ≤ 18) × (s .beds ≤ s .objects) × (s .elements ≤ 2)) ⌝ }
+{
+    if s.objects > 32 {
+        return false;
+    }
+    if s.isf > 255 {
+        return false;
+    }
+    if state::dynamic(s.objects, s.isf) > 16 {
+        return false;
+    }
+    if s.beds > 18 {
+        return false;
+    }
+    if s.beds > s.objects {
+        return false;
+    }
+    s.elements <= 2
+}
+
+fn state_fits(s: MetadataRendererState, position: u64) -> bool
+    requires { ⌜ position ≤ 1099511627776 ⌝ }
+    ensures { λ r. ⌜ (r ≡ true → Within position s) ⌝ }
+{
+    if !counts_fit(s) {
+        return false;
+    }
+    let payload = s.payload;
+    if payload.0 > 1099511627776 {
+        return false;
+    }
+    let states = s.states;
+    let first = states[0];
+    if !element_fits(first, position) {
+        return false;
+    }
+    let second = states[1];
+    element_fits(second, position)
+}
+
+#[no_mangle]
+pub extern "C" fn probe_update_timeslot(
+    s: MetadataRendererState,
+    infos: &mut [u8],
+    start: u64,
+) -> MetadataRendererState
+    ensures { λ r. ⌜ IsTimed (slotAt start (record { state = s; infos = now (infos .entry) })) r (now (infos .exit)) ⊎ IsTimed (record { state = s; infos = now (infos .entry) }) r (now (infos .exit)) ⌝ }
+{
+    if infos.len() != 22528 {
+        return s;
+    }
+    if start > 1099511627776 {
+        return s;
+    }
+    if !state_fits(s, start) {
+        return s;
+    }
+    s.update_timeslot(infos, StreamSample(start))
+}
+
+#[no_mangle]
+pub extern "C" fn probe_apply_update(
+    s: MetadataRendererState,
+    infos: &mut [u8],
+    meta: &[u8],
+    i: usize,
+    at: u64,
+) -> MetadataRendererState
+    ensures { λ r. ⌜ IsTimed (applied at (updateOf (now (meta .entry)) (updateAt (now (meta .entry)) i)) (record { state = s; infos = now (infos .entry) })) r (now (infos .exit)) ⊎ IsTimed (record { state = s; infos = now (infos .entry) }) r (now (infos .exit)) ⌝ }
+{
+    if infos.len() != 22528 {
+        return s;
+    }
+    let l = records::layout::layout_of(meta);
+    if !l.laid {
+        return s;
+    }
+    if !records::ranges::in_range(meta) {
+        return s;
+    }
+    let count = l.count;
+    if i >= count {
+        return s;
+    }
+    let first = l.first;
+    updates::update::apply_update(s, infos, meta, first[i], StreamSample(at))
+}

@@ -1,0 +1,47 @@
+-- A slot keeps the ranges of the state. Assumes nothing.
+use Prim.Native.Nat.{ℕ, _≤_, _<_}
+use lib.Dec.{eqb}
+use Rattle.timed.specs.Slot.{InRange, active, updatedSources}
+use Rattle.timed.specs.State.{Timed, Within, noElement, elementOf, taken, timingOf, reachOf, slotOf, slotAt}
+use Rattle.timed.specs.declared.state.MetadataRendererState.{MetadataRendererState}
+use Rattle.timed.specs.declared.slot.Timing.{Timing}
+use Rattle.timed.proofs.Keeps.{cond-keeps, set-each}
+use Rattle.timed.proofs.Ramps.{sources-range, later}
+
+slot-of-within : (w : Timing) (i : ℕ) (t : Timed) → Within (w .start) (t .state) → Within (w .start) (slotOf w i t .state)
+unfolding slotOf
+slot-of-within w i t h =
+    record {
+      payload = h .payload;
+      objects = h .objects;
+      isf = h .isf;
+      dynamic = h .dynamic;
+      beds = h .beds;
+      channels = h .channels;
+      elements = h .elements;
+      states =
+          set-each (λ k e. k < 2 → InRange (w .start) e) (t .state .states) i (updatedSources w (reachOf (t .state) i) (elementOf (t .state) i) (t .state .gains) (t .state .sources) (t .infos) .updated .element) noElement
+          (λ j. sources-range w (reachOf (t .state) i) (elementOf (t .state) i) (t .state .gains) (t .state .sources) (t .infos) (h .states i j)) (h .states);
+    }
+
+pub slot-within : (start : ℕ) (t : Timed) → Within start (t .state) → Within start (slotAt start t .state)
+unfolding slotAt
+slot-within start t h =
+    let w = timingOf start (t .state) in
+    let i = taken w (t .state .states) (t .state .elements) in
+    cond-keeps (λ (x : Timed). Within start (x .state)) (eqb (t .state .elements) 0) t _ (λ _. h)
+    (λ _. cond-keeps (λ (x : Timed). Within start (x .state)) (active (elementOf (t .state) i)) (slotOf w i t) t (λ _. slot-of-within w i t h) (λ _. h))
+
+-- time goes on
+pub within-later : (p q : ℕ) (s : MetadataRendererState) → p ≤ q → Within p s → Within q s
+within-later p q s l h =
+    record {
+      payload = h .payload;
+      objects = h .objects;
+      isf = h .isf;
+      dynamic = h .dynamic;
+      beds = h .beds;
+      channels = h .channels;
+      elements = h .elements;
+      states = λ i j. later p q (elementOf s i) l (h .states i j);
+    }
