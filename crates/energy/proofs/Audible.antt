@@ -10,6 +10,7 @@ use native.Mathlib.Omega.{arith}
 use lib.Dec.{T, T-not, not-T, eqb, eqb→eq, eqb-refl}
 use lib.Ieee.{Float, eq, ne}
 use lib.Ieee.Fits.{and-i, and-l, and-r}
+use Rattle.ieee.proofs.Constants.{zero-f32, zero-mag}
 use Rattle.ieee.specs.Units.{F32, mag}
 use Rattle.ieee.proofs.Compare.{eq→}
 use Rattle.ieee.proofs.Signed.{one-sided, mag-is}
@@ -18,7 +19,7 @@ use Rattle.panning.specs.Choice.{Corner, differ, 0·0}
 use Rattle.panning.specs.Table.{distinct}
 use Rattle.panning.specs.Terms.{Term, term, audible, onChannel}
 use Rattle.energy.specs.Facts.{Each, squareSum, squares}
-use Rattle.energy.proofs.Tables.{zero-f32, zero-P, other, others}
+use Rattle.energy.proofs.Tables.{other, others}
 
 pub audible→ : (ts : List Term) {t : Term} → List·Memᴰ t (audible ts) → List·Memᴰ t ts
 unfolding audible
@@ -46,10 +47,10 @@ map-in f (a ∷ l) m = elim (List·Memᴰ·cases-cons m) [
 ]
 
 -- ---- squares
-zero-mag : (x : Float) → F32 x → T (eq x 0·0) → mag x ≡ 0
-zero-mag x f h =
+zero-size : (x : Float) → F32 x → T (eq x 0·0) → mag x ≡ 0
+zero-size x f h =
     let e = eq→ x 0·0 f zero-f32 h in
-    let z = zero-P in
+    let z = zero-mag in
     elim (one-sided x) [
       | inl p ↦ omega (arith, e, p, mag-is x, z)
       | inr n ↦ omega (arith, e, n, mag-is x, z)
@@ -67,7 +68,7 @@ square-audible (t ∷ ts) h = go (eq (t .coefficient) 0·0) (λ z. z) (square-au
   where
     go : (b : Bool) → (T b → T (eq (t .coefficient) 0·0)) → allSquares (audible ts) ≡ allSquares ts
         → allSquares (cond (not b) (t ∷ audible ts) (audible ts)) ≡ mag (t .coefficient) * mag (t .coefficient) + allSquares ts
-    go true z e = let m = zero-mag (t .coefficient) (h t (List·Memᴰ·head refl)) (z tt) in omega (arith, e, ap (λ (n : ℕ). n * mag (t .coefficient)) m)
+    go true z e = let m = zero-size (t .coefficient) (h t (List·Memᴰ·head refl)) (z tt) in omega (arith, e, ap (λ (n : ℕ). n * mag (t .coefficient)) m)
     go false z e = ap (λ (n : ℕ). mag (t .coefficient) * mag (t .coefficient) + n) e
 
 -- ---- channel by channel: each term is on one of the speakers, so that the sums are the same

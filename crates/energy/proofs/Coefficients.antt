@@ -7,6 +7,7 @@ use native.Mathlib.Nat.{zero-mul, mul-le-mul, mul-le-mul-left, mul-le-mul-right}
 use native.Mathlib.Omega.{arith}
 use lib.Dec.{T, leb, leb→le, nleb→lt}
 use lib.Ieee.{Float, binary32, sub, mul, div, eq, ne, le}
+use Rattle.ieee.proofs.Constants.{zero-f32, zero-mag, one-f32, one-P, one-less}
 use Rattle.ieee.specs.Units.{One, F32, P, N}
 use Rattle.ieee.specs.Nearest.{OnGrid, Root, Nearest}
 use Rattle.ieee.proofs.Grid.{grid-zero}
@@ -14,14 +15,14 @@ use Rattle.ieee.proofs.Value.{one-pos, one-grid}
 use Rattle.ieee.proofs.Ops.{small, div-rounds}
 use Rattle.ieee.proofs.Signed.{not-negative, at-most}
 use Rattle.ieee.proofs.Compare.{le→, eq→}
-use Rattle.ieee.proofs.Share.{one-f32, one-P, one-less, left-over}
+use Rattle.ieee.proofs.Share.{left-over}
 use Rattle.roots.specs.Root.{root}
 use Rattle.vectors.specs.declared.Vec3.{Vec3}
 use Rattle.panning.specs.Choice.{Corner, corner, 0·0, 1·0}
 use Rattle.panning.specs.Terms.{across, part, rowWeight, sideCoefficient, coefficient, innerGain, extra}
 use Rattle.panning.specs.Table.{Table, Position}
-use Rattle.energy.proofs.Tables.{zero-f32, zero-P, Gain8, Size1}
-use Rattle.energy.proofs.Weighing.{Plus, Product, product, Eight·0, eight-is, eight-grid, eight-less, weight, weights, zero-left}
+use Rattle.energy.proofs.Tables.{Gain8, Size1}
+use Rattle.energy.proofs.Weighing.{Plus, Product, product, eight-grid, eight-less, weight, weights, zero-left}
 
 -- ---- roots
 root-none : Root 0 0
@@ -63,13 +64,13 @@ module _ (near : Nearest root) where
   side-rooted w s d f h = go (eq w 0·0) (λ z. z)
     where
       none : T (eq w 0·0) → P (mul binary32 w (part d s)) ≡ 0
-      none z = zero-left h (let e = eq→ w 0·0 (f .f32) zero-f32 z in omega (arith, e, f .plus, zero-P))
+      none z = zero-left h (let e = eq→ w 0·0 (f .f32) zero-f32 z in omega (arith, e, f .plus, zero-mag))
 
       go : (b : Bool) → (T b → T (eq w 0·0)) → Rooted (cond (not b) (root (mul binary32 w (part d s))) 0·0) (P (mul binary32 w (part d s)))
       go true z = record {
         f32 = zero-f32;
         plus = refl;
-        root = subst (λ (k : ℕ). Root (P 0·0) (k * One)) (sym (none (z tt))) (subst (λ (k : ℕ). Root (P 0·0) k) (sym (zero-mul One)) (subst (λ (k : ℕ). Root k 0) (sym zero-P) root-none));
+        root = subst (λ (k : ℕ). Root (P 0·0) (k * One)) (sym (none (z tt))) (subst (λ (k : ℕ). Root (P 0·0) k) (sym (zero-mul One)) (subst (λ (k : ℕ). Root k 0) (sym zero-mag) root-none));
       }
       go false z = rooted (mul binary32 w (part d s)) (h .plus .f32) (h .plus .plus)
 
@@ -80,14 +81,14 @@ module _ (near : Nearest root) where
         let h = weights sp l t p q g G (c .top) (c .front) (c .right) in
         side-rooted (rowWeight sp (corner sp l p) p g (c .top) (c .front)) (across sp (corner sp l p) p (c .top) (c .front)) (c .right) (h .second .plus) (h .third)
 
-    pub corner-plus : (c : Corner) → Plus (coefficient sp (corner sp l p) p g c) Eight·0
+    pub corner-plus : (c : Corner) → Plus (coefficient sp (corner sp l p) p g c) (8 * One)
     unfolding rowWeight
     corner-plus c =
         let h = weights sp l t p q g G (c .top) (c .front) (c .right) .third .plus in
-        rooted-most (corner-rooted c) eight-grid (mul-le-mul (h .most) (omega (arith, eight-is)))
+        rooted-most (corner-rooted c) eight-grid (mul-le-mul (h .most) (omega arith))
 
   -- ---- size
-  pub extra-plus : (n g s : Float) → F32 n → T (le 1·0 n) → Gain8 g → Size1 s → Plus (extra n g s) Eight·0
+  pub extra-plus : (n g s : Float) → F32 n → T (le 1·0 n) → Gain8 g → Size1 s → Plus (extra n g s) (8 * One)
   unfolding extra
   extra-plus n g s f o G S = go (ne s 0·0)
     where
@@ -105,12 +106,12 @@ module _ (near : Nearest root) where
       rooted-one : Plus (root (div binary32 s n)) One
       rooted-one = rooted-most (rooted (div binary32 s n) (shared .f32) (shared .plus)) one-grid (mul-le-mul-right One (shared .most))
 
-      gain : Plus g Eight·0
-      gain = record { f32 = G .f32; plus = G .plus; most = omega (arith, G .most, eight-is) }
+      gain : Plus g (8 * One)
+      gain = record { f32 = G .f32; plus = G .plus; most = G .most }
 
-      go : (b : Bool) → Plus (cond b (mul binary32 g (root (div binary32 s n))) 0·0) Eight·0
+      go : (b : Bool) → Plus (cond b (mul binary32 g (root (div binary32 s n))) 0·0) (8 * One)
       go true = product g (root (div binary32 s n)) gain rooted-one eight-grid eight-less (mul-le-mul (gain .most) (rooted-one .most)) .plus
-      go false = record { f32 = zero-f32; plus = refl; most = omega (arith, zero-P) }
+      go false = record { f32 = zero-f32; plus = refl; most = omega (arith, zero-mag) }
 
 -- what a size leaves of a gain from 0 to 8
 pub inner-gain8 : (g s : Float) → Gain8 g → Size1 s → Gain8 (innerGain g s)
@@ -120,8 +121,8 @@ inner-gain8 g s G S = go (ne s 0·0)
     go : (b : Bool) → Gain8 (cond b (mul binary32 g (sub binary32 1·0 s)) g)
     go true =
         let r = left-over s (S .f32) (S .plus) (S .most) in
-        let gain : Plus g Eight·0 = record { f32 = G .f32; plus = G .plus; most = omega (arith, G .most, eight-is) } in
+        let gain : Plus g (8 * One) = record { f32 = G .f32; plus = G .plus; most = G .most } in
         let rest : Plus (sub binary32 1·0 s) One = record { f32 = r .r-f32; plus = r .r-plus; most = r .r-most } in
         let m = product g (sub binary32 1·0 s) gain rest eight-grid eight-less (mul-le-mul (gain .most) (rest .most)) .plus in
-        record { f32 = m .f32; plus = m .plus; most = omega (arith, m .most, eight-is) }
+        record { f32 = m .f32; plus = m .plus; most = m .most }
     go false = G

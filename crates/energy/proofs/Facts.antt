@@ -9,11 +9,11 @@ use native.Mathlib.Omega.{arith}
 use lib.Dec.{T}
 use lib.Ieee.{Float, binary32, fits, mul, sub, le, eq, ne}
 use lib.Ieee.Fits.{and-i}
+use Rattle.ieee.proofs.Constants.{zero-f32, zero-mag, eight-f32, eight-P, one-f32, one-P}
 use Rattle.ieee.specs.Units.{One, F32, mag, P}
 use Rattle.ieee.specs.Nearest.{Root}
 use Rattle.ieee.proofs.Compare.{→le, →eq, eq→}
 use Rattle.ieee.proofs.Signed.{mag-is}
-use Rattle.ieee.proofs.Share.{one-f32, one-P}
 use Rattle.roots.specs.Root.{root}
 use Rattle.roots.proofs.Laws.{root-nearest}
 use Rattle.vectors.specs.declared.Vec3.{Vec3}
@@ -22,10 +22,10 @@ use Rattle.panning.specs.Choice.{Corner, corner, corners, 0·0, 1·0}
 use Rattle.panning.specs.Terms.{up, ahead, across, part, rowWeight, coefficient, innerGain, extra, nothing, panned, Term, term, audible, paired, spread, cornerTerms, terms}
 use Rattle.panning.specs.Table.{Table, Position, 8·0, between}
 use Rattle.energy.specs.Facts.{Each, squares, AddsUp, Pans}
-use Rattle.energy.proofs.Tables.{zero-f32, zero-P, eight-f32, eight-P, Gain8, gain8, size1}
+use Rattle.energy.proofs.Tables.{Gain8, gain8, size1}
 use Rattle.energy.proofs.Shares.{Part}
 use Rattle.energy.proofs.Corners.{corner-in, up-part, ahead-part, across-part}
-use Rattle.energy.proofs.Weighing.{Plus, Eight·0, eight-is, weight, weights, part-plus}
+use Rattle.energy.proofs.Weighing.{Plus, weight, weights, part-plus}
 use Rattle.energy.proofs.Once.{once}
 use Rattle.energy.proofs.Sum.{root-zero, Eight, eight, add-up}
 use Rattle.energy.proofs.Audible.{audible→, audible-none, map-in, allSquares, square-audible, by-channel, apart, apart-once, Differ, differs, apart-audible}
@@ -36,16 +36,15 @@ unfolding between
 part-between s h =
     let f = h .s-f32 in
     let p = one-P in
-    let z = zero-P in
+    let z = zero-mag in
     and-i (fits binary32 s) _ (f .fit) (and-i (le 0·0 s) (le s 1·0) (→le 0·0 s zero-f32 f (omega (arith, h .s-plus))) (→le s 1·0 f one-f32 (omega (arith, h .s-plus, h .s-most))))
 
-plus-between : (s : Float) → Plus s Eight·0 → T (between 0·0 8·0 s)
+plus-between : (s : Float) → Plus s (8 * One) → T (between 0·0 8·0 s)
 unfolding between
 plus-between s h =
     let f = h .f32 in
     let p = eight-P in
-    let e = eight-is in
-    let z = zero-P in
+    let z = zero-mag in
     and-i (fits binary32 s) _ (f .fit) (and-i (le 0·0 s) (le s 8·0) (→le 0·0 s zero-f32 f (omega (arith, h .plus))) (→le s 8·0 f eight-f32 (omega (arith, h .plus, h .most))))
 
 -- ---- the list of terms, for a gain that is not 0
@@ -137,7 +136,7 @@ module _ (sp : ℕ → Vec3) (l : List ℕ) (t : Table sp l) (p : Vec3) (q : Pos
         let r = corner-rooted root-nearest sp l t p q g G c in
         let e : P (weight sp l p g (c .top) (c .front) (c .right)) * One ≡ 0 = ap (λ (k : ℕ). k * One) z ∙ zero-mul One in
         let i : P (x c) ≡ 0 = root-zero (P (x c)) (subst (λ (k : ℕ). Root (P (x c)) k) e (r .root)) in
-        →eq (x c) 0·0 (r .f32) zero-f32 (omega (arith, i, r .plus, zero-P))
+        →eq (x c) 0·0 (r .f32) zero-f32 (omega (arith, i, r .plus, zero-mag))
 
     apart-corners : T (apart (audible (map (λ c. term (corner sp l p c) (x c)) corners)))
     apart-corners =
@@ -191,7 +190,7 @@ module _ (sp : ℕ → Vec3) (l : List ℕ) (t : Table sp l) (p : Vec3) (q : Pos
       none e =
           let G = gain8 g h in
           let i = eq→ g 0·0 (G .f32) zero-f32 e in
-          let j : P g ≡ 0 = omega (arith, i, G .plus, zero-P) in
+          let j : P g ≡ 0 = omega (arith, i, G .plus, zero-mag) in
           let k : P g * One ≡ 0 = ap (λ (m : ℕ). m * One) j ∙ zero-mul One in
           subst⁻¹ (λ (ts : List Term). AddsUp (allSquares ts) g) nothing-corners (record { above = omega arith; below = omega (arith, k) })
 

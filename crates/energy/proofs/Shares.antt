@@ -2,20 +2,19 @@
 use mathlib.Core.Path.{_≡_, refl, sym, subst}
 use mathlib.Core.Logic.{_⊎_, inl, inr}
 use mathlib.Core.Bool.{Bool, true, false, not, cond}
-use Prim.Native.Nat.{ℕ, _+_, _*_, _^_, _≤_, _<_, zero-le}
+use Prim.Native.Nat.{ℕ, _+_, _≤_, _<_, zero-le}
 use native.Mathlib.Nat.{le-of-lt, zero-lt-suc}
 use native.Mathlib.Omega.{arith}
-use lib.Dec.{T, T-not, leb, leb→le, nleb→lt, lit<}
+use lib.Dec.{T, T-not, leb, leb→le, nleb→lt, lit<, lit≤}
 use lib.Ieee.{Float, nan, inf, fin, binary32, fits, le, lt, eq, sub, div}
 use lib.Ieee.Scale.{finite}
-use Rattle.ieee.specs.Units.{One, Top, F32, Tame, P, N}
-use Rattle.ieee.proofs.Grid.{OnGrid, grid-pow}
+use Rattle.ieee.specs.Units.{One, F32, Tame, P, N}
+use Rattle.ieee.proofs.Constants.{zero-f32, zero-mag, whole-grid, whole-less}
 use Rattle.ieee.proofs.Ops.{small}
 use Rattle.ieee.proofs.Compare.{le→, →le, →lt, →eq}
 use Rattle.ieee.proofs.Share.{Shared, left-over, share}
 use Rattle.panning.specs.Choice.{0·0, 1·0}
 use Rattle.panning.specs.Terms.{ratio}
-use Rattle.energy.proofs.Tables.{zero-f32, zero-P}
 
 -- the ends a and b of an axis about v
 abbrev pub Beside : Float → Float → Float → Type 0
@@ -43,22 +42,6 @@ nle→ x y f g h = go (leb (P x + N y) (P y + N x)) (leb→le (P x + N y) (P y +
     go true l k = absurd (T-not (le x y) h (→le x y f g (l tt)))
     go false l k = k tt
 
--- 2.0
-unfoldable Two : ℕ
-Two = 2 ^ 150
-
-two-is : 2 * One ≡ Two
-unfolding Two One
-two-is = refl
-
-two-grid : OnGrid Two
-unfolding Two
-two-grid = grid-pow 150
-
-two-less : Two < Top
-unfolding Two Top
-two-less = lit< tt
-
 inside : (a b v : Float) → Tame a → Tame b → T (fits binary32 v) → T (le a v) → T (not (le b v))
     → let s = div binary32 (sub binary32 v a) (sub binary32 b a) in Shared s (sub binary32 1·0 s)
 inside a b v ta tb fv h k =
@@ -67,9 +50,8 @@ inside a b v ta tb fv h k =
     let f : F32 v = record { fine = finite-inside a b v (fa .fine) (fb .fine) h k; fit = fv } in
     let i = le→ a v fa f h in
     let j = nle→ b v fb f k in
-    let t = two-is in
     share a v b fa f fb h (→le v b f fb (le-of-lt j)) (→lt a b fa fb (through (P a) (N a) (P v) (N v) (P b) (N b) i j))
-    (small two-grid two-less (P b + N a) (N b + P a) 1 (zero-lt-suc 0) (omega (arith, tb .high, ta .deep)) (omega (arith, tb .deep, ta .high)))
+    (small (whole-grid 2 (lit< tt)) (whole-less 2 (lit≤ tt)) (P b + N a) (N b + P a) 1 (zero-lt-suc 0) (omega (arith, tb .high, ta .deep)) (omega (arith, tb .deep, ta .high)))
   where
     through : (a a' v v' b b' : ℕ) → a + v' ≤ v + a' → v + b' < b + v' → a + b' < b + a'
     through a a' v v' b b' h k = omega arith
@@ -91,5 +73,5 @@ unfolding ratio
 ratio-part a b v ta tb fv w = go (eq a b) (λ t. t) (λ t. elim w [ inl e ↦ absurd (T-not (eq a b) t e) | inr h ↦ inside a b v ta tb fv (h .0) (h .1) ])
   where
     go : (c : Bool) → (T c → T (eq a b)) → (T (not c) → Part (div binary32 (sub binary32 v a) (sub binary32 b a))) → Part (cond c 0·0 (div binary32 (sub binary32 v a) (sub binary32 b a)))
-    go true h k = left-over 0·0 zero-f32 refl (subst (λ (n : ℕ). n ≤ One) (sym zero-P) zero-le)
+    go true h k = left-over 0·0 zero-f32 refl (subst (λ (n : ℕ). n ≤ One) (sym zero-mag) zero-le)
     go false h k = k tt

@@ -12,7 +12,7 @@ use lib.Ieee.Scale.{finite}
 use Rattle.ieee.specs.Units.{One, F32, Tame, mag, P, N}
 use Rattle.ieee.proofs.Compare.{le→}
 use Rattle.ieee.proofs.Signed.{one-sided}
-use Rattle.ieee.proofs.Share.{one-f32, one-P}
+use Rattle.ieee.proofs.Constants.{zero-f32, one-f32, eight-f32, zero-mag, one-P, eight-P}
 use Rattle.vectors.specs.declared.Vec3.{Vec3}
 use Rattle.panning.specs.Choice.{every, 0·0, 1·0}
 use Rattle.panning.specs.Table.{minus-one, 8·0, between, placed, distinct, alike}
@@ -58,22 +58,6 @@ tame x t =
       | inr e ↦ record { f32 = b .0; high = omega (arith, e, b .2, p); deep = omega (arith, e) }
     ]
 
-pub zero-f32 : F32 0·0
-unfolding fits
-zero-f32 = record { fine = tt; fit = tt }
-
-pub zero-P : P 0·0 ≡ 0
-unfolding mag One
-zero-P = refl
-
-pub eight-f32 : F32 8·0
-unfolding fits
-eight-f32 = record { fine = tt; fit = tt }
-
-pub eight-P : P 8·0 ≡ 8 * One
-unfolding mag One
-eight-P = refl
-
 -- a gain from 0 to 8
 pub record Gain8 (g : Float) : Type 0 where
   pub f32 : F32 g
@@ -84,7 +68,7 @@ pub gain8 : (g : Float) → T (between 0·0 8·0 g) → Gain8 g
 gain8 g t =
     let b = between→ 0·0 8·0 g zero-f32 eight-f32 t in
     let p = eight-P in
-    let z = zero-P in
+    let z = zero-mag in
     elim (one-sided g) [
       | inl e ↦ record { f32 = b .0; plus = omega (arith, e, b .1, z); most = omega (arith, e) }
       | inr e ↦ record { f32 = b .0; plus = e; most = omega (arith, e, b .2, p) }
@@ -100,7 +84,7 @@ pub size1 : (s : Float) → T (between 0·0 1·0 s) → Size1 s
 size1 s t =
     let b = between→ 0·0 1·0 s zero-f32 one-f32 t in
     let p = one-P in
-    let z = zero-P in
+    let z = zero-mag in
     elim (one-sided s) [
       | inl e ↦ record { f32 = b .0; plus = omega (arith, e, b .1, z); most = omega (arith, e) }
       | inr e ↦ record { f32 = b .0; plus = e; most = omega (arith, e, b .2, p) }

@@ -1,18 +1,18 @@
 -- The weights of the eight corners as roundings of exact products, and where a share is 0. Assumes nothing.
-use mathlib.Core.Path.{_≡_, refl, ap, _∙_, subst}
+use mathlib.Core.Path.{_≡_, ap, _∙_, subst}
 use mathlib.Core.Bool.{Bool, true, false}
 use mathlib.Core.List.{List}
-use Prim.Native.Nat.{ℕ, _+_, _-_, _*_, _^_, _≤_, _<_}
+use Prim.Native.Nat.{ℕ, _+_, _-_, _*_, _≤_, _<_}
 use native.Mathlib.Nat.{zero-mul, mul-zero, mul-le-mul, mul-comm}
 use native.Mathlib.Omega.{arith}
-use lib.Dec.{lit<}
+use lib.Dec.{lit<, lit≤}
 use lib.Ieee.{Float, binary32, mul}
 use Rattle.ieee.specs.Units.{One, Top, F32, P, N}
-use Rattle.ieee.proofs.Grid.{OnGrid, rnd, rnd-zero, grid-pow}
+use Rattle.ieee.proofs.Grid.{OnGrid, rnd, rnd-zero}
 use Rattle.ieee.proofs.Value.{one-pos, one-grid}
 use Rattle.ieee.proofs.Ops.{small, mul-rounds}
 use Rattle.ieee.proofs.Signed.{not-negative, at-most}
-use Rattle.ieee.proofs.Share.{one-less}
+use Rattle.ieee.proofs.Constants.{one-less, whole-grid, whole-less}
 use Rattle.vectors.specs.declared.Vec3.{Vec3}
 use Rattle.panning.specs.Choice.{corner}
 use Rattle.panning.specs.Terms.{up, ahead, across, part, rowWeight}
@@ -45,21 +45,11 @@ product {w} x y f g grid less h =
       is = r .up ∙ ap (λ (n : ℕ). rnd n One) e;
     }
 
--- 8.0
-unfoldable pub Eight·0 : ℕ
-Eight·0 = 2 ^ 152
+pub eight-grid : OnGrid (8 * One)
+eight-grid = whole-grid 8 (lit< tt)
 
-pub eight-is : 8 * One ≡ Eight·0
-unfolding Eight·0 One
-eight-is = refl
-
-pub eight-grid : OnGrid Eight·0
-unfolding Eight·0
-eight-grid = grid-pow 152
-
-pub eight-less : Eight·0 < Top
-unfolding Eight·0 Top
-eight-less = lit< tt
+pub eight-less : 8 * One < Top
+eight-less = whole-less 8 (lit≤ tt)
 
 pub part-plus : (b : Bool) (s : Float) → Part s → Plus (part b s) One
 part-plus true s h = record { f32 = h .s-f32; plus = h .s-plus; most = h .s-most }
@@ -68,17 +58,17 @@ part-plus false s h = record { f32 = h .r-f32; plus = h .r-plus; most = h .r-mos
 -- ---- a product of two shares, a gain and a share
 pub record Weighed (a b g c : Float) : Type 0 where
   pub first : Product a b One
-  pub second : Product (mul binary32 a b) g Eight·0
-  pub third : Product (mul binary32 (mul binary32 a b) g) c Eight·0
+  pub second : Product (mul binary32 a b) g (8 * One)
+  pub third : Product (mul binary32 (mul binary32 a b) g) c (8 * One)
 
 weighed : (a b g c : Float) → Plus a One → Plus b One → Gain8 g → Plus c One → Weighed a b g c
 weighed a b g c fa fb fg fc =
-    let gp : Plus g Eight·0 = record { f32 = fg .f32; plus = fg .plus; most = omega (arith, fg .most, eight-is) } in
+    let gp : Plus g (8 * One) = record { f32 = fg .f32; plus = fg .plus; most = fg .most } in
     let h1 : P a * P b ≤ One * One = mul-le-mul (fa .most) (fb .most) in
     let x = product a b fa fb one-grid one-less h1 in
-    let h2 : P (mul binary32 a b) * P g ≤ One * Eight·0 = mul-le-mul (x .plus .most) (gp .most) in
-    let y = product (mul binary32 a b) g (x .plus) gp eight-grid eight-less (subst (λ (n : ℕ). P (mul binary32 a b) * P g ≤ n) (mul-comm One Eight·0) h2) in
-    let h3 : P (mul binary32 (mul binary32 a b) g) * P c ≤ Eight·0 * One = mul-le-mul (y .plus .most) (fc .most) in
+    let h2 : P (mul binary32 a b) * P g ≤ One * (8 * One) = mul-le-mul (x .plus .most) (gp .most) in
+    let y = product (mul binary32 a b) g (x .plus) gp eight-grid eight-less (subst (λ (n : ℕ). P (mul binary32 a b) * P g ≤ n) (mul-comm One (8 * One)) h2) in
+    let h3 : P (mul binary32 (mul binary32 a b) g) * P c ≤ (8 * One) * One = mul-le-mul (y .plus .most) (fc .most) in
     let z = product (mul binary32 (mul binary32 a b) g) c (y .plus) fc eight-grid eight-less h3 in
     record { first = x; second = y; third = z }
 

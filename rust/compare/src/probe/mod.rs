@@ -8,8 +8,6 @@ pub mod limiter;
 pub mod lowpass;
 pub mod mixing;
 pub mod panning;
-pub mod ieee;
-pub mod limiter;
 pub mod records;
 pub mod roots;
 pub mod timed;

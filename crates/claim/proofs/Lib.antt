@@ -1,0 +1,14 @@
+pub mod Sound
+pub mod SlotShape
+pub mod SlotInfos
+pub mod SlotObjects
+pub mod SlotState
+pub mod SlotSound
+pub mod SlotWithin
+pub mod Infos
+pub mod Checked
+pub mod Applied
+pub mod Shapes
+pub mod Blank
+pub mod Blocks
+pub mod Theorem

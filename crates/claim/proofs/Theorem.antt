@@ -1,0 +1,45 @@
+-- Document 01, demand 3, closed: for every list of calls, on the real timed state, metadata and state block. Assumes nothing.
+use mathlib.Core.Path.{refl}
+use Rattle.rules.specs.Claim.{EveryList}
+use Rattle.rules.proofs.Facts.{Facts}
+use Rattle.rules.proofs.Theorem.{every-list}
+use Rattle.claim.specs.Hall.{hall, block}
+use Rattle.claim.proofs.Sound.{Sound, Within}
+use Rattle.claim.proofs.Checked.{Checked, checked}
+use Rattle.claim.proofs.Applied.{sound-apply, within-apply}
+use Rattle.claim.proofs.Shapes.{mixable, shape-apply, shape-slot, shape-objects, counts-apply, counts-slot}
+use Rattle.claim.proofs.SlotSound.{sound-slot}
+use Rattle.claim.proofs.SlotWithin.{within-slot}
+use Rattle.claim.proofs.Blank.{sound-blank, within-blank, within-later}
+use Rattle.claim.proofs.Blocks.{size-of, valid-of, back-of, decoded-of}
+
+-- what the rules take from the crates `timed`, `updates`, `records` and `store`
+pub facts : Facts hall block
+facts =
+  record {
+    Checked = Checked;
+    checked = checked;
+    Sound = Sound;
+    sound-blank = sound-blank;
+    sound-apply = sound-apply;
+    sound-slot = sound-slot;
+    mixable = mixable;
+    shape-apply = shape-apply;
+    sent-started = λ u c. refl;
+    shape-slot = λ n m h. shape-slot n m;
+    shape-objects = λ m h e. shape-objects m;
+    Within = Within;
+    within-blank = within-blank;
+    within-later = within-later;
+    within-apply = within-apply;
+    within-slot = within-slot;
+    counts-apply = counts-apply;
+    counts-slot = λ n start m h. counts-slot start m;
+    size = size-of;
+    valid = valid-of;
+    back = back-of;
+    decoded = decoded-of;
+  }
+
+pub demand3 : EveryList hall block
+demand3 = every-list hall block facts

@@ -1,0 +1,10 @@
+pub mod Bytes
+pub mod Tables
+pub mod Stores
+pub mod Back
+pub mod Whole
+pub mod Valid
+pub mod Decoded
+pub mod Fresh
+pub mod Loops
+pub mod Answers

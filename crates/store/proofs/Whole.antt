@@ -1,0 +1,210 @@
+-- A renderer in range is read back from its block, which is 26,960 bytes. Assumes nothing.
+use mathlib.Core.Path.{_≡_, refl, sym, ap, ap₂, _∙_}
+use mathlib.Core.Bool.{Bool, true, false, _||_, cond}
+use mathlib.Core.List.{List, [], _∷_, _++_}
+use Prim.Native.Nat.{ℕ, zero, suc, _+_, _*_, _^_, _<_, _≤_}
+use native.Mathlib.Nat.{zero-add, add-zero, suc-add, mul-suc, le-of-suc-le-suc, not-suc-le-zero, lt-of-le-of-lt}
+use native.Mathlib.Omega.{arith}
+use borrow.Author.Tests.{ltb-true, ltb-false}
+use lib.Dec.{T, eqb, ltb, eqb→eq, lit<, lit≤}
+use lib.ListN.{length, getD, take, drop, length-append, length-drop, take-append-drop}
+use lib.Seq.{drop-at, take-at, drop-drop, getD-take, getD-drop, length-take-le}
+use Rattle.words.specs.Words.{Bytes, Words, number, wordsAt, withWords}
+use Rattle.timed.specs.Slot.{InRange, noBlock}
+use Rattle.timed.specs.State.{Timed, Within, noElement}
+use Rattle.timed.specs.State as timed
+use Rattle.timed.specs.declared.state.ElementRendererState.{ElementRendererState}
+use Rattle.timed.specs.declared.state.MetadataRendererState.{MetadataRendererState}
+use Rattle.ieee.specs.Bounds.{All}
+use Rattle.rules.specs.Parts.{Places}
+use Rattle.rules.specs.Refusals.{listed}
+use Rattle.rules.specs.Samples.{Renderer}
+use Rattle.store.specs.Table.{bytesOf}
+use Rattle.store.specs.Fields.{smallWords, smallOf}
+use Rattle.store.specs.Layout.{size, small, joined, infosOf, placesOf, decode, rows, encode}
+use Rattle.store.specs.Ranged.{ElementRanged, StateRanged, InfosRanged, PlacesRanged, Ranged}
+use Rattle.store.proofs.Bytes.{words-drop, bytes-length, bytes-bytes, bytes-back, stored}
+use Rattle.store.proofs.Tables.{Full}
+use Rattle.store.proofs.Back.{Brief, ElementFull, StateFull, SmallFull, small-long, small-words, small-back}
+
+-- ---- what is in range fits its words
+
+pub all-at : {A : Type 0} (P : A → Type 0) (d : A) (xs : List A) → ((i : ℕ) → i < length xs → P (getD xs i d)) → All P xs
+all-at P d [] h = tt
+all-at P d (x ∷ xs) h = (h 0 (omega arith), all-at P d xs (λ i l. h (suc i) (omega arith)))
+
+either : (a b : Bool) {n m : ℕ} → (T a → n ≤ m) → (T b → n ≤ m) → T (a || b) → n ≤ m
+either true b p q h = p tt
+either false b p q h = q h
+
+rate-most : (n : ℕ) → T (eqb n 0 || listed n) → n ≤ 96000
+rate-most n =
+    let one : (k : ℕ) → k ≤ 96000 → T (eqb n k) → n ≤ 96000 = λ k l h. let e = eqb→eq n k h in omega arith in
+    either (eqb n 0) (listed n) (one 0 (lit≤ tt))
+    (either (eqb n 32000 || eqb n 44100 || eqb n 48000 || eqb n 88200) (eqb n 96000)
+    (either (eqb n 32000 || eqb n 44100 || eqb n 48000) (eqb n 88200)
+    (either (eqb n 32000 || eqb n 44100) (eqb n 48000) (either (eqb n 32000) (eqb n 44100) (one 32000 (lit≤ tt)) (one 44100 (lit≤ tt))) (one 48000 (lit≤ tt))) (one 88200 (lit≤ tt)))
+    (one 96000 (lit≤ tt)))
+
+pub element-full : (position least : ℕ) (e : ElementRendererState) → InRange position e → ElementRanged least e → ElementFull e
+element-full position least e r h =
+    let a = r .blocks in
+    let b = h .flags in
+    let c = r .ramps .most in
+    record {
+      blocks = omega arith;
+      flags = omega arith;
+      remaining = omega arith;
+      schedule = record { count = h .schedule; each = all-at Brief noBlock (e .schedule) (λ i l. let n = h .schedule in let m : i < 8 = omega arith in record { offset = r .ramps .offsets i m; ramp = r .ramps .ramps i m }) };
+      tracks = record { count = h .tracks; each = h .targets };
+    }
+
+pub state-full : (position : ℕ) (s : MetadataRendererState) → StateRanged position s → StateFull s
+state-full position s h =
+    let w = h .within in
+    let a = w .payload in
+    let b = w .objects in
+    let c = w .isf in
+    let d = w .beds in
+    let e = w .elements in
+    record {
+      payload = omega arith;
+      objects = omega arith;
+      isf = omega arith;
+      beds = omega arith;
+      elements = omega arith;
+      codes = record { count = h .codes; each = h .listed };
+      gains = record { count = h .gains; each = h .beds };
+      sources = record { count = h .sources; each = h .objects };
+      states = record {
+        count = h .states;
+        each = all-at ElementFull noElement (s .states) (λ i l.
+            let k : i < 2 = let m = h .states in omega arith in
+            element-full position _ (timed.elementOf s i) (w .states i k) (h .elements i k));
+      };
+    }
+
+pub small-full : (r : Renderer Timed) → Ranged r → SmallFull (small r)
+small-full r h =
+    let a = rate-most (r .rate) (h .rate) in
+    let b = h .phase in
+    let c = h .position in
+    let d = h .start in
+    let e = h .pending in
+    record {
+      rate = omega arith;
+      phase = omega arith;
+      position = omega arith;
+      start = omega arith;
+      gain = h .gain;
+      filter = h .filter;
+      pending = omega arith;
+      state = state-full (r .position) (r .meta .state) (h .state);
+    }
+
+-- ---- rows of places
+
+module _ (p : Places) (h : PlacesRanged p) where
+  row-long : (c : ℕ) → c < 12 → length (bytesOf (p c)) ≡ 256
+  row-long c l = bytes-length (p c) ∙ ap (λ (n : ℕ). 4 * n) (h .lengths c l)
+
+  rows-long : (n k : ℕ) → n + k ≤ 12 → length (rows n k p) ≡ n * 256
+  unfolding rows
+  rows-long zero k l = refl
+  rows-long (suc n) k l =
+      length-append (bytesOf (p k)) (rows n (suc k) p) ∙ (let a = row-long k (omega arith) in let b = rows-long n (suc k) (omega arith) in omega arith)
+
+  rows-back : (n k c : ℕ) → n + k ≤ 12 → c < n → wordsAt (rows n k p) (256 * c) 64 ≡ p (k + c)
+  unfolding rows
+  rows-back zero k c l m = absurd (omega arith)
+  rows-back (suc n) k zero l m =
+      ap (λ (w : ℕ). wordsAt (bytesOf (p k) ++ rows n (suc k) p) 0 w) (sym (h .lengths k (omega arith))) ∙ bytes-back (p k) (rows n (suc k) p) (h .words k (omega arith)) ∙ ap p (sym (add-zero k))
+  rows-back (suc n) k (suc c) l m =
+      let e : 256 * suc c ≡ 256 + 256 * c = omega arith in
+      let f : suc k + c ≡ k + suc c = omega arith in
+      rw (e, words-drop (bytesOf (p k) ++ rows n (suc k) p) 256 (256 * c) 64, drop-at (bytesOf (p k)) (rows n (suc k) p) 256 (row-long k (omega arith)))
+      (rows-back n (suc k) c (omega arith) (omega arith) ∙ ap p f)
+
+-- ---- the block
+
+module _ (r : Renderer Timed) (h : Ranged r) where
+  abbrev W : List ℕ
+  W = smallWords (small r)
+
+  abbrev R : List ℕ
+  R = rows 12 0 (r .places)
+
+  front-long : length (bytesOf W) ≡ 1360
+  front-long = bytes-length W ∙ ap (λ (n : ℕ). 4 * n) (small-long (small r) (small-full r h))
+
+  pub words-back : wordsAt (encode r) 0 340 ≡ W
+  unfolding encode
+  words-back =
+      ap (λ (n : ℕ). wordsAt (encode r) 0 n) (sym (small-long (small r) (small-full r h))) ∙ bytes-back W (r .meta .infos ++ R) (small-words (small r) (small-full r h))
+
+  rest-back : drop 1360 (encode r) ≡ r .meta .infos ++ R
+  unfolding encode
+  rest-back = drop-at (bytesOf W) (r .meta .infos ++ R) 1360 front-long
+
+  pub infos-back : infosOf (encode r) ≡ r .meta .infos
+  infos-back = rw rest-back (take-at (r .meta .infos) R 22528 (h .infos .length))
+
+  rows-at : drop 23888 (encode r) ≡ R
+  rows-at = sym (drop-drop 22528 1360 (encode r)) ∙ rw rest-back (drop-at (r .meta .infos) R 22528 (h .infos .length))
+
+  place-back : (c : ℕ) → placesOf (encode r) c ≡ r .places c
+  place-back c = by (ltb c 12) refl
+    where
+      by : (b : Bool) → ltb c 12 ≡ b → placesOf (encode r) c ≡ r .places c
+      by true e =
+          let l = ltb-true c 12 e in
+          rw (e, words-drop (encode r) 23888 (256 * c) 64, rows-at) (rows-back (r .places) (h .places) 12 0 c (lit≤ tt) l ∙ ap (r .places) (zero-add c))
+      by false e = rw e (sym (h .places .none c (ltb-false c 12 e)))
+
+  pub decode-encode : decode (encode r) ≡ r
+  unfolding decode
+  decode-encode = λ i. joined ((ap smallOf words-back ∙ small-back (small r) (small-full r h)) i) (infos-back i) (λ c. place-back c i)
+
+  pub encode-long : length (encode r) ≡ size
+  unfolding encode
+  encode-long =
+      length-append (bytesOf W) (r .meta .infos ++ R) ∙ ap₂ (λ (m n : ℕ). m + n) front-long (length-append (r .meta .infos) R ∙ ap₂ (λ (m n : ℕ). m + n) (h .infos .length) (rows-long (r .places) (h .places) 12 0 (lit≤ tt)))
+
+-- ---- bytes
+
+bytes-append : (a b : List ℕ) → Bytes a → Bytes b → Bytes (a ++ b)
+bytes-append [] b p q i = q i
+bytes-append (x ∷ a) b p q zero = p 0
+bytes-append (x ∷ a) b p q (suc i) = bytes-append a b (λ j. p (suc j)) q i
+
+rows-bytes : (p : Places) (n k : ℕ) → Bytes (rows n k p)
+unfolding rows
+rows-bytes p zero k = bytes-bytes []
+rows-bytes p (suc n) k = bytes-append (bytesOf (p k)) (rows n (suc k) p) (bytes-bytes (p k)) (rows-bytes p n (suc k))
+
+pub encode-bytes : (r : Renderer Timed) → Bytes (r .meta .infos) → Bytes (encode r)
+unfolding encode
+encode-bytes r h =
+    bytes-append (bytesOf (smallWords (small r))) (r .meta .infos ++ rows 12 0 (r .places)) (bytes-bytes (smallWords (small r)))
+    (bytes-append (r .meta .infos) (rows 12 0 (r .places)) h (rows-bytes (r .places) 12 0))
+
+-- ---- a block that was saved
+
+-- the small part of r stored into a block that has r's infos and places
+pub saved-encode : (b : List ℕ) (r : Renderer Timed) → length b ≡ size → length (smallWords (small r)) ≡ 340 → infosOf b ≡ r .meta .infos → drop 23888 b ≡ rows 12 0 (r .places)
+    → withWords b 0 (smallWords (small r)) ≡ encode r
+unfolding encode
+saved-encode b r l n i p =
+    let w = smallWords (small r) in
+    let t : drop 1360 b ≡ r .meta .infos ++ rows 12 0 (r .places) =
+        sym (take-append-drop 22528 (drop 1360 b)) ∙ ap₂ (λ (x y : List ℕ). x ++ y) i (drop-drop 22528 1360 b ∙ p) in
+    stored w b (omega arith) ∙ ap (λ (k : ℕ). bytesOf w ++ drop (4 * k) b) n ∙ ap (λ (x : List ℕ). bytesOf w ++ x) t
+
+word-front : (s : List ℕ) (at k m : ℕ) → at + k ≤ m → number (take m s) at k ≡ number s at k
+unfolding number
+word-front s at zero m h = refl
+word-front s at (suc k) m h = ap₂ (λ (x y : ℕ). x + y * 256 ^ k) (word-front s at k m (omega arith)) (getD-take m s (at + k) 0 (omega arith))
+
+words-front : (s : List ℕ) (at n m : ℕ) → at + 4 * n ≤ m → wordsAt (take m s) at n ≡ wordsAt s at n
+words-front s at zero m h = refl
+words-front s at (suc n) m h = ap₂ (λ (x : ℕ) (xs : List ℕ). x ∷ xs) (word-front s at 4 m (omega arith)) (words-front s (at + 4) n m (omega arith))

@@ -1,0 +1,82 @@
+-- What is left to test, from entry `i` on, decides. Assumes nothing.
+use borrow.Author.Needs.{needs}
+use mathlib.Core.Path.{_≡_, refl, sym, ap, _∙_}
+use mathlib.Core.Bool.{true, false}
+use Prim.Native.Nat.{ℕ, suc, _+_, _-_, _*_, _≤_, _<_}
+use native.Mathlib.Nat.{mul-zero, add-zero, sub-zero, sub-self}
+use native.Mathlib.Omega.{arith}
+use borrow.Author.Tests.{le-leb, lt-leb}
+use lib.Dec.{leb}
+use lib.ListN.{getD, drop}
+use Rattle.store.specs.Table.{atMost}
+use Rattle.store.proofs.Loops.{room, at-most-step, at-most-stop}
+use Rattle.store.proofs.ranges.at_most.Statement.{statement}
+use Rattle.store.proofs.ranges.at_most.Tie as tie
+
+abbrev Inv-loop : tie.InvT-loop
+Inv-loop w at j k n limit p₀ i₀ p i = (i ≤ n) × (p ≡ at + j + k * i) × (atMost j k n limit (drop at w) ≡ atMost j k (n - i) limit (drop (at + k * i) w))
+
+abbrev μ-loop : tie.MeasureT-loop
+μ-loop w at j k n limit p₀ i₀ p i = n - i
+
+add-p : tie.Need-add-p Inv-loop μ-loop
+add-p c = search needs
+
+loop-holds : tie.Need-loop-holds Inv-loop μ-loop
+loop-holds c = (omega arith, omega arith, rw (mul-zero, add-zero, sub-zero))
+
+mul-if1 : tie.Need-mul-if1 Inv-loop μ-loop
+mul-if1 c = record { fits = omega (arith, room (c .before .before .args .k) (c .loop-test .taken)) }
+
+element-copy-out-if1 : tie.Need-element-copy-out-if1 Inv-loop μ-loop
+element-copy-out-if1 c = omega (arith, room (c .before .before .args .k) (c .loop-test .taken))
+
+returns : tie.Need-returns Inv-loop μ-loop
+returns c =
+    let t = c .before .before in
+    let l = t .before .loop in
+    let a = t .before .before .args in
+    let e : leb (getD (a .w .now) (a .at + a .j + a .k * l .i) 0) (a .limit) ≡ false = rw (← l .inv .1) (lt-leb _ _ (c .if1 .taken)) in
+    sym (l .inv .2 ∙ at-most-stop (a .j) (a .k) (a .limit) (a .w .now) (a .at) (l .i) (a .n) (t .loop-test .taken) e)
+
+add-i : tie.Need-add-i Inv-loop μ-loop
+add-i c = search needs
+
+add-p-2 : tie.Need-add-p-2 Inv-loop μ-loop
+add-p-2 c = record { fits = omega (arith, room (c .before .before .before .before .args .k) (c .before .before .loop-test .taken)) }
+
+loop-less : tie.Need-loop-less Inv-loop μ-loop
+loop-less c = search needs
+
+loop-again : tie.Need-loop-again Inv-loop μ-loop
+loop-again c =
+    let t = c .before .before in
+    let l = t .before .loop in
+    let a = t .before .before .args in
+    let e : leb (getD (a .w .now) (a .at + a .j + a .k * l .i) 0) (a .limit) ≡ true = rw (← l .inv .1) (le-leb _ _ (c .if1 .left)) in
+    (omega arith, omega arith, l .inv .2 ∙ at-most-step (a .j) (a .k) (a .limit) (a .w .now) (a .at) (l .i) (a .n) (t .loop-test .taken) e)
+
+returns-2 : tie.Need-returns-2 Inv-loop μ-loop
+unfolding atMost
+returns-2 c =
+    let l = c .before .loop in
+    let a = c .before .before .args in
+    let e : a .n - l .i ≡ 0 = omega arith in
+    sym (l .inv .2 ∙ ap (λ (m : ℕ). atMost (a .j) (a .k) m (a .limit) (drop (a .at + a .k * l .i) (a .w .now))) e)
+
+pub at-most-spec : {M : Type 1} → statement M
+at-most-spec =
+    tie.close
+    (tie.spec
+    Inv-loop
+    μ-loop
+    add-p
+    loop-holds
+    mul-if1
+    element-copy-out-if1
+    returns
+    add-i
+    add-p-2
+    loop-less
+    loop-again
+    returns-2)

@@ -1,0 +1,72 @@
+-- The entries before `i` are read. Assumes nothing.
+use borrow.Author.Needs.{needs}
+use mathlib.Core.Path.{_≡_, refl, sym, ap, _∙_}
+use Prim.Native.Nat.{ℕ, _+_, _-_, _*_, _≤_, _<_, _%_}
+use native.Mathlib.Omega.{arith}
+use lib.ListN.{length, getD, take, drop, length-set}
+use Rattle.store.specs.Table.{table}
+use Rattle.store.proofs.Loops.{table-filled, table-full, word-at}
+use Rattle.store.specs.Fields.{codeOf}
+use Rattle.store.proofs.read.codes.Statement.{statement}
+use Rattle.store.proofs.read.codes.Tie as tie
+
+abbrev Inv-loop : tie.InvT-loop
+Inv-loop w at a₀ i₀ a i = (i ≤ 18) × (length a ≡ 18) × (take i a ≡ table codeOf 1 i (drop at w))
+
+abbrev μ-loop : tie.MeasureT-loop
+μ-loop w at a₀ i₀ a i = 18 - i
+
+loop-holds : tie.Need-loop-holds Inv-loop μ-loop
+unfolding table
+loop-holds c = (omega arith, refl, refl)
+
+add-a : tie.Need-add-a Inv-loop μ-loop
+add-a c = search needs
+
+mul-a : tie.Need-mul-a Inv-loop μ-loop
+mul-a c = search needs
+
+element-copy-out-a : tie.Need-element-copy-out-a Inv-loop μ-loop
+element-copy-out-a c = search needs
+
+cast-a : tie.Need-cast-a Inv-loop μ-loop
+cast-a c = search needs
+
+array-write-a : tie.Need-array-write-a Inv-loop μ-loop
+array-write-a c = search needs
+
+add-i : tie.Need-add-i Inv-loop μ-loop
+add-i c = search needs
+
+loop-less : tie.Need-loop-less Inv-loop μ-loop
+loop-less c = search needs
+
+loop-again : tie.Need-loop-again Inv-loop μ-loop
+loop-again c =
+    let l = c .before .before .loop in
+    let a = c .before .before .before .args in
+    let h : l .i < length (l .a) = omega arith in
+    (omega arith, simp length-set (omega arith), table-filled codeOf 1 (a .at) (l .i) (a .w .now) (l .a) (getD (a .w .now) (a .at + l .i) 0 % 256) h (l .inv .2) (ap (λ (q : ℕ). q % 256) (word-at (a .w .now) (a .at) (l .i))))
+
+returns : tie.Need-returns Inv-loop μ-loop
+returns c =
+    let l = c .before .loop in
+    let a = c .before .before .args in
+    table-full codeOf 1 18 (l .i) (drop (a .at) (a .w .now)) (l .a) (l .inv .1) (omega arith) (omega arith) (l .inv .2)
+
+pub codes-spec : {M : Type 1} → statement M
+codes-spec =
+    tie.close
+    (tie.spec
+    Inv-loop
+    μ-loop
+    loop-holds
+    add-a
+    mul-a
+    element-copy-out-a
+    cast-a
+    array-write-a
+    add-i
+    loop-less
+    loop-again
+    returns)

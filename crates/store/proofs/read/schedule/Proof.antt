@@ -1,0 +1,76 @@
+-- The entries before `i` are read. Assumes nothing.
+use borrow.Author.Needs.{needs}
+use mathlib.Core.Path.{_≡_, refl, sym, ap, _∙_}
+use Prim.Native.Nat.{ℕ, _+_, _-_, _*_, _≤_, _<_, _%_}
+use native.Mathlib.Omega.{arith}
+use lib.ListN.{length, getD, take, drop, length-set}
+use Rattle.store.specs.Table.{table}
+use Rattle.store.proofs.Loops.{table-filled, table-full, word-at}
+use Rattle.store.specs.Fields.{blockOf}
+use Rattle.store.proofs.read.schedule.Statement.{statement}
+use Rattle.store.proofs.read.schedule.Tie as tie
+
+abbrev Inv-loop : tie.InvT-loop
+Inv-loop w at a₀ i₀ a i = (i ≤ 8) × (length a ≡ 8) × (take i a ≡ table blockOf 3 i (drop at w))
+
+abbrev μ-loop : tie.MeasureT-loop
+μ-loop w at a₀ i₀ a i = 8 - i
+
+block-requires : tie.Need-block-requires Inv-loop μ-loop
+block-requires c κs = search needs
+
+loop-holds : tie.Need-loop-holds Inv-loop μ-loop
+unfolding table
+loop-holds c = (omega arith, refl, refl)
+
+mul-block : tie.Need-mul-block Inv-loop μ-loop
+mul-block c = search needs
+
+add-block : tie.Need-add-block Inv-loop μ-loop
+add-block c = search needs
+
+block-requires-2 : tie.Need-block-requires-2 Inv-loop μ-loop
+block-requires-2 c κs = search needs
+
+mul-a : tie.Need-mul-a Inv-loop μ-loop
+mul-a c = search needs
+
+array-set-from-a : tie.Need-array-set-from-a Inv-loop μ-loop
+array-set-from-a c = search needs
+
+add-i : tie.Need-add-i Inv-loop μ-loop
+add-i c = search needs
+
+loop-less : tie.Need-loop-less Inv-loop μ-loop
+loop-less c = search needs
+
+loop-again : tie.Need-loop-again Inv-loop μ-loop
+loop-again c =
+    let l = c .before .before .loop in
+    let a = c .before .before .before .before .args in
+    let h : l .i < length (l .a) = omega arith in
+    (omega arith, simp length-set (omega arith), table-filled blockOf 3 (a .at) (l .i) (a .w .now) (l .a) (c .block2 .result) h (l .inv .2) (c .block2 .ensures))
+
+returns : tie.Need-returns Inv-loop μ-loop
+returns c =
+    let l = c .before .loop in
+    let a = c .before .before .before .args in
+    table-full blockOf 3 8 (l .i) (drop (a .at) (a .w .now)) (l .a) (l .inv .1) (omega arith) (omega arith) (l .inv .2)
+
+pub schedule-spec : {M : Type 1} → statement M
+schedule-spec =
+    tie.close
+    (tie.spec
+    Inv-loop
+    μ-loop
+    block-requires
+    loop-holds
+    mul-block
+    add-block
+    block-requires-2
+    mul-a
+    array-set-from-a
+    add-i
+    loop-less
+    loop-again
+    returns)

@@ -1,0 +1,49 @@
+-- Zeros, and then the three fields. Assumes nothing.
+use borrow.Author.Needs.{needs}
+use mathlib.Core.Path.{_≡_, ap, _∙_}
+use mathlib.Core.List.{List}
+use Prim.Native.Nat.{ℕ}
+use lib.ListN.{length}
+use Rattle.words.specs.Words.{withWord, withLong}
+use Rattle.timed.specs.Slot.{middle}
+use Rattle.store.specs.Layout.{marked}
+use Rattle.store.proofs.Fresh.{refilled}
+use Rattle.store.proofs.reset.Statement.{statement}
+use Rattle.store.proofs.reset.Tie as tie
+
+zeros-requires : tie.Need-zeros-requires
+zeros-requires c κs = search needs
+
+put-u32-requires : tie.Need-put-u32-requires
+put-u32-requires c κs = search needs
+
+put-u64-requires : tie.Need-put-u64-requires
+put-u64-requires c κs = search needs
+
+put-u64-requires-2 : tie.Need-put-u64-requires-2
+put-u64-requires-2 c κs = search needs
+
+same-length : tie.Need-same-length
+same-length c = search needs
+
+returns : tie.Need-returns
+returns c =
+    let p = c .before .before in
+    let q = p .before .before .before .before in
+    let u = q .before .before .before .before in
+    let z = u .before .before .before .before in
+    let s = z .before .before .before in
+    p .put-u642 .ensures
+    ∙ ap (λ (x : List ℕ). withLong x 1000 middle) (q .put-u64 .ensures ∙ ap (λ (x : List ℕ). withLong x 632 middle) (u .put-u32 .ensures ∙ ap (λ (x : List ℕ). withWord x 24 0x3f80_0000) (z .zeros .ensures)))
+    ∙ refilled (length (s .args .state .now)) (s .pre)
+
+pub reset-spec : {M : Type 1} → statement M
+reset-spec =
+    tie.close
+    (tie.spec
+    zeros-requires
+    put-u32-requires
+    put-u64-requires
+    put-u64-requires-2
+    same-length
+    returns)

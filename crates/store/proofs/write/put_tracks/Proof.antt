@@ -1,0 +1,91 @@
+-- The entries before `i` are stored. Assumes nothing.
+use borrow.Author.Needs.{needs}
+use mathlib.Core.Path.{_≡_, refl, sym, ap, _∙_}
+use mathlib.Core.List.{List}
+use Prim.Native.Nat.{ℕ, _+_, _-_, _*_, _≤_, _<_}
+use native.Mathlib.Omega.{arith}
+use lib.ListN.{length, getD, take}
+use lib.Seq.{take-all}
+use Rattle.words.specs.Words.{withWords}
+use Rattle.words.proofs.Runs.{run-length-kept}
+use Rattle.store.specs.Table.{each}
+use Rattle.store.proofs.Stores.{stored-more}
+use Rattle.store.specs.Fields.{trackWords}
+use Rattle.timed.specs.Objects.{noTrack}
+use Rattle.timed.specs.declared.state.Track.{Track}
+use Rattle.store.proofs.write.put_tracks.Statement.{statement}
+use Rattle.store.proofs.write.put_tracks.Tie as tie
+
+abbrev Inv-loop : tie.InvT-loop
+Inv-loop s₀ at xs i₀ s i = (i ≤ 16) × (length s ≡ length s₀) × (s ≡ withWords s₀ at (each trackWords (take i xs)))
+
+abbrev μ-loop : tie.MeasureT-loop
+μ-loop s₀ at xs i₀ s i = 16 - i
+
+loop-holds : tie.Need-loop-holds Inv-loop μ-loop
+unfolding each
+loop-holds c = (omega arith, refl, refl)
+
+mul-x : tie.Need-mul-x Inv-loop μ-loop
+mul-x c = search needs
+
+array-copy-out-x : tie.Need-array-copy-out-x Inv-loop μ-loop
+array-copy-out-x c = search needs
+
+mul-put-track : tie.Need-mul-put-track Inv-loop μ-loop
+mul-put-track c = search needs
+
+add-put-track : tie.Need-add-put-track Inv-loop μ-loop
+add-put-track c = search needs
+
+put-track-requires : tie.Need-put-track-requires Inv-loop μ-loop
+put-track-requires c κs = search needs
+
+add-i : tie.Need-add-i Inv-loop μ-loop
+add-i c = search needs
+
+loop-less : tie.Need-loop-less Inv-loop μ-loop
+loop-less c = search needs
+
+loop-again : tie.Need-loop-again Inv-loop μ-loop
+unfolding trackWords
+loop-again c =
+    let p = c .before .before in
+    let l = p .before .before .before .before .loop in
+    let a = p .before .before .before .before .before .before .args in
+    let h : l .i < length (a .t3) = omega arith in
+    let e : a .at + 16 * l .i ≡ a .at + 4 * (4 * l .i) = omega arith in
+    let x = getD (a .t3) (l .i) noTrack in
+    let q : p .put-track .last .0 ≡ withWords (a .s .now) (a .at) (each trackWords (take (l .i + 1) (a .t3))) =
+    p .put-track .ensures ∙ ap (λ (t : List ℕ). withWords t (a .at + 16 * l .i) (trackWords x)) (l .inv .2)
+    ∙ ap (λ (m : ℕ). withWords (withWords (a .s .now) (a .at) (each trackWords (take (l .i) (a .t3)))) m (trackWords x)) e
+    ∙ stored-more trackWords 4 (λ y. refl) noTrack (a .s .now) (a .at) (l .i) (a .t3) h in
+    (omega arith, ap length q ∙ run-length-kept (a .s .now) (a .at) (each trackWords (take (l .i + 1) (a .t3))), q)
+
+same-length : tie.Need-same-length Inv-loop μ-loop
+same-length c = search needs
+
+returns : tie.Need-returns Inv-loop μ-loop
+returns c =
+    let l = c .before .loop in
+    let a = c .before .before .before .args in
+    let h : length (a .t3) ≤ l .i = omega arith in
+    l .inv .2 ∙ ap (λ (t : List Track). withWords (a .s .now) (a .at) (each trackWords t)) (take-all (l .i) (a .t3) h)
+
+pub put-tracks-spec : {M : Type 1} → statement M
+put-tracks-spec =
+    tie.close
+    (tie.spec
+    Inv-loop
+    μ-loop
+    loop-holds
+    mul-x
+    array-copy-out-x
+    mul-put-track
+    add-put-track
+    put-track-requires
+    add-i
+    loop-less
+    loop-again
+    same-length
+    returns)

@@ -1,0 +1,113 @@
+-- The state block: 26,960 bytes. The small part's words (1,360 bytes), the object infos as they are (22,528), 12 rows of 64 places for pending samples (3,072). Assumes nothing.
+use Prim.Native.Nat.{ℕ, zero, suc, _+_, _*_}
+use mathlib.Core.Bool.{false, cond}
+use mathlib.Core.List.{List, [], _∷_, _++_}
+use lib.Dec.{ltb}
+use lib.ListN.{take, drop, replicate}
+use Rattle.words.specs.Words.{wordsAt, withWord, withLong}
+use Rattle.vectors.specs.declared.Vec3.{Vec3}
+use Rattle.timed.specs.Slot.{middle}
+use Rattle.timed.specs.State.{Timed}
+use Rattle.timed.specs.declared.state.MetadataRendererState.{MetadataRendererState}
+use Rattle.timed.specs.declared.state.ElementRendererState.{ElementRendererState}
+use Rattle.timed.specs.declared.state.DynamicSourceState.{DynamicSourceState}
+use Rattle.timed.specs.declared.state.Track.{Track}
+use Rattle.timed.specs.declared.state.BlockState.{BlockState}
+use Rattle.timed.specs.declared.clock.StreamSample.{StreamSample}
+use Rattle.rules.specs.Parts.{0·0, 1·0, Places, zeros}
+use Rattle.rules.specs.Samples.{Renderer, idle}
+use Rattle.store.specs.declared.Small.{Small}
+use Rattle.store.specs.Table.{bytesOf}
+use Rattle.store.specs.Fields.{smallWords, smallOf}
+
+abbrev pub size : ℕ
+size = 26960
+
+-- ---- a renderer's parts
+
+abbrev pub small : Renderer Timed → Small
+small r =
+    record { rate = r .rate; phase = r .phase; position = r .position; start = r .start; gain = r .gain; filter = r .filter; pending = r .pending; state = r .meta .state }
+
+-- the small part, with infos and places
+abbrev pub joined : Small → List ℕ → Places → Renderer Timed
+joined s is ps =
+    record {
+      rate = s .rate;
+      position = s .position;
+      phase = s .phase;
+      start = s .start;
+      gain = s .gain;
+      filter = s .filter;
+      meta = record { state = s .state; infos = is };
+      pending = s .pending;
+      places = ps;
+    }
+
+-- ---- from a block and to a block
+
+abbrev pub infosOf : List ℕ → List ℕ
+infosOf b = take 22528 (drop 1360 b)
+
+abbrev pub placesOf : List ℕ → Places
+placesOf b c = cond (ltb c 12) (wordsAt b (23888 + 256 * c) 64) []
+
+unfoldable pub decode : List ℕ → Renderer Timed
+unfolding smallOf
+decode b = joined (smallOf (wordsAt b 0 340)) (infosOf b) (placesOf b)
+
+-- n rows from row c on
+unfoldable pub rows : ℕ → ℕ → Places → List ℕ
+unfolding bytesOf
+rows zero c p = []
+rows (suc n) c p = bytesOf (p c) ++ rows n (suc c) p
+
+unfoldable pub encode : Renderer Timed → List ℕ
+unfolding smallWords bytesOf rows
+encode r = bytesOf (smallWords (small r)) ++ (r .meta .infos ++ rows 12 0 (r .places))
+
+-- ---- a fresh renderer
+
+abbrev pub still : Vec3
+still = record { x = 0·0; y = 0·0; z = 0·0 }
+
+abbrev pub noBlocks : ElementRendererState
+noBlocks =
+    record {
+      blocks = 0;
+      flags = 0;
+      remaining = middle;
+      schedule = replicate 8 (record { offset = 0; ramp = 0; used = false });
+      tracks = replicate 16 (record { now = false; future = still });
+    }
+
+-- the timed state before any update
+unfoldable pub blank : Timed
+blank =
+    record {
+      state = record {
+        initialized = false;
+        payload = record { 0 = 0 };
+        objects = 0;
+        isf = 0;
+        beds = 0;
+        elements = 0;
+        codes = replicate 18 0;
+        gains = replicate 18 0·0;
+        states = replicate 2 noBlocks;
+        sources = replicate 16 (record { gain = 0·0; size = 0·0; place = still; placed = false });
+      };
+      infos = replicate 22528 0;
+    }
+
+-- what a block that reset has filled decodes to; `fresh` of the rules, with `blank`
+unfoldable pub fresh : Renderer Timed
+unfolding blank
+fresh = record { rate = 0; position = 0; phase = 0; start = 0; gain = 1·0; filter = idle; meta = blank; pending = 0; places = zeros }
+
+-- its block: zeros, but for the limiter gain 1.0 and the two remaining ramps 0, which stand plus 2^47
+abbrev pub marked : List ℕ → List ℕ
+marked s = withLong (withLong (withWord s 24 0x3f80_0000) 632 middle) 1000 middle
+
+unfoldable pub filled : List ℕ
+filled = marked (replicate size 0)

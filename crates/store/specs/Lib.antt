@@ -1,0 +1,5 @@
+pub mod Table
+pub mod Fields
+pub mod Layout
+pub mod Ranges
+pub mod Ranged

@@ -1,0 +1,58 @@
+// The state block between calls: its small part by value, its ranges, a fresh block.
+ghost use mathlib.Core.Path.{_≡_};
+ghost use lib.ListN.{length, replicate};
+ghost use Rattle.words.specs.Words.{wordsAt};
+ghost use Rattle.store.specs.Fields.{smallOf};
+ghost use Rattle.store.specs.Layout.{size, encode, fresh};
+use lowpass::BiquadLowpassState;
+use timed::state::MetadataRendererState;
+
+pub mod ranges;
+pub mod read;
+pub mod write;
+
+// Bytes of a block.
+pub const SIZE: usize = 26960;
+
+// The part of a renderer that goes from call to call by value: the clock, the limiter's gain, the low-pass, the number of pending samples, the timed state.
+pub struct Small {
+    pub rate: u32,
+    pub phase: u32,
+    pub position: u64,
+    pub start: u64,
+    pub gain: f32,
+    pub filter: BiquadLowpassState,
+    pub pending: u32,
+    pub state: MetadataRendererState,
+}
+
+// The small part of a block.
+pub fn load(state: &[u8]) -> Small
+    requires { ⌜ length (now state) ≡ size ⌝ }
+    ensures { λ r. ⌜ r ≡ smallOf (wordsAt (now (state .entry)) 0 340) ⌝ }
+{
+    let mut w = [0u32; 340];
+    words::get_words(state, 0, &mut w);
+    read::small(&w)
+}
+
+fn zeros(s: &mut [u8])
+    ensures { λ _. ⌜ now (s .exit) ≡ replicate (length (now (s .entry))) 0 ⌝ }
+{
+    let mut i = 0usize;
+    while i < s.len() {
+        s[i] = 0;
+        i += 1;
+    }
+}
+
+// A fresh block: the limiter's gain 1.0, and no ramp left in either element.
+pub fn reset(state: &mut [u8])
+    requires { ⌜ length (now state) ≡ size ⌝ }
+    ensures { λ _. ⌜ now (state .exit) ≡ encode fresh ⌝ }
+{
+    zeros(state);
+    words::put_u32(state, 24, 0x3f80_0000);
+    words::put_u64(state, 632, 140737488355328);
+    words::put_u64(state, 1000, 140737488355328);
+}
