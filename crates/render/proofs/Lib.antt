@@ -1,5 +1,4 @@
 pub mod Mixed
-pub mod Corners
 pub mod Channels
 pub mod Routes
 pub mod Loops

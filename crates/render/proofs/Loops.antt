@@ -9,9 +9,9 @@ use lib.Seq.{drop-cons, drop-length, set-at}
 use lib.Ieee.{Float, nan}
 use Rattle.beds.specs.Matching.{matching}
 use Rattle.timed.specs.declared.state.DynamicSourceState.{DynamicSourceState}
-use Rattle.rules.specs.Mix.{bedTerms, objectTerms}
+use Rattle.rules.specs.Mix.{objectTerms}
 use Rattle.render.specs.Rows.{mixedTerms}
-use Rattle.render.specs.Sources.{bed, bedsOf, sourceOf, sourcesOf, channelRow, mixedFound, mixedBeds, mixedObjects}
+use Rattle.render.specs.Sources.{bed, bedTerms, bedsOf, sourceOf, sourcesOf, channelRow, mixedFound, mixedBeds, mixedObjects}
 
 -- ---- rows set to one value
 
