@@ -8,3 +8,4 @@ pub mod Filters
 pub mod Stores
 pub mod Behind
 pub mod Steps
+pub mod Tables
