@@ -2,7 +2,7 @@
 use mathlib.Core.Path.{_≡_, refl, sym, ap, subst, _∙_}
 use mathlib.Core.Bool.{Bool, true, false, cond}
 use mathlib.Core.List.{List, [], _∷_, _++_}
-use Prim.Native.Nat.{ℕ, zero, suc, _+_, _-_, _*_, _<_, _≤_}
+use Prim.Native.Nat.{ℕ, _+_, _-_, _*_, _<_, _≤_}
 use native.Mathlib.Omega.{arith}
 use borrow.Author.Tests.{eqb-true, eqb-false, ltb-true, ltb-false}
 use lib.Dec.{eqb, ltb}
@@ -16,8 +16,8 @@ use Rattle.mixing.specs.Sums.{plus, total}
 use Rattle.mixing.proofs.Laws.{length-full}
 use Rattle.mixing.proofs.Rows.{full-at, total-append}
 use Rattle.mixing.proofs.Parts.{length-part, part-before, part-within, part-past}
-use Rattle.panning.specs.Terms.{Term, term}
-use Rattle.rules.specs.Mix.{scaledOn}
+use Rattle.panning.specs.Terms.{Term, onChannel}
+use Rattle.rules.specs.Mix.{scaledBy}
 use Rattle.render.specs.Rows.{mixedTerm, mixedTerms}
 
 -- `new` is `os` with the terms of `G` added: `G c i` at place i of channel c's row, for the first k places of each row
@@ -43,6 +43,10 @@ module _ (k : ℕ) where
   pub adds-as : (G H : ℕ → ℕ → List sums.Term) (os new : List Float) → ((c i : ℕ) → c < 12 → i < k → G c i ≡ H c i) → Adds k G os new → Adds k H os new
   adds-as G H os new e g =
       record { whole = g .whole; at = λ c i l m. g .at c i l m ∙ ap (total (getD os (64 * c + i) nan)) (e c i l m); past = g .past }
+
+-- a source's terms on channel c, each with the sample x
+abbrev pub scaledOn : ℕ → List Term → Float → List sums.Term
+scaledOn c ts x = scaledBy (onChannel c ts) x
 
 -- ---- one term
 
@@ -104,6 +108,7 @@ module _ (xs : List Float) (short : length xs ≤ 64) (t : Term) (os : List Floa
       ∙ ap (λ (s : Float). plus s (record { coef = t .coefficient; sample = getD xs i nan })) (getD-take (length xs) (drop b os) i nan l ∙ getD-drop b os i nan)
 
   pub adds-term : Adds (length xs) (λ c i. scaledOn c (t ∷ []) (getD xs i nan)) os (mixedTerm xs t os)
+  unfolding onChannel
   adds-term = record {
     whole = term-length;
     at = λ c i l m. go c i l m (eqb c (t .channel)) refl;
@@ -111,7 +116,7 @@ module _ (xs : List Float) (short : length xs ≤ 64) (t : Term) (os : List Floa
   }
     where
       go : (c i : ℕ) → c < 12 → i < length xs → (b : Bool) → eqb c (t .channel) ≡ b
-          → getD (mixedTerm xs t os) (64 * c + i) nan ≡ total (getD os (64 * c + i) nan) (cond b (record { coef = t .coefficient; sample = getD xs i nan } ∷ []) [])
+          → getD (mixedTerm xs t os) (64 * c + i) nan ≡ total (getD os (64 * c + i) nan) (scaledBy (cond b (t .coefficient ∷ []) []) (getD xs i nan))
       go c i l m true e =
           let q : t .channel ≡ c = sym (eqb-true c (t .channel) e) in
           subst (λ (d : ℕ). getD (mixedTerm xs t os) (64 * d + i) nan ≡ plus (getD os (64 * d + i) nan) (record { coef = t .coefficient; sample = getD xs i nan })) q
@@ -123,14 +128,16 @@ module _ (xs : List Float) (short : length xs ≤ 64) (t : Term) (os : List Floa
 -- ---- the terms of a source
 
 scaled-cons : (c : ℕ) (t : Term) (ts : List Term) (x : Float) → scaledOn c (t ∷ []) x ++ scaledOn c ts x ≡ scaledOn c (t ∷ ts) x
+unfolding onChannel
 scaled-cons c t ts x = go (eqb c (t .channel))
   where
-    go : (b : Bool) → cond b (record { coef = t .coefficient; sample = x } ∷ []) [] ++ scaledOn c ts x ≡ cond b (record { coef = t .coefficient; sample = x } ∷ scaledOn c ts x) (scaledOn c ts x)
+    go : (b : Bool) → scaledBy (cond b (t .coefficient ∷ []) []) x ++ scaledOn c ts x ≡ scaledBy (cond b (t .coefficient ∷ onChannel c ts) (onChannel c ts)) x
     go true = refl
     go false = refl
 
 pub adds-terms : (xs : List Float) → length xs ≤ 64 → (ts : List Term) (os : List Float) → length os ≡ 768
     → Adds (length xs) (λ c i. scaledOn c ts (getD xs i nan)) os (mixedTerms xs ts os)
+unfolding onChannel
 adds-terms xs short [] os h = adds-none (length xs) os h
 adds-terms xs short (t ∷ ts) os h =
     let a = adds-term xs short t os h in

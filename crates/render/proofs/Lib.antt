@@ -1,7 +1,11 @@
 pub mod Mixed
-pub mod Corners
 pub mod Channels
 pub mod Routes
 pub mod Loops
 pub mod Adds
 pub mod Moments
+pub mod Filters
+pub mod Stores
+pub mod Behind
+pub mod Steps
+pub mod Tables

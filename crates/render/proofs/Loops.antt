@@ -1,17 +1,17 @@
 -- One bed and one object more of their loops: what is left to mix still gives `end`. Assumes nothing.
 use mathlib.Core.Path.{_≡_, refl, sym, ap, _∙_}
 use mathlib.Core.List.{List, [], _∷_, _++_, append-nil}
-use Prim.Native.Nat.{ℕ, zero, suc, _+_, _-_, _*_, _<_, _≤_}
+use Prim.Native.Nat.{ℕ, zero, suc, _+_, _-_, _<_, _≤_}
 use native.Mathlib.Omega.{arith}
 use native.Mathlib.Numerals.{add-one}
-use lib.ListN.{length, getD, set, take, drop, replicate, length-replicate}
+use lib.ListN.{length, getD, set, drop, replicate, length-replicate}
 use lib.Seq.{drop-cons, drop-length, set-at}
 use lib.Ieee.{Float, nan}
 use Rattle.beds.specs.Matching.{matching}
 use Rattle.timed.specs.declared.state.DynamicSourceState.{DynamicSourceState}
-use Rattle.rules.specs.Mix.{bedTerms, objectTerms}
+use Rattle.rules.specs.Mix.{objectTerms}
 use Rattle.render.specs.Rows.{mixedTerms}
-use Rattle.render.specs.Sources.{bed, bedsOf, sourceOf, sourcesOf, channelRow, mixedFound, mixedBeds, mixedObjects}
+use Rattle.render.specs.Sources.{bed, bedTerms, bedsOf, sourceOf, sourcesOf, channelRow, mixedFound, mixedBeds, mixedObjects}
 
 -- ---- rows set to one value
 

@@ -2,13 +2,13 @@
 use mathlib.Core.Path.{_≡_, refl, sym, ap, _∙_}
 use mathlib.Core.Bool.{Bool, true, false, cond, not}
 use mathlib.Core.List.{List, [], _∷_, _++_}
-use Prim.Native.Nat.{ℕ, zero, suc, _+_, _-_, _*_, _<_, _≤_}
+use Prim.Native.Nat.{ℕ, suc, _+_, _-_, _*_, _<_, _≤_}
 use native.Mathlib.Omega.{arith}
 use native.Mathlib.Numerals.{add-one}
 use lib.ListN.{length, getD, take, drop, take-append-drop, drop-of-length-le}
 use lib.Seq.{drop-cons}
-use lib.Ieee.{Float, nan, binary32, ofBits, eq, ne}
-use Rattle.mixing.specs.Mixing.{0·0, mixedFull}
+use lib.Ieee.{Float, nan, ofBits, eq, ne}
+use Rattle.mixing.specs.Mixing.{0·0}
 use Rattle.mixing.specs.Part.{onPart}
 use Rattle.mixing.proofs.Laws.{full-zero}
 use Rattle.panning.specs.Terms.{Term, term, terms, audible, paired, spread}

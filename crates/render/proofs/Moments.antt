@@ -14,14 +14,15 @@ use Rattle.mixing.proofs.Laws.{length-samples, sample-at}
 use Rattle.beds.specs.declared.Found.{Found}
 use Rattle.beds.specs.declared.Found.the-variants.{At, Nothing}
 use Rattle.beds.specs.Matching.{matching}
-use Rattle.panning.specs.Terms.{Term}
+use Rattle.panning.specs.Terms.{Term, onChannel}
 use Rattle.rules.specs.Parts.{0·0}
 use Rattle.rules.specs.Leaves.{Source, Bed}
-use Rattle.rules.specs.Mix.{objectTerms, bedTerms, sampleAt, samplesAt, scaledOn, fedBy, bedsOn, objectsOn, Moment, heard}
+use Rattle.rules.specs.Mix.{objectTerms, addsOf, sampleAt, samplesAt, scaledBy, fedBy, bedsOn, objectsOn, Moment, heard}
 use Rattle.render.specs.Rows.{mixedTerms}
-use Rattle.render.specs.Sources.{channelRow, mixedFound, mixedBeds, mixedObjects}
+use Rattle.render.specs.Sources.{bedTerms, channelRow, mixedFound, mixedBeds, mixedObjects}
 use Rattle.render.specs.Run.{momentAt, column, Heard}
-use Rattle.render.proofs.Adds.{Adds, adds-none, adds-then, adds-as, adds-terms}
+use Rattle.render.proofs.Routes.{bed-adds}
+use Rattle.render.proofs.Adds.{Adds, scaledOn, adds-none, adds-then, adds-as, adds-terms}
 
 -- ---- columns
 
@@ -52,10 +53,10 @@ module _ (pcm : List ℕ) (n t k : ℕ) (short : k ≤ 64) where
       let xs = channelRow pcm n t k j in
       let e : length xs ≡ k = length-samples pcm (4 * (j * n + t)) k in
       let G : ℕ → ℕ → List sums.Term = λ c i. scaledOn c ts (getD xs i nan) in
-      adds-as k G (λ c i. scaledOn c ts (sampleAt pcm n j (t + i))) os (mixedTerms xs ts os) (λ c i l m. ap (scaledOn c ts) (sample i j m))
+      adds-as k G (λ c i. scaledOn c ts (sampleAt pcm n j (t + i))) os (mixedTerms xs ts os) (λ c i l m. ap (scaledBy (onChannel c ts)) (sample i j m))
       (subst (λ (m : ℕ). Adds m G os (mixedTerms xs ts os)) e (adds-terms xs (omega arith) ts os h))
 
-  adds-found : (ts : List Term) (f : Found) (os : List Float) → length os ≡ 768 → Adds k (λ c i. fedBy c ts f (λ j. sampleAt pcm n j (t + i))) os (mixedFound pcm n t k ts f os)
+  adds-found : (ts : List Term) (f : Found) (os : List Float) → length os ≡ 768 → Adds k (λ c i. fedBy (onChannel c ts) f (λ j. sampleAt pcm n j (t + i))) os (mixedFound pcm n t k ts f os)
   adds-found ts (At j) os h = adds-row j ts os h
   adds-found ts Nothing os h = adds-none k os h
 
@@ -64,9 +65,12 @@ module _ (pcm : List ℕ) (n t k : ℕ) (short : k ≤ 64) where
   adds-beds codes (b ∷ bs) os h =
       let f = matching (b .code) codes in
       let mid = mixedFound pcm n t k (bedTerms b) f os in
-      let a = adds-found (bedTerms b) f os h in
-      adds-then k (λ c i. fedBy c (bedTerms b) f (λ j. sampleAt pcm n j (t + i))) (λ c i. bedsOn c bs codes (λ j. sampleAt pcm n j (t + i))) os mid
-      (mixedBeds pcm n t k codes bs mid) a (adds-beds codes bs mid (a .whole))
+      let G : ℕ → ℕ → List sums.Term = λ c i. fedBy (addsOf b c) f (λ j. sampleAt pcm n j (t + i)) in
+      let a =
+      adds-as k (λ c i. fedBy (onChannel c (bedTerms b)) f (λ j. sampleAt pcm n j (t + i))) G os mid
+      (λ c i l m. ap (λ (ks : List Float). fedBy ks f (λ j. sampleAt pcm n j (t + i))) (bed-adds b c)) (adds-found (bedTerms b) f os h)
+      in
+      adds-then k G (λ c i. bedsOn c bs codes (λ j. sampleAt pcm n j (t + i))) os mid (mixedBeds pcm n t k codes bs mid) a (adds-beds codes bs mid (a .whole))
 
   adds-objects : (j : ℕ) (ss : List Source) (os : List Float) → length os ≡ 768
       → Adds k (λ c i. objectsOn c ss (samplesAt pcm n (length ss) j (t + i))) os (mixedObjects pcm n t k j ss os)

@@ -1,19 +1,25 @@
 -- A bed by its route and by the input that feeds it. Assumes nothing.
-use mathlib.Core.Path.{_≡_, sym, ap, subst, _∙_}
+use mathlib.Core.Path.{_≡_, refl, sym, ap, subst, _∙_}
 use mathlib.Core.List.{List}
 use Prim.Native.Nat.{ℕ, _<_}
 use lib.ListN.{length}
 use lib.Ieee.{Float}
 use Rattle.beds.specs.declared.Route.{Route}
+use Rattle.beds.specs.declared.Route.the-variants.{Bass, Folded, Direct, Unsupported}
 use Rattle.beds.specs.declared.Found.{Found}
 use Rattle.beds.specs.declared.Found.the-variants.{At}
 use Rattle.beds.specs.Routes.{routeOf}
+use Rattle.beds.specs.Positions.{bedPosition}
+use Rattle.beds.specs.Terms.{routed, bedAdds}
 use Rattle.beds.specs.Matching.{matching}
 use Rattle.beds.proofs.Matches.{Judged, judged}
-use Rattle.panning.specs.Terms.{Term}
-use Rattle.rules.specs.Mix.{routeTerms, bedTerms}
+use Rattle.panning.specs.Terms.{Term, onChannel}
+use Rattle.panning.specs.Hall.{pan714}
+use Rattle.rules.specs.Parts.{0·0}
+use Rattle.rules.specs.Leaves.{Bed}
+use Rattle.rules.specs.Mix.{addsOf}
 use Rattle.render.specs.Rows.{mixedTerms}
-use Rattle.render.specs.Sources.{bed, mixedFound}
+use Rattle.render.specs.Sources.{bed, routeTerms, bedTerms, mixedFound}
 
 pub by-route : (xs os : List Float) (code : ℕ) (gain : Float) {r : Route} {new : List Float} → routeOf code ≡ r → new ≡ mixedTerms xs (routeTerms r code gain) os
     → new ≡ mixedTerms xs (bedTerms (bed code gain)) os
@@ -26,3 +32,14 @@ by-found pcm n t k ts os e p = p ∙ ap (λ (g : Found). mixedFound pcm n t k ts
 -- what is found is one of the inputs
 pub found-inside : (code : ℕ) (codes : List ℕ) {i : ℕ} → matching code codes ≡ At i → i < length codes
 found-inside code codes e = subst (Judged code codes) e (judged code codes) .0
+
+-- on each channel a bed's terms have the coefficients that the rules add
+pub bed-adds : (b : Bed) (c : ℕ) → onChannel c (bedTerms b) ≡ addsOf b c
+unfolding bedAdds routeTerms onChannel
+bed-adds b c = go (routeOf (b .code))
+  where
+    go : (r : Route) → onChannel c (routeTerms r (b .code) (b .gain)) ≡ routed (λ p g d. pan714 p g 0·0 d) (bedPosition (b .code)) r (b .gain) c
+    go Bass = refl
+    go Folded = refl
+    go (Direct k) = refl
+    go Unsupported = refl

@@ -4,13 +4,19 @@ use mathlib.Core.List.{List, [], _∷_, map}
 use lib.ListN.{length, take}
 use lib.Ieee.{Float}
 use Rattle.mixing.specs.Samples.{samples, Plain}
+use Rattle.beds.specs.declared.Route.{Route}
+use Rattle.beds.specs.declared.Route.the-variants.{Bass, Folded, Direct, Unsupported}
 use Rattle.beds.specs.declared.Found.{Found}
 use Rattle.beds.specs.declared.Found.the-variants.{At, Nothing}
+use Rattle.beds.specs.Routes.{routeOf, bassGain}
+use Rattle.beds.specs.Positions.{bedPosition}
 use Rattle.beds.specs.Matching.{matching}
-use Rattle.panning.specs.Terms.{Term}
+use Rattle.panning.specs.Terms.{Term, term}
+use Rattle.panning.specs.Hall.{terms714}
 use Rattle.timed.specs.declared.state.DynamicSourceState.{DynamicSourceState}
+use Rattle.rules.specs.Parts.{0·0}
 use Rattle.rules.specs.Leaves.{Source, Bed}
-use Rattle.rules.specs.Mix.{objectTerms, bedTerms}
+use Rattle.rules.specs.Mix.{objectTerms}
 use Rattle.render.specs.Rows.{mixedTerms}
 
 -- ---- tables with counts
@@ -33,6 +39,16 @@ sourceOf d = record { gain = d .gain; size = d .size; place = d .place }
 -- the first m of a table of objects
 abbrev pub sourcesOf : ℕ → List DynamicSourceState → List Source
 sourcesOf m ds = map sourceOf (take m ds)
+
+-- the terms of a bed, by its route: on each channel the coefficients of the rules' `addsOf`
+unfoldable pub routeTerms : Route → ℕ → Float → List Term
+routeTerms Bass code gain = term 3 (bassGain gain) ∷ []
+routeTerms Folded code gain = terms714 (bedPosition code) gain 0·0
+routeTerms (Direct k) code gain = term k gain ∷ []
+routeTerms Unsupported code gain = []
+
+abbrev pub bedTerms : Bed → List Term
+bedTerms b = routeTerms (routeOf (b .code)) (b .code) (b .gain)
 
 -- ---- what a push that no refusal turned away gives
 

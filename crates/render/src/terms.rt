@@ -1,8 +1,8 @@
 // The terms of one source, mixed one after another into twelve rows of 64 places.
 ghost use mathlib.Core.Path.{_≡_};
 ghost use Prim.Native.Nat.{_-_, _<_, _≤_};
-ghost use Rattle.panning.specs.Hall.{hall714, fullRange, 12·0};
-ghost use Rattle.panning.specs.Terms.{term, terms, paired, spread, panned};
+ghost use Rattle.panning.specs.Hall.{fullRange, terms714};
+ghost use Rattle.panning.specs.Terms.{term, paired, spread};
 ghost use Rattle.render.specs.Rows.{Sized, Inside, upFrom, mixedTerm, mixedTerms};
 use vectors::Vec3;
 
@@ -53,7 +53,7 @@ fn mix_corners(rows: &mut [f32], samples: &[f32], corners: [usize; 8], coefficie
 // A source at a place: panned once, then the size's part and the corners.
 pub fn mix_object(rows: &mut [f32], samples: &[f32], place: Vec3, gain: f32, size: f32)
     requires { ⌜ Sized (now samples) (now rows) ⌝ }
-    ensures { λ _. ⌜ now (rows .exit) ≡ mixedTerms (now (samples .entry)) (terms fullRange (panned hall714 fullRange 12·0 place gain size)) (now (rows .entry)) ⌝ }
+    ensures { λ _. ⌜ now (rows .exit) ≡ mixedTerms (now (samples .entry)) (terms714 place gain size) (now (rows .entry)) ⌝ }
 {
     let p = panning::pan(place, gain, size);
     let corners = p.corners;

@@ -5,9 +5,8 @@ use mathlib.Core.List.{List}
 use native.Mathlib.Omega.{arith}
 use lib.ListN.{length}
 use lib.Ieee.{Float}
-use Rattle.rules.specs.Mix.{bedTerms}
 use Rattle.render.specs.Rows.{mixedTerms}
-use Rattle.render.specs.Sources.{bed}
+use Rattle.render.specs.Sources.{bed, bedTerms}
 use Rattle.render.proofs.Channels.{reached, row-start, row-length}
 use Rattle.render.proofs.Routes.{by-found, found-inside}
 use Rattle.render.proofs.sources.mix_bed.Statement.{statement}

@@ -4,10 +4,10 @@ use mathlib.Core.Path.{refl, sym, ap, _∙_}
 use lib.Ieee.{Float, ofBits}
 use Rattle.vectors.specs.declared.Vec3.{Vec3}
 use Rattle.beds.proofs.Channels.{direct-channel}
-use Rattle.panning.specs.Hall.{hall714, fullRange, 12·0}
-use Rattle.panning.specs.Terms.{term, terms, panned}
+use Rattle.panning.specs.Hall.{terms714}
+use Rattle.panning.specs.Terms.{term}
 use Rattle.rules.specs.Parts.{0·0}
-use Rattle.rules.specs.Mix.{routeTerms}
+use Rattle.render.specs.Sources.{routeTerms}
 use Rattle.render.specs.Rows.{mixedTerm, mixedTerms}
 use Rattle.render.proofs.Routes.{by-route}
 use Rattle.render.proofs.sources.mix_routed.Statement.{statement}
@@ -56,7 +56,7 @@ returns-2 c =
     let xs = a .samples .now in
     let os = a .rows .now in
     by-route xs os (a .code) (a .gain) (sym (c .before .before .before .before .before .before .before .route-of .ensures) ∙ c .before .before .before .before .before .enum-told2 .given .1)
-    (c .before .before .mix-object .ensures ∙ ap (λ (p : Vec3). mixedTerms xs (terms fullRange (panned hall714 fullRange 12·0 p (a .gain) 0·0)) os) (c .before .before .before .bed-channel-position .ensures))
+    (c .before .before .mix-object .ensures ∙ ap (λ (p : Vec3). mixedTerms xs (terms714 p (a .gain) 0·0) os) (c .before .before .before .bed-channel-position .ensures))
 
 enum-known-route : tie.Need-enum-known-route
 enum-known-route c = search needs

@@ -1,14 +1,11 @@
 -- `mix_object`: the terms of what `pan` answers.
 use borrow.Author.Needs.{needs}
-use mathlib.Core.Path.{ap, subst⁻¹, _∙_}
-use lib.Dec.{T}
-use lib.Ieee.{binary32, fits}
+use mathlib.Core.Path.{ap, _∙_}
 use Rattle.panning.specs.declared.Panned.{Panned}
 use Rattle.panning.specs.Hall.{fullRange}
 use Rattle.panning.specs.Terms.{terms, paired}
-use Rattle.render.specs.Rows.{Inside, mixedTerms}
+use Rattle.render.specs.Rows.{mixedTerms}
 use Rattle.render.proofs.Mixed.{mixed-panned}
-use Rattle.render.proofs.Corners.{panned-inside}
 use Rattle.render.proofs.terms.mix_object.Statement.{statement}
 use Rattle.render.proofs.terms.mix_object.Tie as tie
 
@@ -19,10 +16,7 @@ mix-spread-requires : tie.Need-mix-spread-requires
 mix-spread-requires c κs = search needs
 
 mix-corners-requires : tie.Need-mix-corners-requires
-mix-corners-requires c κs =
-    let s = c .before .before .before .before .before .before .before .before .before .before in
-    let w : T (fits binary32 (s .args .place .x)) = search (needs, s .good .1 .1 .0) in
-    (search needs, subst⁻¹ (λ (p : Panned). Inside (p .corners)) (c .before .before .before .before .before .before .before .pan .ensures) (panned-inside (s .args .place) w (s .args .gain) (s .args .size)))
+mix-corners-requires c κs = (search needs, c .before .before .before .before .before .before .before .pan .ensures .less)
 
 same-length : tie.Need-same-length
 same-length c = search needs
@@ -35,7 +29,7 @@ returns c =
     c .before .before .mix-corners .ensures
     ∙ ap (mixedTerms xs (paired (p .corners) (p .coefficients))) (c .before .before .before .before .before .before .mix-spread .ensures)
     ∙ mixed-panned xs fullRange p (a .rows .now)
-    ∙ ap (λ (q : Panned). mixedTerms xs (terms fullRange q) (a .rows .now)) (c .before .before .before .before .before .before .before .before .before .before .pan .ensures)
+    ∙ ap (λ (q : Panned). mixedTerms xs (terms fullRange q) (a .rows .now)) (c .before .before .before .before .before .before .before .before .before .before .pan .ensures .is)
 
 pub mix-object-spec : {M : Type 1} → statement M
 mix-object-spec =

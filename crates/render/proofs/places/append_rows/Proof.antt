@@ -1,0 +1,90 @@
+-- `append_rows`: what is left to write from a channel on still gives the whole.
+use borrow.Author.Needs.{needs}
+use mathlib.Core.Path.{_≡_}
+use native.Mathlib.Omega.{arith}
+use Prim.Native.Nat.{_+_, _*_}
+use lib.ListN.{length, drop}
+use Rattle.limiter.specs.Limiter.{channels}
+use Rattle.limiter.specs.Places.{withChannels}
+use Rattle.render.proofs.Stores.{channel-step, channels-done}
+use Rattle.render.proofs.places.append_rows.Statement.{statement}
+use Rattle.render.proofs.places.append_rows.Tie as tie
+
+abbrev Inv-loop : tie.InvT-loop
+Inv-loop rows places₀ pending k from₀ to₀ left₀ places from to left = (from + 64 * left ≡ 768) × (to + 256 * left ≡ 3072 + 4 * pending) × (length places ≡ length places₀) × (withChannels (channels left k (drop from rows)) 256 to places ≡ withChannels (channels 12 k rows) 256 (4 * pending) places₀)
+
+abbrev μ-loop : tie.MeasureT-loop
+μ-loop rows places₀ pending k from₀ to₀ left₀ places from to left = left
+
+mul-to : tie.Need-mul-to Inv-loop μ-loop
+mul-to c = search needs
+
+loop-holds : tie.Need-loop-holds Inv-loop μ-loop
+loop-holds c = search needs
+
+add-end : tie.Need-add-end Inv-loop μ-loop
+add-end c = search needs
+
+mul-store-samples : tie.Need-mul-store-samples Inv-loop μ-loop
+mul-store-samples c = search needs
+
+sub-store-samples : tie.Need-sub-store-samples Inv-loop μ-loop
+sub-store-samples c = search needs
+
+part-store-samples-start : tie.Need-part-store-samples-start Inv-loop μ-loop
+part-store-samples-start c = search needs
+
+part-store-samples-end : tie.Need-part-store-samples-end Inv-loop μ-loop
+part-store-samples-end c = search needs
+
+store-samples-requires : tie.Need-store-samples-requires Inv-loop μ-loop
+store-samples-requires c κs = search needs
+
+add-from : tie.Need-add-from Inv-loop μ-loop
+add-from c = search needs
+
+add-to : tie.Need-add-to Inv-loop μ-loop
+add-to c = search needs
+
+sub-left : tie.Need-sub-left Inv-loop μ-loop
+sub-left c = search needs
+
+loop-less : tie.Need-loop-less Inv-loop μ-loop
+loop-less c = search needs
+
+loop-again : tie.Need-loop-again Inv-loop μ-loop
+loop-again c =
+    let l = c .before .before .before .before .before .before in
+    let a = l .before .before .before .args in
+    (search needs, search needs, search needs, channel-step (l .loop .from) (l .loop .to) (l .loop .left) (a .k) (a .rows .now) (l .loop .places) (omega arith) (c .before .before .store-samples .ensures) (l .loop .inv .3))
+
+same-length : tie.Need-same-length Inv-loop μ-loop
+same-length c = search needs
+
+returns : tie.Need-returns Inv-loop μ-loop
+returns c =
+    let l = c .before in
+    let a = l .before .before .before .args in
+    channels-done (l .loop .to) (l .loop .left) (a .k) (drop (l .loop .from) (a .rows .now)) (l .loop .places) (omega arith) (l .loop .inv .3)
+
+pub append-rows-spec : {M : Type 1} → statement M
+append-rows-spec =
+    tie.close
+    (tie.spec
+    Inv-loop
+    μ-loop
+    mul-to
+    loop-holds
+    add-end
+    mul-store-samples
+    sub-store-samples
+    part-store-samples-start
+    part-store-samples-end
+    store-samples-requires
+    add-from
+    add-to
+    sub-left
+    loop-less
+    loop-again
+    same-length
+    returns)

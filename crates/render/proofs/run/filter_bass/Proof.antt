@@ -1,0 +1,51 @@
+-- `filter_bass`: the part that was lent comes back filtered.
+use borrow.Author.Needs.{needs}
+use mathlib.Core.Path.{_≡_, ap, _∙_}
+use native.Mathlib.Omega.{arith}
+use Prim.Native.Nat.{ℕ, _+_, _-_}
+use lib.ListN.{take, drop}
+use Rattle.mixing.proofs.Parts.{part-back}
+use Rattle.lowpass.specs.Lowpass.{filtered, afterAll}
+use Rattle.render.proofs.run.filter_bass.Statement.{statement}
+use Rattle.render.proofs.run.filter_bass.Tie as tie
+
+add-end : tie.Need-add-end
+add-end c = search needs
+
+mul-process-in-place : tie.Need-mul-process-in-place
+mul-process-in-place c = search needs
+
+sub-process-in-place : tie.Need-sub-process-in-place
+sub-process-in-place c = search needs
+
+part-process-in-place-start : tie.Need-part-process-in-place-start
+part-process-in-place-start c = search needs
+
+part-process-in-place-end : tie.Need-part-process-in-place-end
+part-process-in-place-end c = search needs
+
+process-in-place-requires : tie.Need-process-in-place-requires
+process-in-place-requires c κs = search needs
+
+same-length : tie.Need-same-length
+same-length c = search needs
+
+returns : tie.Need-returns
+returns c =
+    let a = c .before .before .before .before .before .args in
+    let p = c .before .before .process-in-place in
+    let e : 192 + a .k - 192 ≡ a .k = omega arith in
+    (p .ensures .0 ∙ ap (λ (n : ℕ). afterAll (a .filter) (take n (drop 192 (a .rows .now)))) e, part-back (filtered (a .filter)) 192 (a .k) (a .rows .now) (p .last .1 .0) (p .ensures .1))
+
+pub filter-bass-spec : {M : Type 1} → statement M
+filter-bass-spec =
+    tie.close
+    (tie.spec
+    add-end
+    mul-process-in-place
+    sub-process-in-place
+    part-process-in-place-start
+    part-process-in-place-end
+    process-in-place-requires
+    same-length
+    returns)
