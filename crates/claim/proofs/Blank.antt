@@ -28,6 +28,9 @@ same-at zero i = refl
 same-at (suc n) zero = refl
 same-at (suc n) (suc i) = same-at n i
 
+pub zero-bytes : (n : ℕ) → Bytes (replicate n 0)
+zero-bytes n i = subst (λ (x : ℕ). x < 256) (sym (same-at n i)) (lit< tt)
+
 zero-number : (n at k : ℕ) → number (replicate n 0) at k ≡ 0
 unfolding number
 zero-number n at zero = refl
@@ -41,7 +44,7 @@ infos-blank n e =
   table-sound (replicate n 0)
   (record {
     long = length-replicate {A = ℕ} n 0 ∙ e;
-    bytes = λ i. subst (λ (x : ℕ). x < 256) (sym (same-at n i)) (lit< tt);
+    bytes = zero-bytes n;
     each = λ k l. nothing-said _ _ _ (zero-number n (44 * k) 4);
   })
 

@@ -1,7 +1,8 @@
 -- Document 01, demand 3, closed: for every list of calls, on the real timed state, metadata and state block. Assumes nothing.
 use mathlib.Core.Path.{refl}
-use Rattle.rules.specs.Claim.{EveryList}
+use Rattle.rules.specs.Claim.{EveryList, Keeps}
 use Rattle.rules.proofs.Facts.{Facts}
+use Rattle.rules.proofs.Keeps as rules
 use Rattle.rules.proofs.Theorem.{every-list}
 use Rattle.claim.specs.Hall.{hall, block}
 use Rattle.claim.proofs.Sound.{Sound, Within}
@@ -43,3 +44,7 @@ facts =
 
 pub demand3 : EveryList hall block
 demand3 = every-list hall block facts
+
+-- a call that is accepted, on a block of any bytes, leaves a valid block
+pub keeps : Keeps hall block
+keeps = rules.keeps hall block facts
