@@ -41,12 +41,12 @@ nothing-said h g z e = subst (λ (x : ℕ). SoundSaid x g z) (sym e) (tt, tt)
 
 infos-blank : (n : ℕ) → n ≡ 22528 → InfosSound (replicate n 0)
 infos-blank n e =
-  table-sound (replicate n 0)
-  (record {
-    long = length-replicate {A = ℕ} n 0 ∙ e;
-    bytes = zero-bytes n;
-    each = λ k l. nothing-said _ _ _ (zero-number n (44 * k) 4);
-  })
+    table-sound (replicate n 0)
+    (record {
+      long = length-replicate {A = ℕ} n 0 ∙ e;
+      bytes = zero-bytes n;
+      each = λ k l. nothing-said _ _ _ (zero-number n (44 * k) 4);
+    })
 
 zero-gain : T (between 0·0 8·0 0·0)
 unfolding between fits le
@@ -69,19 +69,19 @@ element-blank e l = getD-replicate 2 e noBlocks noElement l
 pub sound-blank : Sound blank
 unfolding blank
 sound-blank =
-  record {
-    beds = lit≤ tt;
-    objects = lit≤ tt;
-    codes = refl;
-    states = refl;
-    gains = λ k l. subst (λ (x : Float). T (between 0·0 8·0 x)) (sym (getD-replicate 18 k 0·0 nan l)) zero-gain;
-    sources = λ d l. subst SourceSound (sym (getD-replicate 16 d (record { gain = 0·0; size = 0·0; place = still; placed = false }) noSource l))
-        (record { gain = zero-gain; size = zero-size; place = still-fits });
-    tracks = λ e l. subst (λ (x : ElementRendererState). length (x .tracks) ≡ 16) (sym (element-blank e l)) refl;
-    targets = λ e d l q. subst (λ (x : ElementRendererState). Position (getD (x .tracks) d noTrack .future)) (sym (element-blank e l))
-        (subst (λ (t : Track). Position (t .future)) (sym (getD-replicate 16 d (record { now = false; future = still }) noTrack q)) still-fits);
-    infos = infos-blank 22528 refl;
-  }
+    record {
+      beds = lit≤ tt;
+      objects = lit≤ tt;
+      codes = refl;
+      states = refl;
+      gains = λ k l. subst (λ (x : Float). T (between 0·0 8·0 x)) (sym (getD-replicate 18 k 0·0 nan l)) zero-gain;
+      sources = λ d l. subst SourceSound (sym (getD-replicate 16 d (record { gain = 0·0; size = 0·0; place = still; placed = false }) noSource l))
+          (record { gain = zero-gain; size = zero-size; place = still-fits });
+      tracks = λ e l. subst (λ (x : ElementRendererState). length (x .tracks) ≡ 16) (sym (element-blank e l)) refl;
+      targets = λ e d l q. subst (λ (x : ElementRendererState). Position (getD (x .tracks) d noTrack .future)) (sym (element-blank e l))
+          (subst (λ (t : Track). Position (t .future)) (sym (getD-replicate 16 d (record { now = false; future = still }) noTrack q)) still-fits);
+      infos = infos-blank 22528 refl;
+    }
 
 pub within-blank : Within 0 blank
 unfolding fresh
@@ -89,18 +89,18 @@ within-blank = record { state = fresh-ranged .state; infos = fresh-ranged .infos
 
 pub within-later : (n k : ℕ) (m : Timed) → n ≤ k → Within n m → Within k m
 within-later n k m l h =
-  let s = h .state in
-  record {
-    state = record {
-      within = timed′.within-later n k (m .state) l (s .within);
-      codes = s .codes;
-      listed = s .listed;
-      gains = s .gains;
-      beds = s .beds;
-      sources = s .sources;
-      objects = s .objects;
-      states = s .states;
-      elements = s .elements;
-    };
-    infos = h .infos;
-  }
+    let s = h .state in
+    record {
+      state = record {
+        within = timed′.within-later n k (m .state) l (s .within);
+        codes = s .codes;
+        listed = s .listed;
+        gains = s .gains;
+        beds = s .beds;
+        sources = s .sources;
+        objects = s .objects;
+        states = s .states;
+        elements = s .elements;
+      };
+      infos = h .infos;
+    }

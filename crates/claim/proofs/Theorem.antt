@@ -17,30 +17,30 @@ use Rattle.claim.proofs.Blocks.{size-of, valid-of, back-of, decoded-of}
 -- what the rules take from the crates `timed`, `updates`, `records` and `store`
 pub facts : Facts hall block
 facts =
-  record {
-    Checked = Checked;
-    checked = checked;
-    Sound = Sound;
-    sound-blank = sound-blank;
-    sound-apply = sound-apply;
-    sound-slot = sound-slot;
-    mixable = mixable;
-    shape-apply = shape-apply;
-    sent-started = λ u c. refl;
-    shape-slot = λ n m h. shape-slot n m;
-    shape-objects = λ m h e. shape-objects m;
-    Within = Within;
-    within-blank = within-blank;
-    within-later = within-later;
-    within-apply = within-apply;
-    within-slot = within-slot;
-    counts-apply = counts-apply;
-    counts-slot = λ n start m h. counts-slot start m;
-    size = size-of;
-    valid = valid-of;
-    back = back-of;
-    decoded = decoded-of;
-  }
+    record {
+      Checked = Checked;
+      checked = checked;
+      Sound = Sound;
+      sound-blank = sound-blank;
+      sound-apply = sound-apply;
+      sound-slot = sound-slot;
+      mixable = mixable;
+      shape-apply = shape-apply;
+      sent-started = λ u c. refl;
+      shape-slot = λ n m h. shape-slot n m;
+      shape-objects = λ m h e. shape-objects m;
+      Within = Within;
+      within-blank = within-blank;
+      within-later = within-later;
+      within-apply = within-apply;
+      within-slot = within-slot;
+      counts-apply = counts-apply;
+      counts-slot = λ n start m h. counts-slot start m;
+      size = size-of;
+      valid = valid-of;
+      back = back-of;
+      decoded = decoded-of;
+    }
 
 pub demand3 : EveryList hall block
 demand3 = every-list hall block facts
