@@ -4,7 +4,6 @@ mod probe_angles;
 mod probe_beds;
 mod probe_ieee;
 mod probe_limiter;
-mod probe_beds;
 mod probe_lowpass;
 mod probe_mixing;
 mod probe_panning;

@@ -1,5 +1,6 @@
 pub mod Bytes
 pub mod Tables
+pub mod Stores
 pub mod Back
 pub mod Whole
 pub mod Valid
@@ -7,4 +8,3 @@ pub mod Decoded
 pub mod Fresh
 pub mod Loops
 pub mod Answers
-pub mod Stores

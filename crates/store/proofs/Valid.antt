@@ -26,6 +26,7 @@ use Rattle.store.specs.Ranges.{clockTests, countTests, elementTests, par
 use Rattle.store.specs.Ranged.{ElementRanged, StateRanged, Ranged}
 use Rattle.store.proofs.Tables.{Entry, entries, and-in, every-in, at-most-in}
 use Rattle.store.proofs.Back.{Brief, ElementFull, StateFull, codes-entry, sources-entry, blocks-entry, tracks-entry, elements-entry, drop-sources, drop-states, small-back}
+use Rattle.store.proofs.Stores.{two-elements}
 use Rattle.store.proofs.Whole.{element-full, state-full, small-full, words-back, infos-back, encode-long}
 
 -- ---- fields
@@ -93,13 +94,6 @@ part-valid position least e r h t =
         ),
       ),
     )
-
-two-elements : (xs : List ElementRendererState) → length xs ≡ 2 → each elementWords xs ≡ elementWords (getD xs 0 noElement) ++ (elementWords (getD xs 1 noElement) ++ [])
-unfolding each
-two-elements [] h = absurd (omega arith)
-two-elements (x ∷ []) h = absurd (omega arith)
-two-elements (x ∷ y ∷ []) h = refl
-two-elements (x ∷ y ∷ z ∷ xs) h = absurd (omega arith)
 
 module _ (s : Small) (position : ℕ) (h : StateRanged position (s .state)) where
   abbrev F : StateFull (s .state)

@@ -7,9 +7,9 @@ use native.Mathlib.Nat.{zero-add, add-zero, suc-add, mul-suc, le-of-suc-le-suc, 
 use native.Mathlib.Omega.{arith}
 use borrow.Author.Tests.{ltb-true, ltb-false}
 use lib.Dec.{T, eqb, ltb, eqb→eq, lit<, lit≤}
-use lib.ListN.{length, getD, take, drop, length-append, List·getD-append}
-use lib.Seq.{drop-at, take-at, drop-drop, getD-append-add}
-use Rattle.words.specs.Words.{Bytes, Words, wordsAt}
+use lib.ListN.{length, getD, take, drop, length-append, length-drop, take-append-drop}
+use lib.Seq.{drop-at, take-at, drop-drop, getD-take, getD-drop, length-take-le}
+use Rattle.words.specs.Words.{Bytes, Words, number, wordsAt, withWords}
 use Rattle.timed.specs.Slot.{InRange, noBlock}
 use Rattle.timed.specs.State.{Timed, Within, noElement}
 use Rattle.timed.specs.State as timed
@@ -23,7 +23,7 @@ use Rattle.store.specs.Table.{bytesOf}
 use Rattle.store.specs.Fields.{smallWords, smallOf}
 use Rattle.store.specs.Layout.{size, small, joined, infosOf, placesOf, decode, rows, encode}
 use Rattle.store.specs.Ranged.{ElementRanged, StateRanged, InfosRanged, PlacesRanged, Ranged}
-use Rattle.store.proofs.Bytes.{words-drop, bytes-length, bytes-bytes, bytes-back}
+use Rattle.store.proofs.Bytes.{words-drop, bytes-length, bytes-bytes, bytes-back, stored}
 use Rattle.store.proofs.Tables.{Full}
 use Rattle.store.proofs.Back.{Brief, ElementFull, StateFull, SmallFull, small-long, small-words, small-back}
 
@@ -187,3 +187,24 @@ unfolding encode
 encode-bytes r h =
     bytes-append (bytesOf (smallWords (small r))) (r .meta .infos ++ rows 12 0 (r .places)) (bytes-bytes (smallWords (small r)))
     (bytes-append (r .meta .infos) (rows 12 0 (r .places)) h (rows-bytes (r .places) 12 0))
+
+-- ---- a block that was saved
+
+-- the small part of r stored into a block that has r's infos and places
+pub saved-encode : (b : List ℕ) (r : Renderer Timed) → length b ≡ size → length (smallWords (small r)) ≡ 340 → infosOf b ≡ r .meta .infos → drop 23888 b ≡ rows 12 0 (r .places)
+    → withWords b 0 (smallWords (small r)) ≡ encode r
+unfolding encode
+saved-encode b r l n i p =
+    let w = smallWords (small r) in
+    let t : drop 1360 b ≡ r .meta .infos ++ rows 12 0 (r .places) =
+        sym (take-append-drop 22528 (drop 1360 b)) ∙ ap₂ (λ (x y : List ℕ). x ++ y) i (drop-drop 22528 1360 b ∙ p) in
+    stored w b (omega arith) ∙ ap (λ (k : ℕ). bytesOf w ++ drop (4 * k) b) n ∙ ap (λ (x : List ℕ). bytesOf w ++ x) t
+
+word-front : (s : List ℕ) (at k m : ℕ) → at + k ≤ m → number (take m s) at k ≡ number s at k
+unfolding number
+word-front s at zero m h = refl
+word-front s at (suc k) m h = ap₂ (λ (x y : ℕ). x + y * 256 ^ k) (word-front s at k m (omega arith)) (getD-take m s (at + k) 0 (omega arith))
+
+words-front : (s : List ℕ) (at n m : ℕ) → at + 4 * n ≤ m → wordsAt (take m s) at n ≡ wordsAt s at n
+words-front s at zero m h = refl
+words-front s at (suc n) m h = ap₂ (λ (x : ℕ) (xs : List ℕ). x ∷ xs) (word-front s at 4 m (omega arith)) (words-front s (at + 4) n m (omega arith))

@@ -1,14 +1,20 @@
 // The small part's fields as words in a block.
 ghost use mathlib.Core.Path.{_≡_};
 ghost use Prim.Native.Nat.{_+_, _≤_};
+ghost use mathlib.Core.List.{_++_};
 ghost use lib.ListN.{length};
 ghost use Rattle.words.specs.Words.{withWords};
+ghost use Rattle.store.specs.Layout.{size};
 ghost use Rattle.store.specs.Table as table;
 ghost use Rattle.store.specs.Table.{each};
 ghost use Rattle.store.specs.Fields.{codeWords, gainWords, sourceWords, blockWords, trackWords, elementWords};
+ghost use Rattle.store.specs.Fields.{filterWords, clockWords, countWords, smallWords};
+use crate::Small;
+use lowpass::BiquadLowpassState;
 use timed::state::BlockState;
 use timed::state::DynamicSourceState;
 use timed::state::ElementRendererState;
+use timed::state::MetadataRendererState;
 use timed::state::Track;
 
 fn bit(b: bool) -> u32
@@ -151,4 +157,113 @@ fn put_tracks(s: &mut [u8], at: usize, xs: [Track; 16])
         put_track(s, at + 16 * i, x);
         i += 1;
     }
+}
+
+// ---- the whole
+
+// An element has 92 words.
+fn put_element(s: &mut [u8], at: usize, x: ElementRendererState)
+    requires { ⌜ at + 368 ≤ length (now s) ⌝ }
+    ensures { λ _. ⌜ (now (s .exit) ≡ withWords (now (s .entry)) at (elementWords x)) × (length (elementWords x) ≡ 92) ⌝ }
+{
+    let w = [
+        count(x.blocks),
+        count(x.flags),
+        low(x.remaining),
+        high(x.remaining),
+    ];
+    words::put_words(s, at, &w);
+    let schedule = x.schedule;
+    put_schedule(s, at + 16, schedule);
+    let tracks = x.tracks;
+    put_tracks(s, at + 112, tracks);
+}
+
+fn put_filter(s: &mut [u8], at: usize, f: BiquadLowpassState)
+    requires { ⌜ at + 36 ≤ length (now s) ⌝ }
+    ensures { λ _. ⌜ now (s .exit) ≡ withWords (now (s .entry)) at (filterWords f) ⌝ }
+{
+    let w = [
+        words::bits_of(f.a1),
+        words::bits_of(f.a2),
+        words::bits_of(f.b0),
+        words::bits_of(f.b1),
+        words::bits_of(f.b2),
+        words::bits_of(f.x1),
+        words::bits_of(f.x2),
+        words::bits_of(f.y1),
+        words::bits_of(f.y2),
+    ];
+    words::put_words(s, at, &w);
+}
+
+fn put_clock(s: &mut [u8], x: Small)
+    requires { ⌜ 68 ≤ length (now s) ⌝ }
+    ensures { λ _. ⌜ now (s .exit) ≡ withWords (now (s .entry)) 0 (clockWords x) ⌝ }
+{
+    let w = [
+        x.rate,
+        x.phase,
+        low(x.position),
+        high(x.position),
+        low(x.start),
+        high(x.start),
+        words::bits_of(x.gain),
+    ];
+    words::put_words(s, 0, &w);
+    let filter = x.filter;
+    put_filter(s, 28, filter);
+    words::put_u32(s, 64, x.pending);
+}
+
+fn put_counts(s: &mut [u8], at: usize, x: MetadataRendererState)
+    requires { ⌜ at + 28 ≤ length (now s) ⌝ }
+    ensures { λ _. ⌜ now (s .exit) ≡ withWords (now (s .entry)) at (countWords x) ⌝ }
+{
+    let payload = x.payload;
+    let w = [
+        bit(x.initialized),
+        low(payload.0),
+        high(payload.0),
+        count(x.objects),
+        count(x.isf),
+        count(x.beds),
+        count(x.elements),
+    ];
+    words::put_words(s, at, &w);
+}
+
+fn put_tables(
+    s: &mut [u8],
+    at: usize,
+    codes: [u8; 18],
+    gains: [f32; 18],
+    sources: [DynamicSourceState; 16],
+    states: [ElementRendererState; 2],
+)
+    requires { ⌜ at + 1264 ≤ length (now s) ⌝ }
+    ensures { λ _. ⌜ now (s .exit) ≡ withWords (now (s .entry)) at (each codeWords codes ++ (each gainWords gains ++ (each sourceWords sources ++ each elementWords states))) ⌝ }
+{
+    put_codes(s, at, codes);
+    put_gains(s, at + 72, gains);
+    put_sources(s, at + 144, sources);
+    let first = states[0];
+    put_element(s, at + 528, first);
+    let second = states[1];
+    put_element(s, at + 896, second);
+}
+
+// The small part of a block, whole; the rest of the block is kept.
+pub fn save(state: &mut [u8], x: Small)
+    requires { ⌜ length (now state) ≡ size ⌝ }
+    ensures { λ _. ⌜ now (state .exit) ≡ withWords (now (state .entry)) 0 (smallWords x) ⌝ }
+{
+    put_clock(state, x);
+    let timed = x.state;
+    put_counts(state, 68, timed);
+    let codes = timed.codes;
+    let gains = timed.gains;
+    let sources = timed.sources;
+    let states = timed.states;
+    put_tables(state, 96, codes, gains, sources, states);
 }

@@ -2,6 +2,7 @@
 //! for each function; claims nothing.
 
 use compare::{Generator, probe};
+use oracle::leaf;
 use std::hint::black_box;
 use std::time::{Duration, Instant};
 
@@ -139,24 +140,6 @@ fn panning() {
     );
 }
 
-fn main() {
-    lowpass();
-    panning();
-    let mut inputs = Generator::new(1);
-    let floats: Vec<f32> = (0..1_000_000).map(|_| inputs.float()).collect();
-    compare_times(
-        "bits_of, 1,000,000 floats",
-        || {
-            floats
-                .iter()
-                .for_each(|&x| _ = black_box(probe::words::bits_of(x)))
-        },
-        || floats.iter().for_each(|&x| _ = black_box(to_bits(x))),
-    );
-    limiter("limiter, quiet", &mut inputs, 0.9);
-    limiter("limiter, loud", &mut inputs, 3.0);
-}
-
 const BLOCKS: usize = 10_000;
 
 /// 10,000 blocks of 12 channels by 64 samples, from bytes to bytes and in place. In place each
@@ -206,5 +189,23 @@ fn rust_limiter(channels: &[Vec<f32>]) {
         black_box(&places);
     }
     black_box(gain);
+}
+
+fn main() {
+    lowpass();
+    panning();
     mixing();
+    let mut inputs = Generator::new(1);
+    let floats: Vec<f32> = (0..1_000_000).map(|_| inputs.float()).collect();
+    compare_times(
+        "bits_of, 1,000,000 floats",
+        || {
+            floats
+                .iter()
+                .for_each(|&x| _ = black_box(probe::words::bits_of(x)))
+        },
+        || floats.iter().for_each(|&x| _ = black_box(to_bits(x))),
+    );
+    limiter("limiter, quiet", &mut inputs, 0.9);
+    limiter("limiter, loud", &mut inputs, 3.0);
 }

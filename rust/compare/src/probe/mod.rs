@@ -10,8 +10,6 @@ pub mod mixing;
 pub mod panning;
 pub mod records;
 pub mod roots;
-pub mod ieee;
-pub mod limiter;
 pub mod timed;
 pub mod vectors;
 pub mod words;

@@ -19,7 +19,7 @@ same-length c = search needs
 
 returns : tie.Need-returns
 unfolding blockWords
-returns c = 
+returns c =
     let p = c .before .before in
     p .put-words .ensures ∙ rw (p .before .before .before .bit .ensures)
 

@@ -16,7 +16,7 @@ same-length : tie.Need-same-length
 same-length c = search needs
 
 returns : tie.Need-returns
-returns c = 
+returns c =
     let p = c .before .before in
     let a = p .before .before .before .before .args in
     p .put-u32 .ensures ∙ ap (λ (n : ℕ). withWord (a .s .now) (a .at) n) (p .before .bits-of .ensures)

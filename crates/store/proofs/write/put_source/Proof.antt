@@ -34,7 +34,7 @@ same-length c = search needs
 
 returns : tie.Need-returns
 unfolding sourceWords
-returns c = 
+returns c =
     let p = c .before .before in
     let b = p .before .before .before in
     p .put-words .ensures ∙ rw (b .bit .ensures, b .before .bits-of5 .ensures, b .before .before .bits-of4 .ensures, b .before .before .before .bits-of3 .ensures, b .before .before .before .before .bits-of2 .ensures, b .before .before .before .before .before .bits-of .ensures)

@@ -28,7 +28,7 @@ same-length c = search needs
 
 returns : tie.Need-returns
 unfolding trackWords
-returns c = 
+returns c =
     let p = c .before .before in
     let b = p .before .before .before in
     p .put-words .ensures ∙ rw (b .bits-of3 .ensures, b .before .bits-of2 .ensures, b .before .before .bits-of .ensures, b .before .before .before .bit .ensures)

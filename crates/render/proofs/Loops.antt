@@ -1,0 +1,78 @@
+-- One bed and one object more of their loops: what is left to mix still gives `end`. Assumes nothing.
+use mathlib.Core.Path.{_≡_, refl, sym, ap, _∙_}
+use mathlib.Core.List.{List, [], _∷_, _++_, append-nil}
+use Prim.Native.Nat.{ℕ, zero, suc, _+_, _-_, _*_, _<_, _≤_}
+use native.Mathlib.Omega.{arith}
+use native.Mathlib.Numerals.{add-one}
+use lib.ListN.{length, getD, set, take, drop, replicate, length-replicate}
+use lib.Seq.{drop-cons, drop-length, set-at}
+use lib.Ieee.{Float, nan}
+use Rattle.beds.specs.Matching.{matching}
+use Rattle.timed.specs.declared.state.DynamicSourceState.{DynamicSourceState}
+use Rattle.rules.specs.Mix.{bedTerms, objectTerms}
+use Rattle.render.specs.Rows.{mixedTerms}
+use Rattle.render.specs.Sources.{bed, bedsOf, sourceOf, sourcesOf, channelRow, mixedFound, mixedBeds, mixedObjects}
+
+-- ---- rows set to one value
+
+module _ {A : Type 0} (x d : A) where
+  more : (i : ℕ) → replicate (suc i) x ≡ replicate i x ++ (x ∷ [])
+  more zero = refl
+  more (suc i) = ap (λ (l : List A). x ∷ l) (more i)
+
+  cleared : (i : ℕ) (os : List A) → i < length os → set (replicate i x ++ drop i os) i x ≡ replicate (i + 1) x ++ drop (i + 1) os
+  cleared i os h =
+      ap (λ (l : List A). set (replicate i x ++ l) i x) (drop-cons os i d h)
+      ∙ set-at (replicate i x) (getD os i d) (drop (suc i) os) x i (length-replicate i x)
+      ∙ sym (mathlib.Core.List.append-assoc (replicate i x) (x ∷ []) (drop (suc i) os))
+      ∙ ap (λ (l : List A). l ++ drop (suc i) os) (sym (more i))
+      ∙ ap (λ (j : ℕ). replicate j x ++ drop j os) (sym (add-one i))
+
+  pub clear-step : (i : ℕ) (os rows : List A) → i < length os → rows ≡ replicate i x ++ drop i os → set rows i x ≡ replicate (i + 1) x ++ drop (i + 1) os
+  clear-step i os rows h p = ap (λ (l : List A). set l i x) p ∙ cleared i os h
+
+  pub clear-done : (i : ℕ) (os rows : List A) → i ≤ length os → length os ≤ i → rows ≡ replicate i x ++ drop i os → rows ≡ replicate (length os) x
+  clear-done i os rows h k p =
+      let e : i ≡ length os = omega arith in
+      p ∙ rw (e, drop-length) (append-nil (replicate (length os) x))
+
+-- ---- beds and objects
+
+module _ (pcm : List ℕ) (n t k : ℕ) where
+  pub beds-start : (codes : List ℕ) (m : ℕ) (cs : List ℕ) (gs os : List Float) → mixedBeds pcm n t k codes (bedsOf (m - 0) cs gs) os ≡ mixedBeds pcm n t k codes (bedsOf m cs gs) os
+  beds-start codes m cs gs os =
+      let e : m - 0 ≡ m = omega arith in
+      rw e
+
+  pub objects-start : (i m : ℕ) (ds : List DynamicSourceState) (os : List Float) → mixedObjects pcm n t k (i + 0) (sourcesOf (m - 0) ds) os ≡ mixedObjects pcm n t k i (sourcesOf m ds) os
+  objects-start i m ds os =
+      let e : m - 0 ≡ m = omega arith in
+      let f : i + 0 ≡ i = omega arith in
+      rw (e, f)
+
+  pub bed-step : (codes : List ℕ) (j m : ℕ) (cs : List ℕ) (gs os : List Float) {new end : List Float} → j < m → j < length cs → j < length gs
+      → new ≡ mixedFound pcm n t k (bedTerms (bed (getD cs j 0) (getD gs j nan))) (matching (getD cs j 0) codes) os
+      → mixedBeds pcm n t k codes (bedsOf (m - j) (drop j cs) (drop j gs)) os ≡ end
+      → mixedBeds pcm n t k codes (bedsOf (m - (j + 1)) (drop (j + 1) cs) (drop (j + 1) gs)) new ≡ end
+  bed-step codes j m cs gs os h a b p q =
+      let e : m - j ≡ suc (m - (j + 1)) = omega arith in
+      rw p (rw (e, drop-cons cs j 0 a, drop-cons gs j nan b, ← add-one j) at q)
+
+  pub beds-done : (codes : List ℕ) (j m : ℕ) (cs : List ℕ) (gs os : List Float) {end : List Float} → m ≤ j → mixedBeds pcm n t k codes (bedsOf (m - j) (drop j cs) (drop j gs)) os ≡ end → os ≡ end
+  beds-done codes j m cs gs os h q =
+      let e : m - j ≡ 0 = omega arith in
+      rw e at q
+
+  pub object-step : (first j m : ℕ) (d : DynamicSourceState) (ds : List DynamicSourceState) (os : List Float) {new end : List Float} → j < m → j < length ds
+      → new ≡ mixedTerms (channelRow pcm n t k (first + j)) (objectTerms (sourceOf (getD ds j d))) os
+      → mixedObjects pcm n t k (first + j) (sourcesOf (m - j) (drop j ds)) os ≡ end
+      → mixedObjects pcm n t k (first + (j + 1)) (sourcesOf (m - (j + 1)) (drop (j + 1) ds)) new ≡ end
+  object-step first j m d ds os h a p q =
+      let e : m - j ≡ suc (m - (j + 1)) = omega arith in
+      let f : first + (j + 1) ≡ suc (first + j) = omega arith in
+      rw (p, f) (rw (e, drop-cons ds j d a, ← add-one j) at q)
+
+  pub objects-done : (i j m : ℕ) (ds : List DynamicSourceState) (os : List Float) {end : List Float} → m ≤ j → mixedObjects pcm n t k i (sourcesOf (m - j) (drop j ds)) os ≡ end → os ≡ end
+  objects-done i j m ds os h q =
+      let e : m - j ≡ 0 = omega arith in
+      rw e at q

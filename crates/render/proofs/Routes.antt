@@ -1,0 +1,28 @@
+-- A bed by its route and by the input that feeds it. Assumes nothing.
+use mathlib.Core.Path.{_≡_, sym, ap, subst, _∙_}
+use mathlib.Core.List.{List}
+use Prim.Native.Nat.{ℕ, _<_}
+use lib.ListN.{length}
+use lib.Ieee.{Float}
+use Rattle.beds.specs.declared.Route.{Route}
+use Rattle.beds.specs.declared.Found.{Found}
+use Rattle.beds.specs.declared.Found.the-variants.{At}
+use Rattle.beds.specs.Routes.{routeOf}
+use Rattle.beds.specs.Matching.{matching}
+use Rattle.beds.proofs.Matches.{Judged, judged}
+use Rattle.panning.specs.Terms.{Term}
+use Rattle.rules.specs.Mix.{routeTerms, bedTerms}
+use Rattle.render.specs.Rows.{mixedTerms}
+use Rattle.render.specs.Sources.{bed, mixedFound}
+
+pub by-route : (xs os : List Float) (code : ℕ) (gain : Float) {r : Route} {new : List Float} → routeOf code ≡ r → new ≡ mixedTerms xs (routeTerms r code gain) os
+    → new ≡ mixedTerms xs (bedTerms (bed code gain)) os
+by-route xs os code gain e p = p ∙ ap (λ (s : Route). mixedTerms xs (routeTerms s code gain) os) (sym e)
+
+pub by-found : (pcm : List ℕ) (n t k : ℕ) (ts : List Term) (os : List Float) {found f : Found} {new : List Float} → found ≡ f → new ≡ mixedFound pcm n t k ts f os
+    → new ≡ mixedFound pcm n t k ts found os
+by-found pcm n t k ts os e p = p ∙ ap (λ (g : Found). mixedFound pcm n t k ts g os) (sym e)
+
+-- what is found is one of the inputs
+pub found-inside : (code : ℕ) (codes : List ℕ) {i : ℕ} → matching code codes ≡ At i → i < length codes
+found-inside code codes e = subst (Judged code codes) e (judged code codes) .0

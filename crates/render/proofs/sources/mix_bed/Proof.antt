@@ -1,0 +1,67 @@
+-- `mix_bed`: by what was found.
+use borrow.Author.Needs.{needs}
+use mathlib.Core.Path.{refl, sym, ap, _∙_}
+use mathlib.Core.List.{List}
+use native.Mathlib.Omega.{arith}
+use lib.ListN.{length}
+use lib.Ieee.{Float}
+use Rattle.rules.specs.Mix.{bedTerms}
+use Rattle.render.specs.Rows.{mixedTerms}
+use Rattle.render.specs.Sources.{bed}
+use Rattle.render.proofs.Channels.{reached, row-start, row-length}
+use Rattle.render.proofs.Routes.{by-found, found-inside}
+use Rattle.render.proofs.sources.mix_bed.Statement.{statement}
+use Rattle.render.proofs.sources.mix_bed.Tie as tie
+
+find-matching-input-bed-channel-requires : tie.Need-find-matching-input-bed-channel-requires
+find-matching-input-bed-channel-requires c κs = search needs
+
+enum-known-found : tie.Need-enum-known-found
+enum-known-found c = search needs
+
+enum-told : tie.Need-enum-told
+enum-told c = search needs
+
+returns : tie.Need-returns
+returns c = let a = c .before .before .before .before .before .before .args in by-found (a .pcm .now) (a .n) (a .t) (a .k) (bedTerms (bed (a .code) (a .gain))) (a .rows .now) (sym (c .before .before .find-matching-input-bed-channel .ensures) ∙ c .enum-told .given .1) refl
+
+read-channel-requires : tie.Need-read-channel-requires
+read-channel-requires c κs =
+    let s = c .before .before .before .before .before .before .before in
+    let a = s .args in
+    let i = found-inside (a .code) (a .codes .now) (sym (c .before .before .before .find-matching-input-bed-channel .ensures) ∙ c .before .found .given .1) in
+    (reached (a .pcm .now) _ (length (a .codes .now)) (a .n) (a .t) (a .k) (s .pre .0) i, s .pre .0 .short)
+
+array-share-prefix-row : tie.Need-array-share-prefix-row
+array-share-prefix-row c = search needs
+
+slice-aggregate-mix-routed : tie.Need-slice-aggregate-mix-routed
+slice-aggregate-mix-routed c = sym (row-length (c .before .before .before .before .before .before .before .before .before .before .args .pcm .now) (c .before .before .before .before .before .before .before .before .before .before .args .n) (c .before .before .before .before .before .before .before .before .before .before .args .t) (c .before .before .before .before .before .before .before .before .before .before .args .k) _ (c .before .before .read-channel .ensures))
+
+mix-routed-requires : tie.Need-mix-routed-requires
+mix-routed-requires c κs = record { short = omega (arith, row-length (c .before .before .before .before .before .before .before .before .before .before .args .pcm .now) (c .before .before .before .before .before .before .before .before .before .before .args .n) (c .before .before .before .before .before .before .before .before .before .before .args .t) (c .before .before .before .before .before .before .before .before .before .before .args .k) _ (c .before .before .read-channel .ensures)); whole = c .before .before .before .before .before .before .before .before .before .before .pre .1 }
+
+same-length : tie.Need-same-length
+same-length c = search needs
+
+returns-2 : tie.Need-returns-2
+returns-2 c =
+    let a = c .before .before .before .before .before .before .before .before .before .before .before .before .before .args in
+    let ts = bedTerms (bed (a .code) (a .gain)) in
+    by-found (a .pcm .now) (a .n) (a .t) (a .k) ts (a .rows .now) (sym (c .before .before .before .before .before .before .before .before .before .find-matching-input-bed-channel .ensures) ∙ c .before .before .before .before .before .before .before .found .given .1)
+    (c .before .before .mix-routed .ensures ∙ ap (λ (xs : List Float). mixedTerms xs ts (a .rows .now)) (row-start (a .pcm .now) (a .n) (a .t) (a .k) _ (c .before .before .before .before .before .read-channel .ensures)))
+
+pub mix-bed-spec : {M : Type 1} → statement M
+mix-bed-spec =
+    tie.close
+    (tie.spec
+    find-matching-input-bed-channel-requires
+    enum-known-found
+    enum-told
+    returns
+    read-channel-requires
+    array-share-prefix-row
+    slice-aggregate-mix-routed
+    mix-routed-requires
+    same-length
+    returns-2)

@@ -1,0 +1,58 @@
+-- `mix_range`: what is left to mix from channel c on still gives the whole.
+use borrow.Author.Needs.{needs}
+use mathlib.Core.Path.{_≡_}
+use native.Mathlib.Omega.{arith}
+use Prim.Native.Nat.{_-_, _≤_}
+use lib.ListN.{length}
+use Rattle.panning.specs.Terms.{spread}
+use Rattle.render.specs.Rows.{upFrom, mixedTerms}
+use Rattle.render.proofs.Mixed.{range-step, range-done}
+use Rattle.render.proofs.terms.mix_range.Statement.{statement}
+use Rattle.render.proofs.terms.mix_range.Tie as tie
+
+abbrev Inv-loop : tie.InvT-loop
+Inv-loop rows₀ samples from to gain c₀ rows c = (from ≤ c) × (c ≤ to) × (length rows ≡ length rows₀) × (mixedTerms samples (spread (upFrom c (to - c)) gain) rows ≡ mixedTerms samples (spread (upFrom from (to - from)) gain) rows₀)
+
+abbrev μ-loop : tie.MeasureT-loop
+μ-loop rows₀ samples from to gain c₀ rows c = to - c
+
+loop-holds : tie.Need-loop-holds Inv-loop μ-loop
+loop-holds c = search needs
+
+mix-term-requires : tie.Need-mix-term-requires Inv-loop μ-loop
+mix-term-requires c κs = search needs
+
+add-c : tie.Need-add-c Inv-loop μ-loop
+add-c c = search needs
+
+loop-less : tie.Need-loop-less Inv-loop μ-loop
+loop-less c = search needs
+
+loop-again : tie.Need-loop-again Inv-loop μ-loop
+loop-again c =
+    let l = c .before .before .before .before .before in
+    let a = l .before .before .before .args in
+    (search needs, search needs, search needs, range-step (a .samples .now) (l .loop .c) (a .to) (a .gain) (l .loop .rows) (omega arith) (c .before .before .mix-term .ensures) (l .loop .inv .3))
+
+same-length : tie.Need-same-length Inv-loop μ-loop
+same-length c = search needs
+
+returns : tie.Need-returns Inv-loop μ-loop
+returns c =
+    let l = c .before in
+    let a = l .before .before .before .args in
+    range-done (a .samples .now) (l .loop .c) (a .to) (a .gain) (l .loop .rows) (omega arith) (l .loop .inv .3)
+
+pub mix-range-spec : {M : Type 1} → statement M
+mix-range-spec =
+    tie.close
+    (tie.spec
+    Inv-loop
+    μ-loop
+    loop-holds
+    mix-term-requires
+    add-c
+    loop-less
+    loop-again
+    same-length
+    returns)

@@ -1,0 +1,137 @@
+// The beds and the objects of a run, each read once out of the frame's PCM and mixed into twelve rows of 64 places.
+ghost use mathlib.Core.Path.{_≡_};
+ghost use mathlib.Core.List.{_++_};
+ghost use Prim.Native.Nat.{_+_, _-_, _<_, _≤_};
+ghost use lib.ListN.{length, replicate};
+ghost use Rattle.beds.specs.Matching.{matching};
+ghost use Rattle.rules.specs.Parts.{0·0};
+ghost use Rattle.rules.specs.Mix.{objectTerms, bedTerms};
+ghost use Rattle.render.specs.Rows.{Sized, mixedTerms};
+ghost use Rattle.render.specs.Sources.{Framed, Reached, bed, bedsOf, sourceOf, sourcesOf, channelRow, mixedFound, mixedBeds, mixedObjects};
+use beds::Found;
+use beds::Route;
+use timed::state::DynamicSourceState;
+
+fn silence() -> [f32; 64]
+    ensures { λ r. ⌜ r ≡ replicate 64 0·0 ⌝ }
+{
+    [0.0; 64]
+}
+
+// The run's samples of channel i, read once.
+fn read_channel(pcm: &[u8], i: usize, n: usize, t: usize, k: usize) -> [f32; 64]
+    requires { ⌜ Reached (now pcm) i n t k × (k ≤ 64) ⌝ }
+    ensures { λ r. ⌜ r ≡ channelRow (now (pcm .entry)) n t k i ++ replicate (64 - k) 0·0 ⌝ }
+{
+    let mut row = silence();
+    mixing::read_row(pcm, 4 * (i * n + t), &mut row[..k]);
+    row
+}
+
+// A bed's terms, by its route.
+fn mix_routed(rows: &mut [f32], samples: &[f32], code: u8, gain: f32)
+    requires { ⌜ Sized (now samples) (now rows) ⌝ }
+    ensures { λ _. ⌜ now (rows .exit) ≡ mixedTerms (now (samples .entry)) (bedTerms (bed code gain)) (now (rows .entry)) ⌝ }
+{
+    let route = beds::route_of(code);
+    match route {
+        Route::Bass => {
+            crate::terms::mix_term(rows, samples, 3, beds::bass_gain(gain));
+            return;
+        }
+        Route::Folded => {
+            crate::terms::mix_object(rows, samples, beds::bed_channel_position(code), gain, 0.0);
+            return;
+        }
+        Route::Direct(channel) => {
+            crate::terms::mix_term(rows, samples, channel, gain);
+            return;
+        }
+        Route::Unsupported => {
+            return;
+        }
+    }
+}
+
+// A bed, fed by the input that matches it.
+fn mix_bed(
+    rows: &mut [f32],
+    pcm: &[u8],
+    codes: &[u8],
+    code: u8,
+    gain: f32,
+    n: usize,
+    t: usize,
+    k: usize,
+)
+    requires { ⌜ Framed (now pcm) (length (now codes)) n t k × (length (now rows) ≡ 768) ⌝ }
+    ensures { λ _. ⌜ now (rows .exit) ≡ mixedFound (now (pcm .entry)) n t k (bedTerms (bed code gain)) (matching code (now (codes .entry))) (now (rows .entry)) ⌝ }
+{
+    let found = beds::find_matching_input_bed_channel(code, codes);
+    let Found::At(i) = found else {
+        return;
+    };
+    let row = read_channel(pcm, i, n, t, k);
+    mix_routed(rows, &row[..k], code, gain);
+}
+
+// An object, fed by channel i.
+fn mix_source(
+    rows: &mut [f32],
+    pcm: &[u8],
+    i: usize,
+    source: DynamicSourceState,
+    n: usize,
+    t: usize,
+    k: usize,
+)
+    requires { ⌜ Reached (now pcm) i n t k × (k ≤ 64) × (length (now rows) ≡ 768) ⌝ }
+    ensures { λ _. ⌜ now (rows .exit) ≡ mixedTerms (channelRow (now (pcm .entry)) n t k i) (objectTerms (sourceOf source)) (now (rows .entry)) ⌝ }
+{
+    let row = read_channel(pcm, i, n, t, k);
+    let place = source.place;
+    crate::terms::mix_object(rows, &row[..k], place, source.gain, source.size);
+}
+
+// The beds in order: the first `count` of a table of codes and gains.
+pub fn mix_beds(
+    rows: &mut [f32],
+    pcm: &[u8],
+    codes: &[u8],
+    wanted: [u8; 18],
+    gains: [f32; 18],
+    count: usize,
+    n: usize,
+    t: usize,
+    k: usize,
+)
+    requires { ⌜ Framed (now pcm) (length (now codes)) n t k × (length (now rows) ≡ 768) × (count ≤ 18) ⌝ }
+    ensures { λ _. ⌜ now (rows .exit) ≡ mixedBeds (now (pcm .entry)) n t k (now (codes .entry)) (bedsOf count wanted gains) (now (rows .entry)) ⌝ }
+{
+    let mut j = 0usize;
+    while j < count {
+        mix_bed(rows, pcm, codes, wanted[j], gains[j], n, t, k);
+        j += 1;
+    }
+}
+
+// The objects in order: the first `count` of a table, fed by the channels from `first` on.
+pub fn mix_sources(
+    rows: &mut [f32],
+    pcm: &[u8],
+    first: usize,
+    sources: [DynamicSourceState; 16],
+    count: usize,
+    n: usize,
+    t: usize,
+    k: usize,
+)
+    requires { ⌜ Framed (now pcm) (first + count) n t k × (length (now rows) ≡ 768) × (first ≤ 18) × (count ≤ 16) ⌝ }
+    ensures { λ _. ⌜ now (rows .exit) ≡ mixedObjects (now (pcm .entry)) n t k first (sourcesOf count sources) (now (rows .entry)) ⌝ }
+{
+    let mut object = 0usize;
+    while object < count {
+        mix_source(rows, pcm, first + object, sources[object], n, t, k);
+        object += 1;
+    }
+}
