@@ -2,26 +2,23 @@
 use mathlib.Core.Path.{_≡_, refl, sym, ap, ap₂, _∙_}
 use mathlib.Core.Bool.{Bool, true, false}
 use mathlib.Core.List.{List, [], _∷_, _++_, append-assoc, append-nil}
-use Prim.Native.Nat.{ℕ, zero, suc, _+_, _*_, _/_, _%_, _^_, _<_, _≤_}
+use Prim.Native.Nat.{ℕ, suc, _+_, _*_, _/_, _^_, _<_, _≤_}
 use native.Mathlib.Nat.{mod-lt, mod-eq-of-lt, mod-add-div', lt-of-le-of-lt}
 use native.Mathlib.Omega.{arith}
-use lib.Dec.{T, eqb, lit<, lit≤}
-use lib.ListN.{length, getD, drop, length-append}
+use lib.Dec.{eqb, lit<}
+use lib.ListN.{length, drop, length-append}
 use lib.Seq.{drop-at, drop-append-add}
-use lib.Ieee.{Float, binary32, ofBits, toBits}
+use lib.Ieee.{Float, binary32, ofBits}
 use lib.Ieee.Bits.{ofBits-toBits, toBits-lt}
 use Rattle.words.specs.Words.{Words}
 use Rattle.lowpass.specs.declared.BiquadLowpassState.{BiquadLowpassState}
 use Rattle.timed.specs.declared.state.BlockState.{BlockState}
-use Rattle.timed.specs.declared.state.Track.{Track}
-use Rattle.timed.specs.declared.state.DynamicSourceState.{DynamicSourceState}
 use Rattle.timed.specs.declared.state.ElementRendererState.{ElementRendererState}
 use Rattle.timed.specs.declared.state.MetadataRendererState.{MetadataRendererState}
-use Rattle.ieee.specs.Bounds.{All}
 use Rattle.store.specs.declared.Small.{Small}
 use Rattle.store.specs.Table.{low, high, bit, bits, each, table}
 use Rattle.store.specs.Fields.{codeWords, codeOf, gainWords, gainOf, sourceWords, sourceOf, blockWords, blockOf, trackWords, trackOf, elementWords, elementOf, filterWords, filterOf, clockWords, countWords, tableWords, smallWords, stateOf, smallOf}
-use Rattle.store.specs.Ranged.{Single, Singles, FilterSingles, SourceSingles, TrackSingles}
+use Rattle.store.specs.Ranged.{Single, FilterSingles, SourceSingles, TrackSingles}
 use Rattle.store.proofs.Tables.{Entry, Full, entries, words-append}
 
 -- ---- one field

@@ -1,13 +1,13 @@
 -- Words as bytes: they are read back, and stored at the front they are all that changes. Assumes nothing.
 use mathlib.Core.Path.{_≡_, refl, sym, ap, ap₂, _∙_}
 use mathlib.Core.List.{List, [], _∷_, _++_}
-use Prim.Native.Nat.{ℕ, zero, suc, _+_, _*_, _/_, _%_, _^_, _<_, _≤_}
-use native.Mathlib.Nat.{add-assoc, zero-add, suc-add, not-suc-le-zero, le-of-suc-le-suc}
+use Prim.Native.Nat.{ℕ, zero, suc, _+_, _*_, _/_, _%_, _^_, _≤_}
+use native.Mathlib.Nat.{add-assoc, zero-add, suc-add}
 use native.Mathlib.Omega.{arith}
 use lib.Dec.{lit≤}
 use lib.ListN.{length, getD, set, take, drop}
 use lib.Seq.{getD-drop, set-append-left}
-use Rattle.words.specs.Words.{Bytes, Words, number, withNumber, word, withWord, wordsAt, withWords}
+use Rattle.words.specs.Words.{Bytes, Words, number, withNumber, withWord, wordsAt, withWords}
 use Rattle.words.proofs.Back.{reads-back}
 use Rattle.words.proofs.Numbers.{length-kept}
 use Rattle.words.proofs.Small.{number-bytes}

@@ -1,33 +1,29 @@
 -- What a valid block of bytes holds is in range. Assumes nothing.
-use mathlib.Core.Path.{_≡_, refl, sym, ap, ap₂, subst, _∙_}
-use mathlib.Core.Bool.{Bool, true, false, not, _||_, _&&_, cond}
-use mathlib.Core.List.{List, [], _∷_, _++_}
-use Prim.Native.Nat.{ℕ, zero, suc, _+_, _*_, _%_, _<_, _≤_}
+use mathlib.Core.Path.{_≡_, refl, sym, ap, subst, _∙_}
+use mathlib.Core.Bool.{Bool, true, not, _||_, _&&_}
+use mathlib.Core.List.{List, [], _∷_}
+use Prim.Native.Nat.{ℕ, zero, suc, _+_, _*_, _<_, _≤_}
 use native.Mathlib.Nat.{le-trans, mod-le}
 use native.Mathlib.Omega.{arith}
 use borrow.Author.Tests.{lt-ltb, le-ltb, eq-eqb}
-use lib.Dec.{T, eqb, ltb, leb, eqb→eq, leb→le, ltb→lt, lit<, lit≤}
+use lib.Dec.{T, eqb, eqb→eq, leb→le, ltb→lt, lit≤}
 use lib.ListN.{length, getD, take, drop, length-drop}
 use lib.Seq.{drop-drop, getD-drop, length-take-le}
-use lib.Ieee.{Float, binary32, ofBits}
+use lib.Ieee.{binary32, ofBits}
 use lib.Ieee.Bits.{ofBits-fits}
 use lib.Ieee.Fits.{and-l, and-r}
-use Rattle.words.specs.Words.{Bytes, Words, wordsAt}
+use Rattle.words.specs.Words.{Bytes, wordsAt}
 use Rattle.words.proofs.Small.{run-small}
 use Rattle.timed.specs.Slot.{InRange, noBlock}
-use Rattle.timed.specs.State.{Timed, Within}
+use Rattle.timed.specs.State.{Within}
 use Rattle.timed.specs.State as timed
 use Rattle.timed.specs.declared.state.ElementRendererState.{ElementRendererState}
-use Rattle.timed.specs.declared.state.MetadataRendererState.{MetadataRendererState}
-use Rattle.ieee.specs.Bounds.{All}
 use Rattle.rules.specs.Refusals.{listed}
-use Rattle.rules.specs.Samples.{Renderer}
-use Rattle.store.specs.declared.Small.{Small}
-use Rattle.store.specs.Table.{table, atMost, every}
+use Rattle.store.specs.Table.{table, every}
 use Rattle.store.specs.Fields.{codeOf, gainOf, sourceOf, blockOf, trackOf, elementOf, filterOf, stateOf, smallOf}
 use Rattle.store.specs.Layout.{size, infosOf, placesOf, decode}
 use Rattle.store.specs.Ranges.{clockTests, countTests, elementTests, partTests, wordTests, fieldTests, leastFlags, smallValid, headsValid, valid}
-use Rattle.store.specs.Ranged.{Single, SourceSingles, TrackSingles, FilterSingles, ElementRanged, StateRanged, InfosRanged, PlacesRanged, Ranged}
+use Rattle.store.specs.Ranged.{Single, SourceSingles, TrackSingles, ElementRanged, StateRanged, InfosRanged, PlacesRanged, Ranged}
 use Rattle.store.proofs.Tables.{every-at, at-most-out, table-long, table-all}
 use Rattle.store.proofs.Whole.{all-at}
 
@@ -138,16 +134,16 @@ idle-out rate pending h e = eqb→eq pending 0 (subst (λ (b : Bool). T (not b |
 
 -- ---- infos and places
 
-bytes-take : (n : ℕ) (s : List ℕ) → Bytes s → Bytes (take n s)
+pub bytes-take : (n : ℕ) (s : List ℕ) → Bytes s → Bytes (take n s)
 bytes-take zero s h i = lit≤ tt
 bytes-take (suc n) [] h i = lit≤ tt
 bytes-take (suc n) (x ∷ s) h zero = h 0
 bytes-take (suc n) (x ∷ s) h (suc i) = bytes-take n s (λ j. h (suc j)) i
 
-bytes-drop : (n : ℕ) (s : List ℕ) → Bytes s → Bytes (drop n s)
+pub bytes-drop : (n : ℕ) (s : List ℕ) → Bytes s → Bytes (drop n s)
 bytes-drop n s h i = rw (getD-drop n s i 0) (h (n + i))
 
-words-long : (s : List ℕ) (at n : ℕ) → length (wordsAt s at n) ≡ n
+pub words-long : (s : List ℕ) (at n : ℕ) → length (wordsAt s at n) ≡ n
 words-long s at zero = refl
 words-long s at (suc n) = ap suc (words-long s (at + 4) n)
 

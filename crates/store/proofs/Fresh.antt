@@ -1,21 +1,21 @@
 -- A fresh renderer is in range, and its block is zeros but for three fields. Assumes nothing.
 use mathlib.Core.Path.{_≡_, refl, sym, ap, ap₂, subst, _∙_}
-use mathlib.Core.Bool.{true, false, _&&_, cond}
-use mathlib.Core.List.{List, [], _∷_, _++_}
+use mathlib.Core.Bool.{false}
+use mathlib.Core.List.{List, _∷_, _++_}
 use Prim.Native.Nat.{ℕ, zero, suc, _+_, _*_, _^_, _<_, _≤_}
 use native.Mathlib.Omega.{arith}
 use borrow.Author.Tests.{lt-ltb, le-ltb}
-use lib.Dec.{T, ltb, lit<, lit≤}
+use lib.Dec.{T, lit<, lit≤}
 use lib.ListN.{length, getD, replicate, length-replicate, replicate-append-replicate}
+use Rattle.ieee.specs.Bounds.{All}
 use Rattle.words.specs.Words.{Bytes, Words, number, withNumber, word, withWord, withLong}
 use Rattle.words.proofs.Numbers.{length-kept}
 use lib.Ieee.{toBits, fits}
 use Rattle.timed.specs.Slot.{middle, InRange, noBlock}
-use Rattle.timed.specs.State.{Timed, noElement}
+use Rattle.timed.specs.State.{noElement}
 use Rattle.timed.specs.declared.state.BlockState.{BlockState}
 use Rattle.timed.specs.declared.state.MetadataRendererState.{MetadataRendererState}
-use Rattle.ieee.specs.Bounds.{All}
-use Rattle.rules.specs.Parts.{Places, zeros, 0·0, 1·0}
+use Rattle.rules.specs.Parts.{zeros, 0·0, 1·0}
 use Rattle.store.specs.Table.{each, bytesOf}
 use Rattle.store.specs.Fields.{sourceWords, blockWords, trackWords, elementWords, filterWords, clockWords, countWords, tableWords, smallWords}
 use Rattle.store.specs.Layout.{size, small, rows, encode, still, noBlocks, blank, fresh, marked, filled}
@@ -125,7 +125,7 @@ state-fresh =
     }
 
 pub fresh-ranged : Ranged fresh
-unfolding fresh blank
+unfolding blank
 fresh-ranged =
     record {
       rate = tt;
@@ -167,14 +167,14 @@ marked-front s t l =
     ∙ written-front b t 1000 8 middle (omega arith)
 
 small-fresh : bytesOf (smallWords (small fresh)) ≡ marked (replicate 1360 0)
-unfolding bytesOf smallWords clockWords filterWords countWords tableWords elementWords sourceWords blockWords trackWords each fresh blank withNumber toBits
+unfolding bytesOf smallWords clockWords filterWords countWords tableWords elementWords sourceWords blockWords trackWords each blank withNumber toBits
 small-fresh = refl
 
 tail-fresh : (n m : ℕ) → n ≡ 22528 → m ≡ 12 → replicate n 0 ++ rows m 0 zeros ≡ replicate (n + m * 256) 0
 tail-fresh n m e f = ap (λ (t : List ℕ). replicate n 0 ++ t) (zero-rows m 0 (omega arith)) ∙ replicate-append-replicate n (m * 256) 0
 
 pub encode-fresh : encode fresh ≡ filled
-unfolding encode fresh blank filled
+unfolding encode blank filled
 encode-fresh =
     ap₂ (λ (a b : List ℕ). a ++ b) small-fresh (tail-fresh 22528 12 refl refl)
     ∙ sym (marked-front (replicate 1360 0) (replicate 25600 0) (subst (λ (n : ℕ). 1360 ≤ n) (sym (length-replicate {A = ℕ} 1360 0)) (lit≤ tt)))

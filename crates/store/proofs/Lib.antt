@@ -8,3 +8,4 @@ pub mod Decoded
 pub mod Fresh
 pub mod Loops
 pub mod Answers
+pub mod Rows

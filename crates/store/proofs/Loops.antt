@@ -9,8 +9,8 @@ use lib.Dec.{leb}
 use native.Mathlib.Numerals.{add-one}
 use lib.ListN.{length, getD, set, take, drop}
 use lib.Seq.{getD-drop, drop-drop, take-suc-set, take-all}
-use Rattle.words.specs.Words.{word}
 use Rattle.ieee.specs.Bounds.{All}
+use Rattle.words.specs.Words.{word}
 use Rattle.store.specs.Table.{table, atMost, every}
 use Rattle.store.specs.Ranges.{headValid, headsValid}
 

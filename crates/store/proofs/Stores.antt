@@ -13,7 +13,6 @@ use Rattle.timed.specs.declared.state.BlockState.{BlockState}
 use Rattle.timed.specs.declared.state.Track.{Track}
 use Rattle.timed.specs.declared.state.DynamicSourceState.{DynamicSourceState}
 use Rattle.timed.specs.declared.state.ElementRendererState.{ElementRendererState}
-use Rattle.timed.specs.declared.state.MetadataRendererState.{MetadataRendererState}
 use Rattle.store.specs.declared.Small.{Small}
 use Rattle.store.specs.Table.{low, high, bits, each}
 use Rattle.store.specs.Fields.{codeWords, gainWords, sourceWords, blockWords, trackWords, elementWords, filterWords, clockWords, countWords, tableWords, smallWords}

@@ -2,15 +2,15 @@
 use mathlib.Core.Path.{_≡_, refl, sym, ap, ap₂, _∙_}
 use mathlib.Core.Bool.{Bool, true, false, _&&_}
 use mathlib.Core.List.{List, [], _∷_, _++_, append-assoc}
-use Prim.Native.Nat.{ℕ, zero, suc, _+_, _*_, _<_, _≤_}
-use native.Mathlib.Nat.{zero-mul, suc-mul}
+use Prim.Native.Nat.{ℕ, zero, suc, _*_, _≤_, _<_}
+use native.Mathlib.Nat.{zero-mul}
 use native.Mathlib.Omega.{arith}
 use lib.Dec.{T, leb, leb→le, le→leb}
 use lib.Ieee.Fits.{and-l, and-r}
 use lib.ListN.{length, getD, drop, length-append}
 use lib.Seq.{drop-at}
-use Rattle.words.specs.Words.{Words}
 use Rattle.ieee.specs.Bounds.{All}
+use Rattle.words.specs.Words.{Words}
 use Rattle.store.specs.Table.{each, table, atMost, every}
 
 -- ---- tests

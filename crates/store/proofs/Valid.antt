@@ -1,31 +1,29 @@
 -- The block of a renderer in range is valid. Assumes nothing.
-use mathlib.Core.Path.{_≡_, refl, sym, ap, ap₂, subst, _∙_}
-use mathlib.Core.Bool.{Bool, true, false, not, _||_, _&&_, cond}
-use mathlib.Core.List.{List, [], _∷_, _++_, append-assoc, append-nil}
-use Prim.Native.Nat.{ℕ, zero, suc, _+_, _*_, _<_, _≤_}
-use native.Mathlib.Nat.{zero-add}
+use mathlib.Core.Path.{_≡_, refl, sym, subst, _∙_}
+use mathlib.Core.Bool.{Bool, true, false, not, _||_, _&&_}
+use mathlib.Core.List.{List, [], _∷_, _++_, append-assoc}
+use Prim.Native.Nat.{ℕ, zero, suc, _<_, _≤_}
 use native.Mathlib.Omega.{arith}
-use lib.Dec.{T, eqb, ltb, leb, eqb→eq, le→leb, lt→ltb, eqb-refl, lit<, lit≤}
-use lib.Ieee.Bits.{is-true}
-use lib.ListN.{length, getD, take, drop}
+use lib.Dec.{T, eqb, eqb→eq, le→leb, lt→ltb, eqb-refl, lit<, lit≤}
+use lib.ListN.{length, getD, drop}
 use lib.Seq.{drop-at, drop-drop}
+use Rattle.ieee.specs.Bounds.{All}
 use Rattle.words.specs.Words.{wordsAt}
 use Rattle.timed.specs.Objects.{noTrack, noSource}
 use Rattle.timed.specs.Slot.{InRange, noBlock}
-use Rattle.timed.specs.State.{Timed, Within, noElement}
+use Rattle.timed.specs.State.{Timed, Within}
 use Rattle.timed.specs.State as timed
 use Rattle.timed.specs.declared.state.ElementRendererState.{ElementRendererState}
 use Rattle.timed.specs.declared.state.MetadataRendererState.{MetadataRendererState}
-use Rattle.ieee.specs.Bounds.{All}
 use Rattle.rules.specs.Samples.{Renderer}
 use Rattle.store.specs.declared.Small.{Small}
-use Rattle.store.specs.Table.{bit, each, table, atMost, every}
-use Rattle.store.specs.Fields.{codeWords, gainWords, sourceWords, blockWords, trackWords, elementWords, clockWords, countWords, filterWords, tableWords, smallWords, smallOf}
+use Rattle.store.specs.Table.{bit, each, every}
+use Rattle.store.specs.Fields.{gainWords, sourceWords, blockWords, trackWords, elementWords, clockWords, countWords, filterWords, tableWords, smallWords, smallOf}
 use Rattle.store.specs.Layout.{size, small, infosOf, encode}
 use Rattle.store.specs.Ranges.{clockTests, countTests, elementTests, partTests, wordTests, fieldTests, leastFlags, smallValid, headsValid, valid}
 use Rattle.store.specs.Ranged.{ElementRanged, StateRanged, Ranged}
-use Rattle.store.proofs.Tables.{Entry, entries, and-in, every-in, at-most-in}
-use Rattle.store.proofs.Back.{Brief, ElementFull, StateFull, codes-entry, sources-entry, blocks-entry, tracks-entry, elements-entry, drop-sources, drop-states, small-back}
+use Rattle.store.proofs.Tables.{entries, and-in, every-in, at-most-in}
+use Rattle.store.proofs.Back.{StateFull, codes-entry, sources-entry, blocks-entry, tracks-entry, elements-entry, drop-sources, drop-states, small-back}
 use Rattle.store.proofs.Stores.{two-elements}
 use Rattle.store.proofs.Whole.{element-full, state-full, small-full, words-back, infos-back, encode-long}
 

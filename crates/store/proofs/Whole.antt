@@ -1,30 +1,29 @@
 -- A renderer in range is read back from its block, which is 26,960 bytes. Assumes nothing.
 use mathlib.Core.Path.{_≡_, refl, sym, ap, ap₂, _∙_}
-use mathlib.Core.Bool.{Bool, true, false, _||_, cond}
+use mathlib.Core.Bool.{Bool, true, false, _||_}
 use mathlib.Core.List.{List, [], _∷_, _++_}
-use Prim.Native.Nat.{ℕ, zero, suc, _+_, _*_, _^_, _<_, _≤_}
-use native.Mathlib.Nat.{zero-add, add-zero, suc-add, mul-suc, le-of-suc-le-suc, not-suc-le-zero, lt-of-le-of-lt}
+use Prim.Native.Nat.{ℕ, zero, suc, _+_, _*_, _<_, _≤_}
+use native.Mathlib.Nat.{zero-add, add-zero}
 use native.Mathlib.Omega.{arith}
 use borrow.Author.Tests.{ltb-true, ltb-false}
-use lib.Dec.{T, eqb, ltb, eqb→eq, lit<, lit≤}
-use lib.ListN.{length, getD, take, drop, length-append, length-drop, take-append-drop}
-use lib.Seq.{drop-at, take-at, drop-drop, getD-take, getD-drop, length-take-le}
-use Rattle.words.specs.Words.{Bytes, Words, number, wordsAt, withWords}
+use lib.Dec.{T, eqb, ltb, eqb→eq, lit≤}
+use lib.ListN.{length, getD, drop, length-append, take-append-drop}
+use lib.Seq.{drop-at, take-at, drop-drop}
+use Rattle.ieee.specs.Bounds.{All}
+use Rattle.words.specs.Words.{Bytes, wordsAt, withWords}
 use Rattle.timed.specs.Slot.{InRange, noBlock}
-use Rattle.timed.specs.State.{Timed, Within, noElement}
+use Rattle.timed.specs.State.{Timed, noElement}
 use Rattle.timed.specs.State as timed
 use Rattle.timed.specs.declared.state.ElementRendererState.{ElementRendererState}
 use Rattle.timed.specs.declared.state.MetadataRendererState.{MetadataRendererState}
-use Rattle.ieee.specs.Bounds.{All}
 use Rattle.rules.specs.Parts.{Places}
 use Rattle.rules.specs.Refusals.{listed}
 use Rattle.rules.specs.Samples.{Renderer}
 use Rattle.store.specs.Table.{bytesOf}
 use Rattle.store.specs.Fields.{smallWords, smallOf}
 use Rattle.store.specs.Layout.{size, small, joined, infosOf, placesOf, decode, rows, encode}
-use Rattle.store.specs.Ranged.{ElementRanged, StateRanged, InfosRanged, PlacesRanged, Ranged}
+use Rattle.store.specs.Ranged.{ElementRanged, StateRanged, PlacesRanged, Ranged}
 use Rattle.store.proofs.Bytes.{words-drop, bytes-length, bytes-bytes, bytes-back, stored}
-use Rattle.store.proofs.Tables.{Full}
 use Rattle.store.proofs.Back.{Brief, ElementFull, StateFull, SmallFull, small-long, small-words, small-back}
 
 -- ---- what is in range fits its words
@@ -55,7 +54,7 @@ element-full position least e r h =
       blocks = omega arith;
       flags = omega arith;
       remaining = omega arith;
-      schedule = record { count = h .schedule; each = all-at Brief noBlock (e .schedule) (λ i l. let n = h .schedule in let m : i < 8 = omega arith in record { offset = r .ramps .offsets i m; ramp = r .ramps .ramps i m }) };
+      schedule = record { count = h .schedule; each = all-at Brief noBlock (e .schedule) (λ i l. let m = h .schedule in record { offset = r .ramps .offsets i (omega arith); ramp = r .ramps .ramps i (omega arith) }) };
       tracks = record { count = h .tracks; each = h .targets };
     }
 
@@ -197,14 +196,5 @@ unfolding encode
 saved-encode b r l n i p =
     let w = smallWords (small r) in
     let t : drop 1360 b ≡ r .meta .infos ++ rows 12 0 (r .places) =
-        sym (take-append-drop 22528 (drop 1360 b)) ∙ ap₂ (λ (x y : List ℕ). x ++ y) i (drop-drop 22528 1360 b ∙ p) in
+    sym (take-append-drop 22528 (drop 1360 b)) ∙ ap₂ (λ (x y : List ℕ). x ++ y) i (drop-drop 22528 1360 b ∙ p) in
     stored w b (omega arith) ∙ ap (λ (k : ℕ). bytesOf w ++ drop (4 * k) b) n ∙ ap (λ (x : List ℕ). bytesOf w ++ x) t
-
-word-front : (s : List ℕ) (at k m : ℕ) → at + k ≤ m → number (take m s) at k ≡ number s at k
-unfolding number
-word-front s at zero m h = refl
-word-front s at (suc k) m h = ap₂ (λ (x y : ℕ). x + y * 256 ^ k) (word-front s at k m (omega arith)) (getD-take m s (at + k) 0 (omega arith))
-
-words-front : (s : List ℕ) (at n m : ℕ) → at + 4 * n ≤ m → wordsAt (take m s) at n ≡ wordsAt s at n
-words-front s at zero m h = refl
-words-front s at (suc n) m h = ap₂ (λ (x : ℕ) (xs : List ℕ). x ∷ xs) (word-front s at 4 m (omega arith)) (words-front s (at + 4) n m (omega arith))

@@ -1,19 +1,14 @@
 -- The state block: 26,960 bytes. The small part's words (1,360 bytes), the object infos as they are (22,528), 12 rows of 64 places for pending samples (3,072). Assumes nothing.
 use Prim.Native.Nat.{ℕ, zero, suc, _+_, _*_}
 use mathlib.Core.Bool.{false, cond}
-use mathlib.Core.List.{List, [], _∷_, _++_}
+use mathlib.Core.List.{List, [], _++_}
 use lib.Dec.{ltb}
 use lib.ListN.{take, drop, replicate}
 use Rattle.words.specs.Words.{wordsAt, withWord, withLong}
 use Rattle.vectors.specs.declared.Vec3.{Vec3}
 use Rattle.timed.specs.Slot.{middle}
 use Rattle.timed.specs.State.{Timed}
-use Rattle.timed.specs.declared.state.MetadataRendererState.{MetadataRendererState}
 use Rattle.timed.specs.declared.state.ElementRendererState.{ElementRendererState}
-use Rattle.timed.specs.declared.state.DynamicSourceState.{DynamicSourceState}
-use Rattle.timed.specs.declared.state.Track.{Track}
-use Rattle.timed.specs.declared.state.BlockState.{BlockState}
-use Rattle.timed.specs.declared.clock.StreamSample.{StreamSample}
 use Rattle.rules.specs.Parts.{0·0, 1·0, Places, zeros}
 use Rattle.rules.specs.Samples.{Renderer, idle}
 use Rattle.store.specs.declared.Small.{Small}
@@ -101,8 +96,7 @@ blank =
     }
 
 -- what a block that reset has filled decodes to; `fresh` of the rules, with `blank`
-unfoldable pub fresh : Renderer Timed
-unfolding blank
+abbrev pub fresh : Renderer Timed
 fresh = record { rate = 0; position = 0; phase = 0; start = 0; gain = 1·0; filter = idle; meta = blank; pending = 0; places = zeros }
 
 -- its block: zeros, but for the limiter gain 1.0 and the two remaining ramps 0, which stand plus 2^47

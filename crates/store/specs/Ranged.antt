@@ -6,6 +6,7 @@ use mathlib.Core.List.{List, []}
 use lib.Dec.{T, eqb}
 use lib.ListN.{length}
 use lib.Ieee.{Float, binary32, fits}
+use Rattle.ieee.specs.Bounds.{All}
 use Rattle.words.specs.Words.{Bytes, Words}
 use Rattle.vectors.specs.declared.Vec3.{Vec3}
 use Rattle.lowpass.specs.declared.BiquadLowpassState.{BiquadLowpassState}
@@ -14,7 +15,6 @@ use Rattle.timed.specs.declared.state.Track.{Track}
 use Rattle.timed.specs.declared.state.DynamicSourceState.{DynamicSourceState}
 use Rattle.timed.specs.declared.state.ElementRendererState.{ElementRendererState}
 use Rattle.timed.specs.declared.state.MetadataRendererState.{MetadataRendererState}
-use Rattle.ieee.specs.Bounds.{All}
 use Rattle.rules.specs.Parts.{Places}
 use Rattle.rules.specs.Refusals.{listed}
 use Rattle.rules.specs.Samples.{Renderer}

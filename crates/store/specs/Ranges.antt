@@ -2,7 +2,7 @@
 -- pending samples and slot phase below 64, the slot's start plus phase at most the stream's position, an element's objects as many as the last update's, its flags no fewer than
 -- the dynamic objects, nothing pending without a rate, other fields as in frames". Floats have any bits. Assumes nothing.
 use Prim.Native.Nat.{ℕ, zero, suc, _+_, _-_, _*_, _/_, _%_}
-use mathlib.Core.Bool.{Bool, true, false, not, _&&_, _||_, cond}
+use mathlib.Core.Bool.{Bool, true, not, _&&_, _||_, cond}
 use mathlib.Core.List.{List, [], _∷_}
 use lib.Dec.{eqb, leb, ltb}
 use lib.ListN.{length, getD, drop}

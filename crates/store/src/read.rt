@@ -2,7 +2,7 @@
 ghost use mathlib.Core.Path.{_≡_};
 ghost use Prim.Native.Nat.{_+_, _*_, _≤_, _<_};
 ghost use lib.ListN.{drop};
-ghost use Rattle.store.specs.Table.{floatOf, longOf, flagOf, table};
+ghost use Rattle.store.specs.Table.{floatOf, longOf, table};
 ghost use Rattle.store.specs.Fields.{codeOf, gainOf, sourceOf, blockOf, trackOf, elementOf, filterOf, stateOf, smallOf};
 use crate::Small;
 use lowpass::BiquadLowpassState;

@@ -1,12 +1,11 @@
 -- Zeros, and then the three fields. Assumes nothing.
 use borrow.Author.Needs.{needs}
-use mathlib.Core.Path.{_≡_, ap, _∙_}
+use mathlib.Core.Path.{ap, _∙_}
 use mathlib.Core.List.{List}
 use Prim.Native.Nat.{ℕ}
 use lib.ListN.{length}
 use Rattle.words.specs.Words.{withWord, withLong}
 use Rattle.timed.specs.Slot.{middle}
-use Rattle.store.specs.Layout.{marked}
 use Rattle.store.proofs.Fresh.{refilled}
 use Rattle.store.proofs.reset.Statement.{statement}
 use Rattle.store.proofs.reset.Tie as tie

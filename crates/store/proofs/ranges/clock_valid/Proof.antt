@@ -1,10 +1,8 @@
 -- Each early answer is a test that fails. Assumes nothing.
 use borrow.Author.Needs.{needs}
-use mathlib.Core.Path.{_≡_, sym, _∙_}
-use mathlib.Core.Bool.{true, false}
-use Prim.Native.Nat.{_+_, _-_, _<_, _≤_}
+use mathlib.Core.Path.{sym, _∙_}
+use Prim.Native.Nat.{_+_}
 use native.Mathlib.Omega.{arith}
-use lib.Dec.{leb}
 use borrow.Author.Tests.{le-leb, lt-leb, lt-ltb, le-ltb, not-true, not-false}
 use Rattle.store.proofs.Loops.{one-false, all-true}
 use Rattle.store.specs.Ranges.{clockTests}
@@ -24,7 +22,9 @@ returns-3 : tie.Need-returns-3
 returns-3 c = sym (one-false (clockTests (c .before .before .before .before .before .before .args .s)) 2 (lt-leb _ _ (c .if3 .taken)))
 
 returns-4 : tie.Need-returns-4
-returns-4 c = sym (one-false (clockTests (c .before .before .before .before .before .before .before .before .args .s)) 3 (lt-leb (c .before .before .before .before .before .before .before .before .args .s .start + c .before .before .before .before .before .before .before .before .args .s .phase) (c .before .before .before .before .before .before .before .before .args .s .position) (omega arith)))
+returns-4 c =
+    let p = c .before .before .before .before .before .before .before .before in
+    sym (one-false (clockTests (p .args .s)) 3 (lt-leb (p .args .s .start + p .args .s .phase) (p .args .s .position) (omega arith)))
 
 cast-if5 : tie.Need-cast-if5
 cast-if5 c = search needs
@@ -42,10 +42,22 @@ idle-valid-requires : tie.Need-idle-valid-requires
 idle-valid-requires c κs = search needs
 
 returns-7 : tie.Need-returns-7
-returns-7 c = sym (one-false (clockTests (c .before .before .before .before .before .before .before .before .before .before .before .before .before .before .before .before .args .s)) 5 (sym (c .before .idle-valid .ensures) ∙ not-true _ (c .if7 .taken)))
+returns-7 c =
+    let p = c .before in
+    let q = p .before .before .before .before .before .before .before .before .before .before .before .before .before .before .before in
+    sym (one-false (clockTests (q .args .s)) 5 (sym (p .idle-valid .ensures) ∙ not-true _ (c .if7 .taken)))
 
 returns-8 : tie.Need-returns-8
-returns-8 c = sym (all-true (clockTests (c .before .before .before .before .before .before .before .before .before .before .before .before .before .before .before .before .args .s)) (sym (c .before .before .before .before .before .before .before .before .before .before .before .before .before .before .before .rate-valid .ensures) ∙ not-false _ (c .before .before .before .before .before .before .before .before .before .before .before .before .before .before .if1 .left), (lt-ltb _ _ (c .before .before .before .before .before .before .before .before .before .before .before .before .if2 .left), (le-leb _ _ (c .before .before .before .before .before .before .before .before .before .before .if3 .left), (le-leb _ _ (c .before .before .before .before .if5 .left), (lt-ltb _ _ (c .before .before .if6 .left), (sym (c .before .idle-valid .ensures) ∙ not-false _ (c .if7 .left), tt)))))))
+returns-8 c =
+    let p = c .before in
+    let q = p .before in
+    let r = q .before .before in
+    let s = r .before .before .before .before .before .before in
+    let t = s .before .before in
+    let u = t .before .before in
+    let v = u .before in
+    let w = v .before in
+    sym (all-true (clockTests (w .args .s)) (sym (v .rate-valid .ensures) ∙ not-false _ (u .if1 .left), (lt-ltb _ _ (t .if2 .left), (le-leb _ _ (s .if3 .left), (le-leb _ _ (r .if5 .left), (lt-ltb _ _ (q .if6 .left), (sym (p .idle-valid .ensures) ∙ not-false _ (c .if7 .left), tt)))))))
 
 pub clock-valid-spec : {M : Type 1} → statement M
 clock-valid-spec =

@@ -1,8 +1,8 @@
 -- Each early answer is a test that fails; the position is in range where the clock is. Assumes nothing.
 use borrow.Author.Needs.{needs}
-use mathlib.Core.Path.{_≡_, sym, ap, _∙_}
+use mathlib.Core.Path.{sym, ap, _∙_}
 use Prim.Native.Nat.{ℕ}
-use borrow.Author.Tests.{le-leb, lt-leb, not-true, not-false}
+use borrow.Author.Tests.{not-true, not-false}
 use Rattle.store.proofs.Loops.{one-false, all-true}
 use Rattle.timed.specs.State.{elementOf}
 use Rattle.store.specs.Table.{every}
@@ -33,22 +33,49 @@ least-flags-requires : tie.Need-least-flags-requires
 least-flags-requires c κs = search needs
 
 element-valid-requires : tie.Need-element-valid-requires
-element-valid-requires c κs = clock-position (c .before .before .before .before .before .before .before .before .before .args .s) (sym (c .before .before .before .before .before .before .before .before .clock-valid .ensures) ∙ not-false _ (c .before .before .before .before .before .before .before .if1 .left))
+element-valid-requires c κs =
+    let p = c .before .before .before .before .before .before .before in
+    let q = p .before in
+    let r = q .before in
+    clock-position (r .args .s) (sym (q .clock-valid .ensures) ∙ not-false _ (p .if1 .left))
 
 returns-3 : tie.Need-returns-3
-returns-3 c = sym (one-false (fieldTests (c .before .before .before .before .before .before .before .before .before .before .before .args .s)) 2 (ap (λ (m : ℕ). every (elementTests (c .before .before .before .before .before .before .before .before .before .before .before .args .s .position) m (elementOf (c .before .before .before .before .before .before .before .before .before .before .before .args .s .state) 0))) (sym (c .before .before .least-flags .ensures)) ∙ sym (c .before .element-valid .ensures) ∙ not-true _ (c .if3 .taken)))
+returns-3 c =
+    let p = c .before in
+    let q = p .before in
+    let r = q .before .before .before .before .before .before .before .before .before in
+    sym (one-false (fieldTests (r .args .s)) 2 (ap (λ (m : ℕ). every (elementTests (r .args .s .position) m (elementOf (r .args .s .state) 0))) (sym (q .least-flags .ensures)) ∙ sym (p .element-valid .ensures) ∙ not-true _ (c .if3 .taken)))
 
 least-flags-requires-2 : tie.Need-least-flags-requires-2
 least-flags-requires-2 c κs = search needs
 
 element-valid-requires-2 : tie.Need-element-valid-requires-2
-element-valid-requires-2 c κs = clock-position (c .before .before .before .before .before .before .before .before .before .before .before .before .args .s) (sym (c .before .before .before .before .before .before .before .before .before .before .before .clock-valid .ensures) ∙ not-false _ (c .before .before .before .before .before .before .before .before .before .before .if1 .left))
+element-valid-requires-2 c κs =
+    let p = c .before .before .before .before .before .before .before .before .before .before in
+    let q = p .before in
+    let r = q .before in
+    clock-position (r .args .s) (sym (q .clock-valid .ensures) ∙ not-false _ (p .if1 .left))
 
 returns-4 : tie.Need-returns-4
-returns-4 c = sym (one-false (fieldTests (c .before .before .before .before .before .before .before .before .before .before .before .before .before .before .args .s)) 3 (ap (λ (m : ℕ). every (elementTests (c .before .before .before .before .before .before .before .before .before .before .before .before .before .before .args .s .position) m (elementOf (c .before .before .before .before .before .before .before .before .before .before .before .before .before .before .args .s .state) 1))) (sym (c .before .before .least-flags2 .ensures)) ∙ sym (c .before .element-valid2 .ensures) ∙ not-true _ (c .if4 .taken)))
+returns-4 c =
+    let p = c .before in
+    let q = p .before in
+    let r = q .before .before .before .before .before .before .before .before .before .before .before .before in
+    sym (one-false (fieldTests (r .args .s)) 3 (ap (λ (m : ℕ). every (elementTests (r .args .s .position) m (elementOf (r .args .s .state) 1))) (sym (q .least-flags2 .ensures)) ∙ sym (p .element-valid2 .ensures) ∙ not-true _ (c .if4 .taken)))
 
 returns-5 : tie.Need-returns-5
-returns-5 c = sym (all-true (fieldTests (c .before .before .before .before .before .before .before .before .before .before .before .before .before .before .args .s)) (sym (c .before .before .before .before .before .before .before .before .before .before .before .before .before .clock-valid .ensures) ∙ not-false _ (c .before .before .before .before .before .before .before .before .before .before .before .before .if1 .left), (sym (c .before .before .before .before .before .before .before .before .before .before .counts-valid .ensures) ∙ not-false _ (c .before .before .before .before .before .before .before .before .before .if2 .left), (ap (λ (m : ℕ). every (elementTests (c .before .before .before .before .before .before .before .before .before .before .before .before .before .before .args .s .position) m (elementOf (c .before .before .before .before .before .before .before .before .before .before .before .before .before .before .args .s .state) 0))) (sym (c .before .before .before .before .before .least-flags .ensures)) ∙ sym (c .before .before .before .before .element-valid .ensures) ∙ not-false _ (c .before .before .before .if3 .left), (ap (λ (m : ℕ). every (elementTests (c .before .before .before .before .before .before .before .before .before .before .before .before .before .before .args .s .position) m (elementOf (c .before .before .before .before .before .before .before .before .before .before .before .before .before .before .args .s .state) 1))) (sym (c .before .before .least-flags2 .ensures)) ∙ sym (c .before .element-valid2 .ensures) ∙ not-false _ (c .if4 .left), tt)))))
+returns-5 c =
+    let p = c .before in
+    let q = p .before in
+    let r = q .before in
+    let s = r .before in
+    let t = s .before in
+    let u = t .before .before .before .before in
+    let v = u .before in
+    let w = v .before .before in
+    let x = w .before in
+    let y = x .before in
+    sym (all-true (fieldTests (y .args .s)) (sym (x .clock-valid .ensures) ∙ not-false _ (w .if1 .left), (sym (v .counts-valid .ensures) ∙ not-false _ (u .if2 .left), (ap (λ (m : ℕ). every (elementTests (y .args .s .position) m (elementOf (y .args .s .state) 0))) (sym (t .least-flags .ensures)) ∙ sym (s .element-valid .ensures) ∙ not-false _ (r .if3 .left), (ap (λ (m : ℕ). every (elementTests (y .args .s .position) m (elementOf (y .args .s .state) 1))) (sym (q .least-flags2 .ensures)) ∙ sym (p .element-valid2 .ensures) ∙ not-false _ (c .if4 .left), tt)))))
 
 pub fields-valid-spec : {M : Type 1} → statement M
 fields-valid-spec =

@@ -1,7 +1,7 @@
 -- Length, heads, words. Assumes nothing.
 use borrow.Author.Needs.{needs}
-use mathlib.Core.Path.{_≡_, sym, ap, _∙_}
-use borrow.Author.Tests.{le-leb, lt-leb, not-true, not-false}
+use mathlib.Core.Path.{sym, ap, _∙_}
+use borrow.Author.Tests.{not-true, not-false}
 use Rattle.store.specs.Ranges.{smallValid}
 use Rattle.store.proofs.Answers.{wrong-length, bad-heads, good-heads}
 use Rattle.store.proofs.ranges.is_valid.Statement.{statement}

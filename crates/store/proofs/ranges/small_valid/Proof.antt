@@ -1,7 +1,7 @@
 -- The words, then the fields. Assumes nothing.
 use borrow.Author.Needs.{needs}
-use mathlib.Core.Path.{_≡_, sym, ap, _∙_}
-use borrow.Author.Tests.{le-leb, lt-leb, not-true, not-false}
+use mathlib.Core.Path.{sym, ap, _∙_}
+use borrow.Author.Tests.{not-true, not-false}
 use Rattle.store.specs.declared.Small.{Small}
 use Rattle.store.specs.Table.{every}
 use Rattle.store.specs.Ranges.{fieldTests}

@@ -1,6 +1,6 @@
 -- Each early answer is a test that fails. Assumes nothing.
 use borrow.Author.Needs.{needs}
-use mathlib.Core.Path.{_≡_, sym, ap, _∙_}
+use mathlib.Core.Path.{sym, _∙_}
 use borrow.Author.Tests.{le-leb, lt-leb, not-true, not-false}
 use Rattle.store.proofs.Loops.{one-false, all-true}
 use Rattle.store.specs.Ranges.{wordTests}
@@ -38,7 +38,17 @@ returns-5 : tie.Need-returns-5
 returns-5 c = sym (one-false (wordTests (c .before .before .before .before .before .before .before .before .before .before .args .w .now)) 4 (sym (c .before .parts-valid2 .ensures) ∙ not-true _ (c .if5 .taken)))
 
 returns-6 : tie.Need-returns-6
-returns-6 c = sym (all-true (wordTests (c .before .before .before .before .before .before .before .before .before .before .args .w .now)) (le-leb _ _ (c .before .before .before .before .before .before .before .before .if1 .left), (sym (c .before .before .before .before .before .before .before .at-most .ensures) ∙ not-false _ (c .before .before .before .before .before .before .if2 .left), (sym (c .before .before .before .before .before .at-most2 .ensures) ∙ not-false _ (c .before .before .before .before .if3 .left), (sym (c .before .before .before .parts-valid .ensures) ∙ not-false _ (c .before .before .if4 .left), (sym (c .before .parts-valid2 .ensures) ∙ not-false _ (c .if5 .left), tt))))))
+returns-6 c =
+    let p = c .before in
+    let q = p .before in
+    let r = q .before in
+    let s = r .before in
+    let t = s .before in
+    let u = t .before in
+    let v = u .before in
+    let w = v .before in
+    let x = w .before .before in
+    sym (all-true (wordTests (x .args .w .now)) (le-leb _ _ (w .if1 .left), (sym (v .at-most .ensures) ∙ not-false _ (u .if2 .left), (sym (t .at-most2 .ensures) ∙ not-false _ (s .if3 .left), (sym (r .parts-valid .ensures) ∙ not-false _ (q .if4 .left), (sym (p .parts-valid2 .ensures) ∙ not-false _ (c .if5 .left), tt))))))
 
 pub words-valid-spec : {M : Type 1} → statement M
 words-valid-spec =

@@ -1,7 +1,7 @@
 -- The entries before `i` are read. Assumes nothing.
 use borrow.Author.Needs.{needs}
-use mathlib.Core.Path.{_≡_, refl, sym, ap, _∙_}
-use Prim.Native.Nat.{ℕ, _+_, _-_, _*_, _≤_, _<_, _%_}
+use mathlib.Core.Path.{_≡_, refl, ap}
+use Prim.Native.Nat.{ℕ, _+_, _-_, _≤_, _<_, _%_}
 use native.Mathlib.Omega.{arith}
 use lib.ListN.{length, getD, take, drop, length-set}
 use Rattle.store.specs.Table.{table}

@@ -1,10 +1,10 @@
 -- The entries before `i` are read. Assumes nothing.
 use borrow.Author.Needs.{needs}
-use mathlib.Core.Path.{_≡_, refl, sym, ap, _∙_}
-use Prim.Native.Nat.{ℕ, _+_, _-_, _*_, _≤_, _<_, _%_}
+use mathlib.Core.Path.{_≡_, refl, ap, _∙_}
+use Prim.Native.Nat.{_-_, _≤_, _<_}
 use native.Mathlib.Omega.{arith}
 use lib.Ieee.{binary32, ofBits}
-use lib.ListN.{length, getD, take, drop, length-set}
+use lib.ListN.{length, take, drop, length-set}
 use Rattle.store.specs.Table.{table}
 use Rattle.store.proofs.Loops.{table-filled, table-full, word-at}
 use Rattle.store.specs.Fields.{gainOf}

@@ -1,6 +1,6 @@
 -- Three words. Assumes nothing.
 use borrow.Author.Needs.{needs}
-use mathlib.Core.Path.{_≡_, refl, sym, ap, _∙_}
+use mathlib.Core.Path.{_∙_}
 use Rattle.store.specs.Fields.{blockWords}
 use Rattle.store.proofs.write.put_block.Statement.{statement}
 use Rattle.store.proofs.write.put_block.Tie as tie

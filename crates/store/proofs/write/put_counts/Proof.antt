@@ -1,6 +1,6 @@
 -- Seven words. Assumes nothing.
 use borrow.Author.Needs.{needs}
-use mathlib.Core.Path.{_≡_, refl, sym, ap, _∙_}
+use mathlib.Core.Path.{_∙_}
 use Rattle.store.specs.Fields.{countWords}
 use Rattle.store.proofs.write.put_counts.Statement.{statement}
 use Rattle.store.proofs.write.put_counts.Tie as tie

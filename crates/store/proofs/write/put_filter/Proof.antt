@@ -1,6 +1,6 @@
 -- Nine words. Assumes nothing.
 use borrow.Author.Needs.{needs}
-use mathlib.Core.Path.{_≡_, refl, sym, ap, _∙_}
+use mathlib.Core.Path.{_∙_}
 use Rattle.store.specs.Fields.{filterWords}
 use Rattle.store.proofs.write.put_filter.Statement.{statement}
 use Rattle.store.proofs.write.put_filter.Tie as tie

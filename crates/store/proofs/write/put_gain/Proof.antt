@@ -1,6 +1,6 @@
 -- One word. Assumes nothing.
 use borrow.Author.Needs.{needs}
-use mathlib.Core.Path.{_≡_, refl, sym, ap, _∙_}
+use mathlib.Core.Path.{ap, _∙_}
 use Prim.Native.Nat.{ℕ}
 use Rattle.words.specs.Words.{withWord}
 use Rattle.store.proofs.write.put_gain.Statement.{statement}

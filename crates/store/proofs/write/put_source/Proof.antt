@@ -1,6 +1,6 @@
 -- Six words. Assumes nothing.
 use borrow.Author.Needs.{needs}
-use mathlib.Core.Path.{_≡_, refl, sym, ap, _∙_}
+use mathlib.Core.Path.{_∙_}
 use Rattle.store.specs.Fields.{sourceWords}
 use Rattle.store.proofs.write.put_source.Statement.{statement}
 use Rattle.store.proofs.write.put_source.Tie as tie

@@ -1,6 +1,6 @@
 -- One table after the other. Assumes nothing.
 use borrow.Author.Needs.{needs}
-use mathlib.Core.Path.{_≡_, refl, sym, ap, _∙_}
+use mathlib.Core.Path.{_≡_, ap, _∙_}
 use mathlib.Core.List.{List}
 use Prim.Native.Nat.{ℕ, _+_}
 use native.Mathlib.Omega.{arith}
@@ -8,7 +8,7 @@ use lib.ListN.{length, getD}
 use Rattle.words.specs.Words.{withWords}
 use Rattle.timed.specs.State.{noElement}
 use Rattle.store.specs.Table.{each}
-use Rattle.store.specs.Fields.{codeWords, gainWords, sourceWords, elementWords}
+use Rattle.store.specs.Fields.{gainWords, sourceWords, elementWords}
 use Rattle.store.proofs.Stores.{tables-stored}
 use Rattle.store.proofs.write.put_tables.Statement.{statement}
 use Rattle.store.proofs.write.put_tables.Tie as tie

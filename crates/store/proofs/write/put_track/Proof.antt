@@ -1,6 +1,6 @@
 -- Four words. Assumes nothing.
 use borrow.Author.Needs.{needs}
-use mathlib.Core.Path.{_≡_, refl, sym, ap, _∙_}
+use mathlib.Core.Path.{_∙_}
 use Rattle.store.specs.Fields.{trackWords}
 use Rattle.store.proofs.write.put_track.Statement.{statement}
 use Rattle.store.proofs.write.put_track.Tie as tie
