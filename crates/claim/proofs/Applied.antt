@@ -1,10 +1,10 @@
 -- An update that refusals 5 and 6 let pass keeps what `Sound` and `Within` say. Assumes nothing.
 use Prim.Native.Nat.{ℕ, zero, suc, _+_, _-_, _*_, _≤_, _<_}
-use mathlib.Core.Path.{_≡_, refl, sym, ap, _∙_, subst}
-use mathlib.Core.Bool.{Bool, true, false, cond, not}
+use mathlib.Core.Path.{_≡_, refl, sym, _∙_, subst}
+use mathlib.Core.Bool.{Bool, true, false, not}
 use mathlib.Core.List.{List, [], _∷_}
-use lib.Dec.{T, eqb, ltb, lit≤, lit<}
-use lib.ListN.{length, getD, set, replicate, length-set, length-replicate, getD-replicate}
+use lib.Dec.{T, eqb, ltb, lit≤}
+use lib.ListN.{length, getD, set, replicate, length-set, getD-replicate}
 use lib.Ieee.{Float, nan, fits, binary32, le, ofBits}
 use native.Mathlib.Nat.{zero-add}
 use native.Mathlib.Omega.{arith}
@@ -17,30 +17,27 @@ use Rattle.panning.specs.Choice.{0·0, 1·0}
 use Rattle.panning.specs.Table.{between, 8·0, Position}
 use Rattle.fields.specs.Update.{objects, elements}
 use Rattle.fields.specs.Block.{blocks}
-use Rattle.records.specs.Laid.{laidOut, count, updateAt, elementAt}
+use Rattle.records.specs.Laid.{laidOut, count, updateAt}
 use Rattle.records.specs.Ranges.{inRange}
-use Rattle.timed.specs.Turns.{times}
-use Rattle.timed.specs.Infos.{maybeAt, gainAt, sizeAt}
+use Rattle.timed.specs.Infos.{maybeAt}
 use Rattle.timed.specs.Objects.{noSource, noTrack}
 use Rattle.timed.specs.State.{Timed, noElement, elementOf}
 use Rattle.timed.specs.declared.state.BlockState.{BlockState}
 use Rattle.timed.specs.declared.state.Track.{Track}
 use Rattle.timed.specs.declared.state.DynamicSourceState.{DynamicSourceState}
 use Rattle.timed.specs.declared.state.ElementRendererState.{ElementRendererState}
-use Rattle.timed.specs.declared.state.MetadataRendererState.{MetadataRendererState}
 use Rattle.timed.proofs.Keeps.{times-in, times-keeps, cond-keeps, set-each}
 use Rattle.updates.specs.Said.{Element, Update, updateOf}
-use Rattle.updates.specs.Stored.{objectsStored}
 use Rattle.updates.specs.Applied.{0·707, newSource, newTrack, nextSources, nextGains, blockGiven, scheduled, elementNext, isKept, isSame, Work, elementGiven, elementsApplied, codeGiven, codesGiven, applied}
 use Rattle.updates.specs.Whole.{WholeUpdate}
 use Rattle.updates.specs.Shape.{shapeOf, lacks}
 use Rattle.updates.proofs.Kept.{applied-within}
 use Rattle.updates.proofs.Shapes.{flags-enough}
-use Rattle.store.specs.Ranges.{leastFlags, headValid, headsValid}
-use Rattle.store.specs.Ranged.{Single, Singles, SourceSingles, TrackSingles, ElementRanged, StateRanged, InfosRanged}
+use Rattle.store.specs.Ranges.{headValid, headsValid}
+use Rattle.store.specs.Ranged.{Single, Singles, SourceSingles, TrackSingles, InfosRanged}
 use Rattle.store.proofs.Tables.{and-in}
 use lib.Ieee.Fits.{and-l, and-r}
-use Rattle.claim.specs.Hall.{Sent, sentAt}
+use Rattle.claim.specs.Hall.{Sent}
 use Rattle.claim.proofs.Sound.{SourceSound, InfosSound, Sound, Within}
 use Rattle.claim.proofs.Infos.{Said, Table, Fit, objects-kept}
 use Rattle.claim.proofs.Checked.{Checked, SoundSaid, RangedSaid, whole, codes, info-ranged, info-sound}

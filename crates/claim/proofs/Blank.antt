@@ -2,24 +2,21 @@
 use Prim.Native.Nat.{ℕ, zero, suc, _+_, _*_, _^_, _≤_, _<_}
 use mathlib.Core.Path.{_≡_, refl, sym, ap₂, _∙_, subst}
 use mathlib.Core.Bool.{false}
-use mathlib.Core.List.{List}
 use lib.Dec.{T, lit≤, lit<}
 use lib.ListN.{length, getD, replicate, length-replicate, getD-replicate}
 use lib.Ieee.{Float, nan, fits, binary32, le}
 use native.Mathlib.Omega.{arith}
-use Rattle.words.specs.Words.{Bytes, number, word}
+use Rattle.words.specs.Words.{Bytes, number}
 use Rattle.panning.specs.Choice.{0·0, 1·0}
 use Rattle.panning.specs.Table.{between, 8·0, Position}
 use Rattle.timed.specs.Objects.{noSource, noTrack}
 use Rattle.timed.specs.State.{Timed, noElement}
-use Rattle.timed.specs.State as timed
 use Rattle.timed.specs.declared.state.Track.{Track}
 use Rattle.timed.specs.declared.state.ElementRendererState.{ElementRendererState}
 use Rattle.timed.proofs.Kept as timed′
-use Rattle.store.specs.Layout.{still, noBlocks, blank, fresh}
+use Rattle.store.specs.Layout.{still, noBlocks, blank}
 use Rattle.store.proofs.Fresh.{fresh-ranged}
-use Rattle.claim.proofs.Sound.{SourceSound, InfosSound, Sound, Within, UpTo}
-use Rattle.claim.proofs.Infos.{Table}
+use Rattle.claim.proofs.Sound.{SourceSound, InfosSound, Sound, Within}
 use Rattle.claim.proofs.Checked.{SoundSaid}
 use Rattle.claim.proofs.Applied.{table-sound}
 
@@ -84,7 +81,6 @@ sound-blank =
     }
 
 pub within-blank : Within 0 blank
-unfolding fresh
 within-blank = record { state = fresh-ranged .state; infos = fresh-ranged .infos }
 
 pub within-later : (n k : ℕ) (m : Timed) → n ≤ k → Within n m → Within k m

@@ -1,13 +1,12 @@
 -- The state block: the rules' ranges of a renderer are those of the layout. Assumes nothing.
-use Prim.Native.Nat.{ℕ, _≤_, _<_}
+use Prim.Native.Nat.{ℕ}
 use mathlib.Core.Path.{_≡_, refl, sym, subst}
 use mathlib.Core.Logic.{_⊎_, inl, inr}
 use mathlib.Core.Bool.{Bool, true, false, _||_}
-use mathlib.Core.List.{List, []}
+use mathlib.Core.List.{List}
 use lib.Dec.{T, eqb, ltb, eqb→eq}
 use lib.ListN.{length}
 use lib.Ieee.Bits.{is-true}
-use native.Mathlib.Omega.{arith}
 use borrow.Author.Tests.{eq-eqb, ltb-true, ltb-false}
 use Rattle.words.specs.Words.{Bytes, Words}
 use Rattle.timed.specs.State.{Timed}

@@ -1,10 +1,10 @@
 -- What refusals 5 and 6 leave of an update. Assumes nothing.
-use Prim.Native.Nat.{ℕ, zero, suc, _+_, _-_, _*_, _/_, _%_, _^_, _≤_, _<_}
-use mathlib.Core.Path.{_≡_, refl, sym, ap, _∙_, subst}
+use Prim.Native.Nat.{ℕ, zero, suc, _+_, _-_, _*_, _/_, _%_, _≤_, _<_}
+use mathlib.Core.Path.{_≡_, refl, sym, ap, subst}
 use mathlib.Core.Bool.{Bool, true, false, cond, _&&_}
 use mathlib.Core.List.{List}
 use lib.Dec.{T, eqb, leb, ltb, lt→ltb}
-use lib.ListN.{length, getD}
+use lib.ListN.{getD}
 use lib.Ieee.{Float, binary32, ofBits, fits}
 use lib.Ieee.Bits.{ofBits-fits}
 use native.Mathlib.Omega.{arith}
@@ -14,14 +14,13 @@ use Rattle.words.specs.Words.{Bytes, word, floatAt}
 use Rattle.words.proofs.Small.{number-small}
 use Rattle.vectors.specs.declared.Maybe.{Maybe}
 use Rattle.vectors.specs.declared.Maybe.the-variants.{Absent, Value}
-use Rattle.panning.specs.Choice.{0·0, 1·0}
+use Rattle.panning.specs.Choice.{1·0}
 use Rattle.panning.specs.Table.{between, 8·0}
-use Rattle.fields.specs.Bytes.{all, byte, kind, has}
+use Rattle.fields.specs.Bytes.{byte, kind, has}
 use Rattle.fields.specs.Update.{objects, bedOrIsf, beds, elements, code, countsFit, mostAt, codesFit, isUpdate}
 use Rattle.fields.specs.Block.{blocks}
 use Rattle.fields.specs.Object.{isObject, maybeOf, depthOf, objectOf, infoOf, upTo, objectInRange}
 use Rattle.fields.specs.declared.object.Info.{Info}
-use Rattle.fields.specs.declared.object.Object.{Object}
 use Rattle.fields.proofs.All.{and-left, and-right, all-at}
 use Rattle.records.specs.Runs.{each}
 use Rattle.records.specs.Laid.{laidOut, count, updateAt, elementAt, objectAt}
@@ -29,7 +28,6 @@ use Rattle.records.specs.Ranges.{inRange}
 use Rattle.records.proofs.Reached.{whole-records, update-whole, update-is, element-whole, object-is}
 use Rattle.records.proofs.Meant.{all-within}
 use Rattle.timed.specs.Infos.{flagOf}
-use Rattle.updates.specs.Said.{Update, updateOf}
 use Rattle.updates.specs.Stored.{headOf}
 use Rattle.updates.specs.Whole.{WholeUpdate}
 use Rattle.updates.proofs.Passed.{passes}

@@ -1,10 +1,10 @@
 -- An update writes infos of which each has its head, gain and size as asked; the others stay. Assumes nothing.
-use Prim.Native.Nat.{ℕ, zero, suc, _+_, _*_, _/_, _%_, _^_, _≤_, _<_}
-use mathlib.Core.Path.{_≡_, refl, sym, ap, _∙_, subst}
-use mathlib.Core.Bool.{Bool, true, false, cond}
+use Prim.Native.Nat.{ℕ, _+_, _*_, _/_, _%_, _^_, _≤_, _<_}
+use mathlib.Core.Path.{_≡_, refl, _∙_}
+use mathlib.Core.Bool.{Bool, true, false}
 use mathlib.Core.List.{List}
 use lib.Dec.{ltb, eqb}
-use lib.ListN.{length, getD}
+use lib.ListN.{length}
 use native.Mathlib.Omega.{arith}
 use borrow.Author.Tests.{ltb-true, ltb-false, eqb-true, eqb-false}
 use Rattle.words.specs.Words.{Bytes, word, withWord}
@@ -13,9 +13,8 @@ use Rattle.words.proofs.Beside.{Kept, kept-twice, number-keeps, reads-before, r
 use Rattle.words.proofs.Numbers.{length-kept}
 use Rattle.words.proofs.Small.{number-bytes}
 use Rattle.fields.specs.declared.object.Info.{Info}
-use Rattle.timed.specs.Turns.{times}
 use Rattle.timed.proofs.Keeps.{times-in, cond-keeps}
-use Rattle.updates.specs.Said.{Element, Update}
+use Rattle.updates.specs.Said.{Element}
 use Rattle.updates.specs.Stored.{withThree, cleared, withPlace, headOf, withHead, withInfo, infoGiven, objectStored, objectGiven, objectsStored}
 
 -- what is said of an info by its head, gain and size

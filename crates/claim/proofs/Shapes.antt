@@ -3,24 +3,20 @@ use Prim.Native.Nat.{ℕ, zero, suc, _+_, _-_, _≤_, _<_}
 use mathlib.Core.Path.{_≡_, refl, sym, ap, _∙_, subst}
 use mathlib.Core.Bool.{Bool, true, false}
 use mathlib.Core.List.{List, _∷_}
-use lib.Dec.{T, ltb, lit≤}
-use lib.ListN.{length, getD, set, length-set}
+use lib.Dec.{ltb}
+use lib.ListN.{length, getD, length-set}
 use lib.Seq.{getD-set-other, getD-set-same}
 use native.Mathlib.Omega.{arith}
 use borrow.Author.Tests.{ltb-true, ltb-false}
 use Rattle.records.specs.Runs.{each}
 use Rattle.records.proofs.Each.{each-length}
 use Rattle.timed.specs.Turns.{times}
-use Rattle.timed.specs.State.{Timed, elementOf, slotAt}
-use Rattle.timed.specs.declared.state.MetadataRendererState.{MetadataRendererState}
+use Rattle.timed.specs.State.{Timed, elementOf}
 use Rattle.updates.specs.Said.{Update}
 use Rattle.updates.specs.Applied.{codeGiven, codesGiven, applied}
-use Rattle.updates.specs.Shape as refusal7
-use Rattle.updates.specs.declared.shape.Shape as judge
 use Rattle.updates.proofs.Shapes.{shape-applied}
-use Rattle.rules.specs.Leaves.{Shape}
 use Rattle.rules.proofs.Facts.{Mixable}
-use Rattle.claim.specs.Hall.{Sent, sentAt, bedOf, sourceOf, shapeOf, hall}
+use Rattle.claim.specs.Hall.{Sent, bedOf, sourceOf, hall}
 use Rattle.claim.proofs.Sound.{Sound, Within}
 use Rattle.claim.proofs.Checked.{Checked, each-all, whole}
 use Rattle.claim.proofs.Applied.{pair-of}
