@@ -2,24 +2,21 @@
 use Prim.Native.Nat.{ℕ, zero, suc, _+_, _*_, _^_, _≤_, _<_}
 use mathlib.Core.Path.{_≡_, refl, sym, ap₂, _∙_, subst}
 use mathlib.Core.Bool.{false}
-use mathlib.Core.List.{List}
 use lib.Dec.{T, lit≤, lit<}
 use lib.ListN.{length, getD, replicate, length-replicate, getD-replicate}
 use lib.Ieee.{Float, nan, fits, binary32, le}
 use native.Mathlib.Omega.{arith}
-use Rattle.words.specs.Words.{Bytes, number, word}
+use Rattle.words.specs.Words.{Bytes, number}
 use Rattle.panning.specs.Choice.{0·0, 1·0}
 use Rattle.panning.specs.Table.{between, 8·0, Position}
 use Rattle.timed.specs.Objects.{noSource, noTrack}
 use Rattle.timed.specs.State.{Timed, noElement}
-use Rattle.timed.specs.State as timed
 use Rattle.timed.specs.declared.state.Track.{Track}
 use Rattle.timed.specs.declared.state.ElementRendererState.{ElementRendererState}
 use Rattle.timed.proofs.Kept as timed′
-use Rattle.store.specs.Layout.{still, noBlocks, blank, fresh}
+use Rattle.store.specs.Layout.{still, noBlocks, blank}
 use Rattle.store.proofs.Fresh.{fresh-ranged}
-use Rattle.claim.proofs.Sound.{SourceSound, InfosSound, Sound, Within, UpTo}
-use Rattle.claim.proofs.Infos.{Table}
+use Rattle.claim.proofs.Sound.{SourceSound, InfosSound, Sound, Within}
 use Rattle.claim.proofs.Checked.{SoundSaid}
 use Rattle.claim.proofs.Applied.{table-sound}
 
@@ -27,6 +24,9 @@ same-at : (n i : ℕ) → _≡_ {A = ℕ} (getD (replicate n 0) i 0) 0
 same-at zero i = refl
 same-at (suc n) zero = refl
 same-at (suc n) (suc i) = same-at n i
+
+pub zero-bytes : (n : ℕ) → Bytes (replicate n 0)
+zero-bytes n i = subst (λ (x : ℕ). x < 256) (sym (same-at n i)) (lit< tt)
 
 zero-number : (n at k : ℕ) → number (replicate n 0) at k ≡ 0
 unfolding number
@@ -38,12 +38,12 @@ nothing-said h g z e = subst (λ (x : ℕ). SoundSaid x g z) (sym e) (tt, tt)
 
 infos-blank : (n : ℕ) → n ≡ 22528 → InfosSound (replicate n 0)
 infos-blank n e =
-  table-sound (replicate n 0)
-  (record {
-    long = length-replicate {A = ℕ} n 0 ∙ e;
-    bytes = λ i. subst (λ (x : ℕ). x < 256) (sym (same-at n i)) (lit< tt);
-    each = λ k l. nothing-said _ _ _ (zero-number n (44 * k) 4);
-  })
+    table-sound (replicate n 0)
+    (record {
+      long = length-replicate {A = ℕ} n 0 ∙ e;
+      bytes = zero-bytes n;
+      each = λ k l. nothing-said _ _ _ (zero-number n (44 * k) 4);
+    })
 
 zero-gain : T (between 0·0 8·0 0·0)
 unfolding between fits le
@@ -66,38 +66,37 @@ element-blank e l = getD-replicate 2 e noBlocks noElement l
 pub sound-blank : Sound blank
 unfolding blank
 sound-blank =
-  record {
-    beds = lit≤ tt;
-    objects = lit≤ tt;
-    codes = refl;
-    states = refl;
-    gains = λ k l. subst (λ (x : Float). T (between 0·0 8·0 x)) (sym (getD-replicate 18 k 0·0 nan l)) zero-gain;
-    sources = λ d l. subst SourceSound (sym (getD-replicate 16 d (record { gain = 0·0; size = 0·0; place = still; placed = false }) noSource l))
-        (record { gain = zero-gain; size = zero-size; place = still-fits });
-    tracks = λ e l. subst (λ (x : ElementRendererState). length (x .tracks) ≡ 16) (sym (element-blank e l)) refl;
-    targets = λ e d l q. subst (λ (x : ElementRendererState). Position (getD (x .tracks) d noTrack .future)) (sym (element-blank e l))
-        (subst (λ (t : Track). Position (t .future)) (sym (getD-replicate 16 d (record { now = false; future = still }) noTrack q)) still-fits);
-    infos = infos-blank 22528 refl;
-  }
+    record {
+      beds = lit≤ tt;
+      objects = lit≤ tt;
+      codes = refl;
+      states = refl;
+      gains = λ k l. subst (λ (x : Float). T (between 0·0 8·0 x)) (sym (getD-replicate 18 k 0·0 nan l)) zero-gain;
+      sources = λ d l. subst SourceSound (sym (getD-replicate 16 d (record { gain = 0·0; size = 0·0; place = still; placed = false }) noSource l))
+          (record { gain = zero-gain; size = zero-size; place = still-fits });
+      tracks = λ e l. subst (λ (x : ElementRendererState). length (x .tracks) ≡ 16) (sym (element-blank e l)) refl;
+      targets = λ e d l q. subst (λ (x : ElementRendererState). Position (getD (x .tracks) d noTrack .future)) (sym (element-blank e l))
+          (subst (λ (t : Track). Position (t .future)) (sym (getD-replicate 16 d (record { now = false; future = still }) noTrack q)) still-fits);
+      infos = infos-blank 22528 refl;
+    }
 
 pub within-blank : Within 0 blank
-unfolding fresh
 within-blank = record { state = fresh-ranged .state; infos = fresh-ranged .infos }
 
 pub within-later : (n k : ℕ) (m : Timed) → n ≤ k → Within n m → Within k m
 within-later n k m l h =
-  let s = h .state in
-  record {
-    state = record {
-      within = timed′.within-later n k (m .state) l (s .within);
-      codes = s .codes;
-      listed = s .listed;
-      gains = s .gains;
-      beds = s .beds;
-      sources = s .sources;
-      objects = s .objects;
-      states = s .states;
-      elements = s .elements;
-    };
-    infos = h .infos;
-  }
+    let s = h .state in
+    record {
+      state = record {
+        within = timed′.within-later n k (m .state) l (s .within);
+        codes = s .codes;
+        listed = s .listed;
+        gains = s .gains;
+        beds = s .beds;
+        sources = s .sources;
+        objects = s .objects;
+        states = s .states;
+        elements = s .elements;
+      };
+      infos = h .infos;
+    }

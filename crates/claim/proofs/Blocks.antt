@@ -1,13 +1,12 @@
 -- The state block: the rules' ranges of a renderer are those of the layout. Assumes nothing.
-use Prim.Native.Nat.{ℕ, _≤_, _<_}
+use Prim.Native.Nat.{ℕ}
 use mathlib.Core.Path.{_≡_, refl, sym, subst}
 use mathlib.Core.Logic.{_⊎_, inl, inr}
 use mathlib.Core.Bool.{Bool, true, false, _||_}
-use mathlib.Core.List.{List, []}
+use mathlib.Core.List.{List}
 use lib.Dec.{T, eqb, ltb, eqb→eq}
 use lib.ListN.{length}
 use lib.Ieee.Bits.{is-true}
-use native.Mathlib.Omega.{arith}
 use borrow.Author.Tests.{eq-eqb, ltb-true, ltb-false}
 use Rattle.words.specs.Words.{Bytes, Words}
 use Rattle.timed.specs.State.{Timed}
@@ -43,20 +42,20 @@ rate-in n (inr e) = t-or (eqb n 0) (listed n) (inr e)
 -- a renderer in the rules' ranges is in the layout's
 ranged : (r : Renderer Timed) → rules.Ranged hall Within r → Ranged r
 ranged r h =
-  let f = h .filter in
-  record {
-    rate = rate-in (r .rate) (h .rate);
-    phase = h .phase;
-    position = h .position;
-    start = h .start;
-    gain = h .gain;
-    filter = record { a1 = f .a1; a2 = f .a2; b0 = f .b0; b1 = f .b1; b2 = f .b2; x1 = f .x1; x2 = f .x2; y1 = f .y1; y2 = f .y2 };
-    pending = h .pending;
-    idle = h .idle;
-    state = h .meta .state;
-    infos = h .meta .infos;
-    places = record { lengths = h .long; words = λ c l. h .words c; none = h .none };
-  }
+    let f = h .filter in
+    record {
+      rate = rate-in (r .rate) (h .rate);
+      phase = h .phase;
+      position = h .position;
+      start = h .start;
+      gain = h .gain;
+      filter = record { a1 = f .a1; a2 = f .a2; b0 = f .b0; b1 = f .b1; b2 = f .b2; x1 = f .x1; x2 = f .x2; y1 = f .y1; y2 = f .y2 };
+      pending = h .pending;
+      idle = h .idle;
+      state = h .meta .state;
+      infos = h .meta .infos;
+      places = record { lengths = h .long; words = λ c l. h .words c; none = h .none };
+    }
 
 words-in : (p : Places) → PlacesRanged p → (c : ℕ) (below : Bool) → ltb c 12 ≡ below → Words (p c)
 words-in p h c true e = h .words c (ltb-true c 12 e)
@@ -64,21 +63,21 @@ words-in p h c false e = subst Words (sym (h .none c (ltb-false c 12 e))) tt
 
 unranged : (r : Renderer Timed) → Ranged r → rules.Ranged hall Within r
 unranged r h =
-  let f = h .filter in
-  record {
-    rate = or-t (r .rate) (listed (r .rate)) (h .rate);
-    position = h .position;
-    phase = h .phase;
-    start = h .start;
-    gain = h .gain;
-    filter = record { a1 = f .a1; a2 = f .a2; b0 = f .b0; b1 = f .b1; b2 = f .b2; x1 = f .x1; x2 = f .x2; y1 = f .y1; y2 = f .y2 };
-    meta = record { state = h .state; infos = h .infos };
-    pending = h .pending;
-    idle = h .idle;
-    long = h .places .lengths;
-    words = λ c. words-in (r .places) (h .places) c (ltb c 12) refl;
-    none = h .places .none;
-  }
+    let f = h .filter in
+    record {
+      rate = or-t (r .rate) (listed (r .rate)) (h .rate);
+      position = h .position;
+      phase = h .phase;
+      start = h .start;
+      gain = h .gain;
+      filter = record { a1 = f .a1; a2 = f .a2; b0 = f .b0; b1 = f .b1; b2 = f .b2; x1 = f .x1; x2 = f .x2; y1 = f .y1; y2 = f .y2 };
+      meta = record { state = h .state; infos = h .infos };
+      pending = h .pending;
+      idle = h .idle;
+      long = h .places .lengths;
+      words = λ c. words-in (r .places) (h .places) c (ltb c 12) refl;
+      none = h .places .none;
+    }
 
 pub size-of : (r : Renderer Timed) → rules.Ranged hall Within r → length (encode r) ≡ size
 size-of r h = whole.encode-long r (ranged r h)

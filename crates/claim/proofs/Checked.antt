@@ -1,10 +1,10 @@
 -- What refusals 5 and 6 leave of an update. Assumes nothing.
-use Prim.Native.Nat.{ℕ, zero, suc, _+_, _-_, _*_, _/_, _%_, _^_, _≤_, _<_}
-use mathlib.Core.Path.{_≡_, refl, sym, ap, _∙_, subst}
+use Prim.Native.Nat.{ℕ, zero, suc, _+_, _-_, _*_, _/_, _%_, _≤_, _<_}
+use mathlib.Core.Path.{_≡_, refl, sym, ap, subst}
 use mathlib.Core.Bool.{Bool, true, false, cond, _&&_}
 use mathlib.Core.List.{List}
 use lib.Dec.{T, eqb, leb, ltb, lt→ltb}
-use lib.ListN.{length, getD}
+use lib.ListN.{getD}
 use lib.Ieee.{Float, binary32, ofBits, fits}
 use lib.Ieee.Bits.{ofBits-fits}
 use native.Mathlib.Omega.{arith}
@@ -14,14 +14,13 @@ use Rattle.words.specs.Words.{Bytes, word, floatAt}
 use Rattle.words.proofs.Small.{number-small}
 use Rattle.vectors.specs.declared.Maybe.{Maybe}
 use Rattle.vectors.specs.declared.Maybe.the-variants.{Absent, Value}
-use Rattle.panning.specs.Choice.{0·0, 1·0}
+use Rattle.panning.specs.Choice.{1·0}
 use Rattle.panning.specs.Table.{between, 8·0}
-use Rattle.fields.specs.Bytes.{all, byte, kind, has}
+use Rattle.fields.specs.Bytes.{byte, kind, has}
 use Rattle.fields.specs.Update.{objects, bedOrIsf, beds, elements, code, countsFit, mostAt, codesFit, isUpdate}
 use Rattle.fields.specs.Block.{blocks}
 use Rattle.fields.specs.Object.{isObject, maybeOf, depthOf, objectOf, infoOf, upTo, objectInRange}
 use Rattle.fields.specs.declared.object.Info.{Info}
-use Rattle.fields.specs.declared.object.Object.{Object}
 use Rattle.fields.proofs.All.{and-left, and-right, all-at}
 use Rattle.records.specs.Runs.{each}
 use Rattle.records.specs.Laid.{laidOut, count, updateAt, elementAt, objectAt}
@@ -29,7 +28,6 @@ use Rattle.records.specs.Ranges.{inRange}
 use Rattle.records.proofs.Reached.{whole-records, update-whole, update-is, element-whole, object-is}
 use Rattle.records.proofs.Meant.{all-within}
 use Rattle.timed.specs.Infos.{flagOf}
-use Rattle.updates.specs.Said.{Update, updateOf}
 use Rattle.updates.specs.Stored.{headOf}
 use Rattle.updates.specs.Whole.{WholeUpdate}
 use Rattle.updates.proofs.Passed.{passes}
@@ -94,9 +92,9 @@ bed-head false f a d i x y z e = head-of f a d (i .head) x y z e
 
 head-valid : (f d n : ℕ) → f ≤ 63 → HeadOf f d n → T (headValid n)
 head-valid f d n x h =
-  let a = h .low in
-  let b = h .anchor in
-  and-in (ltb n 262144 && ltb (n % 256) 64) (ltb (n / 256 % 256) 3) (and-in (ltb n 262144) (ltb (n % 256) 64) (lt→ltb n 262144 (h .less)) (lt→ltb (n % 256) 64 (omega arith))) (lt→ltb (n / 256 % 256) 3 (omega arith))
+    let a = h .low in
+    let b = h .anchor in
+    and-in (ltb n 262144 && ltb (n % 256) 64) (ltb (n / 256 % 256) 3) (and-in (ltb n 262144) (ltb (n % 256) 64) (lt→ltb n 262144 (h .less)) (lt→ltb (n % 256) 64 (omega arith))) (lt→ltb (n / 256 % 256) 3 (omega arith))
 
 -- ---- an update of metadata that was let pass
 
@@ -110,12 +108,12 @@ module _ (m : List ℕ) (bytes : Bytes m) (laid : laidOut m ≡ true) (fit : inR
   pub codes : (k : ℕ) → k < 18 → code m u k ≤ 17
   unfolding isUpdate codesFit
   codes k l =
-    let e = update-is m laid i one in
-    let f : codesFit m (40 * u + 8) (beds m u) ≡ true = and-right (eqb (kind m u) 1 && eqb (byte m u 1) 0 && countsFit (objects m u) (bedOrIsf m u) (beds m u) (elements m u)) _ (and-left _ _ e) in
-    let c : getD m (40 * u + 8 + k) 0 ≤ mostAt k (beds m u) = leb-true _ _ (all-at (λ j. leb (getD m (40 * u + 8 + j) 0) (mostAt j (beds m u))) 18 k l f) in
-    let q : getD m (40 * u + 8 + k) 0 ≡ byte m u (8 + k) = ap (λ (j : ℕ). getD m j 0) (let a : 40 * u + 8 + k ≡ 40 * u + (8 + k) = omega arith in a) in
-    let d = most k (beds m u) in
-    omega arith
+      let e = update-is m laid i one in
+      let f : codesFit m (40 * u + 8) (beds m u) ≡ true = and-right (eqb (kind m u) 1 && eqb (byte m u 1) 0 && countsFit (objects m u) (bedOrIsf m u) (beds m u) (elements m u)) _ (and-left _ _ e) in
+      let c : getD m (40 * u + 8 + k) 0 ≤ mostAt k (beds m u) = leb-true _ _ (all-at (λ j. leb (getD m (40 * u + 8 + j) 0) (mostAt j (beds m u))) 18 k l f) in
+      let q : getD m (40 * u + 8 + k) 0 ≡ byte m u (8 + k) = ap (λ (j : ℕ). getD m j 0) (let a : 40 * u + 8 + k ≡ 40 * u + (8 + k) = omega arith in a) in
+      let d = most k (beds m u) in
+      omega arith
     where
       most : (k n : ℕ) → mostAt k n ≤ 17
       most k n = pick (ltb k n)
@@ -158,17 +156,17 @@ module _ (m : List ℕ) (bytes : Bytes m) (laid : laidOut m ≡ true) (fit : inR
 
     pub fit-for : (P : Said) (bed : Bool) → P (headOf bed (infoOf m r)) (infoOf m r .gain) (infoOf m r .size) → Fit P bed (infoOf m r)
     fit-for P bed p =
-      let h = head-is bed .less in
-      record { head = omega arith; gain = number-small m (40 * r + 4) 4 bytes; size = number-small m (40 * r + 24) 4 bytes; holds = p }
+        let h = head-is bed .less in
+        record { head = omega arith; gain = number-small m (40 * r + 4) 4 bytes; size = number-small m (40 * r + 24) 4 bytes; holds = p }
 
     pub info-ranged : (bed : Bool) → Fit RangedSaid bed (infoOf m r)
     info-ranged bed = fit-for RangedSaid bed (head-valid (byte m r 2) (depthOf (floatAt m (40 * r + 32))) (headOf bed (infoOf m r)) flags-few (head-is bed))
 
     pub info-sound : (bed : Bool) → Fit SoundSaid bed (infoOf m r)
     info-sound bed =
-      let n = headOf bed (infoOf m r) in
-      let h = head-is bed in
-      fit-for SoundSaid bed (
-        subst (λ (k : ℕ). UpTo 8·0 (cond (eqb k 1) (Value (ofBits binary32 (word m (40 * r + 4)))) Absent)) (sym (h .gain)) gain-in,
-        subst (λ (k : ℕ). UpTo 1·0 (cond (eqb k 1) (Value (ofBits binary32 (word m (40 * r + 24)))) Absent)) (sym (h .size)) size-in,
-      )
+        let n = headOf bed (infoOf m r) in
+        let h = head-is bed in
+        fit-for SoundSaid bed (
+          subst (λ (k : ℕ). UpTo 8·0 (cond (eqb k 1) (Value (ofBits binary32 (word m (40 * r + 4)))) Absent)) (sym (h .gain)) gain-in,
+          subst (λ (k : ℕ). UpTo 1·0 (cond (eqb k 1) (Value (ofBits binary32 (word m (40 * r + 24)))) Absent)) (sym (h .size)) size-in,
+        )

@@ -1,10 +1,10 @@
 -- An update writes infos of which each has its head, gain and size as asked; the others stay. Assumes nothing.
-use Prim.Native.Nat.{ℕ, zero, suc, _+_, _*_, _/_, _%_, _^_, _≤_, _<_}
-use mathlib.Core.Path.{_≡_, refl, sym, ap, _∙_, subst}
-use mathlib.Core.Bool.{Bool, true, false, cond}
+use Prim.Native.Nat.{ℕ, _+_, _*_, _/_, _%_, _^_, _≤_, _<_}
+use mathlib.Core.Path.{_≡_, refl, _∙_}
+use mathlib.Core.Bool.{Bool, true, false}
 use mathlib.Core.List.{List}
 use lib.Dec.{ltb, eqb}
-use lib.ListN.{length, getD}
+use lib.ListN.{length}
 use native.Mathlib.Omega.{arith}
 use borrow.Author.Tests.{ltb-true, ltb-false, eqb-true, eqb-false}
 use Rattle.words.specs.Words.{Bytes, word, withWord}
@@ -13,9 +13,8 @@ use Rattle.words.proofs.Beside.{Kept, kept-twice, number-keeps, reads-before, r
 use Rattle.words.proofs.Numbers.{length-kept}
 use Rattle.words.proofs.Small.{number-bytes}
 use Rattle.fields.specs.declared.object.Info.{Info}
-use Rattle.timed.specs.Turns.{times}
 use Rattle.timed.proofs.Keeps.{times-in, cond-keeps}
-use Rattle.updates.specs.Said.{Element, Update}
+use Rattle.updates.specs.Said.{Element}
 use Rattle.updates.specs.Stored.{withThree, cleared, withPlace, headOf, withHead, withInfo, infoGiven, objectStored, objectGiven, objectsStored}
 
 -- what is said of an info by its head, gain and size
@@ -49,25 +48,25 @@ one s at v = record { long = length-kept s at 4 v; bytes = number-bytes s at 4 v
 
 twice : {s t u : List ℕ} {lo hi lo′ hi′ : ℕ} (from to : ℕ) → Stored s t lo hi → Stored t u lo′ hi′ → from ≤ lo → from ≤ lo′ → hi ≤ to → hi′ ≤ to → Stored s u from to
 twice from to a b l l′ h h′ =
-  record { long = b .long ∙ a .long; bytes = λ q. b .bytes (a .bytes q); kept = kept-twice from to (a .kept) (b .kept) l l′ h h′ }
+    record { long = b .long ∙ a .long; bytes = λ q. b .bytes (a .bytes q); kept = kept-twice from to (a .kept) (b .kept) l l′ h h′ }
 
 three : (s : List ℕ) (at x y z : ℕ) → Stored s (withThree s at x y z) at (at + 12)
 unfolding withThree
 three s at x y z =
-  let a = withWord s at x in
-  let b = withWord a (at + 4) y in
-  twice at (at + 12) (twice at (at + 8) (one s at x) (one a (at + 4) y) (omega arith) (omega arith) (omega arith) (omega arith)) (one b (at + 8) z) (omega arith) (omega arith) (omega arith) (omega arith)
+    let a = withWord s at x in
+    let b = withWord a (at + 4) y in
+    twice at (at + 12) (twice at (at + 8) (one s at x) (one a (at + 4) y) (omega arith) (omega arith) (omega arith) (omega arith)) (one b (at + 8) z) (omega arith) (omega arith) (omega arith) (omega arith)
 
 cleared-stored : (fresh : Bool) (at : ℕ) (s : List ℕ) → Stored s (cleared fresh at s) at (at + 24)
 unfolding cleared
 cleared-stored true at s =
-  twice at (at + 24) (three s at 0 0 0) (three (withThree s at 0 0 0) (at + 12) 0 0 0) (omega arith) (omega arith) (omega arith) (omega arith)
+    twice at (at + 24) (three s at 0 0 0) (three (withThree s at 0 0 0) (at + 12) 0 0 0) (omega arith) (omega arith) (omega arith) (omega arith)
 cleared-stored false at s = stays s at (at + 24)
 
 place-stored : (i : Info) (at : ℕ) (s : List ℕ) → Stored s (withPlace i at s) at (at + 12)
 unfolding withPlace
 place-stored i at s =
-  cond-keeps (λ (t : List ℕ). Stored s t at (at + 12)) (eqb (i .head / 8 % 2) 1) (withThree s at (i .x) (i .y) (i .z)) s (λ _. three s at (i .x) (i .y) (i .z)) (λ _. stays s at (at + 12))
+    cond-keeps (λ (t : List ℕ). Stored s t at (at + 12)) (eqb (i .head / 8 % 2) 1) (withThree s at (i .x) (i .y) (i .z)) s (λ _. three s at (i .x) (i .y) (i .z)) (λ _. stays s at (at + 12))
 
 -- ---- an info
 
@@ -81,64 +80,64 @@ record Heads (s t : List ℕ) (at hi h g z : ℕ) : Type 0 where
 heads : (h : ℕ) (i : Info) (at : ℕ) (s : List ℕ) → at + 44 ≤ length s → h < 256 ^ 4 → i .gain < 256 ^ 4 → i .size < 256 ^ 4 → Heads s (withHead h i at s) at (at + 20) h (i .gain) (i .size)
 unfolding withHead
 heads h i at s l p q r =
-  let a = withWord s at h in
-  let b = withWord a (at + 4) (i .gain) in
-  let c = withWord b (at + 8) (i .size) in
-  let d = withWord c (at + 12) (i .distance) in
-  let e = withWord d (at + 16) (i .screen) in
-  let la = length-kept s at 4 h in
-  let lb = length-kept a (at + 4) 4 (i .gain) in
-  let de = twice (at + 12) (at + 20) (one c (at + 12) (i .distance)) (one d (at + 16) (i .screen)) (omega arith) (omega arith) (omega arith) (omega arith) in
-  let ce = twice (at + 8) (at + 20) (one b (at + 8) (i .size)) de (omega arith) (omega arith) (omega arith) (omega arith) in
-  let be = twice (at + 4) (at + 20) (one a (at + 4) (i .gain)) ce (omega arith) (omega arith) (omega arith) (omega arith) in
-  record {
-    stored = twice at (at + 20) (one s at h) be (omega arith) (omega arith) (omega arith) (omega arith);
-    head = reads-before (be .kept) at 4 (omega arith) ∙ reads-back s at 4 h (omega arith) p;
-    gain = reads-before (ce .kept) (at + 4) 4 (omega arith) ∙ reads-back a (at + 4) 4 (i .gain) (omega arith) q;
-    size = reads-before (de .kept) (at + 8) 4 (omega arith) ∙ reads-back b (at + 8) 4 (i .size) (omega arith) r;
-  }
+    let a = withWord s at h in
+    let b = withWord a (at + 4) (i .gain) in
+    let c = withWord b (at + 8) (i .size) in
+    let d = withWord c (at + 12) (i .distance) in
+    let e = withWord d (at + 16) (i .screen) in
+    let la = length-kept s at 4 h in
+    let lb = length-kept a (at + 4) 4 (i .gain) in
+    let de = twice (at + 12) (at + 20) (one c (at + 12) (i .distance)) (one d (at + 16) (i .screen)) (omega arith) (omega arith) (omega arith) (omega arith) in
+    let ce = twice (at + 8) (at + 20) (one b (at + 8) (i .size)) de (omega arith) (omega arith) (omega arith) (omega arith) in
+    let be = twice (at + 4) (at + 20) (one a (at + 4) (i .gain)) ce (omega arith) (omega arith) (omega arith) (omega arith) in
+    record {
+      stored = twice at (at + 20) (one s at h) be (omega arith) (omega arith) (omega arith) (omega arith);
+      head = reads-before (be .kept) at 4 (omega arith) ∙ reads-back s at 4 h (omega arith) p;
+      gain = reads-before (ce .kept) (at + 4) 4 (omega arith) ∙ reads-back a (at + 4) 4 (i .gain) (omega arith) q;
+      size = reads-before (de .kept) (at + 8) 4 (omega arith) ∙ reads-back b (at + 8) 4 (i .size) (omega arith) r;
+    }
 
 info-stored : (fresh bed : Bool) (i : Info) (at : ℕ) (s : List ℕ) → at + 44 ≤ length s → headOf bed i < 256 ^ 4 → i .gain < 256 ^ 4 → i .size < 256 ^ 4 →
     Heads s (withInfo fresh bed i at s) at (at + 44) (headOf bed i) (i .gain) (i .size)
 unfolding withInfo
 info-stored fresh bed i at s l p q r =
-  let a = withHead (headOf bed i) i at s in
-  let b = cleared fresh (at + 20) a in
-  let h = heads (headOf bed i) i at s l p q r in
-  let t = twice (at + 20) (at + 44) (cleared-stored fresh (at + 20) a) (place-stored i (at + 20) b) (omega arith) (omega arith) (omega arith) (omega arith) in
-  record {
-    stored = twice at (at + 44) (h .stored) t (omega arith) (omega arith) (omega arith) (omega arith);
-    head = reads-before (t .kept) at 4 (omega arith) ∙ h .head;
-    gain = reads-before (t .kept) (at + 4) 4 (omega arith) ∙ h .gain;
-    size = reads-before (t .kept) (at + 8) 4 (omega arith) ∙ h .size;
-  }
+    let a = withHead (headOf bed i) i at s in
+    let b = cleared fresh (at + 20) a in
+    let h = heads (headOf bed i) i at s l p q r in
+    let t = twice (at + 20) (at + 44) (cleared-stored fresh (at + 20) a) (place-stored i (at + 20) b) (omega arith) (omega arith) (omega arith) (omega arith) in
+    record {
+      stored = twice at (at + 44) (h .stored) t (omega arith) (omega arith) (omega arith) (omega arith);
+      head = reads-before (t .kept) at 4 (omega arith) ∙ h .head;
+      gain = reads-before (t .kept) (at + 4) 4 (omega arith) ∙ h .gain;
+      size = reads-before (t .kept) (at + 8) 4 (omega arith) ∙ h .size;
+    }
 
 module _ (P : Said) where
   -- info k of a table of which info j is written
   table-at : (s t : List ℕ) (j h g z : ℕ) → Heads s t (44 * j) (44 * j + 44) h g z → P h g z → Table P s → (k : ℕ) → k < 512 → (below same : Bool) → ltb k j ≡ below → eqb k j ≡ same →
       P (word t (44 * k)) (word t (44 * k + 4)) (word t (44 * k + 8))
   table-at s t j h g z w p q k l true same e f =
-    let a = ltb-true k j e in
-    let K = w .stored .kept in
-    rw (reads-before K (44 * k) 4 (omega arith), reads-before K (44 * k + 4) 4 (omega arith), reads-before K (44 * k + 8) 4 (omega arith)) (q .each k l)
+      let a = ltb-true k j e in
+      let K = w .stored .kept in
+      rw (reads-before K (44 * k) 4 (omega arith), reads-before K (44 * k + 4) 4 (omega arith), reads-before K (44 * k + 8) 4 (omega arith)) (q .each k l)
   table-at s t j h g z w p q k l false true e f =
-    let a = eqb-true k j f in
-    rw (a, w .head, w .gain, w .size) p
+      let a = eqb-true k j f in
+      rw (a, w .head, w .gain, w .size) p
   table-at s t j h g z w p q k l false false e f =
-    let a = ltb-false k j e in
-    let n = eqb-false k j f in
-    let m : j < k = omega arith in
-    let K = w .stored .kept in
-    rw (reads-past K (44 * k) 4 (omega arith), reads-past K (44 * k + 4) 4 (omega arith), reads-past K (44 * k + 8) 4 (omega arith)) (q .each k l)
+      let a = ltb-false k j e in
+      let n = eqb-false k j f in
+      let m : j < k = omega arith in
+      let K = w .stored .kept in
+      rw (reads-past K (44 * k) 4 (omega arith), reads-past K (44 * k + 4) 4 (omega arith), reads-past K (44 * k + 8) 4 (omega arith)) (q .each k l)
 
   table-stored : (s t : List ℕ) (j h g z : ℕ) → Heads s t (44 * j) (44 * j + 44) h g z → P h g z → Table P s → Table P t
   table-stored s t j h g z w p q =
-    record { long = w .stored .long ∙ q .long; bytes = w .stored .bytes (q .bytes); each = λ k l. table-at s t j h g z w p q k l (ltb k j) (eqb k j) refl refl }
+      record { long = w .stored .long ∙ q .long; bytes = w .stored .bytes (q .bytes); each = λ k l. table-at s t j h g z w p q k l (ltb k j) (eqb k j) refl refl }
 
   info-kept : (fresh bed : Bool) (i : Info) (j : ℕ) (s : List ℕ) → j < 512 → Fit P bed i → Table P s → Table P (withInfo fresh bed i (44 * j) s)
   info-kept fresh bed i j s l f q =
-    let n = q .long in
-    table-stored s (withInfo fresh bed i (44 * j) s) j (headOf bed i) (i .gain) (i .size) (info-stored fresh bed i (44 * j) s (omega arith) (f .head) (f .gain) (f .size)) (f .holds) q
+      let n = q .long in
+      table-stored s (withInfo fresh bed i (44 * j) s) j (headOf bed i) (i .gain) (i .size) (info-stored fresh bed i (44 * j) s (omega arith) (f .head) (f .gain) (f .size)) (f .holds) q
 
   -- ---- the infos of an element
 
@@ -146,12 +145,12 @@ module _ (P : Said) where
       Table P (objectStored fresh bed x first o s)
   unfolding objectStored
   object-kept fresh bed x first o s l few f q =
-    times-in (Table P) (infoGiven fresh bed x first o) (x .blocks) (λ b t m i. info-kept fresh bed (x .info o b) (first + b) t (omega arith) (f b m) i) (x .blocks) 0 (omega arith) s q
+      times-in (Table P) (infoGiven fresh bed x first o) (x .blocks) (λ b t m i. info-kept fresh bed (x .info o b) (first + b) t (omega arith) (f b m) i) (x .blocks) 0 (omega arith) s q
 
   pub objects-kept : (fresh : Bool) (isf : ℕ) (x : Element) (first n : ℕ) (s : List ℕ) → first + 256 ≤ 512 → n ≤ 32 → x .blocks ≤ 8 →
       ((bed : Bool) (o b : ℕ) → o < n → b < x .blocks → Fit P bed (x .info o b)) → Table P s → Table P (objectsStored fresh isf x first n s)
   unfolding objectsStored
   objects-kept fresh isf x first n s l most few f q =
-    times-in (Table P) (objectGiven fresh isf x first) n
-    (λ o t m i. object-kept fresh (ltb o isf) x (first + 8 * o) o t (omega arith) few (λ b h. f (ltb o isf) o b m h) i)
-    n 0 (omega arith) s q
+      times-in (Table P) (objectGiven fresh isf x first) n
+      (λ o t m i. object-kept fresh (ltb o isf) x (first + 8 * o) o t (omega arith) few (λ b h. f (ltb o isf) o b m h) i)
+      n 0 (omega arith) s q

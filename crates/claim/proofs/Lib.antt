@@ -12,3 +12,4 @@ pub mod Shapes
 pub mod Blank
 pub mod Blocks
 pub mod Theorem
+pub mod Heard

@@ -4,7 +4,7 @@ use mathlib.Core.Path.{_≡_}
 use mathlib.Core.List.{List}
 use lib.Dec.{T}
 use lib.ListN.{length, getD}
-use lib.Ieee.{Float, nan, binary32, fits}
+use lib.Ieee.{Float, nan}
 use Rattle.words.specs.Words.{Bytes}
 use Rattle.vectors.specs.declared.Maybe.{Maybe}
 use Rattle.vectors.specs.declared.Maybe.the-variants.{Absent, Value}
@@ -14,7 +14,6 @@ use Rattle.timed.specs.Infos.{gainAt, sizeAt}
 use Rattle.timed.specs.Objects.{noSource, noTrack}
 use Rattle.timed.specs.State.{Timed, elementOf}
 use Rattle.timed.specs.declared.state.DynamicSourceState.{DynamicSourceState}
-use Rattle.timed.specs.declared.state.MetadataRendererState.{MetadataRendererState}
 use Rattle.store.specs.Ranged.{StateRanged, InfosRanged}
 
 -- absent, or from 0 to `most`

@@ -1,7 +1,8 @@
 -- Document 01, demand 3, closed: for every list of calls, on the real timed state, metadata and state block. Assumes nothing.
 use mathlib.Core.Path.{refl}
-use Rattle.rules.specs.Claim.{EveryList}
+use Rattle.rules.specs.Claim.{EveryList, Keeps}
 use Rattle.rules.proofs.Facts.{Facts}
+use Rattle.rules.proofs.Keeps as rules
 use Rattle.rules.proofs.Theorem.{every-list}
 use Rattle.claim.specs.Hall.{hall, block}
 use Rattle.claim.proofs.Sound.{Sound, Within}
@@ -16,30 +17,34 @@ use Rattle.claim.proofs.Blocks.{size-of, valid-of, back-of, decoded-of}
 -- what the rules take from the crates `timed`, `updates`, `records` and `store`
 pub facts : Facts hall block
 facts =
-  record {
-    Checked = Checked;
-    checked = checked;
-    Sound = Sound;
-    sound-blank = sound-blank;
-    sound-apply = sound-apply;
-    sound-slot = sound-slot;
-    mixable = mixable;
-    shape-apply = shape-apply;
-    sent-started = λ u c. refl;
-    shape-slot = λ n m h. shape-slot n m;
-    shape-objects = λ m h e. shape-objects m;
-    Within = Within;
-    within-blank = within-blank;
-    within-later = within-later;
-    within-apply = within-apply;
-    within-slot = within-slot;
-    counts-apply = counts-apply;
-    counts-slot = λ n start m h. counts-slot start m;
-    size = size-of;
-    valid = valid-of;
-    back = back-of;
-    decoded = decoded-of;
-  }
+    record {
+      Checked = Checked;
+      checked = checked;
+      Sound = Sound;
+      sound-blank = sound-blank;
+      sound-apply = sound-apply;
+      sound-slot = sound-slot;
+      mixable = mixable;
+      shape-apply = shape-apply;
+      sent-started = λ u c. refl;
+      shape-slot = λ n m h. shape-slot n m;
+      shape-objects = λ m h e. shape-objects m;
+      Within = Within;
+      within-blank = within-blank;
+      within-later = within-later;
+      within-apply = within-apply;
+      within-slot = within-slot;
+      counts-apply = counts-apply;
+      counts-slot = λ n start m h. counts-slot start m;
+      size = size-of;
+      valid = valid-of;
+      back = back-of;
+      decoded = decoded-of;
+    }
 
 pub demand3 : EveryList hall block
 demand3 = every-list hall block facts
+
+-- a call that is accepted, on a block of any bytes, leaves a valid block
+pub keeps : Keeps hall block
+keeps = rules.keeps hall block facts

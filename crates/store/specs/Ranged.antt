@@ -16,9 +16,12 @@ use Rattle.timed.specs.declared.state.DynamicSourceState.{DynamicSourceState}
 use Rattle.timed.specs.declared.state.ElementRendererState.{ElementRendererState}
 use Rattle.timed.specs.declared.state.MetadataRendererState.{MetadataRendererState}
 <<<<<<< HEAD
+<<<<<<< HEAD
 use Rattle.ieee.specs.Bounds.{All}
 =======
 >>>>>>> store
+=======
+>>>>>>> claim
 use Rattle.rules.specs.Parts.{Places}
 use Rattle.rules.specs.Refusals.{listed}
 use Rattle.rules.specs.Samples.{Renderer}
