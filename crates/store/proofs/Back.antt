@@ -15,13 +15,6 @@ use Rattle.lowpass.specs.declared.BiquadLowpassState.{BiquadLowpassState}
 use Rattle.timed.specs.declared.state.BlockState.{BlockState}
 use Rattle.timed.specs.declared.state.ElementRendererState.{ElementRendererState}
 use Rattle.timed.specs.declared.state.MetadataRendererState.{MetadataRendererState}
-<<<<<<< HEAD
-<<<<<<< HEAD
-use Rattle.ieee.specs.Bounds.{All}
-=======
->>>>>>> store
-=======
->>>>>>> claim
 use Rattle.store.specs.declared.Small.{Small}
 use Rattle.store.specs.Table.{low, high, bit, bits, each, table}
 use Rattle.store.specs.Fields.{codeWords, codeOf, gainWords, gainOf, sourceWords, sourceOf, blockWords, blockOf, trackWords, trackOf, elementWords, elementOf, filterWords, filterOf, clockWords, countWords, tableWords, smallWords, stateOf, smallOf}

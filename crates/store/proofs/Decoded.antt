@@ -18,14 +18,6 @@ use Rattle.timed.specs.Slot.{InRange, noBlock}
 use Rattle.timed.specs.State.{Within}
 use Rattle.timed.specs.State as timed
 use Rattle.timed.specs.declared.state.ElementRendererState.{ElementRendererState}
-<<<<<<< HEAD
-<<<<<<< HEAD
-use Rattle.timed.specs.declared.state.MetadataRendererState.{MetadataRendererState}
-use Rattle.ieee.specs.Bounds.{All}
-=======
->>>>>>> store
-=======
->>>>>>> claim
 use Rattle.rules.specs.Refusals.{listed}
 use Rattle.store.specs.Table.{table, every}
 use Rattle.store.specs.Fields.{codeOf, gainOf, sourceOf, blockOf, trackOf, elementOf, filterOf, stateOf, smallOf}

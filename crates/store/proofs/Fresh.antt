@@ -15,16 +15,7 @@ use Rattle.timed.specs.Slot.{middle, InRange, noBlock}
 use Rattle.timed.specs.State.{noElement}
 use Rattle.timed.specs.declared.state.BlockState.{BlockState}
 use Rattle.timed.specs.declared.state.MetadataRendererState.{MetadataRendererState}
-<<<<<<< HEAD
-<<<<<<< HEAD
-use Rattle.ieee.specs.Bounds.{All}
-use Rattle.rules.specs.Parts.{Places, zeros, 0·0, 1·0}
-=======
 use Rattle.rules.specs.Parts.{zeros, 0·0, 1·0}
->>>>>>> store
-=======
-use Rattle.rules.specs.Parts.{zeros, 0·0, 1·0}
->>>>>>> claim
 use Rattle.store.specs.Table.{each, bytesOf}
 use Rattle.store.specs.Fields.{sourceWords, blockWords, trackWords, elementWords, filterWords, clockWords, countWords, tableWords, smallWords}
 use Rattle.store.specs.Layout.{size, small, rows, encode, still, noBlocks, blank, fresh, marked, filled}

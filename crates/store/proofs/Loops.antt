@@ -11,13 +11,6 @@ use lib.ListN.{length, getD, set, take, drop}
 use lib.Seq.{getD-drop, drop-drop, take-suc-set, take-all}
 use Rattle.ieee.specs.Bounds.{All}
 use Rattle.words.specs.Words.{word}
-<<<<<<< HEAD
-<<<<<<< HEAD
-use Rattle.ieee.specs.Bounds.{All}
-=======
->>>>>>> store
-=======
->>>>>>> claim
 use Rattle.store.specs.Table.{table, atMost, every}
 use Rattle.store.specs.Ranges.{headValid, headsValid}
 

@@ -11,13 +11,6 @@ use lib.ListN.{length, getD, drop, length-append}
 use lib.Seq.{drop-at}
 use Rattle.ieee.specs.Bounds.{All}
 use Rattle.words.specs.Words.{Words}
-<<<<<<< HEAD
-<<<<<<< HEAD
-use Rattle.ieee.specs.Bounds.{All}
-=======
->>>>>>> store
-=======
->>>>>>> claim
 use Rattle.store.specs.Table.{each, table, atMost, every}
 
 -- ---- tests

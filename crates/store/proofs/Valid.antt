@@ -15,13 +15,6 @@ use Rattle.timed.specs.State.{Timed, Within}
 use Rattle.timed.specs.State as timed
 use Rattle.timed.specs.declared.state.ElementRendererState.{ElementRendererState}
 use Rattle.timed.specs.declared.state.MetadataRendererState.{MetadataRendererState}
-<<<<<<< HEAD
-<<<<<<< HEAD
-use Rattle.ieee.specs.Bounds.{All}
-=======
->>>>>>> store
-=======
->>>>>>> claim
 use Rattle.rules.specs.Samples.{Renderer}
 use Rattle.store.specs.declared.Small.{Small}
 use Rattle.store.specs.Table.{bit, each, every}

@@ -16,13 +16,6 @@ use Rattle.timed.specs.State.{Timed, noElement}
 use Rattle.timed.specs.State as timed
 use Rattle.timed.specs.declared.state.ElementRendererState.{ElementRendererState}
 use Rattle.timed.specs.declared.state.MetadataRendererState.{MetadataRendererState}
-<<<<<<< HEAD
-<<<<<<< HEAD
-use Rattle.ieee.specs.Bounds.{All}
-=======
->>>>>>> store
-=======
->>>>>>> claim
 use Rattle.rules.specs.Parts.{Places}
 use Rattle.rules.specs.Refusals.{listed}
 use Rattle.rules.specs.Samples.{Renderer}
@@ -61,15 +54,7 @@ element-full position least e r h =
       blocks = omega arith;
       flags = omega arith;
       remaining = omega arith;
-<<<<<<< HEAD
-<<<<<<< HEAD
-      schedule = record { count = h .schedule; each = all-at Brief noBlock (e .schedule) (λ i l. let n = h .schedule in let m : i < 8 = omega arith in record { offset = r .ramps .offsets i m; ramp = r .ramps .ramps i m }) };
-=======
       schedule = record { count = h .schedule; each = all-at Brief noBlock (e .schedule) (λ i l. let m = h .schedule in record { offset = r .ramps .offsets i (omega arith); ramp = r .ramps .ramps i (omega arith) }) };
->>>>>>> store
-=======
-      schedule = record { count = h .schedule; each = all-at Brief noBlock (e .schedule) (λ i l. let m = h .schedule in record { offset = r .ramps .offsets i (omega arith); ramp = r .ramps .ramps i (omega arith) }) };
->>>>>>> claim
       tracks = record { count = h .tracks; each = h .targets };
     }
 

@@ -15,13 +15,6 @@ use Rattle.timed.specs.declared.state.Track.{Track}
 use Rattle.timed.specs.declared.state.DynamicSourceState.{DynamicSourceState}
 use Rattle.timed.specs.declared.state.ElementRendererState.{ElementRendererState}
 use Rattle.timed.specs.declared.state.MetadataRendererState.{MetadataRendererState}
-<<<<<<< HEAD
-<<<<<<< HEAD
-use Rattle.ieee.specs.Bounds.{All}
-=======
->>>>>>> store
-=======
->>>>>>> claim
 use Rattle.rules.specs.Parts.{Places}
 use Rattle.rules.specs.Refusals.{listed}
 use Rattle.rules.specs.Samples.{Renderer}
