@@ -6,6 +6,7 @@ use native.Mathlib.Numerals.{add-one}
 use native.Mathlib.Omega.{arith}
 use lib.ListN.{length, getD, take, length-append}
 use lib.Seq.{take-suc, length-take-le}
+use Rattle.words.proofs.Runs.{run-length-kept}
 use Rattle.words.specs.Words.{withWord, withWords}
 use lib.Ieee.{Float}
 use Rattle.timed.specs.State.{noElement}
@@ -52,6 +53,14 @@ module _ {A : Type 0} (f : A → List ℕ) where
         ap (λ (t : List ℕ). each f (take i xs) ++ t) (sym (each-one (getD xs i d) ∙ append-nil (f (getD xs i d))))
         ∙ sym (each-append (take i xs) (getD xs i d ∷ [])) ∙ ap (each f) (sym (rw (add-one, take-suc xs i d h))) in
         runs-at s at (k * i) (each f (take i xs)) (f (getD xs i d)) l ∙ ap (withWords s at) e
+
+    -- a turn of a loop over a table: s before it, t after it, where m is the entry's place
+    pub store-turn : (d : A) (s₀ s t : List ℕ) (at i m : ℕ) (xs : List A) → i < length xs → m ≡ at + 4 * (k * i) → s ≡ withWords s₀ at (each f (take i xs)) → t ≡ withWords s m (f (getD xs i d))
+        → (length t ≡ length s₀) × (t ≡ withWords s₀ at (each f (take (i + 1) xs)))
+    store-turn d s₀ s t at i m xs h e b n =
+        let x = f (getD xs i d) in
+        let q : t ≡ withWords s₀ at (each f (take (i + 1) xs)) = n ∙ ap₂ (λ (u : List ℕ) (o : ℕ). withWords u o x) b e ∙ stored-more d s₀ at i xs h in
+        (ap length q ∙ run-length-kept s₀ at (each f (take (i + 1) xs)), q)
 
 -- ---- the small part
 

@@ -2,14 +2,13 @@
 use borrow.Author.Needs.{needs}
 use mathlib.Core.Path.{_≡_, refl, ap, _∙_}
 use mathlib.Core.List.{List}
-use Prim.Native.Nat.{ℕ, _+_, _-_, _*_, _≤_, _<_}
+use Prim.Native.Nat.{_+_, _-_, _*_, _≤_, _<_}
 use native.Mathlib.Omega.{arith}
-use lib.ListN.{length, getD, take}
+use lib.ListN.{length, take}
 use lib.Seq.{take-all}
 use Rattle.words.specs.Words.{withWords}
-use Rattle.words.proofs.Runs.{run-length-kept}
 use Rattle.store.specs.Table.{each}
-use Rattle.store.proofs.Stores.{stored-more}
+use Rattle.store.proofs.Stores.{store-turn}
 use Rattle.store.specs.Fields.{gainWords}
 use lib.Ieee.{Float, nan}
 use Rattle.store.proofs.write.put_gains.Statement.{statement}
@@ -52,13 +51,8 @@ loop-again c =
     let l = p .before .before .before .loop in
     let a = p .before .before .before .before .before .args in
     let h : l .i < length (a .t3) = omega arith in
-    let e : a .at + 4 * l .i ≡ a .at + 4 * (1 * l .i) = omega arith in
-    let x = getD (a .t3) (l .i) nan in
-    let q : p .put-gain .last .0 ≡ withWords (a .s .now) (a .at) (each gainWords (take (l .i + 1) (a .t3))) =
-    p .put-gain .ensures ∙ ap (λ (t : List ℕ). withWords t (a .at + 4 * l .i) (gainWords x)) (l .inv .2)
-    ∙ ap (λ (m : ℕ). withWords (withWords (a .s .now) (a .at) (each gainWords (take (l .i) (a .t3)))) m (gainWords x)) e
-    ∙ stored-more gainWords 1 (λ y. refl) nan (a .s .now) (a .at) (l .i) (a .t3) h in
-    (omega arith, ap length q ∙ run-length-kept (a .s .now) (a .at) (each gainWords (take (l .i + 1) (a .t3))), q)
+    let q = store-turn gainWords 1 (λ y. refl) nan (a .s .now) (l .s) (p .put-gain .last .0) (a .at) (l .i) (a .at + 4 * l .i) (a .t3) h (omega arith) (l .inv .2) (p .put-gain .ensures) in
+    (omega arith, q .0, q .1)
 
 same-length : tie.Need-same-length Inv-loop μ-loop
 same-length c = search needs
