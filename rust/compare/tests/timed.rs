@@ -1,6 +1,5 @@
 //! Updates and slots: the whole timed state after each slot, 1,200,000 slots. Updates that document
 //! 01's refusal 7 stops are left out.
-#![cfg(not(no_sources))]
 
 use compare::probe::timed::{self, MIDDLE, Timed, ZERO};
 use compare::{Generator, same};
@@ -261,11 +260,13 @@ fn compare_slots(seed: u64, most: u64, slots: usize) {
 }
 
 #[test]
+#[cfg_attr(no_sources, ignore = "Rust sources not at hand")]
 fn slots_of_few_objects() {
     compare_slots(31, 3, 1_000_000);
 }
 
 #[test]
+#[cfg_attr(no_sources, ignore = "Rust sources not at hand")]
 fn slots_up_to_the_limits() {
     compare_slots(32, 16, 200_000);
 }
