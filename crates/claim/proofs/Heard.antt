@@ -1,14 +1,18 @@
--- A list of calls that is heard, so that neither silence nor refusing every call meets the statement: a push of one sample of a front left bed, and a flush. Assumes nothing.
+-- Two lists of calls that are heard, so that neither silence nor refusing every call meets the statement, nor one that drops all beds or all objects: a push of one sample of a front left bed
+-- or of one object, and a flush. Assumes nothing.
 use Prim.Native.Nat.{ℕ, zero, suc, _<_}
 use mathlib.Core.Path.{_≡_, refl, sym, subst}
 use mathlib.Core.Bool.{Bool, true, _&&_}
 use mathlib.Core.List.{List, [], _∷_}
+use lib.Count.{trailingZeros}
 use lib.Dec.{T, ltb, ltb→lt, lit<}
 use lib.ListN.{length, getD, replicate}
-use lib.Ieee.{lt, le, eq, add, sub, mul, div, neg, sum, round, units, odd, size, climb, span, ofInt, ofBits, ofFields, toBits, nanBits}
+use lib.Ieee.{lt, le, eq, ne, add, sub, mul, div, neg, sum, round, units, odd, size, climb, span, ofInt, ofBits, ofFields, toBits, nanBits}
 use lib.Ieee.Fits.{and-l, and-r}
 use Rattle.words.specs.Words.{Bytes, floatAt, number, withNumber}
+use Rattle.ieee.specs.Units.{mag}
 use Rattle.ieee.specs.Small.{absolute, larger}
+use Rattle.roots.specs.Root.{root, rootUnits, floorRoot, digits}
 use Rattle.angles.specs.Angle.{down, up, partial, cosine, sine, w0}
 use Rattle.angles.specs.Filter.{coefficientsOf}
 use Rattle.lowpass.specs.Lowpass.{new}
@@ -16,6 +20,11 @@ use Rattle.limiter.specs.Limiter.{lowered, blockPeak}
 use Rattle.beds.specs.Routes.{routeOf}
 use Rattle.beds.specs.Terms.{bedAdds}
 use Rattle.beds.specs.Matching.{firstOf, matching}
+use Rattle.panning.specs.Choice.{keep, every, orElse, first, below, above, level, end, flank, layer, row, side, corner}
+use Rattle.panning.specs.Choice as choice
+use Rattle.panning.specs.Terms as terms
+use Rattle.panning.specs.Terms.{ratio, ahead, across, rowWeight, coefficient, innerGain, extra, panned, audible, paired, onChannel}
+use Rattle.panning.specs.Hall.{positions714, hall714}
 use Rattle.fields.specs.Bytes.{all}
 use Rattle.fields.specs.Update.{codesFit, isUpdate}
 use Rattle.records.specs.Runs.{some, last, each}
@@ -27,7 +36,7 @@ use Rattle.updates.specs.Applied.{nextSources, nextGains, codesGiven, elementsA
 use Rattle.updates.specs.Shape.{judged}
 use Rattle.store.specs.Layout.{blank}
 use Rattle.rules.specs.Parts.{0·0}
-use Rattle.rules.specs.Mix.{heard}
+use Rattle.rules.specs.Mix.{heard, objectTerms}
 use Rattle.rules.specs.Samples.{fresh, pushed, flushed}
 use Rattle.rules.specs.Refusals.{Args, clear}
 use Rattle.rules.specs.Calls.{Call, push, flush, reset, nothing, found}
@@ -37,28 +46,45 @@ use Rattle.claim.specs.Hall.{hall, block}
 use Rattle.claim.proofs.Blank.{zero-bytes}
 use Rattle.claim.proofs.Theorem.{demand3}
 
--- one update at offset 0, of one object that is a bed channel with the code 0, without elements
-abbrev pub update : List ℕ
-update = 1 ∷ 0 ∷ 0 ∷ 0 ∷ 1 ∷ 1 ∷ 1 ∷ replicate 33 0
+-- ---- the calls
 
--- the sample 0.5
-abbrev pub frame : Args
-frame = record { pcm = 0 ∷ 0 ∷ 0 ∷ 63 ∷ []; meta = update; out = replicate 3072 0; codes = 0 ∷ []; rate = 48000; samples = 1; objects = 0; stride = 64 }
+-- a push of the one sample 0.5, and a flush
+abbrev pub frame : List ℕ → List ℕ → ℕ → Args
+frame meta codes objects = record { pcm = 0 ∷ 0 ∷ 0 ∷ 63 ∷ []; meta = meta; out = replicate 3072 0; codes = codes; rate = 48000; samples = 1; objects = objects; stride = 64 }
 
-abbrev pub calls : List Call
-calls = push frame ∷ flush (replicate 3072 0) 64 ∷ []
+abbrev pub calls : Args → List Call
+calls f = push f ∷ flush (replicate 3072 0) 64 ∷ []
 
-accepted : found hall (fresh hall) frame ≡ clear
-unfolding laidOut isUpdates isWholeUpdate isUpdate codesFit all some last count updateAt elementAt inRange recordInRange each judged times number blank
-accepted = refl
+-- one update at offset 0 without elements: of one object that is a bed channel with the code 0; of one dynamic object, which starts at gain 0.707 and the origin
+abbrev pub bed : Args
+bed = frame (1 ∷ 0 ∷ 0 ∷ 0 ∷ 1 ∷ 1 ∷ 1 ∷ replicate 33 0) (0 ∷ []) 0
+
+abbrev pub object : Args
+object = frame (1 ∷ 0 ∷ 0 ∷ 0 ∷ 1 ∷ replicate 35 0) [] 1
 
 abbrev pub unseen : Seen hall block
 unseen = record { answer = nothing; out = [] }
 
--- the flush writes more than 0 into the first place of channel 0
-told-heard : T (lt 0·0 (floatAt (getD (told hall block (fresh hall) calls) 1 unseen .out) 0))
+-- ---- by the rules: the push is accepted, and the flush writes more than 0 into the first place of channel 0, or of channel 2
+
+abbrev Told : Args → ℕ → Type 0
+Told f at = T (lt 0·0 (floatAt (getD (told hall block (fresh hall) (calls f)) 1 unseen .out) at))
+
+accepted-bed : found hall (fresh hall) bed ≡ clear
+unfolding laidOut isUpdates isWholeUpdate isUpdate codesFit all some last count updateAt elementAt inRange recordInRange each judged times number blank
+accepted-bed = refl
+
+accepted-object : found hall (fresh hall) object ≡ clear
+unfolding laidOut isUpdates isWholeUpdate isUpdate codesFit all some last count updateAt elementAt inRange recordInRange each judged times number blank
+accepted-object = refl
+
+told-bed : Told bed 0
 unfolding laidOut isUpdates isWholeUpdate isUpdate codesFit all some last count updateAt elementAt inRange recordInRange each judged times number blank pushed flushed written applied elementsApplied codesGiven nextGains nextSources slotAt heard bedAdds routeOf firstOf matching new coefficientsOf w0 cosine sine partial up down lowered blockPeak absolute larger floatAt withNumber lt le eq add sub mul div neg sum round units odd size climb span ofInt ofBits ofFields toBits nanBits
-told-heard = tt
+told-bed = tt
+
+told-object : Told object 512
+unfolding laidOut isUpdates isWholeUpdate isUpdate codesFit all some last count updateAt elementAt inRange recordInRange each judged times number blank pushed flushed written applied elementsApplied codesGiven nextGains nextSources slotAt heard bedAdds routeOf firstOf matching new coefficientsOf w0 cosine sine partial up down lowered blockPeak absolute larger floatAt withNumber lt le eq add sub mul div neg sum round units odd size climb span ofInt ofBits ofFields toBits nanBits objectTerms onChannel positions714 hall714 keep every orElse first choice.last below above level end flank layer row side corner ratio terms.up ahead across rowWeight coefficient innerGain extra panned audible paired root rootUnits floorRoot digits mag ne trailingZeros
+told-object = tt
 
 -- ---- what is lent is bytes
 
@@ -71,9 +97,19 @@ small-bytes [] h i = lit< tt
 small-bytes (x ∷ l) h zero = ltb→lt x 256 (and-l (ltb x 256) (small l) h)
 small-bytes (x ∷ l) h (suc i) = small-bytes l (and-r (ltb x 256) (small l) h) i
 
-lent : AllLent calls
-lent = ((small-bytes (frame .pcm) tt, small-bytes update tt, zero-bytes 3072, small-bytes (frame .codes) tt), (zero-bytes 3072, tt))
+lent : (meta codes : List ℕ) (objects : ℕ) → T (small meta) → T (small codes) → AllLent (calls (frame meta codes objects))
+lent meta codes objects m c = ((small-bytes (frame meta codes objects .pcm) tt, small-bytes meta m, zero-bytes 3072, small-bytes codes c), (zero-bytes 3072, tt))
 
--- From what reset leaves of any block, the host sees a sample above 0.
-pub heard-of : (b : List ℕ) → Bytes b → length b ≡ block .size → T (lt 0·0 (floatAt (getD (seenOn hall block (made hall block reset b .state) calls) 1 unseen .out) 0))
-heard-of b bs e = subst (λ (l : List (Seen hall block)). T (lt 0·0 (floatAt (getD l 1 unseen .out) 0))) (sym (demand3 b bs e calls lent .seen)) told-heard
+-- ---- from what reset leaves of any block, the host sees a sample above 0 at a byte of the flush's output
+
+abbrev pub Hears : Args → ℕ → Type 0
+Hears f at = (b : List ℕ) → Bytes b → length b ≡ block .size → T (lt 0·0 (floatAt (getD (seenOn hall block (made hall block reset b .state) (calls f)) 1 unseen .out) at))
+
+hears : (f : Args) (at : ℕ) → AllLent (calls f) → Told f at → Hears f at
+hears f at l t b bs e = subst (λ (s : List (Seen hall block)). T (lt 0·0 (floatAt (getD s 1 unseen .out) at))) (sym (demand3 b bs e (calls f) l .seen)) t
+
+pub heard-of : Hears bed 0
+heard-of = hears bed 0 (lent (bed .meta) (bed .codes) 0 tt tt) told-bed
+
+pub heard-of-object : Hears object 512
+heard-of-object = hears object 512 (lent (object .meta) (object .codes) 1 tt tt) told-object
