@@ -1,0 +1,20 @@
+// The refusals of a push, and none. `foundOf` gives document 01's number and counts for each.
+pub enum Refusal {
+    Clear,
+    // 1 to 8
+    Lent,
+    Sizes,
+    Rate,
+    StreamEnd,
+    Records,
+    Ranges,
+    Flags,
+    Samples,
+    // 9 to 14, the Rust's own; (expected, provided), (expected), (code)
+    SampleRateChanged(u32, u32),
+    MissingOamd,
+    ObjectCountMismatch(usize, usize),
+    UnsupportedSampleCount,
+    BedChannelCountMismatch(usize),
+    UnsupportedBedChannel(usize),
+}
