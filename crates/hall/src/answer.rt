@@ -13,7 +13,7 @@ pub struct Answer {
     pub number: u32,
     pub first: u32,
     pub second: u32,
-    pub ready: u32,
+    pub ready: usize,
 }
 
 fn stopped(number: u32, first: u32, second: u32) -> Answer
@@ -51,7 +51,7 @@ pub fn refusal(found: Refusal) -> Answer
 }
 
 // So many samples on each channel.
-pub fn ready(samples: u32) -> Answer
+pub fn ready(samples: usize) -> Answer
     ensures { λ r. ⌜ (r .kind ≡ 0) × (r .number ≡ 0) × (r .first ≡ 0) × (r .second ≡ 0) × (r .ready ≡ samples) ⌝ }
 {
     Answer {

@@ -49,7 +49,7 @@ pub fn render(
     );
     let next = done.small;
     store::write::save(state, next);
-    answer::ready(done.ready as u32)
+    answer::ready(done.ready)
 }
 
 // A flush with samples waiting.
@@ -59,5 +59,5 @@ pub fn drain(s: Small, state: &mut [u8], out: &mut [u8], stride: u32) -> Answer
 {
     let next = stub::drain(s, state, out, stride as usize);
     store::write::save(state, next);
-    answer::ready(s.pending)
+    answer::ready(s.pending as usize)
 }
