@@ -52,7 +52,7 @@ pub fn refusal(found: Refusal) -> Answer
 
 // So many samples on each channel.
 pub fn ready(samples: usize) -> Answer
-    ensures { λ r. ⌜ (r .kind ≡ 0) × (r .number ≡ 0) × (r .first ≡ 0) × (r .second ≡ 0) × (r .ready ≡ samples) ⌝ }
+    ensures { λ r. ⌜ r ≡ record { kind = 0; number = 0; first = 0; second = 0; ready = samples } ⌝ }
 {
     Answer {
         kind: 0,

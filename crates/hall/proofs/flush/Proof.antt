@@ -2,9 +2,8 @@
 use mathlib.Core.Path.{_≡_, refl, sym, ap, _∙_}
 use borrow.Author.Tests.{eq-eqb, not-true, not-false}
 use Rattle.rules.specs.Calls.{flush}
-use Rattle.store.specs.declared.Small.{Small}
 use Rattle.hall.proofs.Laws.{leaves-as, wrong, no-room, nothing-waits}
-use Rattle.hall.proofs.Known.{valid-long, pos-of}
+use Rattle.hall.proofs.Known.{valid-long, pos-of, loaded-pending}
 use borrow.Author.Needs.{needs}
 use Rattle.hall.proofs.flush.Statement.{statement}
 use Rattle.hall.proofs.flush.Tie as tie
@@ -51,7 +50,7 @@ returns-3 : tie.Need-returns-3
 returns-3 c =
     let a = c .before .before .before .before .before .before .before .before .before .before .before .before .args in
     leaves-as (nothing-waits (a .out .now) (a .stride) (a .state .now) (sym (c .before .before .before .before .before .before .before .before .is-valid .ensures) ∙ not-false _ (c .before .before .before .before .before .before .before .if1 .left)) (sym (c .before .before .before .before .before .before .room .ensures) ∙ not-false _ (c .before .before .before .before .before .if2 .left))
-      (eq-eqb _ _ (sym (ap (λ (s : Small). s .pending) (c .before .before .before .load .ensures)) ∙ c .before .if3 .taken)))
+      (eq-eqb _ _ (loaded-pending (a .state .now) _ (c .before .before .before .load .ensures) ∙ c .before .if3 .taken)))
     (record { answer = c .none .ensures; block = refl; output = refl })
 
 drain-requires : tie.Need-drain-requires

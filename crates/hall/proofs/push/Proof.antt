@@ -1,5 +1,6 @@
 -- `push`: each way out by its law.
 use mathlib.Core.Path.{_≡_, refl, sym, ap, _∙_}
+use native.Mathlib.Omega.{arith}
 use borrow.Author.Tests.{not-true, not-false}
 use Rattle.rules.specs.Calls.{push}
 use Rattle.refusals.specs.declared.Refusal.{Refusal}
@@ -7,7 +8,7 @@ use Rattle.refusals.specs.Numbers.{foundOf}
 use Rattle.hall.specs.Turns.{argsOf}
 use Rattle.hall.proofs.Laws.{leaves-as, wrong, refused-push}
 use Rattle.hall.proofs.Stops.{not-clear}
-use Rattle.hall.proofs.Known.{valid-long}
+use Rattle.hall.proofs.Known.{valid-long, loaded-ranged}
 use borrow.Author.Needs.{needs}
 use Rattle.hall.proofs.push.Statement.{statement}
 use Rattle.hall.proofs.push.Tie as tie
@@ -31,7 +32,9 @@ load-requires : tie.Need-load-requires
 load-requires c κs = valid-long (c .before .before .before .before .before .before .before .before .before .args .state .now) (sym (c .before .before .is-valid .ensures) ∙ not-false _ (c .before .if1 .left))
 
 push-refusal-requires : tie.Need-push-refusal-requires
-push-refusal-requires c κs = ?
+push-refusal-requires c κs =
+    loaded-ranged (c .before .before .before .before .before .before .before .before .before .before .args .state .now) (c .load .result) (c .load .ensures) (λ k. omega (arith, c .before .before .before .before .before .before .before .before .before .slice-known .given k)) (sym (c .before .before .before .is-valid .ensures) ∙ not-false _ (c .before .before .if1 .left))
+    .meta .state .within .beds
 
 enum-told : tie.Need-enum-told
 enum-told c = search needs
