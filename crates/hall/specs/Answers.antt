@@ -16,9 +16,13 @@ use Rattle.store.specs.Ranges.{valid}
 use Rattle.claim.specs.Hall.{hall}
 use Rattle.hall.specs.declared.answer.Answer.{Answer}
 
--- "A refusal gives its number and two counts"; "`ready N`", the samples given out on each channel
+-- "`ready N`": so many samples given out on each channel
+abbrev pub readyOf : ℕ → Answer
+readyOf n = record { kind = 0; number = 0; first = 0; second = 0; ready = n }
+
+-- "A refusal gives its number and two counts"
 abbrev pub codeOf : rules.Answer → Answer
-codeOf (rendered given) = record { kind = 0; number = 0; first = 0; second = 0; ready = length (given 0) }
+codeOf (rendered given) = readyOf (length (given 0))
 codeOf (refused n a b) = record { kind = 1; number = n; first = a; second = b; ready = 0 }
 codeOf nothing = record { kind = 2; number = 0; first = 0; second = 0; ready = 0 }
 codeOf cleared = record { kind = 3; number = 0; first = 0; second = 0; ready = 0 }

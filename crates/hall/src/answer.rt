@@ -1,9 +1,8 @@
 // What an entry answers. An enum does not cross the C boundary, so a refusal's number and counts do.
 ghost use mathlib.Core.Path.{_≡_};
-ghost use lib.ListN.{length};
-ghost use Rattle.rules.specs.Calls.{refused, rendered, nothing, cleared};
+ghost use Rattle.rules.specs.Calls.{refused, nothing, cleared};
 ghost use Rattle.refusals.specs.Numbers.{foundOf};
-ghost use Rattle.hall.specs.Answers.{codeOf, codeOfFound};
+ghost use Rattle.hall.specs.Answers.{readyOf, codeOf, codeOfFound};
 use refusals::Refusal;
 
 // kind 0: rendered, with `ready` samples a channel; 1: refused, with document 01's number and two counts; 2: a flush with nothing pending; 3: reset.
@@ -52,7 +51,7 @@ pub fn refusal(found: Refusal) -> Answer
 
 // So many samples on each channel.
 pub fn ready(samples: usize) -> Answer
-    ensures { λ r. ⌜ r ≡ record { kind = 0; number = 0; first = 0; second = 0; ready = samples } ⌝ }
+    ensures { λ r. ⌜ r ≡ readyOf samples ⌝ }
 {
     Answer {
         kind: 0,
