@@ -6,6 +6,7 @@ use mathlib.Core.Bool.{Bool, true, false, cond, _||_}
 use mathlib.Core.List.{List, [], _∷_, _++_}
 use lib.Dec.{eqb}
 use lib.ListN.{getD}
+use borrow.Author.Tests.{ne-eqb}
 use native.Mathlib.Omega.{arith}
 use Rattle.fields.specs.Update.{offset}
 use Rattle.records.specs.Runs.{each}
@@ -16,7 +17,7 @@ use Rattle.records.specs.Order.{sent, during, applied}
 use Rattle.updates.specs.declared.shape.Shape.{Shape}
 use Rattle.updates.specs.declared.shape.Judged.{Judged}
 use Rattle.updates.specs.Said.{Update, updateOf}
-use Rattle.updates.specs.Shape.{judgedNext, judgedAll}
+use Rattle.updates.specs.Shape.{nextShape, lacks, judgedNext, judgedAll}
 use Rattle.updates.proofs.Walks.{judged-both, frame-judged}
 use Rattle.rules.specs.Refusals.{lacking, countsAfter, lackingFrom, offsets}
 use Rattle.claim.specs.Hall.{Sent, sentOf, hall}
@@ -30,8 +31,8 @@ each-run : {A : Type 0} (f g : ℕ → A) (k i : ℕ) → ((j : ℕ) → g j ≡
 unfolding each
 each-run f g zero i h = refl
 each-run f g (suc k) i h =
-    let first : g 0 ≡ f i = h 0 in
-    rw (first, each-run f (λ j. g (suc j)) k (suc i) (λ j. h (suc j)))
+    let first : g 0 ≡ f i = h 0 ∙ ap f (omega arith) in
+    rw (first, each-run f (λ j. g (suc j)) k (suc i) (λ j. h (suc j) ∙ ap f (omega arith)))
 
 or-none : (a : Bool) → (a || false) ≡ a
 or-none true = refl
@@ -41,6 +42,15 @@ or-both : (a b c : Bool) → ((a || b) || c) ≡ (a || (b || c))
 or-both true b c = refl
 or-both false b c = refl
 
+-- "offset 0 excepted": a frame without samples has its offset 0 too
+offsets-are : (samples : ℕ) → offsets hall samples ≡ suc (samples - 1)
+offsets-are zero = refl
+offsets-are (suc k) = simp (ne-eqb (suc k) 0 (λ e. omega arith)) (omega arith)
+
+applied-is : (f : ℕ → ℕ) (n samples : ℕ) → applied f n samples ≡ during f n (offsets hall samples) 0
+unfolding applied during
+applied-is f n samples = ap (λ (k : ℕ). during f n k 0) (sym (offsets-are samples))
+
 module _ (f : ℕ → ℕ) (u : ℕ → Update) where
   abbrev sentAs : ℕ → Sent
   sentAs i = record { offset = f i; said = u i }
@@ -49,17 +59,22 @@ module _ (f : ℕ → ℕ) (u : ℕ → Update) where
   abbrev after : ℕ → List Sent → Judged → Judged
   after t us j = record { shape = countsAfter hall t us (j .shape); lacks = j .lacks || lacking hall t us (j .shape) }
 
-  one-more : (t k i : ℕ) (j : Judged) (b : Bool) → eqb (f i) t ≡ b →
+  -- the update i, sent for t or not, and then the k after it
+  one-more : (t k i : ℕ) (j : Judged) (b : Bool) →
       ((l : Judged) → judgedAll u (sent f t k (suc i)) l ≡ after t (run sentAs k (suc i)) l) →
-      judgedAll u (cond b (i ∷ sent f t k (suc i)) (sent f t k (suc i))) j ≡ after t (run sentAs (suc k) i) j
+      judgedAll u (cond b (i ∷ sent f t k (suc i)) (sent f t k (suc i))) j ≡
+      record {
+        shape = countsAfter hall t (run sentAs k (suc i)) (cond b (nextShape (u i) (j .shape)) (j .shape));
+        lacks = j .lacks || cond b (lacks (u i) (j .shape) || lacking hall t (run sentAs k (suc i)) (nextShape (u i) (j .shape))) (lacking hall t (run sentAs k (suc i)) (j .shape));
+      }
   unfolding judgedAll
-  one-more t k i j true e h = rw (e, h (judgedNext (u i) j), or-both)
-  one-more t k i j false e h = rw (e, h j)
+  one-more t k i j true h = rw (h (judgedNext (u i) j), or-both)
+  one-more t k i j false h = h j
 
   at-time : (t k i : ℕ) (j : Judged) → judgedAll u (sent f t k i) j ≡ after t (run sentAs k i) j
   unfolding judgedAll sent
   at-time t zero i j = rw (or-none (j .lacks))
-  at-time t (suc k) i j = one-more t k i j (eqb (f i) t) refl (λ l. at-time t k (suc i) l)
+  at-time t (suc k) i j = one-more t k i j (eqb (f i) t) (λ l. at-time t k (suc i) l)
 
   over-times : (n k t : ℕ) (j : Judged) → judgedAll u (during f n k t) j .lacks ≡ (j .lacks || lackingFrom hall k t (run sentAs n 0) (j .shape))
   unfolding judgedAll during
@@ -67,16 +82,10 @@ module _ (f : ℕ → ℕ) (u : ℕ → Update) where
   over-times n (suc k) t j =
       rw (judged-both u (sent f t n 0) (during f n k (suc t)) j, at-time t n 0 j, over-times n k (suc t) (after t (run sentAs n 0) j), or-both)
 
-  -- "offset 0 excepted": a frame without samples has its offset 0
-  applied-is : (n samples : ℕ) → applied f n samples ≡ during f n (offsets hall samples) 0
-  unfolding applied during
-  applied-is n zero = ?
-  applied-is n (suc k) = ?
-
   pub frame-lacks : (n samples : ℕ) (s : Shape) →
       judgedAll u (applied f n samples) (record { shape = s; lacks = false }) .lacks ≡ lackingFrom hall (offsets hall samples) 0 (each sentAs n) s
   frame-lacks n samples s =
-      rw (applied-is n samples, each-run sentAs sentAs n 0 (λ j. ?)) (over-times n (offsets hall samples) 0 (record { shape = s; lacks = false }))
+      rw (applied-is f n samples, each-run sentAs sentAs n 0 (λ j. ap sentAs (omega arith))) (over-times n (offsets hall samples) 0 (record { shape = s; lacks = false }))
 
 -- the same of the code's layout of the metadata
 pub layout-lacks : (m : List ℕ) (l : Layout) → IsLayout m l → (samples : ℕ) (s : Shape) →

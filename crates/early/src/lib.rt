@@ -18,7 +18,7 @@ use store::Small;
 use timed::state::MetadataRendererState;
 
 // Whether the stride is one of those allowed and an output of so many bytes has room for it: refusal 1.
-fn room(stride: u32, bytes: usize) -> bool
+pub fn room(stride: u32, bytes: usize) -> bool
     ensures { λ r. ⌜ r ≡ rules.room stride bytes ⌝ }
 {
     if stride % 64 != 0 {
