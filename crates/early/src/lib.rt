@@ -1,7 +1,7 @@
 // Refusals 1 to 8 of a push: "Lowest number first among 1 to 8". Each is decided before the next is worked out.
 ghost use mathlib.Core.Path.{_≡_};
 ghost use mathlib.Core.List.{List, []};
-ghost use Prim.Native.Nat.{ℕ, _*_, _≤_};
+ghost use Prim.Native.Nat.{ℕ, _+_, _*_, _≤_};
 ghost use lib.Dec.{leb};
 ghost use lib.ListN.{length};
 ghost use Rattle.records.specs.Answers.{IsLayout};
@@ -81,6 +81,13 @@ fn sized(pcm: &[u8], codes: &[u8], samples: u32, objects: u32, stride: u32) -> b
     channels != 0
 }
 
+// Whether the stream with so many samples more stays within 2^40: refusal 4.
+fn stays(position: u64, samples: u32) -> bool
+    ensures { λ r. ⌜ r ≡ leb (position + samples) 1099511627776 ⌝ }
+{
+    position <= 1099511627776 - samples as u64
+}
+
 // Whether an update that would be applied keeps an element that lacks flags: refusal 7.
 fn lacks(s: MetadataRendererState, meta: &[u8], l: Layout, samples: u32) -> bool
     requires { ⌜ IsLayout (now meta) l × WholeUpdates (now meta) (l .first) (l .count) ⌝ }
@@ -114,7 +121,7 @@ pub fn refusal(
     if !store::ranges::listed(rate) {
         return Refusal::Rate;
     }
-    if s.position > 1099511627776 - samples as u64 {
+    if !stays(s.position, samples) {
         return Refusal::StreamEnd;
     }
     let l = records::layout::layout_of(meta);

@@ -1,50 +1,81 @@
+-- Each early answer is a test that fails. Assumes nothing.
+use Prim.Native.Nat.{_+_}
+use mathlib.Core.Path.{sym, _∙_}
 use borrow.Author.Needs.{needs}
+use borrow.Author.Tests.{eq-eqb, ne-eqb, le-leb, lt-leb}
+use Rattle.early.proofs.Chain.{failed, passed}
 use Rattle.early.proofs.sized.Statement.{statement}
 use Rattle.early.proofs.sized.Tie as tie
-use Rattle.early.proofs.sized.Reads as reads
-use Rattle.early.proofs.sized.Lts as lts
-use Rattle.early.proofs.codes_listed.Reads as codes-listed-reads
-use Rattle.early.proofs.pcm_bytes.Reads as pcm-bytes-reads
 
--- src/lib.rt:63:9
 returns : tie.Need-returns
-returns c = ?
+returns c = simp (lt-leb _ _ (c .if1 .taken))
 
--- src/lib.rt:66:9
 returns-2 : tie.Need-returns-2
-returns-2 c = ?
+returns-2 c = simp (le-leb _ _ (c .before .if1 .left), lt-leb _ _ (c .if2 .taken))
 
--- src/lib.rt:69:9
 returns-3 : tie.Need-returns-3
-returns-3 c = ?
+returns-3 c = simp (le-leb _ _ (c .before .before .if1 .left), le-leb _ _ (c .before .if2 .left), lt-leb _ _ (c .if3 .taken))
 
--- src/lib.rt:71:9
 codes-listed-requires : tie.Need-codes-listed-requires
 codes-listed-requires c κs = search needs
 
--- src/lib.rt:72:9
 returns-4 : tie.Need-returns-4
-returns-4 c = ?
+returns-4 c =
+    let l = c .before in
+    let t = l .before in
+    simp (le-leb _ _ (t .before .before .if1 .left), le-leb _ _ (t .before .if2 .left), le-leb _ _ (t .if3 .left), failed (l .codes-listed .ensures) (c .if4 .taken))
 
--- src/lib.rt:74:20
 add-channels : tie.Need-add-channels
 add-channels c = search needs
 
--- src/lib.rt:75:21
 pcm-bytes-requires : tie.Need-pcm-bytes-requires
 pcm-bytes-requires c κs = search needs
 
--- src/lib.rt:76:9
 returns-5 : tie.Need-returns-5
-returns-5 c = ?
+returns-5 c =
+    let p = c .before in
+    let f = p .before in
+    let l = f .before in
+    let t = l .before in
+    simp (
+      le-leb _ _ (t .before .before .if1 .left),
+      le-leb _ _ (t .before .if2 .left),
+      le-leb _ _ (t .if3 .left),
+      passed (l .codes-listed .ensures) (f .if4 .left),
+      ne-eqb _ _ (λ e. c .if5 .taken (e ∙ sym (p .pcm-bytes .ensures))),
+    )
 
--- src/lib.rt:79:9
 returns-6 : tie.Need-returns-6
-returns-6 c = ?
+returns-6 c =
+    let v = c .before in
+    let p = v .before in
+    let f = p .before in
+    let l = f .before in
+    let t = l .before in
+    simp (
+      le-leb _ _ (t .before .before .if1 .left),
+      le-leb _ _ (t .before .if2 .left),
+      le-leb _ _ (t .if3 .left),
+      passed (l .codes-listed .ensures) (f .if4 .left),
+      eq-eqb _ _ (v .if5 .left ∙ p .pcm-bytes .ensures),
+      eq-eqb _ _ (c .if6 .taken),
+    )
 
--- src/lib.rt:59:1
 returns-7 : tie.Need-returns-7
-returns-7 c = ?
+returns-7 c =
+    let v = c .before in
+    let p = v .before in
+    let f = p .before in
+    let l = f .before in
+    let t = l .before in
+    simp (
+      le-leb _ _ (t .before .before .if1 .left),
+      le-leb _ _ (t .before .if2 .left),
+      le-leb _ _ (t .if3 .left),
+      passed (l .codes-listed .ensures) (f .if4 .left),
+      eq-eqb _ _ (v .if5 .left ∙ p .pcm-bytes .ensures),
+      ne-eqb _ _ (c .if6 .left),
+    )
 
 pub sized-spec : {M : Type 1} → statement M
 sized-spec =
