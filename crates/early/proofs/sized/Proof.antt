@@ -1,8 +1,11 @@
 -- Each early answer is a test that fails. Assumes nothing.
-use Prim.Native.Nat.{_+_}
-use mathlib.Core.Path.{sym, _∙_}
+use mathlib.Core.Path.{_≡_, sym, _∙_}
+use mathlib.Core.Bool.{true, _&&_}
+use lib.Dec.{leb}
+use lib.ListN.{length}
 use borrow.Author.Needs.{needs}
 use borrow.Author.Tests.{eq-eqb, ne-eqb, le-leb, lt-leb}
+use Rattle.rules.specs.Refusals.{every}
 use Rattle.early.proofs.Chain.{failed, passed}
 use Rattle.early.proofs.sized.Statement.{statement}
 use Rattle.early.proofs.sized.Tie as tie
@@ -25,6 +28,15 @@ returns-4 c =
     let t = l .before in
     simp (le-leb _ _ (t .before .before .if1 .left), le-leb _ _ (t .before .if2 .left), le-leb _ _ (t .if3 .left), failed (l .codes-listed .ensures) (c .if4 .taken))
 
+-- after the four tests on counts
+counts : (c : tie.Else4) → 
+    let a = c .before .before .before .before .before .before .before .args in
+    (leb (a .samples) (a .stride) && leb (length (a .codes .now)) 18 && leb (a .objects) 16 && every (λ k. leb k 17) (a .codes .now)) ≡ true
+counts c =
+    let l = c .before in
+    let t = l .before in
+    simp (le-leb _ _ (t .before .before .if1 .left), le-leb _ _ (t .before .if2 .left), le-leb _ _ (t .if3 .left), passed (l .codes-listed .ensures) (c .if4 .left))
+
 add-channels : tie.Need-add-channels
 add-channels c = search needs
 
@@ -32,50 +44,17 @@ pcm-bytes-requires : tie.Need-pcm-bytes-requires
 pcm-bytes-requires c κs = search needs
 
 returns-5 : tie.Need-returns-5
-returns-5 c =
-    let p = c .before in
-    let f = p .before in
-    let l = f .before in
-    let t = l .before in
-    simp (
-      le-leb _ _ (t .before .before .if1 .left),
-      le-leb _ _ (t .before .if2 .left),
-      le-leb _ _ (t .if3 .left),
-      passed (l .codes-listed .ensures) (f .if4 .left),
-      ne-eqb _ _ (λ e. c .if5 .taken (e ∙ sym (p .pcm-bytes .ensures))),
-    )
+returns-5 c = simp (counts (c .before .before), ne-eqb _ _ (λ e. c .if5 .taken (e ∙ sym (c .before .pcm-bytes .ensures))))
 
 returns-6 : tie.Need-returns-6
 returns-6 c =
-    let v = c .before in
-    let p = v .before in
-    let f = p .before in
-    let l = f .before in
-    let t = l .before in
-    simp (
-      le-leb _ _ (t .before .before .if1 .left),
-      le-leb _ _ (t .before .if2 .left),
-      le-leb _ _ (t .if3 .left),
-      passed (l .codes-listed .ensures) (f .if4 .left),
-      eq-eqb _ _ (v .if5 .left ∙ p .pcm-bytes .ensures),
-      eq-eqb _ _ (c .if6 .taken),
-    )
+    let p = c .before .before in
+    simp (counts (p .before), eq-eqb _ _ (c .before .if5 .left ∙ p .pcm-bytes .ensures), eq-eqb _ _ (c .if6 .taken))
 
 returns-7 : tie.Need-returns-7
 returns-7 c =
-    let v = c .before in
-    let p = v .before in
-    let f = p .before in
-    let l = f .before in
-    let t = l .before in
-    simp (
-      le-leb _ _ (t .before .before .if1 .left),
-      le-leb _ _ (t .before .if2 .left),
-      le-leb _ _ (t .if3 .left),
-      passed (l .codes-listed .ensures) (f .if4 .left),
-      eq-eqb _ _ (v .if5 .left ∙ p .pcm-bytes .ensures),
-      ne-eqb _ _ (c .if6 .left),
-    )
+    let p = c .before .before in
+    simp (counts (p .before), eq-eqb _ _ (c .before .if5 .left ∙ p .pcm-bytes .ensures), ne-eqb _ _ (c .if6 .left))
 
 pub sized-spec : {M : Type 1} → statement M
 sized-spec =
