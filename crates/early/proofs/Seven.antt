@@ -2,8 +2,8 @@
 -- the list sent. At one offset both go through the updates in the order sent and leave the same counts; `applied` is the offsets one after the other. Assumes nothing.
 use Prim.Native.Nat.{ℕ, zero, suc, _+_, _-_}
 use mathlib.Core.Path.{_≡_, refl, sym, ap, _∙_}
-use mathlib.Core.Bool.{Bool, true, false, cond, _||_}
-use mathlib.Core.List.{List, [], _∷_, _++_}
+use mathlib.Core.Bool.{Bool, true, false, cond, _||_, or-false, or-assoc}
+use mathlib.Core.List.{List, [], _∷_}
 use lib.Dec.{eqb}
 use lib.ListN.{getD}
 use borrow.Author.Tests.{ne-eqb}
@@ -34,14 +34,6 @@ each-run f g (suc k) i h =
     let first : g 0 ≡ f i = h 0 ∙ ap f (omega arith) in
     rw (first, each-run f (λ j. g (suc j)) k (suc i) (λ j. h (suc j) ∙ ap f (omega arith)))
 
-or-none : (a : Bool) → (a || false) ≡ a
-or-none true = refl
-or-none false = refl
-
-or-both : (a b c : Bool) → ((a || b) || c) ≡ (a || (b || c))
-or-both true b c = refl
-or-both false b c = refl
-
 -- "offset 0 excepted": a frame without samples has its offset 0 too
 offsets-are : (samples : ℕ) → offsets hall samples ≡ suc (samples - 1)
 offsets-are zero = refl
@@ -68,19 +60,19 @@ module _ (f : ℕ → ℕ) (u : ℕ → Update) where
         lacks = j .lacks || cond b (lacks (u i) (j .shape) || lacking hall t (run sentAs k (suc i)) (nextShape (u i) (j .shape))) (lacking hall t (run sentAs k (suc i)) (j .shape));
       }
   unfolding judgedAll
-  one-more t k i j true h = rw (h (judgedNext (u i) j), or-both)
+  one-more t k i j true h = rw (h (judgedNext (u i) j), or-assoc)
   one-more t k i j false h = h j
 
   at-time : (t k i : ℕ) (j : Judged) → judgedAll u (sent f t k i) j ≡ after t (run sentAs k i) j
   unfolding judgedAll sent
-  at-time t zero i j = rw (or-none (j .lacks))
+  at-time t zero i j = rw (or-false (j .lacks))
   at-time t (suc k) i j = one-more t k i j (eqb (f i) t) (λ l. at-time t k (suc i) l)
 
   over-times : (n k t : ℕ) (j : Judged) → judgedAll u (during f n k t) j .lacks ≡ (j .lacks || lackingFrom hall k t (run sentAs n 0) (j .shape))
   unfolding judgedAll during
-  over-times n zero t j = sym (or-none (j .lacks))
+  over-times n zero t j = sym (or-false (j .lacks))
   over-times n (suc k) t j =
-      rw (judged-both u (sent f t n 0) (during f n k (suc t)) j, at-time t n 0 j, over-times n k (suc t) (after t (run sentAs n 0) j), or-both)
+      rw (judged-both u (sent f t n 0) (during f n k (suc t)) j, at-time t n 0 j, over-times n k (suc t) (after t (run sentAs n 0) j), or-assoc)
 
   pub frame-lacks : (n samples : ℕ) (s : Shape) →
       judgedAll u (applied f n samples) (record { shape = s; lacks = false }) .lacks ≡ lackingFrom hall (offsets hall samples) 0 (each sentAs n) s

@@ -1,7 +1,6 @@
 -- What is left to test, from code i on, decides. Assumes nothing.
 use Prim.Native.Nat.{_-_, _≤_}
 use mathlib.Core.Path.{_≡_, refl, sym, ap, _∙_}
-use mathlib.Core.List.{List}
 use lib.Dec.{leb}
 use lib.ListN.{length, drop, drop-of-length-le}
 use native.Mathlib.Omega.{arith}

@@ -1,9 +1,6 @@
 -- The walk of refusal 7 in the code finds what the rules find. Assumes nothing.
 use borrow.Author.Needs.{needs}
 use mathlib.Core.Path.{ap, _∙_}
-use mathlib.Core.Bool.{false}
-use Prim.Native.Nat.{ℕ}
-use Rattle.updates.specs.declared.shape.Shape.{Shape}
 use Rattle.updates.specs.declared.shape.Judged.{Judged}
 use Rattle.early.proofs.Seven.{layout-lacks}
 use Rattle.early.proofs.lacks.Statement.{statement}

@@ -1,5 +1,4 @@
 -- At most 34 channels of fewer than 2 ^ 32 samples. Assumes nothing.
-use Prim.Native.Nat.{ℕ, _*_, _≤_}
 use native.Mathlib.Nat.{mul-le-mul-right}
 use native.Mathlib.Omega.{arith}
 use borrow.Author.Needs.{needs}

@@ -29,7 +29,7 @@ returns-4 c =
     simp (le-leb _ _ (t .before .before .if1 .left), le-leb _ _ (t .before .if2 .left), le-leb _ _ (t .if3 .left), failed (l .codes-listed .ensures) (c .if4 .taken))
 
 -- after the four tests on counts
-counts : (c : tie.Else4) → 
+counts : (c : tie.Else4) →
     let a = c .before .before .before .before .before .before .before .args in
     (leb (a .samples) (a .stride) && leb (length (a .codes .now)) 18 && leb (a .objects) 16 && every (λ k. leb k 17) (a .codes .now)) ≡ true
 counts c =
