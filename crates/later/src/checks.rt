@@ -3,11 +3,11 @@ ghost use mathlib.Core.Path.{_≡_};
 ghost use mathlib.Core.Bool.{cond};
 ghost use Prim.Native.Nat.{_≤_};
 ghost use lib.ListN.{length};
-ghost use Rattle.updates.specs.Whole.{WholeUpdates};
+ghost use Rattle.updates.specs.Whole.{WholeUpdate, WholeUpdates};
 ghost use Rattle.records.specs.Answers.{IsLayout};
 ghost use Rattle.rules.specs.Refusals.{clear, bedFound, bedsFound};
 ghost use Rattle.refusals.specs.Numbers.{foundOf};
-ghost use Rattle.later.specs.Told.{isClear, presentShape, matched, IsCounts};
+ghost use Rattle.later.specs.Told.{isClear, presentShape, saidShape, matched, IsCounts};
 use crate::present::Present;
 use beds::count_matching;
 use fields::update::header_at;
@@ -34,6 +34,18 @@ fn match_refusal(expected: u32, provided: u32) -> Refusal
     Refusal::ObjectCountMismatch(expected, provided)
 }
 
+// 11 for the update at record u, where it is taken.
+fn update_refusal(meta: &[u8], u: usize, taken: bool, objects: u32) -> Refusal
+    requires { ⌜ WholeUpdate (now meta) u ⌝ }
+    ensures { λ r. ⌜ foundOf r ≡ cond taken (matched (saidShape (now (meta .entry)) u .objects) objects) clear ⌝ }
+{
+    if !taken {
+        return Refusal::Clear;
+    }
+    let h = header_at(meta, u);
+    match_refusal(dynamic(h.objects, h.bed_or_isf) as u32, objects)
+}
+
 // 11 for each update at sample offset t, in the order sent.
 pub fn counts_refusal(meta: &[u8], l: Layout, t: usize, objects: u32) -> Refusal
     requires { ⌜ IsLayout (now meta) l × WholeUpdates (now meta) (l .first) (l .count) ⌝ }
@@ -44,13 +56,9 @@ pub fn counts_refusal(meta: &[u8], l: Layout, t: usize, objects: u32) -> Refusal
     let count = l.count;
     let mut i = 0usize;
     while i < count {
-        if offset[i] == t {
-            let h = header_at(meta, first[i]);
-            let expected = dynamic(h.objects, h.bed_or_isf) as u32;
-            let r = match_refusal(expected, objects);
-            if !is_clear(r) {
-                return r;
-            }
+        let r = update_refusal(meta, first[i], offset[i] == t, objects);
+        if !is_clear(r) {
+            return r;
         }
         i += 1;
     }

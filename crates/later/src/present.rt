@@ -1,5 +1,6 @@
 // What 10 to 14 look at: the shape of the state or, from the first update on, that of the last update.
 ghost use mathlib.Core.Path.{_≡_};
+ghost use mathlib.Core.Bool.{cond};
 ghost use Prim.Native.Nat.{_≤_};
 ghost use Rattle.updates.specs.Whole.{WholeUpdate, WholeUpdates};
 ghost use Rattle.records.specs.Answers.{IsLayout};
@@ -33,11 +34,14 @@ pub fn present_of(state: MetadataRendererState) -> Present
     }
 }
 
-// That of the update at record u.
-fn present_at(meta: &[u8], u: usize) -> Present
-    requires { ⌜ WholeUpdate (now meta) u ⌝ }
-    ensures { λ r. ⌜ (presentShape r ≡ saidShape (now (meta .entry)) u) × (r .beds ≤ 18) ⌝ }
+// That of the update at record u where it is taken, else p.
+fn present_next(p: Present, meta: &[u8], u: usize, taken: bool) -> Present
+    requires { ⌜ WholeUpdate (now meta) u × (p .beds ≤ 18) ⌝ }
+    ensures { λ r. ⌜ (presentShape r ≡ cond taken (saidShape (now (meta .entry)) u) (presentShape p)) × (r .beds ≤ 18) ⌝ }
 {
+    if !taken {
+        return p;
+    }
     let h = header_at(meta, u);
     let none = [0u8; 18];
     let codes = next_codes(none, meta, u);
@@ -60,9 +64,7 @@ pub fn present_after(p: Present, meta: &[u8], l: Layout, t: usize) -> Present
     let mut present = p;
     let mut i = 0usize;
     while i < count {
-        if offset[i] == t {
-            present = present_at(meta, first[i]);
-        }
+        present = present_next(present, meta, first[i], offset[i] == t);
         i += 1;
     }
     present

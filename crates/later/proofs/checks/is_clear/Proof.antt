@@ -1,0 +1,20 @@
+use borrow.Author.Needs.{needs}
+use Rattle.later.proofs.checks.is_clear.Statement.{statement}
+use Rattle.later.proofs.checks.is_clear.Tie as tie
+use Rattle.later.proofs.checks.is_clear.Reads as reads
+use Rattle.later.proofs.checks.is_clear.Lts as lts
+
+-- src/checks.rt:22:27
+enum-told : tie.Need-enum-told
+enum-told c = search needs
+
+-- src/checks.rt:18:1
+returns : tie.Need-returns
+returns c = search needs
+
+-- src/checks.rt:18:1
+returns-2 : tie.Need-returns-2
+returns-2 c = ?
+
+pub is-clear-spec : {M : Type 1} → statement M
+is-clear-spec = tie.close (tie.spec enum-told returns returns-2)

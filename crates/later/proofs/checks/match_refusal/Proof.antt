@@ -1,0 +1,15 @@
+use Rattle.later.proofs.checks.match_refusal.Statement.{statement}
+use Rattle.later.proofs.checks.match_refusal.Tie as tie
+use Rattle.later.proofs.checks.match_refusal.Reads as reads
+use Rattle.later.proofs.checks.match_refusal.Lts as lts
+
+-- src/checks.rt:32:9
+returns : tie.Need-returns
+returns c = ?
+
+-- src/checks.rt:28:1
+returns-2 : tie.Need-returns-2
+returns-2 c = ?
+
+pub match-refusal-spec : {M : Type 1} → statement M
+match-refusal-spec = tie.close (tie.spec returns returns-2)
