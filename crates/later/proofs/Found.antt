@@ -8,6 +8,8 @@ use lib.Seq.{drop-cons}
 use native.Mathlib.Numerals.{add-one}
 use native.Mathlib.Omega.{arith}
 use Prim.Native.Nat.{_+_}
+use borrow.Author.Tests.{ne-eqb}
+use Rattle.beds.specs.Matching.{counted}
 use Rattle.rules.specs.Refusals.{Found, clear, stop, _then_, bedFound, bedsFound}
 use Rattle.refusals.specs.Numbers.{foundOf}
 use Rattle.refusals.specs.declared.Refusal.{Refusal}
@@ -42,3 +44,13 @@ module _ (beds codes : List ℕ) where
 
   pub beds-end : (i : ℕ) → length beds ≤ i → bedsFound beds codes (drop i beds) ≡ clear
   beds-end i l = rw drop-of-length-le
+
+module _ (beds codes : List ℕ) (c : ℕ) where
+  pub bed-missing : counted c codes ≡ 0 → stop 13 (counted c beds) 0 ≡ bedFound beds codes c
+  bed-missing e = rw e
+
+  pub bed-unsupported : (counted c codes ≡ 0 → ⊥) → c ≡ 6 → stop 14 c 0 ≡ bedFound beds codes c
+  bed-unsupported h e = rw (ne-eqb (counted c codes) 0 h, e)
+
+  pub bed-clear : (counted c codes ≡ 0 → ⊥) → (c ≡ 6 → ⊥) → clear ≡ bedFound beds codes c
+  bed-clear h e = rw (ne-eqb (counted c codes) 0 h, ne-eqb c 6 e)

@@ -1,5 +1,5 @@
 -- The updates of metadata one after the other: 11 for those at a time, and the shape after them. Assumes nothing.
-use Prim.Native.Nat.{ℕ, zero, suc, _+_, _<_, _≤_}
+use Prim.Native.Nat.{ℕ, zero, suc, _+_, _-_, _<_, _≤_}
 use mathlib.Core.Path.{_≡_, refl, sym, ap, _∙_}
 use mathlib.Core.Bool.{Bool, true, false, cond}
 use mathlib.Core.List.{List, [], _∷_, map}
@@ -9,13 +9,16 @@ use lib.Seq.{drop-cons}
 use native.Mathlib.Nat.{le-of-suc-le-suc}
 use native.Mathlib.Numerals.{add-one}
 use native.Mathlib.Omega.{arith}
-use Rattle.fields.specs.Update.{offset}
+use Rattle.fields.specs.Update.{offset, objects, bedOrIsf, beds, code}
 use Rattle.records.specs.Runs.{each}
 use Rattle.records.specs.Laid.{count, updateAt}
 use Rattle.records.proofs.Each.{each-length, each-at}
 use Rattle.rules.specs.Leaves.{Shape}
 use Rattle.rules.specs.Refusals.{Found, clear, _then_, Sent, countsAt, shapeAt}
+use Rattle.updates.specs.Said.{updateOf}
+use Rattle.updates.specs.Applied.{codesGiven}
 use Rattle.claim.specs.Hall as claim
+use Rattle.claim.proofs.Shapes.{each-same, codes-are}
 use Rattle.refusals.specs.Numbers.{foundOf}
 use Rattle.refusals.specs.declared.Refusal.{Refusal}
 use Rattle.refusals.specs.declared.Refusal.the-variants.{Clear}
@@ -54,7 +57,7 @@ told-from m i l =
     drop-cons (toldOf m) i (told m 0) (omega arith) ∙ rw (at, add-one)
 
 told-end : (m : List ℕ) (i : ℕ) → count m ≤ i → drop i (toldOf m) ≡ []
-told-end m i l = let long = told-length m in drop-of-length-le i (toldOf m) (omega arith)
+told-end m i l = let long = told-length m in drop-of-length-le (toldOf m) {i = i} (omega arith)
 
 -- ---- 11 for those at t
 
@@ -94,3 +97,13 @@ module _ (m : List ℕ) (t : ℕ) (p : Present) where
 
   pub shape-end : (i : ℕ) (q : Present) → count m ≤ i → q .beds ≤ 18 → ShapeFrom i q → IsAfter m t p q
   shape-end i q l few h = record { few = few; is = λ n codes. ap (λ (us : List Sent). shapeAt (toldOf m) n codes t us (presentShape q)) (sym (told-end m i l)) ∙ h n codes }
+
+-- ---- what is read of an update's record
+
+pub said-present : (m : List ℕ) (u d n : ℕ) (cs zs : List ℕ) → d ≡ objects m u - bedOrIsf m u → n ≡ beds m u → n ≤ 18 → cs ≡ codesGiven (updateOf m u) zs → length zs ≡ 18 →
+    presentShape (record { started = true; objects = d; beds = n; codes = cs }) ≡ saidShape m u
+said-present m u d n cs zs a b few e long =
+    let most : beds m u ≤ 18 = rw b at few in
+    rw (a, b, e)
+    (ap (λ (l : List ℕ). record { started = true; objects = objects m u - bedOrIsf m u; beds = l })
+    (each-same (λ k. getD (codesGiven (updateOf m u) zs) k 0) (code m u) (beds m u) (λ k l. codes-are (updateOf m u) zs k long (omega arith))))

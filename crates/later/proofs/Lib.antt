@@ -1,3 +1,4 @@
+pub mod Cleared
 pub mod Found
 pub mod Laws
 pub mod Walks

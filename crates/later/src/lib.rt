@@ -25,15 +25,16 @@ use records::layout::Layout;
 use records::order::next_offset;
 use refusals::Refusal;
 use timed::state::MetadataRendererState;
+use updates::shape::either;
 
 // 9 and 10.
 fn start_refusal(rate_before: u32, rate: u32, started: bool, updates: usize) -> Refusal
     ensures { λ r. ⌜ foundOf r ≡ (unless (eqb «rate_before» 0 || eqb «rate_before» rate) 9 «rate_before» rate then unless (started || not (eqb updates 0)) 10 0 0) ⌝ }
 {
-    if rate_before != 0 && rate_before != rate {
+    if !either(rate_before == 0, rate_before == rate) {
         return Refusal::SampleRateChanged(rate_before, rate);
     }
-    if !started && updates == 0 {
+    if !either(started, updates != 0) {
         return Refusal::MissingOamd;
     }
     Refusal::Clear

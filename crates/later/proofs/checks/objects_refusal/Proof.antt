@@ -1,3 +1,4 @@
+-- `later::checks::objects_refusal`. Assumes nothing.
 use borrow.Author.Needs.{needs}
 use Rattle.later.proofs.checks.objects_refusal.Statement.{statement}
 use Rattle.later.proofs.checks.objects_refusal.Tie as tie
@@ -11,7 +12,7 @@ match-refusal-requires c κs = search needs
 
 -- src/checks.rt:65:9
 returns : tie.Need-returns
-returns c = ?
+returns c = rw (c .before .if1 .taken) (c .match-refusal .ensures)
 
 -- src/checks.rt:61:1
 returns-2 : tie.Need-returns-2

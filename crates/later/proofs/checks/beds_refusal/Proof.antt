@@ -1,0 +1,52 @@
+-- `later::checks::beds_refusal`. Assumes nothing.
+use Prim.Native.Nat.{_≤_}
+use mathlib.Core.Path.{_≡_, sym, _∙_}
+use native.Mathlib.Omega.{arith}
+use borrow.Author.Tests.{not-true, not-false}
+use lib.ListN.{length, take}
+use lib.Seq.{length-take-le}
+use denote.Ref.{now}
+use Rattle.later.proofs.Laws.{take-each}
+use Rattle.later.proofs.checks.beds_refusal.Statement.{statement}
+use Rattle.later.proofs.checks.beds_refusal.Tie as tie
+use Rattle.later.proofs.checks.beds_refusal.Reads as reads
+use Rattle.later.proofs.checks.beds_refusal.Lts as lts
+use Rattle.later.proofs.checks.each_refusal.Reads as each-refusal-reads
+
+-- src/checks.rt:114:9
+returns : tie.Need-returns
+returns c = rw (not-true (c .before .before .before .args .p .started) (c .if1 .taken))
+
+-- src/checks.rt:118:18
+array-share-prefix-all : tie.Need-array-share-prefix-all
+array-share-prefix-all c = let g = c .before .before .before .before .good in let h = c .all .given in let k = c .before .shared-slice-known .given in ?
+
+-- src/checks.rt:118:18
+slice-aggregate-each-refusal : tie.Need-slice-aggregate-each-refusal
+slice-aggregate-each-refusal c = 
+    let s = c .before .before .before .before .before in
+    sym (length-take-le (s .args .p .beds) (s .args .p .codes) (omega (arith, s .good)))
+
+-- src/checks.rt:118:5
+each-refusal-requires : tie.Need-each-refusal-requires
+each-refusal-requires c κs = 
+    let s = c .before .before .before .before .before in
+    let e = length-take-le (s .args .p .beds) (s .args .p .codes) (omega (arith, s .good)) in
+    (omega arith, s .pre .1)
+
+-- src/checks.rt:109:1
+returns-2 : tie.Need-returns-2
+returns-2 c = 
+    let s = c .before .before .before .before .before .before in
+    let t = take-each (s .args .p .codes) (s .args .p .beds) (omega (arith, s .good)) in
+    rw (not-false (s .args .p .started) (c .before .before .before .before .if1 .left), ← t) (c .each-refusal .ensures)
+
+pub beds-refusal-spec : {M : Type 1} → statement M
+beds-refusal-spec =
+    tie.close
+    (tie.spec
+    returns
+    array-share-prefix-all
+    slice-aggregate-each-refusal
+    each-refusal-requires
+    returns-2)
