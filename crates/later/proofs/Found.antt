@@ -10,7 +10,7 @@ use native.Mathlib.Omega.{arith}
 use Prim.Native.Nat.{_+_}
 use borrow.Author.Tests.{ne-eqb}
 use Rattle.beds.specs.Matching.{counted}
-use Rattle.rules.specs.Refusals.{Found, clear, stop, _then_, bedFound, bedsFound}
+use Rattle.rules.specs.Refusals.{Found, clear, stop, _then_, unless, bedFound, bedsFound}
 use Rattle.refusals.specs.Numbers.{foundOf}
 use Rattle.refusals.specs.declared.Refusal.{Refusal}
 use Rattle.later.specs.Told.{isNone, isClear}
@@ -54,3 +54,12 @@ module _ (beds codes : List ℕ) (c : ℕ) where
 
   pub bed-clear : (counted c codes ≡ 0 → ⊥) → (c ≡ 6 → ⊥) → clear ≡ bedFound beds codes c
   bed-clear h e = rw (ne-eqb (counted c codes) 0 h, ne-eqb c 6 e)
+
+-- ---- one test of a chain
+
+module _ (t : Bool) (n a b : ℕ) (x : Found) where
+  pub unless-stops : t ≡ false → stop n a b ≡ (unless t n a b then x)
+  unless-stops e = rw e
+
+  pub unless-passes : t ≡ true → x ≡ (unless t n a b then x)
+  unless-passes e = rw e

@@ -18,7 +18,11 @@ use Rattle.records.proofs.Times.{next-within, next-above, next-least}
 use Rattle.rules.specs.Leaves.{Shape}
 use Rattle.rules.specs.Refusals.{Found, clear, _then_, Sent, countsAt, shapeAt, mixes, walk, none}
 use Rattle.claim.proofs.Checked.{each-all}
-use Rattle.later.specs.Told.{toldOf}
+use Rattle.refusals.specs.Numbers.{foundOf}
+use Rattle.refusals.specs.declared.Refusal.{Refusal}
+use Rattle.later.specs.declared.present.Present.{Present}
+use Rattle.later.specs.Told.{toldOf, presentShape, IsAfter, IsCounts, isClear}
+use Rattle.later.proofs.Found.{is-none, chain-stops, chain-passes}
 use Rattle.later.proofs.Laws.{told, told-each}
 
 -- no update is at t
@@ -80,3 +84,26 @@ module _ (m : List ℕ) (l : Layout) (g : IsLayout m l) where
 
     pub walk-ends : (t : ℕ) (s : Shape) → end ≤ t → from t s ≡ clear
     walk-ends t s h = let z : end - t ≡ 0 = omega arith in rw z
+
+    -- ---- one turn of the loop: the updates at t and the beds after them, with the present shape p
+
+    module _ (t : ℕ) (p : Present) (all : Found) (below : t < end) (rest : from t (presentShape p) ≡ all) (r : Refusal) (counts : IsCounts m objects t r) where
+      turn : (countsAt (toldOf m) objects codes t (toldOf m) then (mixes (toldOf m) objects codes (after t (presentShape p)) then from (suc t) (after t (presentShape p)))) ≡ all
+      turn = sym (walk-step t (presentShape p) below) ∙ rest
+
+      pub counts-stop : isClear r ≡ false → foundOf r ≡ all
+      counts-stop e = chain-stops r (countsAt (toldOf m) objects codes t (toldOf m)) _ all (counts .is codes) turn e
+
+      module _ (pass : isClear r ≡ true) (q : Present) (now : IsAfter m t p q) (b : Refusal) (beds : foundOf b ≡ mixes (toldOf m) objects codes (presentShape q)) where
+        beds-turn : (mixes (toldOf m) objects codes (presentShape q) then from (suc t) (presentShape q)) ≡ all
+        beds-turn =
+            ap (λ (x : Shape). mixes (toldOf m) objects codes x then from (suc t) x) (now .is objects codes)
+            ∙ chain-passes r (countsAt (toldOf m) objects codes t (toldOf m)) _ all (counts .is codes) turn pass
+
+        pub beds-stop : isClear b ≡ false → foundOf b ≡ all
+        beds-stop e = chain-stops b (mixes (toldOf m) objects codes (presentShape q)) (from (suc t) (presentShape q)) all beds beds-turn e
+
+        pub goes-on : isClear b ≡ true → from (next f (l .count) t end) (presentShape q) ≡ all
+        goes-on e =
+            sym (walk-skips t (presentShape q) below (sym beds ∙ is-none (foundOf b) e))
+            ∙ chain-passes b (mixes (toldOf m) objects codes (presentShape q)) (from (suc t) (presentShape q)) all beds beds-turn e
