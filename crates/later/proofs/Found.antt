@@ -63,3 +63,10 @@ module _ (t : Bool) (n a b : ℕ) (x : Found) where
 
   pub unless-passes : t ≡ true → x ≡ (unless t n a b then x)
   unless-passes e = rw e
+
+module _ (t : Bool) (n a b : ℕ) where
+  pub last-stops : t ≡ false → stop n a b ≡ unless t n a b
+  last-stops e = rw e
+
+  pub last-passes : t ≡ true → clear ≡ unless t n a b
+  last-passes e = rw e

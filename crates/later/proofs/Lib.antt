@@ -2,3 +2,4 @@ pub mod Cleared
 pub mod Found
 pub mod Laws
 pub mod Walks
+pub mod Chain
