@@ -11,7 +11,7 @@ use Rattle.records.specs.Laid.{count}
 use Rattle.records.specs.Answers.{IsLayout}
 use Rattle.records.specs.declared.layout.Layout.{Layout}
 use Rattle.rules.specs.Leaves.{Shape}
-use Rattle.rules.specs.Refusals.{Found, clear, stop, _then_, unless, Sent, objectsMatch, countsAt, shapeAt, walk, none, later}
+use Rattle.rules.specs.Refusals.{Found, clear, stop, _then_, unless, objectsMatch, countsAt, shapeAt, walk, none, later}
 use Rattle.refusals.specs.Numbers.{foundOf}
 use Rattle.refusals.specs.declared.Refusal.{Refusal}
 use Rattle.later.specs.declared.present.Present.{Present}

@@ -1,7 +1,7 @@
 -- The updates of metadata one after the other: 11 for those at a time, and the shape after them. Assumes nothing.
 use Prim.Native.Nat.{ℕ, zero, suc, _+_, _-_, _<_, _≤_}
 use mathlib.Core.Path.{_≡_, refl, sym, ap, _∙_}
-use mathlib.Core.Bool.{Bool, true, false, cond}
+use mathlib.Core.Bool.{true, false, cond}
 use mathlib.Core.List.{List, [], _∷_, map}
 use lib.Dec.{eqb}
 use lib.ListN.{length, getD, take, drop, drop-of-length-le}
@@ -13,7 +13,6 @@ use Rattle.fields.specs.Update.{offset, objects, bedOrIsf, beds, code}
 use Rattle.records.specs.Runs.{each}
 use Rattle.records.specs.Laid.{count, updateAt}
 use Rattle.records.proofs.Each.{each-length, each-at}
-use Rattle.rules.specs.Leaves.{Shape}
 use Rattle.rules.specs.Refusals.{Found, clear, _then_, Sent, countsAt, shapeAt}
 use Rattle.updates.specs.Said.{updateOf}
 use Rattle.updates.specs.Applied.{codesGiven}

@@ -1,7 +1,7 @@
 -- The walk over time: between two offsets with updates nothing new can stop. Assumes nothing.
 use Prim.Native.Nat.{ℕ, zero, suc, _+_, _-_, _<_, _≤_}
 use mathlib.Core.Path.{_≡_, refl, sym, ap, _∙_}
-use mathlib.Core.Bool.{Bool, true, false, not}
+use mathlib.Core.Bool.{true, false}
 use mathlib.Core.List.{List, [], _∷_}
 use lib.Dec.{eqb}
 use lib.ListN.{getD}
@@ -9,14 +9,13 @@ use native.Mathlib.Omega.{arith}
 use borrow.Author.Tests.{ne-eqb}
 use Rattle.ieee.specs.Bounds.{All}
 use Rattle.fields.specs.Update.{offset}
-use Rattle.records.specs.Runs.{each}
 use Rattle.records.specs.Laid.{count, updateAt}
 use Rattle.records.specs.Answers.{IsLayout}
 use Rattle.records.specs.Order.{next}
 use Rattle.records.specs.declared.layout.Layout.{Layout}
 use Rattle.records.proofs.Times.{next-within, next-above, next-least}
 use Rattle.rules.specs.Leaves.{Shape}
-use Rattle.rules.specs.Refusals.{Found, clear, _then_, Sent, countsAt, shapeAt, mixes, walk, none}
+use Rattle.rules.specs.Refusals.{Found, clear, _then_, Sent, countsAt, shapeAt, mixes, walk}
 use Rattle.claim.proofs.Checked.{each-all}
 use Rattle.refusals.specs.Numbers.{foundOf}
 use Rattle.refusals.specs.declared.Refusal.{Refusal}
@@ -91,8 +90,8 @@ module _ (m : List ℕ) (l : Layout) (g : IsLayout m l) where
       turn : (countsAt (toldOf m) objects codes t (toldOf m) then (mixes (toldOf m) objects codes (after t (presentShape p)) then from (suc t) (after t (presentShape p)))) ≡ all
       turn = sym (walk-step t (presentShape p) below) ∙ rest
 
-      pub counts-stop : isClear r ≡ false → foundOf r ≡ all
-      counts-stop e = chain-stops r (countsAt (toldOf m) objects codes t (toldOf m)) _ all (counts .is codes) turn e
+      pub updates-stop : isClear r ≡ false → foundOf r ≡ all
+      updates-stop e = chain-stops r (countsAt (toldOf m) objects codes t (toldOf m)) _ all (counts .is codes) turn e
 
       module _ (pass : isClear r ≡ true) (q : Present) (now : IsAfter m t p q) (b : Refusal) (beds : foundOf b ≡ mixes (toldOf m) objects codes (presentShape q)) where
         beds-turn : (mixes (toldOf m) objects codes (presentShape q) then from (suc t) (presentShape q)) ≡ all

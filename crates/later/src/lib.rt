@@ -41,7 +41,14 @@ fn start_refusal(rate_before: u32, rate: u32, started: bool, updates: usize) -> 
 }
 
 // 11, 13 and 14 as they arise in time. Between two offsets with updates nothing new can stop.
-fn walk_refusal(start: Present, meta: &[u8], l: Layout, codes: &[u8], samples: usize, objects: u32) -> Refusal
+fn walk_refusal(
+    start: Present,
+    meta: &[u8],
+    l: Layout,
+    codes: &[u8],
+    samples: usize,
+    objects: u32,
+) -> Refusal
     requires { ⌜ IsLayout (now meta) l × WholeUpdates (now meta) (l .first) (l .count) × (length (now codes) ≤ 18) × (start .beds ≤ 18) ⌝ }
     ensures { λ r. ⌜ foundOf r ≡ walk (toldOf (now (meta .entry))) objects (now (codes .entry)) samples 0 (presentShape start) ⌝ }
 {

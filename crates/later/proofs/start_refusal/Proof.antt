@@ -3,30 +3,23 @@ use mathlib.Core.Path.{_≡_, sym, _∙_}
 use mathlib.Core.Bool.{_||_, not, true, false}
 use lib.Dec.{eqb}
 use borrow.Author.Tests.{not-true, not-false}
-use Rattle.rules.specs.Refusals.{clear, unless}
+use Rattle.rules.specs.Refusals.{unless}
 use Rattle.later.proofs.Found.{unless-stops, unless-passes, last-stops, last-passes}
 use borrow.Author.Needs.{needs}
 use Rattle.later.proofs.start_refusal.Statement.{statement}
 use Rattle.later.proofs.start_refusal.Tie as tie
-use Rattle.later.proofs.start_refusal.Reads as reads
-use Rattle.later.proofs.start_refusal.Lts as lts
-use Rattle.updates.proofs.shape.either.Reads as either-reads
 
--- src/lib.rt:34:9
 either-requires : tie.Need-either-requires
 either-requires c κs = search needs
 
--- src/lib.rt:35:9
 returns : tie.Need-returns
 returns c =
     let s = c .before .before .args in
     unless-stops (eqb (s .rate-before) 0 || eqb (s .rate-before) (s .rate)) 9 (s .rate-before) (s .rate) (unless (s .started || not (eqb (s .updates) 0)) 10 0 0) (sym (c .before .either .ensures) ∙ not-true _ (c .if1 .taken))
 
--- src/lib.rt:37:9
 either-requires-2 : tie.Need-either-requires-2
 either-requires-2 c κs = search needs
 
--- src/lib.rt:38:9
 returns-2 : tie.Need-returns-2
 returns-2 c =
     let s = c .before .before .before .before .args in
@@ -34,7 +27,6 @@ returns-2 c =
     let none : (s .started || not (eqb (s .updates) 0)) ≡ false = sym (c .before .either2 .ensures) ∙ not-true _ (c .if2 .taken) in
     last-stops (s .started || not (eqb (s .updates) 0)) 10 0 0 none ∙ unless-passes (eqb (s .rate-before) 0 || eqb (s .rate-before) (s .rate)) 9 (s .rate-before) (s .rate) (unless (s .started || not (eqb (s .updates) 0)) 10 0 0) same
 
--- src/lib.rt:31:1
 returns-3 : tie.Need-returns-3
 returns-3 c =
     let s = c .before .before .before .before .args in

@@ -1,39 +1,31 @@
 -- `later::checks::bed_refusal`: 13 before 14. Assumes nothing.
 use denote.Ref.{now}
 use mathlib.Core.Path.{sym, _∙_, ap}
-use Rattle.rules.specs.Refusals.{Found, stop}
+use Rattle.rules.specs.Refusals.{stop}
 use Prim.Native.Nat.{ℕ}
 use Rattle.later.proofs.Found.{bed-missing, bed-unsupported, bed-clear}
 use borrow.Author.Needs.{needs}
 use Rattle.later.proofs.checks.bed_refusal.Statement.{statement}
 use Rattle.later.proofs.checks.bed_refusal.Tie as tie
-use Rattle.later.proofs.checks.bed_refusal.Reads as reads
-use Rattle.later.proofs.checks.bed_refusal.Lts as lts
-use Rattle.beds.proofs.count_matching.Reads as count-matching-reads
 
--- src/checks.rt:75:8
 count-matching-requires : tie.Need-count-matching-requires
 count-matching-requires c κs = search needs
 
--- src/checks.rt:76:49
 count-matching-requires-2 : tie.Need-count-matching-requires-2
 count-matching-requires-2 c κs = search needs
 
--- src/checks.rt:76:9
 returns : tie.Need-returns
-returns c = 
+returns c =
     let s = c .before .before .before .before .before .args in
     ap (λ (n : ℕ). stop 13 n 0) (c .count-matching2 .ensures) ∙ bed-missing (now (s .beds)) (now (s .codes)) (s .code) (sym (c .before .before .count-matching .ensures) ∙ c .before .if1 .taken)
 
--- src/checks.rt:79:9
 returns-2 : tie.Need-returns-2
-returns-2 c = 
+returns-2 c =
     let s = c .before .before .before .before .before .args in
     bed-unsupported (now (s .beds)) (now (s .codes)) (s .code) (λ e. c .before .if1 .left (c .before .before .count-matching .ensures ∙ e)) (c .if2 .taken)
 
--- src/checks.rt:71:1
 returns-3 : tie.Need-returns-3
-returns-3 c = 
+returns-3 c =
     let s = c .before .before .before .before .before .args in
     bed-clear (now (s .beds)) (now (s .codes)) (s .code) (λ e. c .before .if1 .left (c .before .before .count-matching .ensures ∙ e)) (c .if2 .left)
 

@@ -1,6 +1,6 @@
 -- `later::checks::counts_refusal`: nothing was found before update i. Assumes nothing.
-use Prim.Native.Nat.{ℕ, _+_, _-_, _<_, _≤_}
-use mathlib.Core.Path.{_≡_, refl, sym, ap, _∙_}
+use Prim.Native.Nat.{_-_, _<_, _≤_}
+use mathlib.Core.Path.{_≡_, refl, sym, _∙_}
 use native.Mathlib.Omega.{arith}
 use borrow.Author.Tests.{not-true, not-false}
 use denote.Ref.{now}
@@ -9,10 +9,6 @@ use Rattle.refusals.specs.Numbers.{foundOf}
 use Rattle.later.proofs.Laws.{refusedAt, CountsFrom, counts-stop, counts-go, counts-end}
 use Rattle.later.proofs.checks.counts_refusal.Statement.{statement}
 use Rattle.later.proofs.checks.counts_refusal.Tie as tie
-use Rattle.later.proofs.checks.counts_refusal.Reads as reads
-use Rattle.later.proofs.checks.counts_refusal.Lts as lts
-use Rattle.later.proofs.checks.is_clear.Reads as is-clear-reads
-use Rattle.later.proofs.checks.update_refusal.Reads as update-refusal-reads
 
 abbrev Inv-loop : tie.InvT-loop
 Inv-loop meta t objects first offset n i₀ i = (i ≤ n) × CountsFrom meta objects t i
@@ -20,37 +16,29 @@ Inv-loop meta t objects first offset n i₀ i = (i ≤ n) × CountsFrom meta obj
 abbrev μ-loop : tie.MeasureT-loop
 μ-loop meta t objects first offset n i₀ i = n - i
 
--- src/checks.rt:58:5
 loop-holds : tie.Need-loop-holds Inv-loop μ-loop
 loop-holds c = (omega arith, λ codes. refl)
 
--- src/checks.rt:59:38
 mul-update-refusal : tie.Need-mul-update-refusal Inv-loop μ-loop
 mul-update-refusal c = omega (arith, c .before .before .before .before .before .pre .1 .few)
 
--- src/checks.rt:59:38
 array-read-update-refusal : tie.Need-array-read-update-refusal Inv-loop μ-loop
 array-read-update-refusal c = omega (arith, c .before .before .before .before .before .pre .1 .few)
 
--- src/checks.rt:59:48
 mul-update-refusal-2 : tie.Need-mul-update-refusal-2 Inv-loop μ-loop
 mul-update-refusal-2 c = omega (arith, c .before .before .before .before .before .pre .1 .few)
 
--- src/checks.rt:59:48
 array-read-update-refusal-2 : tie.Need-array-read-update-refusal-2 Inv-loop μ-loop
 array-read-update-refusal-2 c = omega (arith, c .before .before .before .before .before .pre .1 .few)
 
--- src/checks.rt:59:13
 update-refusal-requires : tie.Need-update-refusal-requires Inv-loop μ-loop
 update-refusal-requires c κs = c .before .before .before .before .before .pre .1 .all (c .before .loop .i) (omega (arith, c .loop-test))
 
--- src/checks.rt:60:13
 is-clear-requires : tie.Need-is-clear-requires Inv-loop μ-loop
 is-clear-requires c κs = tt
 
--- src/checks.rt:61:13
 returns : tie.Need-returns Inv-loop μ-loop
-returns c = 
+returns c =
     let s = c .before .before .before .before .before .before .before .before in
     let l = c .before .before .before .before .loop in
     let m = now (s .args .meta) in
@@ -59,17 +47,14 @@ returns c =
     let is : foundOf (r .result) ≡ refusedAt m (s .args .objects) (s .args .t) (l .i) = rw (← s .pre .0 .offsets (l .i) h, ← s .pre .0 .firsts (l .i) h) (r .ensures) in
     counts-stop m (s .args .objects) (s .args .t) (r .result) (l .i) h (l .inv .1) is (sym (c .before .is-clear .ensures) ∙ not-true _ (c .if1 .taken))
 
--- src/checks.rt:63:9
 add-i : tie.Need-add-i Inv-loop μ-loop
 add-i c = omega (arith, c .before .before .before .before .before .before .before .before .pre .1 .few)
 
--- src/checks.rt:58:5
 loop-less : tie.Need-loop-less Inv-loop μ-loop
 loop-less c = omega (arith, c .before .before .before .loop-test)
 
--- src/checks.rt:58:5
 loop-again : tie.Need-loop-again Inv-loop μ-loop
-loop-again c = 
+loop-again c =
     let s = c .before .before .before .before .before .before .before .before in
     let l = c .before .before .before .before .loop in
     let m = now (s .args .meta) in
@@ -78,9 +63,8 @@ loop-again c =
     let is : foundOf (r .result) ≡ refusedAt m (s .args .objects) (s .args .t) (l .i) = rw (← s .pre .0 .offsets (l .i) h, ← s .pre .0 .firsts (l .i) h) (r .ensures) in
     (omega (arith, c .before .before .before .loop-test), counts-go m (s .args .objects) (s .args .t) (r .result) (l .i) h (l .inv .1) is (sym (c .before .is-clear .ensures) ∙ not-false _ (c .if1 .left)))
 
--- src/checks.rt:50:1
 returns-2 : tie.Need-returns-2 Inv-loop μ-loop
-returns-2 c = 
+returns-2 c =
     let s = c .before .before .before .before .before in
     counts-end (now (s .args .meta)) (s .args .objects) (s .args .t) (c .before .loop .i) (omega (arith, c .loop-test, s .pre .0 .counted)) (c .before .loop .inv .1)
 

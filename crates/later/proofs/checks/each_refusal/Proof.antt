@@ -2,7 +2,6 @@
 use Prim.Native.Nat.{_≤_, _-_}
 use mathlib.Core.Path.{_≡_, refl, sym, _∙_}
 use native.Mathlib.Omega.{arith}
-use native.Mathlib.Numerals.{unary-clauses}
 use borrow.Author.Needs.{needs}
 use borrow.Author.Tests.{not-true, not-false}
 use lib.ListN.{length, drop, getD}
@@ -11,10 +10,6 @@ use Rattle.rules.specs.Refusals.{bedFound, bedsFound}
 use Rattle.later.proofs.Found.{chain-stops, chain-passes, beds-step, beds-end}
 use Rattle.later.proofs.checks.each_refusal.Statement.{statement}
 use Rattle.later.proofs.checks.each_refusal.Tie as tie
-use Rattle.later.proofs.checks.each_refusal.Reads as reads
-use Rattle.later.proofs.checks.each_refusal.Lts as lts
-use Rattle.later.proofs.checks.bed_refusal.Reads as bed-refusal-reads
-use Rattle.later.proofs.checks.is_clear.Reads as is-clear-reads
 
 abbrev Inv-loop : tie.InvT-loop
 Inv-loop beds codes i₀ i = (i ≤ length beds) × (bedsFound beds codes (drop i beds) ≡ bedsFound beds codes beds)
@@ -22,23 +17,18 @@ Inv-loop beds codes i₀ i = (i ≤ length beds) × (bedsFound beds codes (drop 
 abbrev μ-loop : tie.MeasureT-loop
 μ-loop beds codes i₀ i = length beds - i
 
--- src/checks.rt:90:5
 loop-holds : tie.Need-loop-holds Inv-loop μ-loop
 loop-holds c = (omega arith, refl)
 
--- src/checks.rt:91:42
 shared-slice-read-bed-refusal : tie.Need-shared-slice-read-bed-refusal Inv-loop μ-loop
 shared-slice-read-bed-refusal c = search needs
 
--- src/checks.rt:91:13
 bed-refusal-requires : tie.Need-bed-refusal-requires Inv-loop μ-loop
 bed-refusal-requires c κs = search needs
 
--- src/checks.rt:92:13
 is-clear-requires : tie.Need-is-clear-requires Inv-loop μ-loop
 is-clear-requires c κs = search needs
 
--- src/checks.rt:93:13
 returns : tie.Need-returns Inv-loop μ-loop
 returns c =
     let s = c .before .before .before .before .before .before .before .before .args in
@@ -48,26 +38,23 @@ returns c =
     (sym (beds-step (now (s .beds)) (now (s .codes)) (l .i) (omega (arith, c .before .before .before .before .loop-test))) ∙ l .inv .1)
     (sym (c .before .is-clear .ensures) ∙ not-true _ (c .if1 .taken))
 
--- src/checks.rt:95:9
 add-i : tie.Need-add-i Inv-loop μ-loop
 add-i c = search needs
 
--- src/checks.rt:90:5
 loop-less : tie.Need-loop-less Inv-loop μ-loop
 loop-less c = search needs
 
--- src/checks.rt:90:5
 loop-again : tie.Need-loop-again Inv-loop μ-loop
 loop-again c =
     let s = c .before .before .before .before .before .before .before .before .args in
     let l = c .before .before .before .before .before .loop in
-    let b = c .before .before .bed-refusal in
-    (search needs,
-    chain-passes (b .result) (bedFound (now (s .beds)) (now (s .codes)) (getD (now (s .beds)) (l .i) 0)) _ _ (b .ensures)
-    (sym (beds-step (now (s .beds)) (now (s .codes)) (l .i) (omega (arith, c .before .before .before .before .loop-test))) ∙ l .inv .1)
-    (sym (c .before .is-clear .ensures) ∙ not-false _ (c .if1 .left)))
+    let b = c .before .before .bed-refusal in (
+      search needs,
+      chain-passes (b .result) (bedFound (now (s .beds)) (now (s .codes)) (getD (now (s .beds)) (l .i) 0)) _ _ (b .ensures)
+          (sym (beds-step (now (s .beds)) (now (s .codes)) (l .i) (omega (arith, c .before .before .before .before .loop-test))) ∙ l .inv .1)
+          (sym (c .before .is-clear .ensures) ∙ not-false _ (c .if1 .left)),
+    )
 
--- src/checks.rt:85:1
 returns-2 : tie.Need-returns-2 Inv-loop μ-loop
 returns-2 c =
     let s = c .before .before .before .before .args in

@@ -3,18 +3,13 @@ use Rattle.later.proofs.Cleared.{told}
 use borrow.Author.Needs.{needs}
 use Rattle.later.proofs.checks.is_clear.Statement.{statement}
 use Rattle.later.proofs.checks.is_clear.Tie as tie
-use Rattle.later.proofs.checks.is_clear.Reads as reads
-use Rattle.later.proofs.checks.is_clear.Lts as lts
 
--- src/checks.rt:22:27
 enum-told : tie.Need-enum-told
 enum-told c = search needs
 
--- src/checks.rt:18:1
 returns : tie.Need-returns
 returns c = search needs
 
--- src/checks.rt:18:1
 returns-2 : tie.Need-returns-2
 returns-2 c = told (c .before .args .r) (c .match .keys2)
 

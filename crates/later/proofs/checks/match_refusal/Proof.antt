@@ -2,14 +2,10 @@
 use borrow.Author.Tests.{eq-eqb, ne-eqb}
 use Rattle.later.proofs.checks.match_refusal.Statement.{statement}
 use Rattle.later.proofs.checks.match_refusal.Tie as tie
-use Rattle.later.proofs.checks.match_refusal.Reads as reads
-use Rattle.later.proofs.checks.match_refusal.Lts as lts
 
--- src/checks.rt:32:9
 returns : tie.Need-returns
 returns c = rw (eq-eqb (c .before .args .expected) (c .before .args .provided) (c .if1 .taken))
 
--- src/checks.rt:28:1
 returns-2 : tie.Need-returns-2
 returns-2 c = rw (ne-eqb (c .before .args .expected) (c .before .args .provided) (c .if1 .left))
 

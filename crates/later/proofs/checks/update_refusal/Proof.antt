@@ -1,5 +1,5 @@
 -- `later::checks::update_refusal`. Assumes nothing.
-use mathlib.Core.Path.{_≡_, ap, _∙_}
+use mathlib.Core.Path.{ap, _∙_}
 use Prim.Native.Nat.{ℕ, _-_, _≤_}
 use native.Mathlib.Omega.{arith}
 use borrow.Author.Tests.{not-true, not-false}
@@ -10,40 +10,29 @@ use Rattle.later.specs.Told.{matched}
 use borrow.Author.Needs.{needs}
 use Rattle.later.proofs.checks.update_refusal.Statement.{statement}
 use Rattle.later.proofs.checks.update_refusal.Tie as tie
-use Rattle.later.proofs.checks.update_refusal.Reads as reads
-use Rattle.later.proofs.checks.update_refusal.Lts as lts
-use Rattle.fields.proofs.update.header_at.Reads as header-at-reads
-use Rattle.later.proofs.checks.match_refusal.Reads as match-refusal-reads
-use Rattle.timed.proofs.state.dynamic.Reads as dynamic-reads
 
--- src/checks.rt:43:9
 returns : tie.Need-returns
 returns c = rw (not-true (c .before .before .args .taken) (c .if1 .taken))
 
--- src/checks.rt:45:9
 header-at-requires : tie.Need-header-at-requires
 header-at-requires c κs = search needs
 
--- src/checks.rt:46:19
 dynamic-requires : tie.Need-dynamic-requires
 dynamic-requires c κs = search needs
 
--- src/checks.rt:46:19
 cast-match-refusal : tie.Need-cast-match-refusal
-cast-match-refusal c = 
+cast-match-refusal c =
     let s = c .before .before .before .before in
     let few : objects (now (s .args .meta)) (s .args .u) ≤ 32 = s .pre .few-objects in
     let h = c .before .header-at .ensures in
     let d = c .dynamic .ensures in
     omega (arith, ap (λ (x : Header). x .objects) h)
 
--- src/checks.rt:46:5
 match-refusal-requires : tie.Need-match-refusal-requires
 match-refusal-requires c κs = search needs
 
--- src/checks.rt:38:1
 returns-2 : tie.Need-returns-2
-returns-2 c = 
+returns-2 c =
     let s = c .before .before .before .before .before .args in
     let h = c .before .before .header-at .ensures in
     rw (not-false (s .taken) (c .before .before .before .if1 .left))
