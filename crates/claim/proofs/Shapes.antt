@@ -42,7 +42,7 @@ shape-objects m = each-length (sourceOf (m .state)) (m .state .objects - m .stat
 
 -- ---- the codes that an update gives
 
-each-same : (f g : ℕ → ℕ) (n : ℕ) → ((k : ℕ) → k < n → f k ≡ g k) → each f n ≡ each g n
+pub each-same : (f g : ℕ → ℕ) (n : ℕ) → ((k : ℕ) → k < n → f k ≡ g k) → each f n ≡ each g n
 unfolding each
 each-same f g zero h = refl
 each-same f g (suc n) h =
@@ -65,7 +65,7 @@ code-at u (suc n) i cs k false e a b l =
     let s : k ≡ i = omega arith in
     code-before u n (suc i) (codeGiven u i cs) k (omega arith) ∙ rw s (getD-set-same cs i (u .code i) 0 (omega arith))
 
-codes-are : (u : Update) (cs : List ℕ) (k : ℕ) → length cs ≡ 18 → k < 18 → getD (codesGiven u cs) k 0 ≡ u .code k
+pub codes-are : (u : Update) (cs : List ℕ) (k : ℕ) → length cs ≡ 18 → k < 18 → getD (codesGiven u cs) k 0 ≡ u .code k
 unfolding codesGiven
 codes-are u cs k e l = code-at u 18 0 cs k (ltb 0 k) refl (omega arith) (omega arith) (omega arith)
 
