@@ -178,10 +178,21 @@ module _ (L : Leaves) where
     pub slot : started L (s .meta) ≡ true → s .phase + suc n ≤ 64
     pub room : s .pending + suc n ≤ 64
 
+  -- what a chunk leaves as it was, and how far the stream goes
+  pub record Passes (n : ℕ) (r s : State L) : Type 0 where
+    pub rate : s .rate ≡ r .rate
+    pub position : s .position ≡ r .position + n
+    pub meta : s .meta ≡ r .meta
+
+  pub chunk-passes : (f : Frame (L .Update)) (n t : ℕ) (r : State L) → Passes n r (chunk L f n t r .next)
+  unfolding chunk
+  chunk-passes f n t r = record { rate = refl; position = refl; meta = refl }
+
+  pub chunk-whole : (f : Frame (L .Update)) (n t : ℕ) (r : State L) → Turn f n t (slotted L (updated L t (f .updates) r)) → framed L f (suc n) t r ≡ chunk L f (suc n) t (slotted L (updated L t (f .updates) r))
+  chunk-whole f n t r h = chunk-is f n t (slotted L (updated L t (f .updates) r)) _ refl (h .quiet) (h .slot) (h .room)
+
   -- a frame is a chunk, behind the updates and the slot at its first sample, and the rest
   pub turn : (f : Frame (L .Update)) (n m t : ℕ) (r : State L) → Turn f n t (slotted L (updated L t (f .updates) r))
       → framed L f (suc n + m) t r
       ≡ both (chunk L f (suc n) t (slotted L (updated L t (f .updates) r))) (framed L f m (t + suc n) (chunk L f (suc n) t (slotted L (updated L t (f .updates) r)) .next))
-  turn f n m t r h =
-      framed-then f (suc n) m t r
-      ∙ ap (λ (a : After L). both a (framed L f m (t + suc n) (a .next))) (chunk-is f n t (slotted L (updated L t (f .updates) r)) _ refl (h .quiet) (h .slot) (h .room))
+  turn f n m t r h = framed-then f (suc n) m t r ∙ ap (λ (a : After L). both a (framed L f m (t + suc n) (a .next))) (chunk-whole f n t r h)

@@ -1,2 +1,4 @@
 pub mod Chunks
 pub mod Outs
+pub mod Counted
+pub mod Going
