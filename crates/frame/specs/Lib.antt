@@ -1,3 +1,4 @@
 pub mod Held
 pub mod Chunk
 pub mod Out
+pub mod Begin

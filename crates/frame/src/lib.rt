@@ -1,1 +1,2 @@
 // A frame that no refusal turned away, in runs of at most 64 samples; and flush.
+pub mod begin;
