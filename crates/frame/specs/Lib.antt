@@ -2,3 +2,4 @@ pub mod Held
 pub mod Chunk
 pub mod Out
 pub mod Turns
+pub mod Begin
