@@ -1,3 +1,5 @@
 pub mod Held
 pub mod Chunk
 pub mod Out
+pub mod Give
+pub mod Pass

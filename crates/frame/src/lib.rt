@@ -1,1 +1,3 @@
 // A frame that no refusal turned away, in runs of at most 64 samples; and flush.
+pub mod chunk;
+pub mod flush;
