@@ -22,7 +22,7 @@ pub record CanPass (s : Small) (state pcm out codes : List ℕ) (objects n t k s
   pub block : length state ≡ size
   pub framed : Framed pcm (length codes + objects) n t k
   pub inputs : length codes ≤ 18
-  pub objects : objects ≤ 16
+  pub few : objects ≤ 16
   pub beds : s .state .beds ≤ 18
   pub dynamic : s .state .initialized ≡ true → s .state .objects - s .state .isf ≡ objects
   pub pending : s .pending + k ≤ 64

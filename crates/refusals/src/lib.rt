@@ -13,8 +13,8 @@ pub enum Refusal {
     // 9 to 14, the Rust's own; (expected, provided), (expected), (code)
     SampleRateChanged(u32, u32),
     MissingOamd,
-    ObjectCountMismatch(u32, u32),
+    ObjectCountMismatch(usize, usize),
     UnsupportedSampleCount,
-    BedChannelCountMismatch(u32),
-    UnsupportedBedChannel(u32),
+    BedChannelCountMismatch(usize),
+    UnsupportedBedChannel(usize),
 }
