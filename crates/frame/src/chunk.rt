@@ -71,13 +71,13 @@ fn phase_after(started: bool, phase: u32, k: u32) -> u32
     requires { ⌜ phase + k ≤ 128 ⌝ }
     ensures { λ r. ⌜ r ≡ cond started (cond (leb 64 (phase + k)) 0 (phase + k)) phase ⌝ }
 {
-    if !started {
-        return phase;
+    if started {
+        if phase + k >= 64 {
+            return 0;
+        }
+        return phase + k;
     }
-    if phase + k >= 64 {
-        return 0;
-    }
-    phase + k
+    phase
 }
 
 // The start of the slot after k samples.
@@ -85,11 +85,11 @@ fn start_after(started: bool, phase: u32, start: u64, k: u32) -> u64
     requires { ⌜ (phase + k ≤ 128) × (start ≤ 1099511627776) ⌝ }
     ensures { λ r. ⌜ r ≡ cond (started && leb 64 (phase + k)) (start + 64) start ⌝ }
 {
-    if !started {
+    if started {
+        if phase + k >= 64 {
+            return start + 64;
+        }
         return start;
-    }
-    if phase + k >= 64 {
-        return start + 64;
     }
     start
 }

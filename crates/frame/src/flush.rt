@@ -7,13 +7,13 @@ ghost use Rattle.rules.specs.Samples.{flushed};
 ghost use Rattle.rules.specs.Block.{written};
 ghost use Rattle.frame.specs.Held.{held};
 ghost use Rattle.frame.specs.Out.{behind};
-ghost use Rattle.frame.specs.Give.{CanGive, Gave};
+ghost use Rattle.frame.specs.Give.{CanGive, emptied, Gave};
 use limiter::Limiter;
 use store::Small;
 
 // What is left when the pending samples were given out.
-fn emptied(s: Small, gain: f32) -> Small
-    ensures { λ r. ⌜ r ≡ record { rate = s .rate; phase = s .phase; position = s .position; start = s .start; gain = gain; filter = s .filter; pending = 0; state = s .state } ⌝ }
+fn empty(s: Small, gain: f32) -> Small
+    ensures { λ r. ⌜ r ≡ emptied s gain ⌝ }
 {
     let filter = s.filter;
     let state = s.state;
@@ -38,7 +38,7 @@ pub fn give(s: Small, state: &[u8], out: &mut [u8], stride: usize, ready: usize)
     let pending = s.pending as usize;
     let start = 23888usize;
     let after = limiter.limit_into(&state[start..], pending, s.rate, out, 4 * stride, 4 * ready);
-    emptied(s, after.gain)
+    empty(s, after.gain)
 }
 
 // Flush: the remainder as one shorter block.

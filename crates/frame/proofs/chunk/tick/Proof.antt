@@ -24,7 +24,7 @@ add-t10 c = search needs
 
 -- src/chunk.rt:98:1
 returns : tie.Need-returns
-returns c = ?
+returns c = cc
 
 pub tick-spec : {M : Type 1} → statement M
 tick-spec = tie.close (tie.spec phase-after-requires add-t8 start-after-requires add-t10 returns)

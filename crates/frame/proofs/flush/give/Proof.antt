@@ -1,9 +1,11 @@
+-- `give`: the limiter over the pending samples. Assumes nothing.
 use borrow.Author.Needs.{needs}
+use Rattle.frame.proofs.Given.{gave}
 use Rattle.frame.proofs.flush.give.Statement.{statement}
 use Rattle.frame.proofs.flush.give.Tie as tie
 use Rattle.frame.proofs.flush.give.Reads as reads
 use Rattle.frame.proofs.flush.give.Lts as lts
-use Rattle.frame.proofs.flush.emptied.Reads as emptied-reads
+use Rattle.frame.proofs.flush.empty.Reads as empty-reads
 use Rattle.limiter.proofs.Limiter.limit_into.Reads as limit-into-reads
 
 -- src/flush.rt:38:19
@@ -35,8 +37,8 @@ limit-into-requires : tie.Need-limit-into-requires
 limit-into-requires c κs = search needs
 
 -- src/flush.rt:41:5
-emptied-requires : tie.Need-emptied-requires
-emptied-requires c κs = search needs
+empty-requires : tie.Need-empty-requires
+empty-requires c κs = search needs
 
 -- src/flush.rt:33:1
 same-length : tie.Need-same-length
@@ -44,7 +46,10 @@ same-length c = search needs
 
 -- src/flush.rt:33:1
 returns : tie.Need-returns
-returns c = ?
+returns c =
+    let s = c .before .before .before .before .before .before .before .before .before in
+    let a = s .args in
+    gave (a .s) (a .state .now) (a .out .now) (a .stride) (a .ready) (s .pre .block) (s .pre .pending) (c .empty .ensures) (c .before .before .before .limit-into .ensures)
 
 pub give-spec : {M : Type 1} → statement M
 give-spec =
@@ -57,6 +62,6 @@ give-spec =
     mul-limit-into
     mul-limit-into-2
     limit-into-requires
-    emptied-requires
+    empty-requires
     same-length
     returns)
