@@ -33,8 +33,8 @@ use Rattle.render.proofs.Steps.{filter-as, run-as}
 use Rattle.frame.specs.Held.{held, IsHeld}
 use Rattle.frame.specs.Chunk.{chunk}
 use Rattle.frame.specs.Out.{behind}
-use Rattle.frame.specs.Give.{emptied, Gave}
-use Rattle.frame.specs.Pass.{Laid, passedClock, frameOf, Passes}
+use Rattle.frame.specs.Give.{CanGive, emptied, Gave}
+use Rattle.frame.specs.Pass.{CanPass, Laid, passedClock, frameOf, Passes}
 use Rattle.frame.proofs.Laying.{laid-nil, length-laid}
 
 -- ---- a count, or none before the first update
@@ -168,3 +168,11 @@ module _ (f : Frame Sent) (t k : ℕ) (s : Small) (b : List ℕ) where
 pub same-heard : (rate : ℕ) (us : List Sent) (codes pcm : List ℕ) (objects n : ℕ) (s : Small) (b : List ℕ) → Full (s .state) objects → (s .state .initialized ≡ true → s .state .objects - s .state .isf ≡ objects)
     → (t c : ℕ) → heard (mixed (s .state) codes objects pcm n t) c ≡ heard (moment hall (frameOf rate us codes objects pcm n) t (record { state = s .state; infos = infosOf b })) c
 same-heard rate us codes pcm objects n s b h d t c = mixed-heard codes pcm objects n t c (s .state .initialized) (s .state) h d
+
+-- a whole block can be given out
+pub can-give : {s r : Small} {b b' pcm out codes : List ℕ} {objects n t k stride ready : ℕ} {low : BiquadLowpassState} → CanPass s b pcm out codes objects n t k stride ready → 64 ≤ s .pending + k
+    → r ≡ passedClock s low k → length b' ≡ size → CanGive r b' out stride ready
+can-give {s} {k = k} h w e l =
+    let p : s .pending + k ≡ 64 = let q = h .pending in omega arith in
+    let q = h .room p in
+    rw e (record { block = l; pending = h .pending; rate = h .rate; room = omega arith; output = h .output })
