@@ -3,3 +3,5 @@ pub mod Chunk
 pub mod Out
 pub mod Turns
 pub mod Begin
+pub mod Give
+pub mod Pass
