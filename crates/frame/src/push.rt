@@ -2,14 +2,14 @@
 // update, the end of the slot, of the limiter's block or of the frame.
 ghost use mathlib.Core.Path.{_≡_};
 ghost use mathlib.Core.List.{List};
-ghost use Prim.Native.Nat.{ℕ, _<_};
+ghost use Prim.Native.Nat.{ℕ, _<_, _≤_};
 ghost use Rattle.angles.specs.Angle.{Listed};
 ghost use Rattle.rules.specs.Samples.{opened, pushed};
 ghost use Rattle.rules.specs.Calls.{frameOf};
 ghost use Rattle.store.specs.Layout.{decode};
 ghost use Rattle.claim.specs.Hall.{hall};
 ghost use Rattle.frame.specs.Held.{held};
-ghost use Rattle.frame.specs.Turns.{least, runLength, argsOf, Accepted, IsRendered};
+ghost use Rattle.frame.specs.Turns.{least, runLength, readyAfter, argsOf, Accepted, IsRendered};
 use crate::begin::begin;
 use crate::chunk::pass;
 use lowpass::BiquadLowpassState;
@@ -38,6 +38,17 @@ fn run_length(started: bool, phase: u32, pending: u32, left: usize) -> usize
         return least(64 - phase as usize, room);
     }
     room
+}
+
+// How many samples are ready after a chunk: a block more where nothing is pending now.
+fn ready_after(ready: usize, pending: u32) -> usize
+    requires { ⌜ ready ≤ 1536 ⌝ }
+    ensures { λ r. ⌜ r ≡ readyAfter ready pending ⌝ }
+{
+    if pending == 0 {
+        return ready + 64;
+    }
+    ready
 }
 
 // The first accepted frame sets the rate and the low-pass.
@@ -95,9 +106,7 @@ pub fn render(
         let k = run_length(small.state.initialized, small.phase, small.pending, left);
         small = pass(small, state, pcm, out, codes, objects, samples, t, k, stride, ready);
         t += k;
-        if small.pending == 0 {
-            ready += 64;
-        }
+        ready = ready_after(ready, small.pending);
     }
     Rendered {
         small,
