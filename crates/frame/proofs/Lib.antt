@@ -5,3 +5,5 @@ pub mod Going
 pub mod Given
 pub mod Laying
 pub mod Passing
+pub mod Changed
+pub mod Begins
