@@ -11,10 +11,9 @@ use lib.Ieee.{Float, binary32, ofBits, toBits}
 use Rattle.words.specs.Words.{word, floatAt, withFloat, wordsAt, withWords}
 use Rattle.limiter.specs.Limiter.{blockGain, scaled, scaledBlock, grown}
 use Rattle.limiter.specs.Places.{floatsAt, withFloats, channelsAt, withChannels, Given}
-use Rattle.rules.specs.Parts.{Channels, twelve, floats}
+use Rattle.rules.specs.Parts.{Channels, none, twelve, floats}
 use Rattle.rules.specs.Samples.{limited, gainAfter, flushed}
 use Rattle.rules.specs.Block.{writtenFrom, written}
-use Rattle.claim.specs.Hall.{hall}
 use Rattle.store.specs.declared.Small.{Small}
 use Rattle.store.specs.Layout.{size, placesOf}
 use Rattle.store.proofs.Bytes.{words-drop}
@@ -117,7 +116,11 @@ gave s b out stride ready l m p given =
       given = given-behind f part (s .pending) e stride ready given;
     }
 
--- ---- behind nothing
+-- ---- nothing behind others, and behind nothing
+
+pub none-behind : (k stride : ℕ) (out : List ℕ) → behind k none stride out ≡ out
+unfolding behind
+none-behind k stride out = refl
 
 behind-none : (given : Channels) (stride : ℕ) (k c : ℕ) (out : List ℕ) → behindFrom k c 0 given stride out ≡ writtenFrom k c given stride out
 behind-none given stride zero c out = refl

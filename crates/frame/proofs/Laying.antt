@@ -2,7 +2,7 @@
 use mathlib.Core.Path.{_≡_, refl, sym, ap, fun-ext, _∙_}
 use mathlib.Core.Bool.{Bool, true, false, cond}
 use mathlib.Core.List.{List, [], _∷_, _++_, append-nil}
-use Prim.Native.Nat.{ℕ, zero, suc, _+_, _-_, _*_, _<_, _≤_}
+use Prim.Native.Nat.{ℕ, zero, suc, _+_, _-_, _*_, _≤_}
 use native.Mathlib.Omega.{arith}
 use borrow.Author.Tests.{ltb-true}
 use borrow.Rule.Slice.PartMut.{putMid}
@@ -14,7 +14,7 @@ use Rattle.words.specs.Words.{wordsAt}
 use Rattle.limiter.specs.Limiter.{channels}
 use Rattle.limiter.specs.Places.{withChannels}
 use Rattle.rules.specs.Parts.{laid}
-use Rattle.store.specs.Layout.{size, infosOf, placesOf}
+use Rattle.store.specs.Layout.{size, infosOf}
 use Rattle.store.proofs.Bytes.{words-drop}
 use Rattle.render.proofs.Behind.{Fit, append-laid, length-channels}
 use Rattle.frame.specs.Pass.{Laid}

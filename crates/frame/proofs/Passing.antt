@@ -1,11 +1,11 @@
 -- A chunk on a state block is the rules' chunk. Assumes nothing.
 use mathlib.Core.Path.{_≡_, refl, sym, ap, ap₂, fun-ext, _∙_}
 use mathlib.Core.Bool.{Bool, true, false, cond}
-use mathlib.Core.List.{List, [], _∷_}
-use Prim.Native.Nat.{ℕ, zero, suc, _+_, _-_, _*_, _<_, _≤_}
+use mathlib.Core.List.{List, []}
+use Prim.Native.Nat.{ℕ, _+_, _-_, _*_, _<_, _≤_}
 use native.Mathlib.Nat.{add-zero}
 use native.Mathlib.Omega.{arith}
-use borrow.Author.Tests.{ltb-true, le-leb, lt-leb}
+use borrow.Author.Tests.{ltb-true, lt-leb}
 use lib.Dec.{leb, ltb}
 use lib.ListN.{length, getD, take, drop, length-map}
 use lib.Seq.{take-all, length-take-le}
@@ -13,13 +13,12 @@ use lib.Ieee.{Float, binary32, ofBits, nan}
 use Rattle.words.specs.Words.{wordsAt}
 use Rattle.lowpass.specs.declared.BiquadLowpassState.{BiquadLowpassState}
 use Rattle.timed.specs.Objects.{noSource}
-use Rattle.timed.specs.declared.state.DynamicSourceState.{DynamicSourceState}
 use Rattle.timed.specs.declared.state.MetadataRendererState.{MetadataRendererState}
 use Rattle.records.specs.Runs.{each}
 use Rattle.rules.specs.Parts.{Channels, Places, none, floats, laid}
 use Rattle.rules.specs.Leaves.{Source, Bed}
 use Rattle.rules.specs.Mix.{sampleAt, samplesAt, Moment, heard}
-use Rattle.rules.specs.Samples.{Frame, Renderer, moment, flushed, limited, gainAfter}
+use Rattle.rules.specs.Samples.{Frame, Renderer, moment, flushed, gainAfter}
 use Rattle.timed.specs.State.{Timed}
 use Rattle.claim.specs.Hall.{Sent, hall}
 use Rattle.store.specs.declared.Small.{Small}
@@ -30,11 +29,12 @@ use Rattle.render.specs.Run.{momentAt, filterAfter, rowRun, Passed}
 use Rattle.render.proofs.Channels.{fewer}
 use Rattle.render.proofs.Tables.{beds-each, sources-each}
 use Rattle.render.proofs.Steps.{filter-as, run-as}
-use Rattle.frame.specs.Held.{held, IsHeld}
+use Rattle.frame.specs.Held.{held}
 use Rattle.frame.specs.Chunk.{chunk}
 use Rattle.frame.specs.Out.{behind}
 use Rattle.frame.specs.Give.{CanGive, emptied, Gave}
 use Rattle.frame.specs.Pass.{CanPass, Laid, passedClock, frameOf, Passes}
+use Rattle.frame.proofs.Given.{none-behind}
 use Rattle.frame.proofs.Laying.{laid-nil, length-laid}
 
 -- ---- a count, or none before the first update
@@ -87,13 +87,13 @@ module _ (codes pcm : List ℕ) (objects n t c : ℕ) where
 -- ---- the renderer after a chunk, before a whole block is given out
 
 module _ (f : Frame Sent) (t k : ℕ) (s : Small) (b : List ℕ) where
-  abbrev at : ℕ → Moment
+  abbrev pub at : ℕ → Moment
   at t = moment hall f t (record { state = s .state; infos = infosOf b })
 
-  abbrev rows : Places
+  abbrev pub rows : Places
   rows c = laid (s .pending) (rowRun at (s .filter) c t k) (placesOf b c)
 
-  abbrev settled : Renderer Timed
+  abbrev pub settled : Renderer Timed
   settled = joined (passedClock s (filterAfter at (s .filter) t k) k) (infosOf b) rows
 
   -- no whole block
@@ -138,31 +138,27 @@ module _ (f : Frame Sent) (t k : ℕ) (s : Small) (b : List ℕ) where
         ap (λ (xs : List Float). laid (s .pending) xs (wordsAt b (23888 + 256 * c) 64)) (p .columns c (ltb-true c 12 e) ∙ run-as m at same (s .filter) c t k)
     rows-laid c false e = laid-nil (s .pending) (take k (drop (64 * c) ys)) ∙ sym (laid-nil (s .pending) (rowRun at (s .filter) c t k))
 
-    held-settled : held (passedClock s low k) b' ≡ settled
-    held-settled =
-        ap (λ (f : BiquadLowpassState). held (passedClock s f k) b') (p .filter ∙ filter-as m at same (s .filter) t k)
+    pub held-settled : {r : Small} → r ≡ passedClock s low k → held r b' ≡ settled
+    held-settled e =
+        ap (λ (r : Small). held r b') e
+        ∙ ap (λ (f : BiquadLowpassState). held (passedClock s f k) b') (p .filter ∙ filter-as m at same (s .filter) t k)
         ∙ ap₂ (joined (passedClock s (filterAfter at (s .filter) t k) k)) (l .infos) (l .places ∙ fun-ext (λ c. rows-laid c (ltb c 12) refl))
 
-    module _ (stride ready : ℕ) (out : List ℕ) {r : Small} (e : r ≡ passedClock s low k) where
-      none-behind : out ≡ behind ready none stride out
-      unfolding behind
-      none-behind = refl
+  module _ (stride ready : ℕ) (out : List ℕ) {r : Small} {b' : List ℕ} (h : held r b' ≡ settled) (l : length b' ≡ size) where
+    pub passes-waiting : s .pending + k < 64 → Passes f t k stride ready s b out r b' out
+    passes-waiting w =
+        let e = lt-leb 64 (s .pending + k) w in
+        record {
+          next = record { is = h ∙ sym (chunk-waits e); long = l };
+          given = sym (none-behind ready stride out) ∙ ap (λ (g : Channels). behind ready g stride out) (sym (chunk-none e));
+        }
 
-      pub passes-waiting : s .pending + k < 64 → Passes f t k stride ready s b out r b' out
-      passes-waiting h =
-          let w = lt-leb 64 (s .pending + k) h in
-          record {
-            next = record { is = ap (λ (x : Small). held x b') e ∙ held-settled ∙ sym (chunk-waits w); long = l .long };
-            given = none-behind ∙ ap (λ (g : Channels). behind ready g stride out) (sym (chunk-none w));
-          }
-
-      pub passes-whole : {r' : Small} {out' : List ℕ} → s .pending + k ≡ 64 → Gave r b' stride ready out r' out' → Passes f t k stride ready s b out r' b' out'
-      passes-whole w g =
-          let h : held r b' ≡ settled = ap (λ (x : Small). held x b') e ∙ held-settled in
-          record {
-            next = record { is = g .next ∙ ap (λ (x : Renderer Timed). flushed hall x .next) h ∙ sym (chunk-whole w); long = l .long };
-            given = g .given ∙ ap (λ (x : Renderer Timed). behind ready (flushed hall x .given) stride out) h ∙ ap (λ (g : Channels). behind ready g stride out) (sym (chunk-given w));
-          }
+    pub passes-whole : {r' : Small} {out' : List ℕ} → s .pending + k ≡ 64 → Gave r b' stride ready out r' out' → Passes f t k stride ready s b out r' b' out'
+    passes-whole e g =
+        record {
+          next = record { is = g .next ∙ ap (λ (x : Renderer Timed). flushed hall x .next) h ∙ sym (chunk-whole e); long = l };
+          given = g .given ∙ ap (λ (x : Renderer Timed). behind ready (flushed hall x .given) stride out) h ∙ ap (λ (g : Channels). behind ready g stride out) (sym (chunk-given e));
+        }
 
 -- the moments that `mix` hears
 pub same-heard : (rate : ℕ) (us : List Sent) (codes pcm : List ℕ) (objects n : ℕ) (s : Small) (b : List ℕ) → Full (s .state) objects → (s .state .initialized ≡ true → s .state .objects - s .state .isf ≡ objects)

@@ -33,7 +33,7 @@ pub record CanPass (s : Small) (state pcm out codes : List ℕ) (objects n t k s
   pub room : s .pending + k ≡ 64 → ready + 64 ≤ stride
   pub output : 48 * stride ≤ length out
 
--- the first k places of each row behind the pending samples of its channel; nothing else of the block changes
+-- the first k places of each row behind the pending samples of its channel; the infos stay
 pub record Laid (rows : List Float) (pending k : ℕ) (state state' : List ℕ) : Type 0 where
   pub long : length state' ≡ size
   pub infos : infosOf state' ≡ infosOf state

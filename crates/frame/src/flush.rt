@@ -1,12 +1,9 @@
 // The samples that wait, through the limiter into the output: a whole block of a frame, or the remainder.
 ghost use mathlib.Core.Path.{_≡_};
-ghost use Prim.Native.Nat.{_+_, _*_, _≤_};
-ghost use lib.ListN.{length};
 ghost use Rattle.claim.specs.Hall.{hall};
 ghost use Rattle.rules.specs.Samples.{flushed};
 ghost use Rattle.rules.specs.Block.{written};
 ghost use Rattle.frame.specs.Held.{held};
-ghost use Rattle.frame.specs.Out.{behind};
 ghost use Rattle.frame.specs.Give.{CanGive, emptied, Gave};
 use limiter::Limiter;
 use store::Small;

@@ -3,31 +3,22 @@ use borrow.Author.Needs.{needs}
 use Rattle.frame.proofs.Laying.{fit-all, lay-laid}
 use Rattle.frame.proofs.chunk.lay.Statement.{statement}
 use Rattle.frame.proofs.chunk.lay.Tie as tie
-use Rattle.frame.proofs.chunk.lay.Reads as reads
-use Rattle.frame.proofs.chunk.lay.Lts as lts
-use Rattle.render.proofs.places.append_rows.Reads as append-rows-reads
 
--- src/chunk.rt:66:39
 sub-append-rows : tie.Need-sub-append-rows
 sub-append-rows c = search needs
 
--- src/chunk.rt:66:39
 part-append-rows-start : tie.Need-part-append-rows-start
 part-append-rows-start c = search needs
 
--- src/chunk.rt:66:39
 part-append-rows-end : tie.Need-part-append-rows-end
 part-append-rows-end c = search needs
 
--- src/chunk.rt:66:5
 append-rows-requires : tie.Need-append-rows-requires
 append-rows-requires c κs = search needs
 
--- src/chunk.rt:61:1
 same-length : tie.Need-same-length
 same-length c = search needs
 
--- src/chunk.rt:61:1
 returns : tie.Need-returns
 returns c =
     let s = c .before .before .before .before .before .before in

@@ -4,20 +4,13 @@ use lib.ListN.{length}
 use Rattle.frame.proofs.Passing.{count-within, framed-within}
 use Rattle.frame.proofs.chunk.mix.Statement.{statement}
 use Rattle.frame.proofs.chunk.mix.Tie as tie
-use Rattle.frame.proofs.chunk.mix.Reads as reads
-use Rattle.frame.proofs.chunk.mix.Lts as lts
-use Rattle.frame.proofs.chunk.audible.Reads as audible-reads
-use Rattle.render.proofs.run.pass_run.Reads as pass-run-reads
 
--- src/chunk.rt:42:9
 audible-requires : tie.Need-audible-requires
 audible-requires c κs = search needs
 
--- src/chunk.rt:43:9
 audible-requires-2 : tie.Need-audible-requires-2
 audible-requires-2 c κs = search needs
 
--- src/chunk.rt:44:5
 pass-run-requires : tie.Need-pass-run-requires
 pass-run-requires c κs =
     let s = c .before .before .before .before .before .before .before .before .before in
@@ -27,11 +20,9 @@ pass-run-requires c κs =
     let d = c .before .audible2 .ensures in
     (framed-within q (a .pcm .now) (length (a .codes .now)) (a .objects) (a .n) (a .t) (a .k) d (s .pre .0), s .pre .1, s .pre .2, count-within q n (s .pre .3), count-within q d (s .pre .4))
 
--- src/chunk.rt:25:1
 same-length : tie.Need-same-length
 same-length c = search needs
 
--- src/chunk.rt:25:1
 returns : tie.Need-returns
 returns c =
     let p = c .before .before .before .before in

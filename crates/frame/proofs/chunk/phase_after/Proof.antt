@@ -3,26 +3,19 @@ use borrow.Author.Needs.{needs}
 use borrow.Author.Tests.{le-leb, lt-leb}
 use Rattle.frame.proofs.chunk.phase_after.Statement.{statement}
 use Rattle.frame.proofs.chunk.phase_after.Tie as tie
-use Rattle.frame.proofs.chunk.phase_after.Reads as reads
-use Rattle.frame.proofs.chunk.phase_after.Lts as lts
 
--- src/chunk.rt:75:12
 add-if2 : tie.Need-add-if2
 add-if2 c = search needs
 
--- src/chunk.rt:76:13
 returns : tie.Need-returns
 returns c = rw (c .before .if1 .taken, le-leb _ _ (c .if2 .taken))
 
--- src/chunk.rt:78:16
 add-result : tie.Need-add-result
 add-result c = search needs
 
--- src/chunk.rt:78:9
 returns-2 : tie.Need-returns-2
 returns-2 c = rw (c .before .if1 .taken, lt-leb _ _ (c .if2 .left))
 
--- src/chunk.rt:70:1
 returns-3 : tie.Need-returns-3
 returns-3 c = search needs
 

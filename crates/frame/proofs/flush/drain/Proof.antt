@@ -7,19 +7,13 @@ use Rattle.frame.specs.Held.{held}
 use Rattle.frame.proofs.Given.{behind-written}
 use Rattle.frame.proofs.flush.drain.Statement.{statement}
 use Rattle.frame.proofs.flush.drain.Tie as tie
-use Rattle.frame.proofs.flush.drain.Reads as reads
-use Rattle.frame.proofs.flush.drain.Lts as lts
-use Rattle.frame.proofs.flush.give.Reads as give-reads
 
--- src/flush.rt:49:5
 give-requires : tie.Need-give-requires
 give-requires c κs = search needs
 
--- src/flush.rt:45:1
 same-length : tie.Need-same-length
 same-length c = search needs
 
--- src/flush.rt:45:1
 returns : tie.Need-returns
 returns c =
     let g = c .before .before .give .ensures in

@@ -3,48 +3,34 @@ use borrow.Author.Needs.{needs}
 use Rattle.frame.proofs.Given.{gave}
 use Rattle.frame.proofs.flush.give.Statement.{statement}
 use Rattle.frame.proofs.flush.give.Tie as tie
-use Rattle.frame.proofs.flush.give.Reads as reads
-use Rattle.frame.proofs.flush.give.Lts as lts
-use Rattle.frame.proofs.flush.empty.Reads as empty-reads
-use Rattle.limiter.proofs.Limiter.limit_into.Reads as limit-into-reads
 
--- src/flush.rt:38:19
 cast-pending : tie.Need-cast-pending
 cast-pending c = search needs
 
--- src/flush.rt:40:36
 sub-limit-into : tie.Need-sub-limit-into
 sub-limit-into c = search needs
 
--- src/flush.rt:40:36
 part-limit-into-start : tie.Need-part-limit-into-start
 part-limit-into-start c = search needs
 
--- src/flush.rt:40:36
 part-limit-into-end : tie.Need-part-limit-into-end
 part-limit-into-end c = search needs
 
--- src/flush.rt:40:75
 mul-limit-into : tie.Need-mul-limit-into
 mul-limit-into c = search needs
 
--- src/flush.rt:40:87
 mul-limit-into-2 : tie.Need-mul-limit-into-2
 mul-limit-into-2 c = search needs
 
--- src/flush.rt:40:9
 limit-into-requires : tie.Need-limit-into-requires
 limit-into-requires c κs = search needs
 
--- src/flush.rt:41:5
 empty-requires : tie.Need-empty-requires
 empty-requires c κs = search needs
 
--- src/flush.rt:33:1
 same-length : tie.Need-same-length
 same-length c = search needs
 
--- src/flush.rt:33:1
 returns : tie.Need-returns
 returns c =
     let s = c .before .before .before .before .before .before .before .before .before in
