@@ -71,12 +71,12 @@ codes-are u cs k e l = code-at u 18 0 cs k (ltb 0 k) refl (omega arith) (omega a
 
 -- ---- shapes
 
-pub shape-apply : (n : ℕ) (u : Sent) (m : Timed) → Checked u → Sound m → hall .shape (hall .apply n u m) ≡ hall .sent u
+pub shape-apply : (n : ℕ) (u : Sent) (m : Timed) → Checked u → length (m .state .codes) ≡ 18 → hall .shape (hall .apply n u m) ≡ hall .sent u
 unfolding applied
 shape-apply n u m c h =
     let few : u .said .beds ≤ 18 = subst (λ (v : Sent). v .said .beds ≤ 18) (sym (c .is)) (whole (c .meta) (c .bytes) (c .laid) (c .fit) (c .index) (c .there) .few-beds) in
     ap (λ (l : List ℕ). record { started = true; objects = u .said .objects - u .said .isf; beds = l })
-    (each-same (λ k. getD (codesGiven (u .said) (m .state .codes)) k 0) (u .said .code) (u .said .beds) (λ k l. codes-are (u .said) (m .state .codes) k (h .codes) (omega arith)))
+    (each-same (λ k. getD (codesGiven (u .said) (m .state .codes)) k 0) (u .said .code) (u .said .beds) (λ k l. codes-are (u .said) (m .state .codes) k h (omega arith)))
 
 pub shape-slot : (n : ℕ) (m : Timed) → hall .shape (hall .slot n m) ≡ hall .shape m
 shape-slot n m = let s = slots.shape-slot n m in rw (s .initialized, s .objects, s .isf, s .beds, s .codes) refl
