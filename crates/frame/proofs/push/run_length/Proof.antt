@@ -1,4 +1,5 @@
 use borrow.Author.Needs.{needs}
+use Rattle.frame.proofs.Opening.{run-started, run-silent}
 use Rattle.frame.proofs.push.run_length.Statement.{statement}
 use Rattle.frame.proofs.push.run_length.Tie as tie
 use Rattle.frame.proofs.push.run_length.Reads as reads
@@ -23,11 +24,15 @@ least-requires-2 c κs = search needs
 
 -- src/push.rt:38:9
 returns : tie.Need-returns
-returns c = ?
+returns c =
+    let a = c .before .before .before .args in
+    run-started (a .started) (a .phase) (a .pending) (a .left) (c .before .before .least .result) (c .least2 .result) (c .before .if1 .taken) (c .before .before .least .ensures) (c .least2 .ensures)
 
 -- src/push.rt:32:1
 returns-2 : tie.Need-returns-2
-returns-2 c = ?
+returns-2 c =
+    let a = c .before .before .args in
+    run-silent (a .started) (a .phase) (a .pending) (a .left) (c .before .least .result) (c .if1 .left) (c .before .least .ensures)
 
 pub run-length-spec : {M : Type 1} → statement M
 run-length-spec =
