@@ -22,7 +22,7 @@ use Rattle.claim.proofs.Blank.{sound-blank, within-blank, within-later}
 use Rattle.claim.proofs.Blocks.{size-of, valid-of, back-of, decoded-of}
 
 -- what the rules take from the crates `timed`, `updates`, `records` and `store`
-pub facts : Facts hall block
+unfoldable pub facts : Facts hall block
 facts =
     record {
       Checked = Checked;

@@ -7,3 +7,4 @@ pub mod Laying
 pub mod Passing
 pub mod Changed
 pub mod Begins
+pub mod Opening

@@ -42,7 +42,7 @@ fn run_length(started: bool, phase: u32, pending: u32, left: usize) -> usize
 
 // How many samples are ready after a chunk: a block more where nothing is pending now.
 fn ready_after(ready: usize, pending: u32) -> usize
-    requires { ⌜ ready ≤ 1536 ⌝ }
+    requires { ⌜ ready ≤ 4096 ⌝ }
     ensures { λ r. ⌜ r ≡ readyAfter ready pending ⌝ }
 {
     if pending == 0 {
