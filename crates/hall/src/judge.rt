@@ -11,8 +11,7 @@ ghost use Rattle.store.specs.Fields.{smallOf};
 ghost use Rattle.store.specs.Layout.{decode};
 ghost use Rattle.store.specs.Ranges.{valid};
 ghost use Rattle.claim.specs.Hall.{hall};
-ghost use Rattle.hall.specs.Turns.{argsOf};
-use crate::stub;
+ghost use Rattle.frame.specs.Turns.{argsOf};
 use refusals::Refusal;
 use store::Small;
 
@@ -28,10 +27,10 @@ pub fn push_refusal(
     objects: u32,
     stride: u32,
 ) -> Refusal
-    requires { ⌜ s .state .beds ≤ 18 ⌝ }
+    requires { ⌜ (s .state .beds ≤ 18) × (s .state .objects ≤ 32) ⌝ }
     ensures { λ r. ⌜ ((b out : List ℕ) → s ≡ smallOf (wordsAt b 0 340) → length out ≡ bytes → foundOf r ≡ found hall (decode b) (argsOf (now (pcm .entry)) (now (meta .entry)) out (now (codes .entry)) rate samples objects stride)) ⌝ }
 {
-    let first = stub::early_refusal(
+    let first = early::refusal(
         s,
         pcm,
         meta,
@@ -47,14 +46,14 @@ pub fn push_refusal(
     };
     let l = records::layout::layout_of(meta);
     let state = s.state;
-    stub::later_refusal(
+    later::refusal(
         s.rate,
         state,
         meta,
         l,
         codes,
         rate,
-        samples as usize,
-        objects as usize,
+        samples,
+        objects,
     )
 }

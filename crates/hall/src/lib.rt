@@ -4,13 +4,12 @@ ghost use Rattle.rules.specs.Calls.{push, flush, reset};
 ghost use Rattle.rules.specs.Block.{made};
 ghost use Rattle.claim.specs.Hall.{hall, block};
 ghost use Rattle.hall.specs.Answers.{Left, codeOf};
-ghost use Rattle.hall.specs.Turns.{argsOf};
+ghost use Rattle.frame.specs.Turns.{argsOf};
 use answer::Answer;
 use refusals::Refusal;
 
 pub mod answer;
 pub mod judge;
-pub mod stub;
 pub mod work;
 
 // Renders a frame: beds (one code each), then objects, `samples` of each channel in `pcm`. What is ready goes to `out`, channel c from place c x `stride` on.
@@ -68,7 +67,7 @@ pub extern "C" fn flush(state: &mut [u8], out: &mut [u8], stride: u32) -> Answer
     if !store::ranges::is_valid(state) {
         return answer::refusal(Refusal::Lent);
     }
-    if !stub::room(stride, out.len()) {
+    if !early::room(stride, out.len()) {
         return answer::refusal(Refusal::Lent);
     }
     let s = store::load(state);

@@ -11,10 +11,9 @@ ghost use Rattle.store.specs.Layout.{decode};
 ghost use Rattle.store.specs.Ranges.{valid};
 ghost use Rattle.claim.specs.Hall.{hall, block};
 ghost use Rattle.hall.specs.Answers.{Waiting, Cleared, Left};
-ghost use Rattle.hall.specs.Turns.{argsOf};
+ghost use Rattle.frame.specs.Turns.{argsOf};
 use crate::answer;
 use crate::answer::Answer;
-use crate::stub;
 use store::Small;
 
 // A push that no refusal turned away.
@@ -34,7 +33,7 @@ pub fn render(
     ensures { λ r. ⌜ Left (made hall block (push (argsOf (now (pcm .entry)) (now (meta .entry)) (now (out .entry)) (now (codes .entry)) rate samples objects stride)) (now (state .entry))) r (now (state .exit)) (now (out .exit)) ⌝ }
 {
     let l = records::layout::layout_of(meta);
-    let done = stub::render(
+    let done = frame::push::render(
         s,
         state,
         pcm,
@@ -57,7 +56,7 @@ pub fn drain(s: Small, state: &mut [u8], out: &mut [u8], stride: u32) -> Answer
     requires { ⌜ Waiting s (now state) (now out) stride ⌝ }
     ensures { λ r. ⌜ Left (made hall block (flush (now (out .entry)) stride) (now (state .entry))) r (now (state .exit)) (now (out .exit)) ⌝ }
 {
-    let next = stub::drain(s, state, out, stride as usize);
+    let next = frame::flush::drain(s, state, out, stride as usize);
     store::write::save(state, next);
     answer::ready(s.pending as usize)
 }

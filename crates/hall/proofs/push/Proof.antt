@@ -5,7 +5,7 @@ use borrow.Author.Tests.{not-true, not-false}
 use Rattle.rules.specs.Calls.{push}
 use Rattle.refusals.specs.declared.Refusal.{Refusal}
 use Rattle.refusals.specs.Numbers.{foundOf}
-use Rattle.hall.specs.Turns.{argsOf}
+use Rattle.frame.specs.Turns.{argsOf}
 use Rattle.hall.proofs.Laws.{leaves-as, wrong, refused-push}
 use Rattle.hall.proofs.Stops.{not-clear}
 use Rattle.hall.proofs.Known.{valid-long, loaded-ranged}
@@ -33,8 +33,8 @@ load-requires c κs = valid-long (c .before .before .before .before .before .bef
 
 push-refusal-requires : tie.Need-push-refusal-requires
 push-refusal-requires c κs =
-    loaded-ranged (c .before .before .before .before .before .before .before .before .before .before .args .state .now) (c .load .result) (c .load .ensures) (λ k. omega (arith, c .before .before .before .before .before .before .before .before .before .slice-known .given k)) (sym (c .before .before .before .is-valid .ensures) ∙ not-false _ (c .before .before .if1 .left))
-    .meta .state .within .beds
+    let w = loaded-ranged (c .before .before .before .before .before .before .before .before .before .before .args .state .now) (c .load .result) (c .load .ensures) (λ k. omega (arith, c .before .before .before .before .before .before .before .before .before .slice-known .given k)) (sym (c .before .before .before .is-valid .ensures) ∙ not-false _ (c .before .before .if1 .left)) .meta .state .within in
+    (w .beds, w .objects)
 
 enum-told : tie.Need-enum-told
 enum-told c = search needs

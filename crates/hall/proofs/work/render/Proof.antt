@@ -1,6 +1,6 @@
 -- `render`: the push of the rules, saved.
 use native.Mathlib.Omega.{arith}
-use Rattle.hall.specs.Turns.{argsOf}
+use Rattle.frame.specs.Turns.{argsOf}
 use Rattle.hall.proofs.Done.{rendered-left}
 use borrow.Author.Needs.{needs}
 use Rattle.hall.proofs.work.render.Statement.{statement}
@@ -33,7 +33,7 @@ returns c =
     let d = c .before .before .before .before .before .before .before .before .before .before .render .ensures in
     rendered-left (argsOf (a .pcm .now) (a .meta .now) (a .out .now) (a .codes .now) (a .rate) (a .samples) (a .objects) (a .stride)) (a .state .now) (λ k. omega (arith, c .before .before .before .before .before .before .before .before .before .before .before .before .before .before .before .before .before .before .slice-known .given k)) (λ k. omega (arith, c .before .before .before .before .before .before .before .before .before .before .before .before .before .before .before .before .shared-slice-known2 .given k)) (w .loaded .valid) (w .clear)
     (c .before .before .before .before .before .before .before .before .before .before .render .result .small) (c .before .before .before .before .before .before .before .before .before .before .render .result .ready) (c .before .before .before .before .before .before .before .before .before .before .render .last .1 .0) (λ k. omega (arith, c .before .before .before .before .before .before .before .before .slice-known3 .given k)) (d .next) (d .ready)
-    (c .ready .result) (c .before .before .before .save .last .0) (c .before .before .before .before .before .before .before .before .before .before .render .last .1 .1 .1 .1 .0) (c .ready .ensures) (c .before .before .before .save .ensures) (d .output)
+    (c .ready .result) (c .before .before .before .save .last .0) (c .before .before .before .before .before .before .before .before .before .before .render .last .1 .1 .1 .1 .0) (c .ready .ensures) (c .before .before .before .save .ensures) (d .given)
 
 pub render-spec : {M : Type 1} → statement M
 render-spec =
