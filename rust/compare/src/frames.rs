@@ -30,11 +30,7 @@ impl Layout {
     /// Metadata records of an update.
     fn records(&self) -> u64 {
         let objects = u64::from(self.objects);
-        1 + self
-            .blocks
-            .iter()
-            .map(|b| 1 + b + b * objects)
-            .sum::<u64>()
+        1 + self.blocks.iter().map(|b| 1 + b + b * objects).sum::<u64>()
     }
 }
 

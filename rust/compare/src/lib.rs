@@ -2,6 +2,7 @@
 //! has a call answer, and equality of floats.
 
 pub mod calls;
+pub mod entry;
 mod frames;
 mod generator;
 pub mod model;

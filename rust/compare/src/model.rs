@@ -153,7 +153,8 @@ fn update(read: &reading::Update) -> Update {
 }
 
 fn element(read: &reading::Element) -> Element {
-    let object_in = |blocks: &Vec<(usize, _)>| blocks.iter().map(|(_, info)| object(info)).collect();
+    let object_in =
+        |blocks: &Vec<(usize, _)>| blocks.iter().map(|(_, info)| object(info)).collect();
     Element {
         blocks: read
             .blocks

@@ -1,9 +1,9 @@
 //! Streams of `hallrender`: its standard input from calls, and the standard output that document
 //! 01 has it print.
 
+use crate::Generator;
 use crate::calls::{Call, Calls, Step, spoil_order, spoil_record};
 use crate::model::{Model, Outcome};
-use crate::Generator;
 use std::fmt::Write;
 
 /// The stride of `hallrender`.
