@@ -1,7 +1,8 @@
 // The records of kinds 5 to 8 as laid out.
 ghost use mathlib.Core.Path.{_≡_};
-ghost use Prim.Native.Nat.{_+_, _*_, _≤_, min};
-ghost use Rattle.hallrender.specs.Framing.{isFrame, isPlain, isPcm, bedsOf, metadataBytes, pcmBytes};
+ghost use mathlib.Core.Bool.{true};
+ghost use Prim.Native.Nat.{_≤_, min};
+ghost use Rattle.hallrender.specs.Framing.{inLimits, isFrame, isPlain, isPcm, bedsOf, metadataBytes, pcmBytes};
 use fields::bytes::byte_at;
 use fields::bytes::zeros;
 
@@ -11,13 +12,10 @@ pub fn least(a: usize, b: usize) -> usize
     if a < b { a } else { b }
 }
 
-// Whether a record is a frame's header within the program's limits.
-pub fn is_frame(rec: &[u8; 40]) -> bool
-    ensures { λ r. ⌜ r ≡ isFrame (now (rec .entry)) ⌝ }
+// Whether a header's counts are within the program's limits.
+fn in_limits(rec: &[u8; 40]) -> bool
+    ensures { λ r. ⌜ r ≡ inLimits (now (rec .entry)) ⌝ }
 {
-    if rec[0] != 5 {
-        return false;
-    }
     if words::u16_at(rec, 8) > 256 {
         return false;
     }
@@ -27,17 +25,24 @@ pub fn is_frame(rec: &[u8; 40]) -> bool
     if rec[11] > 16 {
         return false;
     }
-    if words::u16_at(rec, 12) > 1200 {
+    words::u16_at(rec, 12) <= 1200
+}
+
+// Whether a record is a frame's header within those limits.
+pub fn is_frame(rec: &[u8; 40]) -> bool
+    ensures { λ r. ⌜ r ≡ isFrame (now (rec .entry)) ⌝ }
+{
+    if rec[0] != 5 {
         return false;
     }
-    let used = byte_at(rec, 10);
-    if !zeros(rec, 14 + used, 18 - used) {
+    if !in_limits(rec) {
         return false;
     }
     if !zeros(rec, 1, 3) {
         return false;
     }
-    zeros(rec, 32, 8)
+    let used = byte_at(rec, 10);
+    zeros(rec, 14 + used, 26 - used)
 }
 
 // Whether a record is a flush or a reset.
@@ -67,21 +72,25 @@ pub fn is_pcm(rec: &[u8; 40], n: usize) -> bool
     zeros(rec, 4 + n, 36 - n)
 }
 
-// A header's beds, and the bytes of its metadata and of its PCM.
+// A frame's beds, and the bytes of its metadata and of its PCM.
 pub fn beds(rec: &[u8; 40]) -> usize
-    ensures { λ r. ⌜ r ≡ bedsOf (now (rec .entry)) ⌝ }
+    requires { ⌜ isFrame (now rec) ≡ true ⌝ }
+    ensures { λ r. ⌜ (r ≡ bedsOf (now (rec .entry))) × (r ≤ 18) ⌝ }
 {
     byte_at(rec, 10)
 }
 
 pub fn metadata_bytes(rec: &[u8; 40]) -> usize
-    ensures { λ r. ⌜ r ≡ metadataBytes (now (rec .entry)) ⌝ }
+    requires { ⌜ isFrame (now rec) ≡ true ⌝ }
+    ensures { λ r. ⌜ (r ≡ metadataBytes (now (rec .entry))) × (r ≤ 48000) ⌝ }
 {
     40 * (words::u16_at(rec, 12) as usize)
 }
 
 pub fn pcm_bytes(rec: &[u8; 40]) -> usize
-    ensures { λ r. ⌜ r ≡ pcmBytes (now (rec .entry)) ⌝ }
+    requires { ⌜ isFrame (now rec) ≡ true ⌝ }
+    ensures { λ r. ⌜ (r ≡ pcmBytes (now (rec .entry))) × (r ≤ 34816) ⌝ }
 {
-    4 * ((byte_at(rec, 10) + byte_at(rec, 11)) * (words::u16_at(rec, 8) as usize))
+    let channels = byte_at(rec, 10) + byte_at(rec, 11);
+    4 * (channels * (words::u16_at(rec, 8) as usize))
 }

@@ -57,11 +57,12 @@ fn frame(state: &mut [u8], meta: &mut [u8], pcm: &mut [u8], out: &mut [u8], rec:
     if !read_pcm(&mut pcm[..n]) {
         return bad();
     }
+    let header = &rec[..];
     let codes_end = 14 + framing::beds(rec);
     let rate = words::u32_at(rec, 4);
     let samples = words::u16_at(rec, 8) as u32;
     let objects = rec[11] as u32;
-    let answer = hall::push(state, &pcm[..n], &meta[..m], out, &rec[14..codes_end], rate, samples, objects, 256);
+    let answer = hall::push(state, &pcm[..n], &meta[..m], out, &header[14..codes_end], rate, samples, objects, 256);
     text::print(answer, out);
     true
 }

@@ -1,28 +1,28 @@
 // The answers as text.
 ghost use mathlib.Core.Path.{_≡_};
-ghost use Prim.Native.Nat.{_+_, _*_, _<_, _≤_};
-ghost use lib.ListN.{length};
+ghost use mathlib.Core.List.{_∷_, _++_};
+ghost use Prim.Native.Nat.{_+_, _<_, _≤_};
+ghost use lib.ListN.{length, take, drop};
+ghost use Rattle.hallrender.specs.Line.{hex8};
 ghost use Rattle.hallrender.specs.Line.{lineOf};
 use hall::Answer;
 use libc::STDOUT_FILENO;
 
 // The eight digits of a word and the byte behind them from `at` on.
-fn put_word(line: &mut [u8; 108], at: usize, word: u32, end: u8)
-    requires { ⌜ at + 9 ≤ 108 ⌝ }
+fn put_word(line: &mut [u8], at: usize, word: u32, end: u8)
+    requires { ⌜ at + 9 ≤ length (now line) ⌝ }
+    ensures { λ _. ⌜ now (line .exit) ≡ take at (now (line .entry)) ++ (hex8 word ++ (end ∷ drop (at + 9) (now (line .entry)))) ⌝ }
 {
-    let mut digits = [0u8; 16];
-    io::hex(word as u64, 8, &mut digits);
-    let mut i = 0usize;
-    while i < 8 {
-        line[at + i] = digits[i];
-        i += 1;
-    }
+    let mut text = [0u8; 16];
+    io::hex(word as u64, 8, &mut text);
+    words::copy_bytes(&text[..8], &mut line[at..]);
     line[at + 8] = end;
 }
 
-// The twelve words of sample i, one space apart.
+// The twelve words of sample i.
 fn line_of(out: &[u8], i: usize) -> [u8; 108]
     requires { ⌜ (length (now out) ≡ 12288) × (i < 256) ⌝ }
+    ensures { λ r. ⌜ r ≡ lineOf (now (out .entry)) i ⌝ }
 {
     let mut line = [0u8; 108];
     let mut c = 0usize;

@@ -1,0 +1,78 @@
+use Rattle.hallrender.proofs.read_pcm.Statement.{statement}
+use Rattle.hallrender.proofs.read_pcm.Tie as tie
+use Rattle.hallrender.proofs.read_pcm.Reads as reads
+use Rattle.hallrender.proofs.read_pcm.Lts as lts
+use Rattle.hallrender.proofs.read_nine.Reads as read-nine-reads
+
+abbrev Inv-loop : tie.InvT-loop
+Inv-loop pcm₀ at₀ pcm at = ?
+
+abbrev μ-loop : tie.MeasureT-loop
+μ-loop pcm₀ at₀ pcm at = ?
+
+-- src/main.rt:36:5
+loop-holds : tie.Need-loop-holds Inv-loop μ-loop
+loop-holds c = ?
+
+-- src/main.rt:37:23
+sub-read-nine : tie.Need-sub-read-nine Inv-loop μ-loop
+sub-read-nine c = ?
+
+-- src/main.rt:37:23
+part-read-nine-start : tie.Need-part-read-nine-start Inv-loop μ-loop
+part-read-nine-start c = ?
+
+-- src/main.rt:37:23
+part-read-nine-end : tie.Need-part-read-nine-end Inv-loop μ-loop
+part-read-nine-end c = ?
+
+-- src/main.rt:37:13
+read-nine-requires : tie.Need-read-nine-requires Inv-loop μ-loop
+read-nine-requires c κs = ?
+
+-- src/main.rt:38:13
+same-length : tie.Need-same-length Inv-loop μ-loop
+same-length c = ?
+
+-- src/main.rt:38:13
+returns : tie.Need-returns Inv-loop μ-loop
+returns c = ?
+
+-- src/main.rt:40:9
+add-at : tie.Need-add-at Inv-loop μ-loop
+add-at c = ?
+
+-- src/main.rt:36:5
+loop-less : tie.Need-loop-less Inv-loop μ-loop
+loop-less c = ?
+
+-- src/main.rt:36:5
+loop-again : tie.Need-loop-again Inv-loop μ-loop
+loop-again c = ?
+
+-- src/main.rt:32:1
+same-length-2 : tie.Need-same-length-2 Inv-loop μ-loop
+same-length-2 c = ?
+
+-- src/main.rt:32:1
+returns-2 : tie.Need-returns-2 Inv-loop μ-loop
+returns-2 c = ?
+
+pub read-pcm-spec : {M : Type 1} → statement M
+read-pcm-spec =
+    tie.close
+    (tie.spec
+    Inv-loop
+    μ-loop
+    loop-holds
+    sub-read-nine
+    part-read-nine-start
+    part-read-nine-end
+    read-nine-requires
+    same-length
+    returns
+    add-at
+    loop-less
+    loop-again
+    same-length-2
+    returns-2)
