@@ -15,7 +15,7 @@ fn put_word(line: &mut [u8], at: usize, word: u32, end: u8)
 {
     let mut text = [0u8; 16];
     io::hex(word as u64, 8, &mut text);
-    words::copy_bytes(&text[..8], &mut line[at..]);
+    words::copy_bytes(&text[..8], &mut line[at..at + 8]);
     line[at + 8] = end;
 }
 

@@ -1,3 +1,11 @@
+use Prim.Native.Nat.{ℕ, _+_, _-_, _≤_}
+use mathlib.Core.Path.{_≡_, sym, ap, _∙_}
+use mathlib.Core.List.{List}
+use native.Mathlib.Omega.{arith}
+use lib.ListN.{length, set}
+use lib.Seq.{length-take-le}
+use borrow.Rule.Slice.PartMut.{putMid, mid-len}
+use Rattle.hallrender.proofs.Laws.{spelt, put-cell}
 use borrow.Author.Needs.{needs}
 use Rattle.hallrender.proofs.text.put_word.Statement.{statement}
 use Rattle.hallrender.proofs.text.put_word.Tie as tie
@@ -16,7 +24,11 @@ array-share-prefix-text c = search needs
 
 -- src/text.rt:18:23
 slice-aggregate-copy-bytes : tie.Need-slice-aggregate-copy-bytes
-slice-aggregate-copy-bytes c = ?
+slice-aggregate-copy-bytes c = sym (length-take-le 8 (c .before .hex .last .1 .1 .0) (omega arith))
+
+-- src/text.rt:18:49
+add-copy-bytes : tie.Need-add-copy-bytes
+add-copy-bytes c = search needs
 
 -- src/text.rt:18:35
 sub-copy-bytes : tie.Need-sub-copy-bytes
@@ -32,7 +44,7 @@ part-copy-bytes-end c = search needs
 
 -- src/text.rt:18:5
 copy-bytes-requires : tie.Need-copy-bytes-requires
-copy-bytes-requires c κs = ?
+copy-bytes-requires c κs = let s = c .before .before .before .before .before in omega (arith, length-take-le 8 (c .before .before .hex .last .1 .1 .0) (omega arith), mid-len (s .args .at) (s .args .at + 8) (s .args .line .now) (omega arith))
 
 -- src/text.rt:19:10
 add-line : tie.Need-add-line
@@ -48,7 +60,11 @@ same-length c = search needs
 
 -- src/text.rt:12:1
 returns : tie.Need-returns
-returns c = ?
+returns c = 
+    let s = c .before .before .before .before .before .before .before .before .args in
+    let h = c .before .before .before .before .before .hex in
+    let d = spelt (s .word) (h .result) (h .last .1 .1 .0) (omega arith) (h .ensures .1 .0) (h .ensures .1 .1) in
+    ap (λ (l : List ℕ). set (putMid (s .at) (s .at + 8 - s .at) (s .line .now) l) (s .at + 8) (s .end)) (c .before .before .copy-bytes .ensures) ∙ put-cell (s .word) (s .end) (s .at) (s .line .now) (h .last .1 .1 .0) (c .before .before .before .before .before .before .before .before .pre) d
 
 pub put-word-spec : {M : Type 1} → statement M
 put-word-spec =
@@ -57,6 +73,7 @@ put-word-spec =
     hex-requires
     array-share-prefix-text
     slice-aggregate-copy-bytes
+    add-copy-bytes
     sub-copy-bytes
     part-copy-bytes-start
     part-copy-bytes-end
