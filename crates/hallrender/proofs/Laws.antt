@@ -1,7 +1,7 @@
 -- What a frame's header says of its counts; the digits of a word; a line that grows by a cell. Assumes nothing.
-use Prim.Native.Nat.{ℕ, zero, suc, _+_, _-_, _*_, _^_, _≤_, _<_, min, max}
+use Prim.Native.Nat.{ℕ, suc, _+_, _-_, _*_, _^_, _≤_, _<_}
 use mathlib.Core.Path.{_≡_, refl, sym, ap, _∙_}
-use mathlib.Core.Bool.{Bool, true, false, _&&_}
+use mathlib.Core.Bool.{true, _&&_}
 use mathlib.Core.List.{List, [], _∷_, _++_, append-assoc}
 use mathlib.Core.Logic.{⊎-elim}
 use native.Mathlib.Nat.{pow-le-pow-right, mul-le-mul, eq-or-lt-of-le}
@@ -9,14 +9,14 @@ use native.Mathlib.Numerals.{add-one}
 use native.Mathlib.Omega.{arith}
 use borrow.Author.Tests.{leb-true}
 use lib.Dec.{leb, eqb, lit<}
-use lib.ListN.{getD, set, length, take, drop, length-append, length-set}
+use lib.ListN.{getD, set, length, take, drop, length-append}
 use lib.Seq.{take-at, set-at, drop-cons, drop-length, length-take-le}
 use borrow.Rule.Slice.PartMut.{putMid, post-is, mid-len, midOf}
 use Rattle.words.specs.Words.{half, word}
 use Rattle.fields.proofs.All.{and-left, and-right}
 use Rattle.fields.specs.Bytes.{zeros}
 use Rattle.io.specs.Digits.{digits, Fewest}
-use Rattle.hallrender.specs.Framing.{bedsOf, inLimits, isFrame, pcmBytes}
+use Rattle.hallrender.specs.Framing.{bedsOf, inLimits, isFrame}
 use Rattle.hallrender.specs.Line.{hex8, cells}
 
 -- the counts of a frame
@@ -38,7 +38,7 @@ in-limits r e =
       samples = leb-true _ _ (and-left s _ two);
       beds = leb-true _ _ (and-right s b two);
       objects = leb-true _ _ (and-right (s && b) o three);
-      records = leb-true _ _ (and-right (s && b && o) _ e)
+      records = leb-true _ _ (and-right (s && b && o) _ e);
     }
 
 pub frame-limits : (r : List ℕ) → isFrame r ≡ true → Limits r

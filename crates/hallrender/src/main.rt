@@ -1,7 +1,10 @@
 // `hallrender`: records of 40 bytes from standard input, each answer to standard output. Document 01, "`hallrender` reads 40-byte records".
 ghost use mathlib.Core.Path.{_≡_};
+ghost use mathlib.Core.Bool.{true};
 ghost use Prim.Native.Nat.{_≤_};
 ghost use lib.ListN.{length};
+ghost use Rattle.hallrender.specs.Framing.{isFrame};
+use fields::bytes::byte_at;
 use libc::STDIN_FILENO;
 use libc::STDOUT_FILENO;
 
@@ -42,7 +45,32 @@ fn read_pcm(pcm: &mut [u8]) -> bool
     true
 }
 
-// A frame whose header is `rec`: its metadata, its PCM, and the push. Nothing of a cut frame is pushed.
+// The metadata and the PCM of a frame; false where a record is missing or not as laid out.
+fn read_body(meta: &mut [u8], pcm: &mut [u8]) -> bool
+    requires { ⌜ length (now pcm) ≤ 34816 ⌝ }
+{
+    let m = meta.len();
+    if io::read_full(STDIN_FILENO, meta) < m {
+        return false;
+    }
+    read_pcm(pcm)
+}
+
+// The push of a frame whose header is `rec`, and its answer.
+fn push(state: &mut [u8], meta: &[u8], pcm: &[u8], out: &mut [u8], rec: &[u8; 40])
+    requires { ⌜ (isFrame (now rec) ≡ true) × (length (now out) ≡ 12288) ⌝ }
+{
+    let rate = words::u32_at(rec, 4);
+    let samples = words::u16_at(rec, 8) as u32;
+    let objects = byte_at(rec, 11) as u32;
+    let codes_end = 14 + framing::beds(rec);
+    let header = &rec[..];
+    let codes = &header[14..codes_end];
+    let answer = hall::push(state, pcm, meta, out, codes, rate, samples, objects, 256);
+    text::print(answer, out);
+}
+
+// A frame whose header is `rec`, whether the program goes on. Nothing of a frame that is cut is pushed.
 fn frame(state: &mut [u8], meta: &mut [u8], pcm: &mut [u8], out: &mut [u8], rec: &[u8; 40]) -> bool
     requires { ⌜ (length (now meta) ≡ 48000) × (length (now pcm) ≡ 34816) × (length (now out) ≡ 12288) ⌝ }
 {
@@ -50,20 +78,11 @@ fn frame(state: &mut [u8], meta: &mut [u8], pcm: &mut [u8], out: &mut [u8], rec:
         return bad();
     }
     let m = framing::metadata_bytes(rec);
-    if io::read_full(STDIN_FILENO, &mut meta[..m]) < m {
-        return bad();
-    }
     let n = framing::pcm_bytes(rec);
-    if !read_pcm(&mut pcm[..n]) {
+    if !read_body(&mut meta[..m], &mut pcm[..n]) {
         return bad();
     }
-    let header = &rec[..];
-    let codes_end = 14 + framing::beds(rec);
-    let rate = words::u32_at(rec, 4);
-    let samples = words::u16_at(rec, 8) as u32;
-    let objects = rec[11] as u32;
-    let answer = hall::push(state, &pcm[..n], &meta[..m], out, &header[14..codes_end], rate, samples, objects, 256);
-    text::print(answer, out);
+    push(state, &meta[..m], &pcm[..n], out, rec);
     true
 }
 

@@ -1,12 +1,10 @@
+-- `read_pcm`: each turn passes a record's 36 bytes. Assumes nothing.
 use Prim.Native.Nat.{_≤_, _-_}
 use mathlib.Core.Path.{_≡_}
 use lib.ListN.{length}
 use borrow.Author.Needs.{needs}
 use Rattle.hallrender.proofs.read_pcm.Statement.{statement}
 use Rattle.hallrender.proofs.read_pcm.Tie as tie
-use Rattle.hallrender.proofs.read_pcm.Reads as reads
-use Rattle.hallrender.proofs.read_pcm.Lts as lts
-use Rattle.hallrender.proofs.read_nine.Reads as read-nine-reads
 
 abbrev Inv-loop : tie.InvT-loop
 Inv-loop pcm₀ at₀ pcm at = (length pcm ≡ length pcm₀) × (at ≤ 34852)
@@ -14,51 +12,39 @@ Inv-loop pcm₀ at₀ pcm at = (length pcm ≡ length pcm₀) × (at ≤ 34852)
 abbrev μ-loop : tie.MeasureT-loop
 μ-loop pcm₀ at₀ pcm at = 34852 - at
 
--- src/main.rt:36:5
 loop-holds : tie.Need-loop-holds Inv-loop μ-loop
 loop-holds c = search needs
 
--- src/main.rt:37:23
 sub-read-nine : tie.Need-sub-read-nine Inv-loop μ-loop
 sub-read-nine c = search needs
 
--- src/main.rt:37:23
 part-read-nine-start : tie.Need-part-read-nine-start Inv-loop μ-loop
 part-read-nine-start c = search needs
 
--- src/main.rt:37:23
 part-read-nine-end : tie.Need-part-read-nine-end Inv-loop μ-loop
 part-read-nine-end c = search needs
 
--- src/main.rt:37:13
 read-nine-requires : tie.Need-read-nine-requires Inv-loop μ-loop
 read-nine-requires c κs = search needs
 
--- src/main.rt:38:13
 same-length : tie.Need-same-length Inv-loop μ-loop
 same-length c = search needs
 
--- src/main.rt:38:13
 returns : tie.Need-returns Inv-loop μ-loop
 returns c = search needs
 
--- src/main.rt:40:9
 add-at : tie.Need-add-at Inv-loop μ-loop
 add-at c = search needs
 
--- src/main.rt:36:5
 loop-less : tie.Need-loop-less Inv-loop μ-loop
 loop-less c = search needs
 
--- src/main.rt:36:5
 loop-again : tie.Need-loop-again Inv-loop μ-loop
 loop-again c = search needs
 
--- src/main.rt:32:1
 same-length-2 : tie.Need-same-length-2 Inv-loop μ-loop
 same-length-2 c = search needs
 
--- src/main.rt:32:1
 returns-2 : tie.Need-returns-2 Inv-loop μ-loop
 returns-2 c = search needs
 

@@ -1,74 +1,60 @@
+-- `run`: the budget of turns falls. Assumes nothing.
+use mathlib.Core.Path.{_≡_}
+use lib.ListN.{length}
+use borrow.Author.Needs.{needs}
 use Rattle.hallrender.proofs.run.Statement.{statement}
 use Rattle.hallrender.proofs.run.Tie as tie
-use Rattle.hallrender.proofs.run.Reads as reads
-use Rattle.hallrender.proofs.run.Lts as lts
-use Rattle.hallrender.proofs.one.Reads as one-reads
 
 abbrev Inv-loop : tie.InvT-loop
-Inv-loop state₀ meta₀ pcm₀ out₀ turns₀ state meta pcm out turns = ?
+Inv-loop state₀ meta₀ pcm₀ out₀ turns₀ state meta pcm out turns = (length meta ≡ 48000) × (length pcm ≡ 34816) × (length out ≡ 12288) × (length state ≡ length state₀)
 
 abbrev μ-loop : tie.MeasureT-loop
-μ-loop state₀ meta₀ pcm₀ out₀ turns₀ state meta pcm out turns = ?
+μ-loop state₀ meta₀ pcm₀ out₀ turns₀ state meta pcm out turns = turns
 
--- src/main.rt:101:5
 loop-holds : tie.Need-loop-holds Inv-loop μ-loop
-loop-holds c = ?
+loop-holds c = search needs
 
--- src/main.rt:102:13
 one-requires : tie.Need-one-requires Inv-loop μ-loop
-one-requires c κs = ?
+one-requires c κs = search needs
 
--- src/main.rt:103:13
 same-length : tie.Need-same-length Inv-loop μ-loop
-same-length c = ?
+same-length c = search needs
 
--- src/main.rt:103:13
 same-length-2 : tie.Need-same-length-2 Inv-loop μ-loop
-same-length-2 c = ?
+same-length-2 c = search needs
 
--- src/main.rt:103:13
 same-length-3 : tie.Need-same-length-3 Inv-loop μ-loop
-same-length-3 c = ?
+same-length-3 c = search needs
 
--- src/main.rt:103:13
 same-length-4 : tie.Need-same-length-4 Inv-loop μ-loop
-same-length-4 c = ?
+same-length-4 c = search needs
 
--- src/main.rt:103:13
 returns : tie.Need-returns Inv-loop μ-loop
-returns c = ?
+returns c = search needs
 
--- src/main.rt:105:9
 sub-turns : tie.Need-sub-turns Inv-loop μ-loop
-sub-turns c = ?
+sub-turns c = search needs
 
--- src/main.rt:101:5
 loop-less : tie.Need-loop-less Inv-loop μ-loop
-loop-less c = ?
+loop-less c = search needs
 
--- src/main.rt:101:5
 loop-again : tie.Need-loop-again Inv-loop μ-loop
-loop-again c = ?
+loop-again c = search needs
 
--- src/main.rt:97:1
 same-length-5 : tie.Need-same-length-5 Inv-loop μ-loop
-same-length-5 c = ?
+same-length-5 c = search needs
 
--- src/main.rt:97:1
 same-length-6 : tie.Need-same-length-6 Inv-loop μ-loop
-same-length-6 c = ?
+same-length-6 c = search needs
 
--- src/main.rt:97:1
 same-length-7 : tie.Need-same-length-7 Inv-loop μ-loop
-same-length-7 c = ?
+same-length-7 c = search needs
 
--- src/main.rt:97:1
 same-length-8 : tie.Need-same-length-8 Inv-loop μ-loop
-same-length-8 c = ?
+same-length-8 c = search needs
 
--- src/main.rt:97:1
 returns-2 : tie.Need-returns-2 Inv-loop μ-loop
-returns-2 c = ?
+returns-2 c = search needs
 
 pub run-spec : {M : Type 1} → statement M
 run-spec =

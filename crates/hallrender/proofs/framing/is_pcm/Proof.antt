@@ -1,44 +1,34 @@
-use mathlib.Core.Path.{_≡_, refl, sym, ap, subst, _∙_}
-use borrow.Author.Tests.{eq-eqb, ne-eqb, lt-leb, le-leb, not-true, not-false}
+-- `framing::is_pcm`: each test of the definition in turn. Assumes nothing.
+use mathlib.Core.Path.{sym, _∙_}
+use borrow.Author.Tests.{eq-eqb, ne-eqb, not-true, not-false}
 use Rattle.hallrender.specs.Framing.{isPcm}
 use borrow.Author.Needs.{needs}
 use Rattle.hallrender.proofs.framing.is_pcm.Statement.{statement}
 use Rattle.hallrender.proofs.framing.is_pcm.Tie as tie
-use Rattle.hallrender.proofs.framing.is_pcm.Reads as reads
-use Rattle.hallrender.proofs.framing.is_pcm.Lts as lts
-use Rattle.fields.proofs.bytes.zeros.Reads as zeros-reads
 
--- src/framing.rt:66:8
 element-copy-out-if1 : tie.Need-element-copy-out-if1
 element-copy-out-if1 c = search needs
 
--- src/framing.rt:67:9
 returns : tie.Need-returns
 unfolding isPcm
 returns c = simp (ne-eqb _ _ (c .if1 .taken))
 
--- src/framing.rt:69:9
 zeros-requires : tie.Need-zeros-requires
 zeros-requires c κs = search needs
 
--- src/framing.rt:70:9
 returns-2 : tie.Need-returns-2
 unfolding isPcm
 returns-2 c = simp (eq-eqb _ _ (c .before .before .before .if1 .left), sym (c .before .zeros .ensures) ∙ not-true _ (c .if2 .taken))
 
--- src/framing.rt:72:16
 add-zeros : tie.Need-add-zeros
 add-zeros c = search needs
 
--- src/framing.rt:72:23
 sub-zeros : tie.Need-sub-zeros
 sub-zeros c = search needs
 
--- src/framing.rt:72:5
 zeros-requires-2 : tie.Need-zeros-requires-2
 zeros-requires-2 c κs = search needs
 
--- src/framing.rt:62:1
 returns-3 : tie.Need-returns-3
 unfolding isPcm
 returns-3 c = simp (eq-eqb _ _ (c .before .before .before .before .before .if1 .left), sym (c .before .before .before .zeros .ensures) ∙ not-false _ (c .before .before .if2 .left)) (c .zeros2 .ensures)

@@ -1,36 +1,27 @@
-use mathlib.Core.Path.{_≡_, refl, sym, ap, subst, _∙_}
-use borrow.Author.Tests.{eq-eqb, ne-eqb, lt-leb, le-leb, not-true, not-false}
+-- `framing::is_plain`: each test of the definition in turn. Assumes nothing.
+use borrow.Author.Tests.{lt-leb, le-leb}
 use Rattle.hallrender.specs.Framing.{isPlain}
 use borrow.Author.Needs.{needs}
 use Rattle.hallrender.proofs.framing.is_plain.Statement.{statement}
 use Rattle.hallrender.proofs.framing.is_plain.Tie as tie
-use Rattle.hallrender.proofs.framing.is_plain.Reads as reads
-use Rattle.hallrender.proofs.framing.is_plain.Lts as lts
-use Rattle.fields.proofs.bytes.zeros.Reads as zeros-reads
 
--- src/framing.rt:52:8
 element-copy-out-if1 : tie.Need-element-copy-out-if1
 element-copy-out-if1 c = search needs
 
--- src/framing.rt:53:9
 returns : tie.Need-returns
 unfolding isPlain
 returns c = simp (lt-leb _ _ (c .if1 .taken))
 
--- src/framing.rt:55:8
 element-copy-out-if2 : tie.Need-element-copy-out-if2
 element-copy-out-if2 c = search needs
 
--- src/framing.rt:56:9
 returns-2 : tie.Need-returns-2
 unfolding isPlain
 returns-2 c = simp (le-leb _ _ (c .before .before .if1 .left), lt-leb _ _ (c .if2 .taken))
 
--- src/framing.rt:58:5
 zeros-requires : tie.Need-zeros-requires
 zeros-requires c κs = search needs
 
--- src/framing.rt:49:1
 returns-3 : tie.Need-returns-3
 unfolding isPlain
 returns-3 c = simp (le-leb _ _ (c .before .before .before .before .if1 .left), le-leb _ _ (c .before .before .if2 .left)) (c .zeros .ensures)

@@ -1,28 +1,21 @@
+-- `framing::metadata_bytes`: a frame's limits bound it. Assumes nothing.
 use Prim.Native.Nat.{ℕ, _*_}
 use native.Mathlib.Omega.{arith}
-use mathlib.Core.Path.{_≡_, refl, sym, ap, subst, _∙_}
-use borrow.Author.Tests.{eq-eqb, ne-eqb, lt-leb, le-leb, not-true, not-false}
+use mathlib.Core.Path.{ap}
 use Rattle.hallrender.proofs.Laws.{frame-limits}
 use borrow.Author.Needs.{needs}
 use Rattle.hallrender.proofs.framing.metadata_bytes.Statement.{statement}
 use Rattle.hallrender.proofs.framing.metadata_bytes.Tie as tie
-use Rattle.hallrender.proofs.framing.metadata_bytes.Reads as reads
-use Rattle.hallrender.proofs.framing.metadata_bytes.Lts as lts
-use Rattle.words.proofs.u16_at.Reads as u16-at-reads
 
--- src/framing.rt:87:11
 u16-at-requires : tie.Need-u16-at-requires
 u16-at-requires c κs = search needs
 
--- src/framing.rt:87:11
 cast-result : tie.Need-cast-result
 cast-result c = search needs
 
--- src/framing.rt:87:5
 mul-result : tie.Need-mul-result
 mul-result c = search needs
 
--- src/framing.rt:83:1
 returns : tie.Need-returns
 returns c = (ap (λ (n : ℕ). 40 * n) (c .u16-at .ensures), let l = frame-limits _ (c .before .before .pre) in omega (arith, l .records, c .u16-at .ensures))
 

@@ -1,66 +1,51 @@
-use Prim.Native.Nat.{ℕ, _+_, _-_, _≤_}
-use mathlib.Core.Path.{_≡_, sym, ap, _∙_}
+-- `text::put_word`: a word has eight digits, which go to their place in the line. Assumes nothing.
+use Prim.Native.Nat.{ℕ, _+_, _-_}
+use mathlib.Core.Path.{sym, ap, _∙_}
 use mathlib.Core.List.{List}
 use native.Mathlib.Omega.{arith}
-use lib.ListN.{length, set}
+use lib.ListN.{set}
 use lib.Seq.{length-take-le}
 use borrow.Rule.Slice.PartMut.{putMid, mid-len}
 use Rattle.hallrender.proofs.Laws.{spelt, put-cell}
 use borrow.Author.Needs.{needs}
 use Rattle.hallrender.proofs.text.put_word.Statement.{statement}
 use Rattle.hallrender.proofs.text.put_word.Tie as tie
-use Rattle.hallrender.proofs.text.put_word.Reads as reads
-use Rattle.hallrender.proofs.text.put_word.Lts as lts
-use Rattle.io.proofs.hex.Reads as hex-reads
-use Rattle.words.proofs.copy_bytes.Reads as copy-bytes-reads
 
--- src/text.rt:17:5
 hex-requires : tie.Need-hex-requires
 hex-requires c κs = search needs
 
--- src/text.rt:18:23
 array-share-prefix-text : tie.Need-array-share-prefix-text
 array-share-prefix-text c = search needs
 
--- src/text.rt:18:23
 slice-aggregate-copy-bytes : tie.Need-slice-aggregate-copy-bytes
 slice-aggregate-copy-bytes c = sym (length-take-le 8 (c .before .hex .last .1 .1 .0) (omega arith))
 
--- src/text.rt:18:49
 add-copy-bytes : tie.Need-add-copy-bytes
 add-copy-bytes c = search needs
 
--- src/text.rt:18:35
 sub-copy-bytes : tie.Need-sub-copy-bytes
 sub-copy-bytes c = search needs
 
--- src/text.rt:18:35
 part-copy-bytes-start : tie.Need-part-copy-bytes-start
 part-copy-bytes-start c = search needs
 
--- src/text.rt:18:35
 part-copy-bytes-end : tie.Need-part-copy-bytes-end
 part-copy-bytes-end c = search needs
 
--- src/text.rt:18:5
 copy-bytes-requires : tie.Need-copy-bytes-requires
 copy-bytes-requires c κs = let s = c .before .before .before .before .before in omega (arith, length-take-le 8 (c .before .before .hex .last .1 .1 .0) (omega arith), mid-len (s .args .at) (s .args .at + 8) (s .args .line .now) (omega arith))
 
--- src/text.rt:19:10
 add-line : tie.Need-add-line
 add-line c = search needs
 
--- src/text.rt:19:5
 slice-write-line : tie.Need-slice-write-line
 slice-write-line c = search needs
 
--- src/text.rt:12:1
 same-length : tie.Need-same-length
 same-length c = search needs
 
--- src/text.rt:12:1
 returns : tie.Need-returns
-returns c = 
+returns c =
     let s = c .before .before .before .before .before .before .before .before .args in
     let h = c .before .before .before .before .before .hex in
     let d = spelt (s .word) (h .result) (h .last .1 .1 .0) (omega arith) (h .ensures .1 .0) (h .ensures .1 .1) in
