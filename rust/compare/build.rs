@@ -1,4 +1,4 @@
-//! Links the Rattle functions that crates/probes exports.
+//! Links the Rattle functions that crates/probes and crates/hall export.
 
 use std::env;
 use std::path::PathBuf;
@@ -10,14 +10,16 @@ fn main() {
     }
     let root = PathBuf::from(env::var("CARGO_MANIFEST_DIR").unwrap()).join("../..");
     let folder = root.join("target/staticlib");
-    let library = folder.join("libprobes.a");
-    println!("cargo::rerun-if-changed={}", library.display());
-    if !library.exists() {
-        println!(
-            "cargo::error=target/staticlib/libprobes.a is missing: run `rt staticlib probes` first"
-        );
-        return;
-    }
     println!("cargo::rustc-link-search=native={}", folder.display());
-    println!("cargo::rustc-link-lib=static=probes");
+    for name in ["probes", "hall"] {
+        let library = folder.join(format!("lib{name}.a"));
+        println!("cargo::rerun-if-changed={}", library.display());
+        if !library.exists() {
+            println!(
+                "cargo::error=target/staticlib/lib{name}.a is missing: run `rt staticlib {name}` first"
+            );
+            return;
+        }
+        println!("cargo::rustc-link-lib=static={name}");
+    }
 }

@@ -8,21 +8,37 @@ pub struct Frames {
     most_samples: u64,
     rate: u32,
     layout: Layout,
+    /// An update was sent.
+    started: bool,
 }
 
 /// What stays alike from update to update, so that sources and elements are kept.
 #[derive(Clone)]
 struct Layout {
     beds: Vec<u8>,
+    objects: u8,
     bed_or_isf_objects: u8,
-    dynamic: u8,
     /// Blocks of each element.
     blocks: Vec<u64>,
 }
 
-const RATES: [u32; 5] = [32_000, 44_100, 48_000, 88_200, 96_000];
+impl Layout {
+    fn dynamic(&self) -> usize {
+        self.objects.saturating_sub(self.bed_or_isf_objects).into()
+    }
+
+    /// Metadata records of an update.
+    fn records(&self) -> u64 {
+        let objects = u64::from(self.objects);
+        1 + self.blocks.iter().map(|b| 1 + b + b * objects).sum::<u64>()
+    }
+}
+
+pub const RATES: [u32; 5] = [32_000, 44_100, 48_000, 88_200, 96_000];
 const DEPTHS: [f32; 4] = [0.25, 0.5, 1.0, 2.0];
 const ANCHORS: [Anchor; 3] = [Anchor::Room, Anchor::Screen, Anchor::Speaker];
+/// A frame of `hallrender` has no more.
+const MOST_RECORDS: u64 = 1_200;
 
 impl Frames {
     /// Frames of up to `most_samples` samples.
@@ -35,46 +51,25 @@ impl Frames {
             most_samples,
             rate,
             layout,
+            started: false,
         }
     }
 
+    /// After a reset: another rate, and often another layout.
+    pub fn restart(&mut self) {
+        self.rate = self.inputs.pick(&RATES);
+        if self.inputs.chance(2) {
+            self.layout = layout(&mut self.inputs);
+        }
+        self.started = false;
+    }
+
     pub fn next_frame(&mut self) -> Frame {
+        let updates = self.updates();
         let inputs = &mut self.inputs;
-        let mut updates = Vec::new();
-        if inputs.chance(12) {
-            // Often the same number of objects, so that elements are kept.
-            let old = self.layout.clone();
-            self.layout = layout(inputs);
-            if inputs.chance(2) {
-                let objects = old.bed_or_isf_objects + old.dynamic;
-                let dynamic = inputs.below(u64::from(objects) + 1) as u8;
-                let bed_or_isf_objects = objects - dynamic;
-                self.layout = Layout {
-                    bed_or_isf_objects,
-                    dynamic,
-                    ..old
-                };
-            }
-            updates.push(update(inputs, &self.layout, 0));
-        }
-        let samples = if inputs.chance(30) {
-            0
-        } else {
-            1 + inputs.below(self.most_samples)
-        };
-        while updates.len() < 16 && inputs.chance(2) {
-            let offset = if inputs.chance(3) {
-                0
-            } else {
-                inputs.below(samples + 8)
-            };
-            updates.push(update(inputs, &self.layout, offset as u16));
-        }
-        let mut beds = self.layout.beds.clone();
-        if inputs.chance(30) {
-            beds.pop();
-        }
-        let mut objects = usize::from(self.layout.dynamic);
+        let (samples, updates) = updates;
+        let mut beds = input_beds(inputs, &self.layout.beds);
+        let mut objects = self.layout.dynamic();
         if inputs.chance(30) {
             objects = inputs.below(4) as usize;
         }
@@ -86,11 +81,7 @@ impl Frames {
         } else {
             self.rate
         };
-        let samples = samples as usize;
-        let loudest = if inputs.chance(4) { 16.0 } else { 0.5 };
-        let pcm = (0..(beds.len() + objects) * samples)
-            .map(|_| inputs.between(-loudest, loudest))
-            .collect();
+        let pcm = pcm(inputs, (beds.len() + objects) * samples);
         Frame {
             rate,
             samples,
@@ -100,34 +91,160 @@ impl Frames {
             updates,
         }
     }
+
+    /// The frame's samples and updates.
+    fn updates(&mut self) -> (usize, Vec<Update>) {
+        let inputs = &mut self.inputs;
+        let samples = samples(inputs, self.most_samples);
+        let mut updates = Vec::new();
+        let mut records = 0;
+        let mut add = |inputs: &mut Generator, layout: &Layout, offset: u64| {
+            records += layout.records();
+            if records <= MOST_RECORDS {
+                updates.push(update(inputs, layout, offset as u16));
+            }
+        };
+        if inputs.chance(12) {
+            self.layout = changed(inputs, &self.layout);
+            add(inputs, &self.layout, 0);
+        } else if !self.started && !inputs.chance(20) {
+            // Leading silence one time in three.
+            let offset = if inputs.chance(3) {
+                inputs.below(samples + 70)
+            } else {
+                0
+            };
+            add(inputs, &self.layout, offset);
+        }
+        for _ in 0..15 {
+            if inputs.chance(2) {
+                break;
+            }
+            let offset = match inputs.below(12) {
+                0..4 => 0,
+                4 => samples,
+                5 => 65_535,
+                6 => 64 * inputs.below(5),
+                _ => inputs.below(samples + 8),
+            };
+            let layout = if inputs.chance(30) {
+                &changed(inputs, &self.layout)
+            } else {
+                &self.layout
+            };
+            add(inputs, layout, offset);
+        }
+        self.started |= !updates.is_empty();
+        (samples as usize, updates)
+    }
 }
 
+fn samples(inputs: &mut Generator, most: u64) -> u64 {
+    match inputs.below(30) {
+        0 => 0,
+        1 => most,
+        2..6 => (64 * (1 + inputs.below(6))).min(most),
+        6..20 => 1 + inputs.below(most.min(70)),
+        _ => 1 + inputs.below(most),
+    }
+}
+
+/// Mostly small, one time in twelve up to the limits.
 fn layout(inputs: &mut Generator) -> Layout {
-    let beds: Vec<u8> = (0..inputs.below(5))
+    let large = inputs.chance(12);
+    let [most_beds, most_dynamic, most_blocks] = if large { [18, 16, 8] } else { [4, 3, 3] };
+    let beds: Vec<u8> = (0..inputs.below(most_beds + 1))
         .map(|_| match inputs.below(18) as u8 {
             6 if !inputs.chance(8) => 2,
             code => code,
         })
         .collect();
+    let dynamic = inputs.below(most_dynamic + 1).min(32 - beds.len() as u64) as u8;
+    let mut objects = beds.len() as u8 + dynamic;
+    let mut bed_or_isf_objects = beds.len() as u8;
+    match inputs.below(20) {
+        // Objects that are neither beds nor dynamic.
+        0 if objects < 30 => {
+            objects += 2;
+            bed_or_isf_objects += 2;
+        }
+        // Dynamic objects among those of the beds.
+        1 => bed_or_isf_objects = objects.saturating_sub(16).max(bed_or_isf_objects / 2),
+        2 => bed_or_isf_objects = 255,
+        _ => {}
+    }
     Layout {
-        bed_or_isf_objects: beds.len() as u8,
         beds,
-        dynamic: inputs.below(4) as u8,
-        blocks: (0..inputs.below(3)).map(|_| inputs.below(4)).collect(),
+        objects,
+        bed_or_isf_objects,
+        blocks: (0..inputs.below(3))
+            .map(|_| inputs.below(most_blocks + 1))
+            .collect(),
     }
 }
 
+/// Another layout; often with as many objects as before, so that elements are kept.
+fn changed(inputs: &mut Generator, old: &Layout) -> Layout {
+    if inputs.chance(2) {
+        return layout(inputs);
+    }
+    let least = u64::from(old.objects.saturating_sub(16));
+    let isf = least + inputs.below(u64::from(old.objects) + 1 - least);
+    Layout {
+        bed_or_isf_objects: isf as u8,
+        ..old.clone()
+    }
+}
+
+/// The codes of the bed channels that come with the frame: those of the layout in any order,
+/// sometimes one missing, one more, or one LFE for the other.
+fn input_beds(inputs: &mut Generator, layout: &[u8]) -> Vec<u8> {
+    let mut beds = layout.to_vec();
+    for i in (1..beds.len()).rev() {
+        if inputs.chance(3) {
+            beds.swap(i, inputs.below(i as u64 + 1) as usize);
+        }
+    }
+    for bed in &mut beds {
+        match *bed {
+            3 if inputs.chance(4) => *bed = 17,
+            17 if inputs.chance(4) => *bed = 3,
+            6 if !inputs.chance(4) => *bed = 7,
+            _ => {}
+        }
+    }
+    match inputs.below(60) {
+        0 | 1 => _ = beds.pop(),
+        2 if beds.len() < 18 => beds.push(inputs.below(18) as u8),
+        _ => {}
+    }
+    beds
+}
+
+/// From -16 to 16.
+fn pcm(inputs: &mut Generator, length: usize) -> Vec<f32> {
+    let loudest = inputs.pick(&[0.5, 0.5, 0.5, 2.0, 16.0, 0.0]);
+    let edges = inputs.chance(8);
+    let mut sample = || {
+        if edges && inputs.chance(4) {
+            inputs.pick(&[0.0, -0.0, 16.0, -16.0, 1.0, -1.0, 1e-45, -1e-40, 1e-20])
+        } else {
+            inputs.between(-loudest, loudest)
+        }
+    };
+    (0..length).map(|_| sample()).collect()
+}
+
 fn update(inputs: &mut Generator, layout: &Layout, offset: u16) -> Update {
-    let objects = layout.bed_or_isf_objects + layout.dynamic;
     let elements = layout.blocks.iter().map(|&blocks| Element {
         blocks: (0..blocks).map(|_| block(inputs)).collect(),
-        objects: (0..objects)
+        objects: (0..layout.objects)
             .map(|_| (0..blocks).map(|_| object(inputs)).collect())
             .collect(),
     });
     Update {
         offset,
-        objects,
+        objects: layout.objects,
         bed_or_isf_objects: layout.bed_or_isf_objects,
         beds: layout.beds.clone(),
         elements: elements.collect(),
@@ -135,10 +252,12 @@ fn update(inputs: &mut Generator, layout: &Layout, offset: u16) -> Update {
 }
 
 fn block(inputs: &mut Generator) -> Block {
-    let mut span = || match inputs.below(16) {
+    let mut span = || match inputs.below(20) {
         0 => 1_048_576,
         1 => -1_048_576,
         2 => -(inputs.below(200) as i64),
+        3..8 => 0,
+        8 | 9 => 64 * inputs.below(5) as i64,
         _ => inputs.below(300) as i64,
     };
     Block {
@@ -152,10 +271,17 @@ fn object(inputs: &mut Generator) -> Object {
         anchor: inputs.pick(&ANCHORS),
         position_valid: !inputs.chance(4),
         differential: inputs.chance(3),
-        gain: inputs.maybe(|inputs| inputs.between(0.0, 8.0)),
+        gain: inputs.maybe(|inputs| match inputs.below(8) {
+            0 => inputs.pick(&[0.0, -0.0, 8.0, 1.0, 1e-45, 0.25]),
+            1 => inputs.between(0.0, 8.0),
+            _ => inputs.between(0.0, 1.0),
+        }),
         position: inputs.maybe(|inputs| std::array::from_fn(|_| inputs.near(-0.5, 1.5))),
         distance: inputs.maybe(|inputs| inputs.near(0.0, 3.0)),
-        size: inputs.maybe(|inputs| inputs.between(0.0, 1.0)),
+        size: inputs.maybe(|inputs| match inputs.below(4) {
+            0 => inputs.pick(&[0.0, -0.0, 1.0, 1e-45]),
+            _ => inputs.between(0.0, 1.0),
+        }),
         screen: inputs.near(0.0, 1.0),
         depth: inputs.pick(&DEPTHS),
     }

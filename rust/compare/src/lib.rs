@@ -1,9 +1,14 @@
-//! What the comparing tests share: the Rattle functions, generators of inputs, and equality of
-//! floats.
+//! What the comparing tests share: the Rattle functions, generators of inputs, what document 01
+//! has a call answer, and equality of floats.
 
+pub mod calls;
+pub mod entry;
 mod frames;
 mod generator;
+pub mod model;
 pub mod probe;
+pub mod reading;
+pub mod streams;
 
 pub use frames::Frames;
 pub use generator::Generator;

@@ -1,8 +1,7 @@
 //! The oracle over whole streams: 400 of 25 frames in each test.
 
+use compare::model::keeps_too_few_flags;
 use compare::{Frames, all_same};
-use oracle::frame::{Frame, Update};
-use oracle::state::Metadata;
 use oracle::{Oracle, Pushed};
 use std::collections::BTreeMap;
 
@@ -61,36 +60,4 @@ fn the_rust_panics_only_where_document_01_says() {
         }
     }
     assert!(refused > 0);
-}
-
-/// Document 01's 7: an update that would be applied keeps an element that has flags for fewer
-/// dynamic objects than the update.
-fn keeps_too_few_flags(state: &Metadata, frame: &Frame) -> bool {
-    // Blocks, objects and flags of each element.
-    let mut elements: Vec<(usize, usize, usize)> = state
-        .elements
-        .iter()
-        .map(|e| (e.block_used.len(), e.info_blocks.len(), e.update_now.len()))
-        .collect();
-    let applied =
-        |update: &&Update| update.offset == 0 || usize::from(update.offset) < frame.samples;
-    let mut updates: Vec<&Update> = frame.updates.iter().filter(applied).collect();
-    updates.sort_by_key(|update| update.offset);
-    updates.iter().any(|update| {
-        let objects = usize::from(update.objects);
-        let dynamic = objects.saturating_sub(update.bed_or_isf_objects.into());
-        if elements.len() != update.elements.len() {
-            elements = vec![(0, 0, 0); update.elements.len()];
-        }
-        elements
-            .iter_mut()
-            .zip(&update.elements)
-            .fold(false, |few, (kept, element)| {
-                let blocks = element.blocks.len();
-                if (kept.0, kept.1) != (blocks, objects) {
-                    *kept = (blocks, objects, dynamic);
-                }
-                few || kept.2 < dynamic
-            })
-    })
 }

@@ -25,7 +25,7 @@ pub mod exact;
 pub mod frame;
 mod renderer;
 
-pub use renderer::render::run::{Oracle, Pushed, Refusal, Slot, SlotSource};
+pub use renderer::render::run::{Input, Oracle, Pushed, Refusal, Slot, SlotSource};
 pub use renderer::render::{leaf, state};
 
 /// A position or direction: x, y, z.

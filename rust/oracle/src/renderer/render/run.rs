@@ -9,6 +9,8 @@ use super::{
 };
 use crate::Vector;
 use crate::frame::Frame;
+#[cfg(not(no_sources))]
+use crate::renderer::render_input::RenderInputFrame;
 
 /// What push answers.
 #[derive(Clone, Debug, PartialEq)]
@@ -52,6 +54,20 @@ pub struct Oracle {
     renderer: Renderer714,
 }
 
+/// A frame as the Rust takes it.
+pub struct Input {
+    #[cfg(not(no_sources))]
+    frame: RenderInputFrame,
+}
+
+impl Input {
+    over_sources! {
+        pub fn new(frame: &Frame) -> Self {
+            Input { frame: convert::input_frame(frame) }
+        }
+    }
+}
+
 impl Oracle {
     over_sources! {
         #[expect(clippy::new_without_default)]
@@ -81,6 +97,13 @@ impl Oracle {
             };
             self.renderer = before;
             (refused, Vec::new())
+        }
+
+        /// The Rust's own push and nothing else: the number of ready samples, or none where it
+        /// answers an error, which may leave a trace.
+        pub fn push_alone(&mut self, input: &Input) -> Option<usize> {
+            let output = self.renderer.push_frame(&input.frame).ok()?;
+            Some(output.samples_per_channel())
         }
 
         /// The pending samples of the twelve channels, or none.

@@ -1,0 +1,109 @@
+-- `frame`: the header's limits keep metadata and PCM within what is lent. Assumes nothing.
+use mathlib.Core.Path.{sym, _∙_}
+use native.Mathlib.Omega.{arith}
+use borrow.Author.Tests.{not-false}
+use lib.Seq.{length-take-le}
+use borrow.Author.Needs.{needs}
+use Rattle.hallrender.proofs.frame.Statement.{statement}
+use Rattle.hallrender.proofs.frame.Tie as tie
+
+is-frame-requires : tie.Need-is-frame-requires
+is-frame-requires c κs = search needs
+
+bad-requires : tie.Need-bad-requires
+bad-requires c κs = search needs
+
+returns : tie.Need-returns
+returns c = search needs
+
+metadata-bytes-requires : tie.Need-metadata-bytes-requires
+metadata-bytes-requires c κs = sym (c .before .is-frame .ensures) ∙ not-false _ (c .if1 .left)
+
+pcm-bytes-requires : tie.Need-pcm-bytes-requires
+pcm-bytes-requires c κs = sym (c .before .before .is-frame .ensures) ∙ not-false _ (c .before .if1 .left)
+
+slice-relend-prefix-read-body : tie.Need-slice-relend-prefix-read-body
+slice-relend-prefix-read-body c = search needs
+
+slice-aggregate-read-body : tie.Need-slice-aggregate-read-body
+slice-aggregate-read-body c = sym (length-take-le _ _ (omega arith))
+
+slice-relend-prefix-read-body-2 : tie.Need-slice-relend-prefix-read-body-2
+slice-relend-prefix-read-body-2 c = search needs
+
+slice-aggregate-read-body-2 : tie.Need-slice-aggregate-read-body-2
+slice-aggregate-read-body-2 c = sym (length-take-le _ _ (omega arith))
+
+read-body-requires : tie.Need-read-body-requires
+read-body-requires c κs = let s = c .before .before .before .before .before .before .before .before .before .before in omega (arith, length-take-le (c .before .before .pcm-bytes .result) (s .args .pcm .now) (omega arith))
+
+bad-requires-2 : tie.Need-bad-requires-2
+bad-requires-2 c κs = search needs
+
+same-length : tie.Need-same-length
+same-length c = search needs
+
+same-length-2 : tie.Need-same-length-2
+same-length-2 c = search needs
+
+returns-2 : tie.Need-returns-2
+returns-2 c = search needs
+
+slice-reshare-prefix-push : tie.Need-slice-reshare-prefix-push
+slice-reshare-prefix-push c = search needs
+
+slice-aggregate-push : tie.Need-slice-aggregate-push
+slice-aggregate-push c = sym (length-take-le _ _ (search needs))
+
+slice-reshare-prefix-push-2 : tie.Need-slice-reshare-prefix-push-2
+slice-reshare-prefix-push-2 c = search needs
+
+slice-aggregate-push-2 : tie.Need-slice-aggregate-push-2
+slice-aggregate-push-2 c = sym (length-take-le _ _ (search needs))
+
+push-requires : tie.Need-push-requires
+push-requires c κs = (sym (c .before .before .before .before .before .before .before .before .before .before .before .before .before .before .before .is-frame .ensures) ∙ not-false _ (c .before .before .before .before .before .before .before .before .before .before .before .before .before .before .if1 .left), search needs)
+
+same-length-3 : tie.Need-same-length-3
+same-length-3 c = search needs
+
+same-length-4 : tie.Need-same-length-4
+same-length-4 c = search needs
+
+same-length-5 : tie.Need-same-length-5
+same-length-5 c = search needs
+
+same-length-6 : tie.Need-same-length-6
+same-length-6 c = search needs
+
+returns-3 : tie.Need-returns-3
+returns-3 c = search needs
+
+pub frame-spec : {M : Type 1} → statement M
+frame-spec =
+    tie.close
+    (tie.spec
+    is-frame-requires
+    bad-requires
+    returns
+    metadata-bytes-requires
+    pcm-bytes-requires
+    slice-relend-prefix-read-body
+    slice-aggregate-read-body
+    slice-relend-prefix-read-body-2
+    slice-aggregate-read-body-2
+    read-body-requires
+    bad-requires-2
+    same-length
+    same-length-2
+    returns-2
+    slice-reshare-prefix-push
+    slice-aggregate-push
+    slice-reshare-prefix-push-2
+    slice-aggregate-push-2
+    push-requires
+    same-length-3
+    same-length-4
+    same-length-5
+    same-length-6
+    returns-3)

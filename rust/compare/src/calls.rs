@@ -1,0 +1,205 @@
+//! Calls as a host makes them, over bytes.
+
+use crate::probe::timed::records;
+use crate::{Frames, Generator};
+use oracle::frame::Frame;
+
+/// The arguments of a push but for what is lent to write.
+#[derive(Clone, Debug, PartialEq)]
+pub struct Call {
+    pub rate: u32,
+    pub samples: u32,
+    /// Code of each bed channel.
+    pub codes: Vec<u8>,
+    pub objects: u32,
+    pub meta: Vec<u8>,
+    pub pcm: Vec<u8>,
+}
+
+impl From<&Frame> for Call {
+    fn from(frame: &Frame) -> Self {
+        Call {
+            rate: frame.rate,
+            samples: frame.samples as u32,
+            codes: frame.beds.clone(),
+            objects: frame.objects as u32,
+            meta: records(&frame.updates),
+            pcm: frame.pcm.iter().flat_map(|x| x.to_le_bytes()).collect(),
+        }
+    }
+}
+
+#[derive(Clone, Debug, PartialEq)]
+pub enum Step {
+    Push(Call),
+    Flush,
+    Reset,
+}
+
+/// A seeded list of calls: frames, one in six of them spoilt, flushes and resets.
+pub struct Calls {
+    inputs: Generator,
+    frames: Frames,
+}
+
+impl Calls {
+    pub fn new(seed: u64, most_samples: u64) -> Self {
+        Calls {
+            inputs: Generator::new(!seed),
+            frames: Frames::new(seed, most_samples),
+        }
+    }
+
+    pub fn next_step(&mut self) -> Step {
+        match self.inputs.below(24) {
+            0 => {
+                self.frames.restart();
+                Step::Reset
+            }
+            1..4 => Step::Flush,
+            _ => {
+                let mut call = Call::from(&self.frames.next_frame());
+                if self.inputs.chance(6) {
+                    spoil(&mut self.inputs, &mut call);
+                }
+                Step::Push(call)
+            }
+        }
+    }
+}
+
+/// Changes one thing, mostly to what a check refuses; what a frame of `hallrender` can hold.
+fn spoil(inputs: &mut Generator, call: &mut Call) {
+    match inputs.below(12) {
+        0 => call.rate = inputs.pick(&[0, 1, 47_999, 48_001, 192_000, u32::MAX]),
+        1 => {
+            if let Some(code) = call.codes.last_mut() {
+                *code = 18 + inputs.below(238) as u8;
+            }
+        }
+        2 => {
+            call.codes.clear();
+            call.objects = 0;
+            call.pcm.clear();
+        }
+        3 | 4 => spoil_sample(inputs, &mut call.pcm),
+        5 | 6 => spoil_record(inputs, &mut call.meta),
+        7 => spoil_order(inputs, &mut call.meta),
+        _ => spoil_value(inputs, &mut call.meta),
+    }
+}
+
+fn spoil_sample(inputs: &mut Generator, pcm: &mut [u8]) {
+    let edges = [
+        0x7fc0_0000,
+        0x7f80_0001,
+        0x7f80_0000,
+        0xff80_0000,
+        0x4180_0000,
+        0x4180_0001,
+        0xc180_0000,
+        0xc180_0001,
+        0x7f7f_ffff,
+    ];
+    if !pcm.is_empty() {
+        let at = inputs.below(pcm.len() as u64 / 4) as usize;
+        put_word(pcm, 4 * at, inputs.pick(&edges));
+    }
+}
+
+/// Up to three bytes, anywhere.
+pub fn spoil_record(inputs: &mut Generator, bytes: &mut [u8]) {
+    if bytes.is_empty() {
+        return;
+    }
+    for _ in 0..1 + inputs.below(3) {
+        let at = inputs.below(bytes.len() as u64) as usize;
+        bytes[at] = if inputs.chance(2) {
+            inputs.bits() as u8
+        } else {
+            bytes[at] ^ 1 << inputs.below(8)
+        };
+    }
+}
+
+/// A record dropped, doubled, swapped with another, or all doubled.
+pub fn spoil_order(inputs: &mut Generator, bytes: &mut Vec<u8>) {
+    let records = bytes.len() as u64 / 40;
+    if records == 0 {
+        return;
+    }
+    let at = 40 * inputs.below(records) as usize;
+    match inputs.below(4) {
+        0 => _ = bytes.drain(at..at + 40),
+        1 if records < 1_200 => bytes.extend_from_within(at..at + 40),
+        2 if records <= 64 => {
+            // Past 16 updates.
+            while bytes.len() / 40 <= 17 {
+                bytes.extend_from_within(..);
+            }
+        }
+        _ => {
+            let to = 40 * inputs.below(records) as usize;
+            for k in 0..40 {
+                bytes.swap(at + k, to + k);
+            }
+        }
+    }
+}
+
+/// A value of one record at, or past, the end of its range.
+fn spoil_value(inputs: &mut Generator, meta: &mut [u8]) {
+    let records = meta.len() as u64 / 40;
+    if records == 0 {
+        return;
+    }
+    let mut at = 40 * inputs.below(records) as usize;
+    if inputs.chance(3) {
+        at = 0;
+    }
+    let r = &mut meta[at..at + 40];
+    let spans = [
+        1_048_576,
+        1_048_577,
+        -1_048_576,
+        -1_048_577,
+        i64::MIN,
+        i64::MAX,
+    ];
+    match r[0] {
+        1 => {
+            let (place, most) = inputs.pick(&[(4, 33), (4, 32), (5, 255), (6, 19), (7, 3), (2, 0)]);
+            r[place] = most;
+        }
+        2 => r[1] = inputs.pick(&[0, 8, 9]),
+        3 => {
+            let place = inputs.pick(&[8, 16]);
+            r[place..place + 8].copy_from_slice(&inputs.pick(&spans).to_le_bytes());
+        }
+        _ => {
+            let (bit, place, bits) = inputs.pick(&[
+                (4, 4, 0x4100_0000),   // gain 8.0
+                (4, 4, 0x4100_0001),   // the next f32
+                (4, 4, 0x8000_0000),   // -0.0
+                (4, 4, 0x8000_0001),   // below 0
+                (4, 4, 0x7fc0_0000),   // NaN
+                (32, 24, 0x3f80_0000), // size 1.0
+                (32, 24, 0x3f80_0001),
+                (32, 24, 0x8000_0000),
+                (32, 24, 0xffc0_0000),
+                (0, 32, 0x3f40_0000), // a depth factor of 0.75
+                (0, 32, 0xbf80_0000),
+                (0, 32, 0x7fc0_0000),
+                (0, 32, 0),
+                (16, 20, 0x7f80_0000), // an infinite distance
+                (16, 20, 0xff80_0000),
+            ]);
+            r[2] |= bit;
+            put_word(r, place, bits);
+        }
+    }
+}
+
+fn put_word(bytes: &mut [u8], at: usize, word: u32) {
+    bytes[at..at + 4].copy_from_slice(&word.to_le_bytes());
+}

@@ -1,0 +1,168 @@
+//! Metadata records read by a cursor that goes forward record by record: document 01's refusals 5
+//! and 6, written apart from the Rattle code.
+
+use crate::probe::records::{Block, Header, Info};
+
+pub struct Update {
+    pub place: usize,
+    pub header: Header,
+    pub codes: Vec<usize>,
+    pub elements: Vec<Element>,
+}
+
+pub struct Element {
+    pub place: usize,
+    pub end: usize,
+    pub blocks: Vec<Block>,
+    /// Object after object, each in all blocks, with its record.
+    pub objects: Vec<Vec<(usize, Info)>>,
+}
+
+/// What stops a reading: refusal 5.
+pub struct Broken;
+
+struct Cursor<'a> {
+    bytes: &'a [u8],
+    place: usize,
+    /// A value outside its range was met: refusal 6, unless a 5 follows.
+    outside: bool,
+}
+
+impl<'a> Cursor<'a> {
+    fn record(&mut self, kind: u8) -> Result<&'a [u8; 40], Broken> {
+        let bytes = self
+            .bytes
+            .get(40 * self.place..40 * self.place + 40)
+            .ok_or(Broken)?;
+        let record: &[u8; 40] = bytes.try_into().unwrap();
+        if record[0] != kind {
+            return Err(Broken);
+        }
+        self.place += 1;
+        Ok(record)
+    }
+
+    fn update(&mut self) -> Result<Update, Broken> {
+        let place = self.place;
+        let r = self.record(1)?;
+        let header = Header {
+            offset: u16::from_le_bytes([r[2], r[3]]).into(),
+            objects: r[4].into(),
+            bed_or_isf: r[5].into(),
+            beds: r[6].into(),
+            elements: r[7].into(),
+        };
+        let dynamic = header.objects.saturating_sub(header.bed_or_isf);
+        if r[1] != 0
+            || header.objects > 32
+            || dynamic > 16
+            || header.beds > 18.min(header.objects)
+            || header.elements > 2
+            || r[8..8 + header.beds].iter().any(|&code| code > 17)
+            || !zero(&r[8 + header.beds..])
+        {
+            return Err(Broken);
+        }
+        let codes = r[8..8 + header.beds]
+            .iter()
+            .map(|&code| code.into())
+            .collect();
+        let elements = (0..header.elements)
+            .map(|_| self.element(header.objects))
+            .collect::<Result<_, _>>()?;
+        Ok(Update {
+            place,
+            header,
+            codes,
+            elements,
+        })
+    }
+
+    fn element(&mut self, objects: usize) -> Result<Element, Broken> {
+        let place = self.place;
+        let r = self.record(2)?;
+        let count = r[1];
+        if count > 8 || !zero(&r[2..]) {
+            return Err(Broken);
+        }
+        let blocks = (0..count).map(|_| self.block()).collect::<Result<_, _>>()?;
+        let objects = (0..objects)
+            .map(|_| (0..count).map(|_| self.object()).collect())
+            .collect::<Result<_, _>>()?;
+        Ok(Element {
+            place,
+            end: self.place,
+            blocks,
+            objects,
+        })
+    }
+
+    fn block(&mut self) -> Result<Block, Broken> {
+        let r = self.record(3)?;
+        if !zero(&r[1..8]) || !zero(&r[24..]) {
+            return Err(Broken);
+        }
+        let [offset, ramp] =
+            [8, 16].map(|at| i64::from_le_bytes(r[at..at + 8].try_into().unwrap()));
+        self.outside |= offset.unsigned_abs() > 1_048_576 || ramp.unsigned_abs() > 1_048_576;
+        Ok(Block { offset, ramp })
+    }
+
+    fn object(&mut self) -> Result<(usize, Info), Broken> {
+        let place = self.place;
+        let r = self.record(4)?;
+        let [anchor, flags] = [r[1], r[2]];
+        let absent = |bit: u8, from: usize, to: usize| flags & bit == 0 && !zero(&r[from..to]);
+        if anchor > 2
+            || flags > 63
+            || r[3] != 0
+            || absent(4, 4, 8)
+            || absent(8, 8, 20)
+            || absent(16, 20, 24)
+            || absent(32, 24, 28)
+            || !zero(&r[36..])
+        {
+            return Err(Broken);
+        }
+        let word = |at: usize| u32::from_le_bytes(r[at..at + 4].try_into().unwrap());
+        let float = |at: usize| f32::from_bits(word(at));
+        let depth = [0.25, 0.5, 1.0, 2.0]
+            .iter()
+            .position(|&factor| factor == float(32));
+        let over =
+            |bit: u8, at: usize, most: f32| flags & bit != 0 && !(0.0..=most).contains(&float(at));
+        self.outside |= over(4, 4, 8.0) || over(32, 24, 1.0) || depth.is_none();
+        let info = Info {
+            head: u32::from(flags) | u32::from(anchor) << 8 | (depth.unwrap_or(4) as u32) << 16,
+            gain: word(4),
+            size: word(24),
+            distance: word(20),
+            screen: word(28),
+            x: word(8),
+            y: word(12),
+            z: word(16),
+        };
+        Ok((place, info))
+    }
+}
+
+fn zero(bytes: &[u8]) -> bool {
+    bytes.iter().all(|&byte| byte == 0)
+}
+
+/// The updates with refusal 0 or 6, or refusal 5.
+pub fn read(bytes: &[u8]) -> Result<(Vec<Update>, u32), Broken> {
+    let mut cursor = Cursor {
+        bytes,
+        place: 0,
+        outside: false,
+    };
+    let mut updates = Vec::new();
+    while 40 * cursor.place < bytes.len() {
+        if updates.len() == 16 {
+            return Err(Broken);
+        }
+        updates.push(cursor.update()?);
+    }
+    Ok((updates, if cursor.outside { 6 } else { 0 }))
+}

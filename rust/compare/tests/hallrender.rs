@@ -1,0 +1,105 @@
+//! The program `hallrender` on 10,000 streams: its standard output is, byte for byte, what the
+//! oracle has it print.
+
+use compare::streams;
+use std::collections::{BTreeMap, BTreeSet};
+use std::io::Write;
+use std::path::Path;
+use std::process::{Command, Stdio};
+use std::thread;
+
+const STREAMS: u64 = 10_000;
+const PROGRAM: &str = concat!(env!("CARGO_MANIFEST_DIR"), "/../../target/bin/hallrender");
+
+/// What the program prints.
+fn run(stream: &[u8]) -> String {
+    let mut program = Command::new(PROGRAM)
+        .stdin(Stdio::piped())
+        .stdout(Stdio::piped())
+        .spawn()
+        .unwrap();
+    let mut stdin = program.stdin.take().unwrap();
+    let output = thread::scope(|scope| {
+        scope.spawn(move || {
+            // A program that ends at a bad record leaves the rest unread.
+            _ = stdin.write_all(stream);
+        });
+        program.wait_with_output().unwrap()
+    });
+    assert!(output.status.success());
+    String::from_utf8(output.stdout).unwrap()
+}
+
+/// The first lines that differ.
+fn difference(found: &str, expected: &str) -> String {
+    let place = found
+        .lines()
+        .zip(expected.lines())
+        .position(|(a, b)| a != b)
+        .unwrap_or(found.lines().count().min(expected.lines().count()));
+    let line = |text: &str| text.lines().nth(place).unwrap_or("the end").to_string();
+    format!(
+        "line {}: found {}, expected {}",
+        place + 1,
+        line(found),
+        line(expected)
+    )
+}
+
+/// The answers of a text, samples left out.
+fn answers(text: &str) -> impl Iterator<Item = &str> {
+    text.lines().filter_map(|line| {
+        let first = line.split(' ').next()?;
+        match first {
+            "refused" => Some(&line[..line.match_indices(' ').nth(1)?.0]),
+            "ready" | "none" | "reset" => Some(first),
+            "bad" => Some(line),
+            _ => None,
+        }
+    })
+}
+
+#[test]
+#[cfg_attr(no_sources, ignore = "Rust sources not at hand")]
+fn prints_what_the_oracle_has_it_print() {
+    assert!(
+        Path::new(PROGRAM).exists(),
+        "run `rt check hallrender` first"
+    );
+    let compared = |part: u64| {
+        let mut counts = BTreeMap::new();
+        for seed in (part..STREAMS).step_by(2) {
+            let stream = streams::stream(seed);
+            let expected = streams::played(&stream);
+            let found = run(&stream);
+            assert!(
+                found == expected,
+                "stream {seed}: {}",
+                difference(&found, &expected)
+            );
+            for answer in answers(&expected) {
+                *counts.entry(answer.to_string()).or_insert(0u64) += 1;
+            }
+        }
+        counts
+    };
+    let halves = thread::scope(|scope| {
+        let other = scope.spawn(|| compared(1));
+        [compared(0), other.join().unwrap()]
+    });
+    let kinds: BTreeSet<&String> = halves.iter().flat_map(|half| half.keys()).collect();
+    println!("{halves:?}");
+    // ready, none, reset, bad record, and 2 to 14 but 4, which no stream is long enough for
+    assert_eq!(kinds.len(), 4 + 12, "{kinds:?}");
+}
+
+/// Document 01's example.
+#[test]
+fn a_frame_without_metadata_then_flush() {
+    let mut stream = vec![0; 120];
+    stream[..15].copy_from_slice(&[5, 0, 0, 0, 0x80, 0xbb, 0, 0, 1, 0, 1, 0, 0, 0, 2]);
+    stream[40] = 6;
+    stream[44..48].copy_from_slice(&1f32.to_le_bytes());
+    stream[80] = 7;
+    assert_eq!(run(&stream), "refused 10 0 0\nnone\n");
+}
