@@ -10,6 +10,7 @@ use lib.ListN.{length, getD}
 use borrow.Author.Tests.{leb-true, eqb-true, ne-eqb}
 use Rattle.ieee.specs.Bounds.{All}
 use Rattle.words.specs.Words.{Bytes, wordsAt}
+use Rattle.angles.specs.Angle.{Listed}
 use Rattle.fields.specs.Update.{offset}
 use Rattle.records.specs.Laid.{count, updateAt}
 use Rattle.records.specs.Answers.{IsLayout}
@@ -37,11 +38,11 @@ use Rattle.frame.specs.Chunk.{chunk}
 use Rattle.frame.specs.Out.{behind}
 use Rattle.frame.specs.Begin.{CanBegin}
 use Rattle.frame.specs.Pass.{CanPass, Passes}
-use Rattle.frame.specs.Turns.{readyAfter, Accepted, IsRendered}
+use Rattle.frame.specs.Turns.{runLength, readyAfter, Accepted, IsRendered}
 use Rattle.frame.specs.declared.push.Rendered.{Rendered}
 use Rattle.frame.proofs.Chunks.{NoneAt, Turn}
 use Rattle.frame.proofs.Going.{Shaped, Going, Begun, begun, step, starts, ends}
-use Rattle.frame.proofs.Opening.{RunLength}
+use Rattle.frame.proofs.Opening.{RunLength, run-length-is}
 
 -- ---- what refusals 1 and 2 leave
 
@@ -108,6 +109,13 @@ takes s b a l h bytes meta =
       samples = omega arith;
       long = valid-long b (h .valid);
     }
+
+pub starts-at : (s : Small) (b : List ℕ) (a : Args) (l : Layout) → Accepted s b l a → s .position ≡ decode b .position
+unfolding decode
+starts-at s b a l h = ap (λ (s : Small). s .position) (h .small)
+
+pub is-rate : (b : List ℕ) (a : Args) (l : Layout) → Taken b a l → Listed (a .rate)
+is-rate b a l k = is-listed (a .rate) (k .passed .listed)
 
 -- before sample t
 pub record Running (b : List ℕ) (a : Args) (t : ℕ) (s : Small) (state : List ℕ) (ready : ℕ) (out : List ℕ) : Type 0 where
@@ -234,6 +242,35 @@ module _ (b : List ℕ) (a : Args) (l : Layout) (k : Taken b a l) (t : ℕ) (s :
                 let d′ = subst (λ (x : State hall). Going hall block facts (decode b) a (t + suc i) (chunk hall f (suc i) t x .next) (readyAfter ready (chunk hall f (suc i) t x .next .pending)) (behind ready (chunk hall f (suc i) t x .given) (a .stride) out)) (sym (e .is)) d in
                 let d″ = subst (λ (x : State hall). Going hall block facts (decode b) a (t + suc i) x (readyAfter ready (x .pending)) (behind ready (chunk hall f (suc i) t (held s′ state′) .given) (a .stride) out)) (sym (p .next .is)) d′ in
                 record { long = p .next .long; going = subst (λ (x : List ℕ). Going hall block facts (decode b) a (t + suc i) (held r c) (readyAfter ready (r .pending)) x) (sym (p .given)) d″ }
+
+-- a turn under way: the updates and the slot at t left s′ and state′, and n samples follow
+pub record Turning (b : List ℕ) (a : Args) (l : Layout) (t : ℕ) (s : Small) (state : List ℕ) (ready : ℕ) (out : List ℕ) (end : ℕ) (s′ : Small) (state′ : List ℕ) (n : ℕ) : Type 0 where
+  pub taken : Taken b a l
+  pub running : Running b a t s state ready out
+  pub more : t < a .samples
+  pub ends : end ≡ next (λ i. getD (l .offset) i 0) (l .count) t (a .samples)
+  pub begun : IsHeld (slotted hall (updated hall t (sentOf (a .meta)) (held s state))) s′ state′
+  pub count : n ≡ runLength (s′ .state .initialized) (s′ .phase) (s′ .pending) (end - t)
+
+module _ {b : List ℕ} {a : Args} {l : Layout} {t : ℕ} {s : Small} {state : List ℕ} {ready : ℕ} {out : List ℕ} {end : ℕ} {s′ : Small} {state′ : List ℕ} {n : ℕ} (u : Turning b a l t s state ready out end s′ state′ n) where
+  len : RunLength (s′ .state .initialized) (s′ .phase) (s′ .pending) (end - t) n
+  len =
+      let f = few b a l (u .taken) t s state ready out (u .running) (u .more) end (u .ends) s′ state′ (u .begun) in
+      let x = end-above b a l (u .taken) t s state ready out (u .running) (u .more) end (u .ends) in
+      subst (RunLength (s′ .state .initialized) (s′ .phase) (s′ .pending) (end - t)) (sym (u .count)) (run-length-is (s′ .state .initialized) (s′ .phase) (s′ .pending) (end - t) (f .0) (f .1) (omega arith))
+
+  pub turn-some : 0 < n
+  turn-some = len .some
+
+  pub turn-within : t + n ≤ a .samples
+  turn-within = turn-fits b a l (u .taken) t s state ready out (u .running) (u .more) end (u .ends) s′ state′ (u .begun) n len
+
+  pub turn-passes : CanPass s′ state′ (a .pcm) out (a .codes) (a .objects) (a .samples) t n (a .stride) ready
+  turn-passes = can-pass b a l (u .taken) t s state ready out (u .running) (u .more) end (u .ends) s′ state′ (u .begun) n len
+
+  pub turn-runs : (r : Small) (c o : List ℕ) (i : ℕ) → Passes (frameOf hall a) t n (a .stride) ready s′ state′ out r c o → i ≡ readyAfter ready (r .pending) → Running b a (t + n) r c i o
+  turn-runs r c o i p e =
+      subst (λ (i : ℕ). Running b a (t + n) r c i o) (sym e) (turns b a l (u .taken) t s state ready out (u .running) (u .more) end (u .ends) s′ state′ (u .begun) n len r c o p)
 
 -- ---- after the last sample
 pub ready-few : (b : List ℕ) (a : Args) (l : Layout) → Taken b a l → (t : ℕ) (s : Small) (state : List ℕ) (ready : ℕ) (out : List ℕ) → Running b a t s state ready out → ready ≤ 4096
