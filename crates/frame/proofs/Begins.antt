@@ -10,6 +10,7 @@ use lib.Dec.{eqb}
 use lib.ListN.{length, getD}
 use Rattle.timed.specs.State.{Timed, IsTimed, slotAt}
 use Rattle.timed.specs.declared.state.MetadataRendererState.{MetadataRendererState}
+use Rattle.timed.proofs.Kept as timed
 use Rattle.fields.specs.Update.{offset}
 use Rattle.records.specs.Runs.{each}
 use Rattle.records.specs.Laid.{updateAt, count}
@@ -19,9 +20,11 @@ use Rattle.records.specs.declared.layout.Layout as records
 use Rattle.updates.specs.Said.{Update, updateOf}
 use Rattle.updates.specs.Applied as updates
 use Rattle.rules.specs.Samples.{Renderer, applied, updated, slotted}
+use Rattle.rules.specs.Ranges.{Ranged}
 use Rattle.store.specs.declared.Small.{Small}
 use Rattle.store.specs.Layout.{size, joined, infosOf, placesOf}
 use Rattle.claim.specs.Hall.{Sent, hall, sentAt, sentOf}
+use Rattle.claim.proofs.Sound.{Within}
 use Rattle.frame.specs.Held.{held, IsHeld}
 use Rattle.frame.specs.Begin.{withState, atSlot, CanStart}
 use Rattle.frame.proofs.Changed.{changed, changed-long, changed-held}
@@ -162,3 +165,7 @@ can-start h c = rw (h .is) c
 
 pub slotted-after : {x : Renderer Timed} {s r : Small} {b c : List ℕ} → IsHeld x s b → IsHeld (slotted hall (held s b)) r c → IsHeld (slotted hall x) r c
 slotted-after h g = record { is = g .is ∙ ap (slotted hall) (h .is); long = g .long }
+
+-- a renderer within document 01's ranges
+pub ranged-starts : (r : Renderer Timed) → Ranged hall Within r → CanStart r
+ranged-starts r g = record { within = timed.within-later (r .position) 1099511627776 (r .meta .state) (g .position) (g .meta .state .within); start = omega (arith, g .start, g .position) }

@@ -8,7 +8,6 @@ use lib.Dec.{ltb}
 use lib.ListN.{length, take, drop, length-append, length-drop}
 use lib.Seq.{length-take-le, take-at, drop-at, drop-drop}
 use Rattle.words.specs.Words.{wordsAt}
-use Rattle.timed.specs.declared.state.MetadataRendererState.{MetadataRendererState}
 use Rattle.store.specs.declared.Small.{Small}
 use Rattle.store.specs.Layout.{size, joined, infosOf, placesOf}
 use Rattle.store.proofs.Bytes.{words-drop}

@@ -64,14 +64,7 @@ fn starts_slot(started: bool, t: usize) -> bool
 }
 
 // The update at record u, whose sample offset is t.
-fn apply_one(
-    s: Small,
-    state: &mut [u8],
-    meta: &[u8],
-    u: usize,
-    t: usize,
-    at: StreamSample,
-) -> Small
+fn apply_one(s: Small, state: &mut [u8], meta: &[u8], u: usize, t: usize, at: StreamSample) -> Small
     requires { ⌜ (length (now state) ≡ size) × (at .0 ≡ s .position) × WholeUpdate (now meta) u ⌝ }
     ensures { λ r. ⌜ IsHeld (applied hall t (record { offset = t; said = updateOf (now (meta .entry)) u }) (held s (now (state .entry)))) r (now (state .exit)) ⌝ }
 {

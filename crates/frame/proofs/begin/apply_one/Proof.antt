@@ -1,67 +1,50 @@
-use mathlib.Core.Path.{sym, ap, _∙_}
+-- `frame::begin::apply_one`: the infos go through the lent part, the clock by whether a new slot starts. Assumes nothing.
+use mathlib.Core.Path.{ap, _∙_}
 use mathlib.Core.Bool.{true, false}
-use native.Mathlib.Omega.{arith}
 use denote.Ref.{now}
+use borrow.Author.Needs.{needs}
 use Rattle.updates.specs.Said.{updateOf}
 use Rattle.frame.specs.Begin.{atSlot}
 use Rattle.frame.proofs.Begins.{one-applied}
-use borrow.Author.Needs.{needs}
 use Rattle.frame.proofs.begin.apply_one.Statement.{statement}
 use Rattle.frame.proofs.begin.apply_one.Tie as tie
-use Rattle.frame.proofs.begin.apply_one.Reads as reads
-use Rattle.frame.proofs.begin.apply_one.Lts as lts
-use Rattle.frame.proofs.begin.at_slot.Reads as at-slot-reads
-use Rattle.frame.proofs.begin.starts_slot.Reads as starts-slot-reads
-use Rattle.frame.proofs.begin.with_state.Reads as with-state-reads
-use Rattle.updates.proofs.update.apply_update.Reads as apply-update-reads
 
--- src/begin.rt:79:9
 starts-slot-requires : tie.Need-starts-slot-requires
 starts-slot-requires c κs = search needs
 
--- src/begin.rt:82:38
 sub-apply-update : tie.Need-sub-apply-update
 sub-apply-update c = search needs
 
--- src/begin.rt:82:38
 part-apply-update-start : tie.Need-part-apply-update-start
 part-apply-update-start c = search needs
 
--- src/begin.rt:82:38
 part-apply-update-end : tie.Need-part-apply-update-end
 part-apply-update-end c = search needs
 
--- src/begin.rt:82:9
 apply-update-requires : tie.Need-apply-update-requires
 apply-update-requires c κs = search needs
 
--- src/begin.rt:83:9
 with-state-requires : tie.Need-with-state-requires
 with-state-requires c κs = search needs
 
--- src/begin.rt:85:9
 at-slot-requires : tie.Need-at-slot-requires
 at-slot-requires c κs = search needs
 
--- src/begin.rt:85:9
 same-length : tie.Need-same-length
 same-length c = search needs
 
--- src/begin.rt:85:9
 returns : tie.Need-returns
-returns c = 
+returns c =
     let s = c .before .before .before .before .before .before .before .before .before .before .before .args in
     let p = c .before .before .before .before .before .before .before .before .before .before .before .pre in
     let u = c .before .before .before .before .before .apply-update in
     one-applied (s .t) (updateOf (now (s .meta)) (s .u)) (s .s) (now (s .state)) true (s .at .0) (u .result) (u .last .1 .0) (c .at-slot .result) (p .0) (search needs) (cc) (p .1) (u .ensures) (c .at-slot .ensures ∙ ap atSlot (c .before .before .with-state .ensures))
 
--- src/begin.rt:67:1
 same-length-2 : tie.Need-same-length-2
 same-length-2 c = search needs
 
--- src/begin.rt:67:1
 returns-2 : tie.Need-returns-2
-returns-2 c = 
+returns-2 c =
     let s = c .before .before .before .before .before .before .before .before .before .before .args in
     let p = c .before .before .before .before .before .before .before .before .before .before .pre in
     let u = c .before .before .before .before .apply-update in

@@ -1,11 +1,8 @@
+-- `frame::begin::begin`: the slot after the updates. Assumes nothing.
 use borrow.Author.Needs.{needs}
 use Rattle.frame.proofs.Begins.{can-start, slotted-after}
 use Rattle.frame.proofs.begin.begin.Statement.{statement}
 use Rattle.frame.proofs.begin.begin.Tie as tie
-use Rattle.frame.proofs.begin.begin.Reads as reads
-use Rattle.frame.proofs.begin.begin.Lts as lts
-use Rattle.frame.proofs.begin.apply_sent.Reads as apply-sent-reads
-use Rattle.frame.proofs.begin.start_slot.Reads as start-slot-reads
 
 apply-sent-requires : tie.Need-apply-sent-requires
 apply-sent-requires c κs = search needs
