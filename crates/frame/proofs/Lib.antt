@@ -8,3 +8,4 @@ pub mod Passing
 pub mod Changed
 pub mod Begins
 pub mod Opening
+pub mod Running

@@ -104,12 +104,21 @@ pub fn render(
         small = begin(small, state, meta, l, t, at);
         let left = next_offset(l, t, samples) - t;
         let k = run_length(small.state.initialized, small.phase, small.pending, left);
-        small = pass(small, state, pcm, out, codes, objects, samples, t, k, stride, ready);
+        small = pass(
+            small,
+            state,
+            pcm,
+            out,
+            codes,
+            objects,
+            samples,
+            t,
+            k,
+            stride,
+            ready,
+        );
         t += k;
         ready = ready_after(ready, small.pending);
     }
-    Rendered {
-        small,
-        ready,
-    }
+    Rendered { small, ready }
 }
