@@ -1,9 +1,7 @@
-use Prim.Native.Nat.{ℕ, _+_, _-_, _<_}
-use mathlib.Core.Path.{_≡_, sym, ap, _∙_}
-use mathlib.Core.List.{List}
+use Prim.Native.Nat.{ℕ, _+_, _-_}
+use mathlib.Core.Path.{sym, ap, _∙_}
 use native.Mathlib.Omega.{arith}
 use native.Mathlib.Nat.{le-of-lt}
-use borrow.Author.Needs.{needs}
 use denote.Ref.{now}
 use Rattle.rules.specs.Refusals.{Args}
 use Rattle.claim.specs.Hall.{sentOf}
