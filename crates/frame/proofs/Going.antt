@@ -120,7 +120,7 @@ module _ (L : Leaves) (B : Layout L) (F : Facts L B) where
           let s = slotted-met L B F (countsAfter L t us (L .counts (r .meta))) (updated L t us r) u in
           let w = untouched L t us r in
           let e = slotted-shape L B F (updated L t us r) (λ n. S .rests n (updated L t us r .meta))
-              ∙ updated-shape L B F (S .Coded) (S .keeps) (S .gives) (sentOf L us) (a .objects) (a .codes) t us r k (S .within (r .position) (r .meta) (g .ranged .meta)) in
+          ∙ updated-shape L B F (S .Coded) (S .keeps) (S .gives) (sentOf L us) (a .objects) (a .codes) t us r k (S .within (r .position) (r .meta) (g .ranged .meta)) in
           record {
             updates = u .0;
             ranged = s .0;

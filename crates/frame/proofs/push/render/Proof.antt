@@ -1,3 +1,4 @@
+-- `frame::push::render` meets its contract: the loop keeps `Running`, and what is left of the frame falls at each turn. Assumes nothing.
 use Prim.Native.Nat.{ℕ, _+_, _-_}
 use mathlib.Core.Path.{sym, ap, _∙_}
 use native.Mathlib.Omega.{arith}
