@@ -2,16 +2,15 @@
 use Prim.Native.Nat.{ℕ, zero, suc, _+_, _≤_, _<_}
 use native.Mathlib.Nat.{zero-add, suc-add}
 use native.Mathlib.Omega.{arith}
-use mathlib.Core.Path.{_≡_, refl, sym, ap, _∙_, subst}
-use mathlib.Core.Bool.{Bool, true, false, cond, _&&_, and-false}
+use mathlib.Core.Path.{_≡_, refl, sym, ap, _∙_}
+use mathlib.Core.Bool.{Bool, true, false, cond, _&&_}
 use mathlib.Core.List.{List, [], _∷_, _++_, append-assoc, append-nil}
 use lib.Dec.{leb, eqb, eqb·suc-zero}
 use lib.Ieee.{Float}
 use borrow.Author.Tests.{lt-leb}
 use Rattle.ieee.specs.Bounds.{All}
 use Rattle.lowpass.specs.Lowpass.{output, next}
-use Rattle.lowpass.specs.declared.BiquadLowpassState.{BiquadLowpassState}
-use Rattle.rules.specs.Parts.{Channels, Places, none, joined, laid}
+use Rattle.rules.specs.Parts.{Places, none, joined, laid}
 use Rattle.rules.specs.Leaves.{Leaves, started}
 use Rattle.rules.specs.Mix.{Moment, heard, fed}
 use Rattle.rules.specs.Samples.{Frame, State, After, row, moment, updated, slotted, closing, passed, sampled, framed}

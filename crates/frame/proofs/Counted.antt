@@ -1,7 +1,7 @@
 -- How many samples a frame gives out: whole blocks of 64, the same number on each of the twelve channels. Assumes nothing.
 use Prim.Native.Nat.{ℕ, zero, suc, _+_, _*_, _≤_, _<_}
 use native.Mathlib.Omega.{arith}
-use mathlib.Core.Path.{_≡_, refl, sym, ap, _∙_, subst}
+use mathlib.Core.Path.{_≡_, refl, ap, _∙_}
 use mathlib.Core.Bool.{Bool, true, false, cond}
 use mathlib.Core.List.{List, [], _∷_}
 use lib.Dec.{leb, eqb, lit<}
@@ -10,10 +10,10 @@ use lib.Ieee.{binary32, ofBits}
 use borrow.Author.Tests.{leb-true, leb-false}
 use Rattle.lowpass.specs.Lowpass.{next}
 use Rattle.lowpass.specs.declared.BiquadLowpassState.{BiquadLowpassState}
-use Rattle.rules.specs.Parts.{Places, none, floats, laid}
+use Rattle.rules.specs.Parts.{Places, floats, laid}
 use Rattle.rules.specs.Leaves.{Leaves, started}
 use Rattle.rules.specs.Mix.{Moment, fed}
-use Rattle.rules.specs.Samples.{Frame, State, After, limited, row, moment, applied, updated, slotted, closing, passed, sampled, framed}
+use Rattle.rules.specs.Samples.{Frame, State, After, row, moment, applied, updated, slotted, closing, sampled, framed}
 use Rattle.rules.proofs.Lists.{length-map, length-laid}
 use Rattle.rules.proofs.Limited.{length-limited}
 use Rattle.rules.proofs.Clock.{untouched}

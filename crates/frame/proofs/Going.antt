@@ -3,27 +3,25 @@ use Prim.Native.Nat.{ℕ, zero, suc, _+_, _-_, _*_, _%_, _≤_, _<_, zero-le}
 use native.Mathlib.Nat.{zero-add, suc-add}
 use native.Mathlib.Omega.{arith}
 use mathlib.Core.Path.{_≡_, refl, sym, ap, _∙_, subst}
-use mathlib.Core.Bool.{Bool, true, false, cond, _&&_, _||_}
+use mathlib.Core.Bool.{Bool, true, false, cond, _||_}
 use mathlib.Core.List.{List, [], _∷_}
-use lib.Dec.{T, leb, eqb, eqb·suc-zero, lit<}
+use lib.Dec.{eqb, eqb·suc-zero, lit<}
 use lib.ListN.{length, length-append}
 use borrow.Author.Tests.{eqb-true, eqb-false}
 use Rattle.ieee.specs.Bounds.{All}
-use Rattle.rules.specs.Parts.{Channels, joined}
-use Rattle.rules.specs.Leaves.{Leaves, Shape, started}
-use Rattle.rules.specs.Samples.{Frame, State, After, applied, updated, slotted, framed, opened, pushed}
-use Rattle.rules.specs.Refusals.{Args, Sent, listed, lacking, countsAfter, lackingFrom, offsets, shapeAt}
-use Rattle.rules.specs.Ranges.{Ranged}
+use Rattle.rules.specs.Leaves.{Leaves, Shape}
+use Rattle.rules.specs.Samples.{State, After, updated, slotted, framed, opened, pushed}
+use Rattle.rules.specs.Refusals.{Args, listed, lacking, countsAfter, lackingFrom, offsets, shapeAt}
 use Rattle.rules.specs.Calls.{frameOf}
 use Rattle.rules.specs.Block.{Layout, written}
 use Rattle.rules.proofs.Facts.{Facts}
-use Rattle.rules.proofs.Judged.{Passed, Roomy, is-roomy, samples-fit, sentOf}
+use Rattle.rules.proofs.Judged.{Passed, is-roomy, samples-fit, sentOf}
 use Rattle.rules.proofs.Clock.{untouched}
-use Rattle.rules.proofs.Ranged.{R, Met, or-false, applied-ranged, updated-ranged, slotted-met, framed-ranged, opened-ranged}
-use Rattle.rules.proofs.Shapes.{Matches, matches-on, Judged, judged}
+use Rattle.rules.proofs.Ranged.{R, or-false, updated-ranged, slotted-met, framed-ranged, opened-ranged}
+use Rattle.rules.proofs.Shapes.{Matches, matches-on, judged, updated-shape, slotted-shape}
 use Rattle.frame.specs.Chunk.{chunk}
 use Rattle.frame.specs.Out.{behind}
-use Rattle.frame.proofs.Chunks.{NoneAt, both, Quiet, Turn, chunk-passes, chunk-whole, turn}
+use Rattle.frame.proofs.Chunks.{NoneAt, both, Turn, chunk-passes, chunk-whole, turn}
 use Rattle.frame.proofs.Outs.{behind-joined, behind-nothing, behind-none, length-behind}
 use Rattle.frame.proofs.Counted.{Counted, framed-counted}
 
@@ -56,34 +54,13 @@ module _ (L : Leaves) where
       ∙ ap (λ (i : ℕ). lackingFrom L m i us k) (let e : suc t + n ≡ t + suc n = omega arith in e)
 
 module _ (L : Leaves) (B : Layout L) (F : Facts L B) where
-  -- updates and slots in any timed state within its ranges
-  pub record Shaped : Type 0 where
-    pub apply : (n : ℕ) (u : L .Update) (m : L .Meta) → F .Checked u → F .Within n m → L .shape (L .apply n u m) ≡ L .sent u
-    pub slot : (n : ℕ) (m : L .Meta) → L .shape (L .slot n m) ≡ L .shape m
-
-  -- the shape that sample t is heard with
-  module _ (S : Shaped) (all : List Sent) (objects : ℕ) (codes : List ℕ) (t : ℕ) where
-    updated-shape : (us : List (L .Update)) (r : State L) (k : L .Counts) → All (F .Checked) us → lacking L t us k ≡ false → Met L B F k r
-        → L .shape (updated L t us r .meta) ≡ shapeAt all objects codes t (sentOf L us) (L .shape (r .meta))
-    updated-shape [] r k c e g = refl
-    updated-shape (u ∷ us) r k c e g = go (eqb (L .offset u) t) e (λ s o i h. updated-shape us s o (c .1) i h)
-      where
-        go : (b : Bool) → cond b (L .lacks u k || lacking L t us (L .nextCounts u k)) (lacking L t us k) ≡ false
-            → ((s : State L) (o : L .Counts) → lacking L t us o ≡ false → Met L B F o s → L .shape (updated L t us s .meta) ≡ shapeAt all objects codes t (sentOf L us) (L .shape (s .meta)))
-            → L .shape (updated L t us (cond b (applied L t u r) r) .meta) ≡ shapeAt all objects codes t (sentOf L us) (cond b (L .sent u) (L .shape (r .meta)))
-        go true e rec =
-            let p = or-false L B F (L .lacks u k) (lacking L t us (L .nextCounts u k)) e in
-            rec (applied L t u r) (L .nextCounts u k) (p .1)
-            (applied-ranged L B F t u r (c .0) (ap (L .lacks u) (g .1) ∙ p .0) (g .0), F .counts-apply (r .position) u (r .meta) (c .0) (g .0 .meta) ∙ ap (L .nextCounts u) (g .1))
-            ∙ ap (shapeAt all objects codes t (sentOf L us)) (S .apply (r .position) u (r .meta) (c .0) (g .0 .meta))
-        go false e rec = rec r k e g
-
-  slotted-shape : Shaped → (r : State L) → L .shape (slotted L r .meta) ≡ L .shape (r .meta)
-  slotted-shape S r = go (started L (r .meta) && eqb (r .phase) 0)
-    where
-      go : (b : Bool) → L .shape (cond b (L .slot (r .start) (r .meta)) (r .meta)) ≡ L .shape (r .meta)
-      go true = S .slot (r .start) (r .meta)
-      go false = refl
+  -- what timed states within their ranges have for updates and slots to give them their shapes, gains of any bits
+  pub record Shaped : Type 1 where
+    pub Coded : L .Meta → Type 0
+    pub within : (n : ℕ) (m : L .Meta) → F .Within n m → Coded m
+    pub keeps : (n : ℕ) (u : L .Update) (m : L .Meta) → F .Checked u → Coded m → Coded (L .apply n u m)
+    pub gives : (n : ℕ) (u : L .Update) (m : L .Meta) → F .Checked u → Coded m → L .shape (L .apply n u m) ≡ L .sent u
+    pub rests : (n : ℕ) (m : L .Meta) → L .shape (L .slot n m) ≡ L .shape m
 
   -- ---- a push on the renderer r₀
   module _ (r₀ : State L) (a : Args) where
@@ -142,7 +119,8 @@ module _ (L : Leaves) (B : Layout L) (F : Facts L B) where
           let u = updated-ranged L B F t us r (L .counts (r .meta)) k l (g .ranged, refl) in
           let s = slotted-met L B F (countsAfter L t us (L .counts (r .meta))) (updated L t us r) u in
           let w = untouched L t us r in
-          let e = slotted-shape S (updated L t us r) ∙ updated-shape S (sentOf L us) (a .objects) (a .codes) t us r (L .counts (r .meta)) k l (g .ranged, refl) in
+          let e = slotted-shape L B F (updated L t us r) (λ n. S .rests n (updated L t us r .meta))
+          ∙ updated-shape L B F (S .Coded) (S .keeps) (S .gives) (sentOf L us) (a .objects) (a .codes) t us r k (S .within (r .position) (r .meta) (g .ranged .meta)) in
           record {
             updates = u .0;
             ranged = s .0;

@@ -6,7 +6,7 @@ use mathlib.Core.Path.{_≡_, refl, sym, ap, _∙_}
 use mathlib.Core.List.{List, [], _∷_, _++_, map, map-append}
 use lib.ListN.{length, set}
 use lib.Seq.{set-comm}
-use lib.Ieee.{Float, binary32, toBits}
+use lib.Ieee.{binary32, toBits}
 use Rattle.words.specs.Words.{withNumber, withWord, withWords}
 use Rattle.words.proofs.Runs.{run-length-kept}
 use Rattle.rules.specs.Parts.{Channels, none, joined}

@@ -1,13 +1,13 @@
 -- The frame's loop on the hall renderer: what each call in a turn is owed, and what a turn leaves. Assumes nothing.
 use Prim.Native.Nat.{ℕ, zero, suc, _+_, _-_, _*_, _%_, _≤_, _<_}
-use native.Mathlib.Nat.{le-of-lt, le-of-eq}
+use native.Mathlib.Nat.{le-of-lt}
 use native.Mathlib.Omega.{arith}
 use mathlib.Core.Path.{_≡_, refl, sym, ap, _∙_, subst}
-use mathlib.Core.Bool.{Bool, true, false, cond, not, _&&_, _||_}
+use mathlib.Core.Bool.{true, false, _&&_}
 use mathlib.Core.List.{List}
-use lib.Dec.{eqb, leb}
+use lib.Dec.{eqb}
 use lib.ListN.{length, getD}
-use borrow.Author.Tests.{leb-true, eqb-true, ne-eqb}
+use borrow.Author.Tests.{eqb-true, ne-eqb}
 use Rattle.ieee.specs.Bounds.{All}
 use Rattle.words.specs.Words.{Bytes, wordsAt}
 use Rattle.angles.specs.Angle.{Listed}
@@ -18,19 +18,21 @@ use Rattle.records.specs.Order.{next}
 use Rattle.records.specs.declared.layout.Layout.{Layout}
 use Rattle.records.proofs.Times.{next-within, next-above, next-least}
 use Rattle.updates.specs.Whole.{WholeUpdates}
+use Rattle.updates.specs.Applied.{applied}
 use Rattle.updates.proofs.Passed.{passes-all}
 use Rattle.mixing.proofs.Passes.{pass-plain}
 use Rattle.rules.specs.Leaves.{started}
-use Rattle.rules.specs.Samples.{Frame, State, updated, slotted, opened, pushed}
-use Rattle.rules.specs.Refusals.{Args, every, room, sized}
+use Rattle.rules.specs.Samples.{State, updated, slotted, opened, pushed}
+use Rattle.rules.specs.Refusals.{Args, listed}
 use Rattle.rules.specs.Calls.{frameOf}
-use Rattle.rules.proofs.Judged.{Passed, is-passed, and-true, is-roomy, is-listed, rate-high, samples-fit}
+use Rattle.rules.proofs.Judged.{Passed, is-passed, and-true, is-roomy, is-listed, rate-high, is-sized, samples-fit}
 use Rattle.rules.proofs.Ranged.{R}
 use Rattle.store.specs.declared.Small.{Small}
 use Rattle.store.specs.Layout.{size, infosOf, decode}
 use Rattle.store.specs.Ranges.{smallValid, headsValid, valid}
 use Rattle.claim.specs.Hall.{hall, block, sentAt, sentOf}
 use Rattle.claim.proofs.Checked.{each-all}
+use Rattle.claim.proofs.Applied.{codes-long}
 use Rattle.claim.proofs.Shapes.{shape-apply, shape-slot}
 use Rattle.claim.proofs.Theorem.{facts}
 use Rattle.frame.specs.Held.{held, IsHeld}
@@ -39,46 +41,23 @@ use Rattle.frame.specs.Out.{behind}
 use Rattle.frame.specs.Begin.{CanBegin}
 use Rattle.frame.specs.Pass.{CanPass, Passes}
 use Rattle.frame.specs.Turns.{runLength, readyAfter, Accepted, IsRendered}
-use Rattle.frame.specs.declared.push.Rendered.{Rendered}
+use Rattle.frame.proofs.Begins.{ranged-starts}
 use Rattle.frame.proofs.Chunks.{NoneAt, Turn}
 use Rattle.frame.proofs.Going.{Shaped, Going, Begun, begun, step, starts, ends}
 use Rattle.frame.proofs.Opening.{RunLength, run-length-is}
 
--- ---- what refusals 1 and 2 leave
-
-stride-few : (stride bytes : ℕ) → room stride bytes ≡ true → stride ≤ 1536
-stride-few stride bytes e =
-    let x = and-true (eqb (stride % 64) 0 && leb 64 stride && leb stride 1536) (leb (48 * stride) bytes) e in
-    leb-true stride 1536 (and-true (eqb (stride % 64) 0 && leb 64 stride) (leb stride 1536) (x .0) .1)
-
-record Sized (a : Args) : Type 0 where
-  beds : length (a .codes) ≤ 18
-  objects : a .objects ≤ 16
-  pcm : length (a .pcm) ≡ 4 * ((length (a .codes) + a .objects) * a .samples)
-
-is-sized : (a : Args) → sized a ≡ true → Sized a
-is-sized a e =
-    let channels = length (a .codes) + a .objects in
-    let x1 = leb (a .samples) (a .stride) in
-    let x2 = leb (length (a .codes)) 18 in
-    let x3 = leb (a .objects) 16 in
-    let x4 = every (λ c. leb c 17) (a .codes) in
-    let x5 = eqb (length (a .pcm)) (4 * (channels * a .samples)) in
-    let y5 = and-true (x1 && x2 && x3 && x4 && x5) (eqb (a .samples) 0 || not (eqb channels 0)) e in
-    let y4 = and-true (x1 && x2 && x3 && x4) x5 (y5 .0) in
-    let y3 = and-true (x1 && x2 && x3) x4 (y4 .0) in
-    let y2 = and-true (x1 && x2) x3 (y3 .0) in
-    record {
-      beds = leb-true (length (a .codes)) 18 (and-true x1 x2 (y2 .0) .1);
-      objects = leb-true (a .objects) 16 (y2 .1);
-      pcm = eqb-true (length (a .pcm)) (4 * (channels * a .samples)) (y4 .1);
-    }
-
 -- ---- a push that was accepted
 
 shapes : Shaped hall block facts
-unfolding facts
-shapes = record { apply = λ n u m c h. shape-apply n u m c (h .state .codes); slot = shape-slot }
+unfolding facts applied
+shapes =
+    record {
+      Coded = λ m. length (m .state .codes) ≡ 18;
+      within = λ n m h. h .state .codes;
+      keeps = λ n u m c h. codes-long (u .said) (m .state .codes) ∙ h;
+      gives = shape-apply;
+      rests = shape-slot;
+    }
 
 valid-long : (b : List ℕ) → valid b ≡ true → length b ≡ size
 unfolding valid
@@ -98,7 +77,7 @@ pub record Taken (b : List ℕ) (a : Args) (l : Layout) : Type 0 where
 pub takes : (s : Small) (b : List ℕ) (a : Args) (l : Layout) → Accepted s b l a → Bytes b → Bytes (a .meta) → Taken b a l
 takes s b a l h bytes meta =
     let p = is-passed hall (decode b) a (h .clear) in
-    let x = stride-few (a .stride) (length (a .out)) (p .room) in
+    let x = is-roomy (a .stride) (length (a .out)) (p .room) .most in
     let y = samples-fit a (p .sized) in
     record {
       passed = p;
@@ -143,16 +122,12 @@ module _ (b : List ℕ) (a : Args) (l : Layout) (k : Taken b a l) (t : ℕ) (s :
   pub can-begin : (at : ℕ) → at ≡ decode b .position + t → CanBegin s state (a .meta) l t at
   unfolding facts
   can-begin at e =
-      let r = updated hall t (sentOf (a .meta)) (held s state) in
-      let u = here .updates in
-      let p = u .position in
-      let q = u .start in
       record {
         long = h .long;
         here = e ∙ sym (h .going .position);
         layout = k .layout;
         whole = k .whole;
-        slot = record { within = facts .within-later (r .position) 1099511627776 (r .meta) p (u .meta) .state .within; start = omega arith };
+        slot = ranged-starts (updated hall t (sentOf (a .meta)) (held s state)) (here .updates);
       }
 
   -- the next update or the frame's end
@@ -203,7 +178,7 @@ module _ (b : List ℕ) (a : Args) (l : Layout) (k : Taken b a l) (t : ℕ) (s :
             record {
               block = e .long;
               framed = record { room = omega arith; plain = pass-plain (a .pcm) 0 ((length (a .codes) + a .objects) * a .samples) (p .pass); span = turn-fits; short = let x = len .room in omega arith };
-              inputs = z .beds;
+              inputs = z .codes;
               few = z .objects;
               beds = r .meta .state .within .beds;
               dynamic = subst (λ (x : State hall). started hall (x .meta) ≡ true → hall .shape (x .meta) .objects ≡ a .objects) (sym (e .is)) (here .fits);
@@ -211,8 +186,8 @@ module _ (b : List ℕ) (a : Args) (l : Layout) (k : Taken b a l) (t : ℕ) (s :
               phase = le-of-lt (r .phase);
               position = r .position;
               start = omega arith;
-              rate = le-of-lt (rate-high (is-listed (s′ .rate) (ap (λ (x : State hall). Rattle.rules.specs.Refusals.listed (x .rate)) (e .is) ∙ here .listed)));
-              room = λ x. roomy (g .whole) (w .whole) (k .ranged .pending) (samples-fit a (p .sized)) turn-fits (g .pending) (ap (λ (x : State hall). x .pending) (e .is) ∙ here .pending) x;
+              rate = le-of-lt (rate-high (is-listed (s′ .rate) (ap (λ (x : State hall). listed (x .rate)) (e .is) ∙ here .listed)));
+              room = λ x. roomy (g .whole) (w .whole) (k .ranged .pending) (z .samples) turn-fits (g .pending) (ap (λ (x : State hall). x .pending) (e .is) ∙ here .pending) x;
               output = omega arith;
             }
           where

@@ -71,6 +71,7 @@ rate-high r96000 = lit< tt
 pub record Roomy (stride bytes : ℕ) : Type 0 where
   pub whole : stride % 64 ≡ 0
   pub some : 64 ≤ stride
+  pub most : stride ≤ 1536
   pub long : 48 * stride ≤ bytes
 
 pub is-roomy : (stride bytes : ℕ) → room stride bytes ≡ true → Roomy stride bytes
@@ -78,7 +79,7 @@ is-roomy stride bytes e =
     let a = and-true (eqb (stride % 64) 0 && leb 64 stride && leb stride 1536) (leb (48 * stride) bytes) e in
     let b = and-true (eqb (stride % 64) 0 && leb 64 stride) (leb stride 1536) (a .0) in
     let c = and-true (eqb (stride % 64) 0) (leb 64 stride) (b .0) in
-    record { whole = eqb-true (stride % 64) 0 (c .0); some = leb-true 64 stride (c .1); long = leb-true (48 * stride) bytes (a .1) }
+    record { whole = eqb-true (stride % 64) 0 (c .0); some = leb-true 64 stride (c .1); most = leb-true stride 1536 (b .1); long = leb-true (48 * stride) bytes (a .1) }
 
 -- ---- the frame's length
 pub record Sizes (a : Args) : Type 0 where

@@ -75,26 +75,26 @@ module _ (all : List Sent) (objects : ℕ) (codes : List ℕ) where
       go false q e st = absurd (subst T (sym st ∙ q) tt)
 
 module _ (L : Leaves) (B : Layout L) (F : Facts L B) where
-  abbrev Sound : State L → Type 0
-  Sound r = F .Sound (r .meta)
-
-  -- the shape that sample t is heard with
-  module _ (all : List Sent) (objects : ℕ) (codes : List ℕ) (t : ℕ) where
-    updated-shape : (us : List (L .Update)) (r : State L) → All (F .Checked) us → Sound r → L .shape (updated L t us r .meta) ≡ shapeAt all objects codes t (sentOf L us) (L .shape (r .meta))
-    updated-shape [] r k s = refl
-    updated-shape (u ∷ us) r k s =
-        let x = either Sound (eqb (L .offset u) t) {x = applied L t u r} {y = r} (F .sound-apply (r .position) u (r .meta) (k .0) s) s in
-        updated-shape us (cond (eqb (L .offset u) t) (applied L t u r) r) (k .1) x ∙ ap (shapeAt all objects codes t (sentOf L us)) (go (eqb (L .offset u) t))
+  -- of timed states of which updates keep P, and to which they give their shape
+  module _ (P : L .Meta → Type 0) (keeps : (n : ℕ) (u : L .Update) (m : L .Meta) → F .Checked u → P m → P (L .apply n u m))
+      (gives : (n : ℕ) (u : L .Update) (m : L .Meta) → F .Checked u → P m → L .shape (L .apply n u m) ≡ L .sent u) where
+    -- the shape that sample t is heard with
+    pub updated-shape : (all : List Sent) (objects : ℕ) (codes : List ℕ) (t : ℕ) (us : List (L .Update)) (r : State L) → All (F .Checked) us → P (r .meta)
+        → L .shape (updated L t us r .meta) ≡ shapeAt all objects codes t (sentOf L us) (L .shape (r .meta))
+    updated-shape all objects codes t [] r k s = refl
+    updated-shape all objects codes t (u ∷ us) r k s =
+        let x = either (λ (r : State L). P (r .meta)) (eqb (L .offset u) t) {x = applied L t u r} {y = r} (keeps (r .position) u (r .meta) (k .0) s) s in
+        updated-shape all objects codes t us (cond (eqb (L .offset u) t) (applied L t u r) r) (k .1) x ∙ ap (shapeAt all objects codes t (sentOf L us)) (go (eqb (L .offset u) t))
       where
         go : (b : Bool) → L .shape (cond b (applied L t u r) r .meta) ≡ cond b (L .sent u) (L .shape (r .meta))
-        go true = F .shape-apply (r .position) u (r .meta) (k .0) s
+        go true = gives (r .position) u (r .meta) (k .0) s
         go false = refl
 
-  slotted-shape : (r : State L) → Sound r → L .shape (slotted L r .meta) ≡ L .shape (r .meta)
-  slotted-shape r s = go (started L (r .meta) && eqb (r .phase) 0)
+  pub slotted-shape : (r : State L) → ((n : ℕ) → L .shape (L .slot n (r .meta)) ≡ L .shape (r .meta)) → L .shape (slotted L r .meta) ≡ L .shape (r .meta)
+  slotted-shape r rests = go (started L (r .meta) && eqb (r .phase) 0)
     where
       go : (b : Bool) → L .shape (cond b (L .slot (r .start) (r .meta)) (r .meta)) ≡ L .shape (r .meta)
-      go true = F .shape-slot (r .start) (r .meta) s
+      go true = rests (r .start)
       go false = refl
 
   module _ (r : State L) (a : Args) (p : Passed L r a) (k : Admitted L B F (frameOf L a)) where
@@ -119,13 +119,16 @@ module _ (L : Leaves) (B : Layout L) (F : Facts L B) where
     met-good : (t : ℕ) (s : State L) → Good L B F s → Good L B F (met t s)
     met-good t s g = before-good L B F t (f .updates) s (k .updates) g
 
+    slot-rests : (t : ℕ) (s : State L) → Good L B F s → L .shape (met t s .meta) ≡ L .shape (updated L t (f .updates) s .meta)
+    slot-rests t s g = let u = updated L t (f .updates) s in slotted-shape u (λ n. F .shape-slot n (u .meta) (updated-good L B F t (f .updates) s (k .updates) g .steady .meta))
+
     met-shape : (t : ℕ) (s : State L) → Good L B F s → L .shape (met t s .meta) ≡ shaped t (L .shape (s .meta))
     met-shape t s g =
-        slotted-shape (updated L t (f .updates) s) (updated-good L B F t (f .updates) s (k .updates) g .steady .meta) ∙ updated-shape sent (a .objects) (a .codes) t (f .updates) s (k .updates) (g .steady .meta)
+        slot-rests t s g ∙ updated-shape (F .Sound) (F .sound-apply) (F .shape-apply) sent (a .objects) (a .codes) t (f .updates) s (k .updates) (g .steady .meta)
 
     met-started : (t : ℕ) (s : State L) → Good L B F s → started L (s .meta) ≡ before L r a t → started L (met t s .meta) ≡ begun L r a t
     met-started t s g e =
-        ap (λ (s : Shape). s .started) (slotted-shape (updated L t (f .updates) s) (updated-good L B F t (f .updates) s (k .updates) g .steady .meta))
+        ap (λ (s : Shape). s .started) (slot-rests t s g)
         ∙ updated-started L B F t (f .updates) s (k .updates) (g .steady .meta) ∙ ap (λ (b : Bool). b || at L t (f .updates)) e ∙ begins L r a t
 
     j : Judged sent (a .objects) (a .codes) (a .samples) (L .shape (r .meta))

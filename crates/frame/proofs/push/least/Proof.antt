@@ -1,8 +1,6 @@
 use borrow.Author.Tests.{lt-ltb, le-ltb}
 use Rattle.frame.proofs.push.least.Statement.{statement}
 use Rattle.frame.proofs.push.least.Tie as tie
-use Rattle.frame.proofs.push.least.Reads as reads
-use Rattle.frame.proofs.push.least.Lts as lts
 
 returns : tie.Need-returns
 returns c = simp (lt-ltb _ _ (c .if1 .taken))

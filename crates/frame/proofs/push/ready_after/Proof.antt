@@ -2,8 +2,6 @@ use borrow.Author.Needs.{needs}
 use borrow.Author.Tests.{eq-eqb, ne-eqb}
 use Rattle.frame.proofs.push.ready_after.Statement.{statement}
 use Rattle.frame.proofs.push.ready_after.Tie as tie
-use Rattle.frame.proofs.push.ready_after.Reads as reads
-use Rattle.frame.proofs.push.ready_after.Lts as lts
 
 add-result : tie.Need-add-result
 add-result c = search needs

@@ -1,9 +1,8 @@
-use Prim.Native.Nat.{ℕ, _+_, _-_, _<_}
-use mathlib.Core.Path.{_≡_, sym, ap, _∙_}
-use mathlib.Core.List.{List}
+-- `frame::push::render` meets its contract: the loop keeps `Running`, and what is left of the frame falls at each turn. Assumes nothing.
+use Prim.Native.Nat.{ℕ, _+_, _-_}
+use mathlib.Core.Path.{sym, ap, _∙_}
 use native.Mathlib.Omega.{arith}
 use native.Mathlib.Nat.{le-of-lt}
-use borrow.Author.Needs.{needs}
 use denote.Ref.{now}
 use Rattle.rules.specs.Refusals.{Args}
 use Rattle.claim.specs.Hall.{sentOf}
