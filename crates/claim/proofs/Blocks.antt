@@ -40,7 +40,7 @@ rate-in n (inl e) = t-or (eqb n 0) (listed n) (inl (eq-eqb n 0 e))
 rate-in n (inr e) = t-or (eqb n 0) (listed n) (inr e)
 
 -- a renderer in the rules' ranges is in the layout's
-ranged : (r : Renderer Timed) → rules.Ranged hall Within r → Ranged r
+pub ranged : (r : Renderer Timed) → rules.Ranged hall Within r → Ranged r
 ranged r h =
     let f = h .filter in
     record {

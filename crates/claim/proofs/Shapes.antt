@@ -42,7 +42,7 @@ shape-objects m = each-length (sourceOf (m .state)) (m .state .objects - m .stat
 
 -- ---- the codes that an update gives
 
-each-same : (f g : ℕ → ℕ) (n : ℕ) → ((k : ℕ) → k < n → f k ≡ g k) → each f n ≡ each g n
+pub each-same : (f g : ℕ → ℕ) (n : ℕ) → ((k : ℕ) → k < n → f k ≡ g k) → each f n ≡ each g n
 unfolding each
 each-same f g zero h = refl
 each-same f g (suc n) h =
@@ -65,18 +65,18 @@ code-at u (suc n) i cs k false e a b l =
     let s : k ≡ i = omega arith in
     code-before u n (suc i) (codeGiven u i cs) k (omega arith) ∙ rw s (getD-set-same cs i (u .code i) 0 (omega arith))
 
-codes-are : (u : Update) (cs : List ℕ) (k : ℕ) → length cs ≡ 18 → k < 18 → getD (codesGiven u cs) k 0 ≡ u .code k
+pub codes-are : (u : Update) (cs : List ℕ) (k : ℕ) → length cs ≡ 18 → k < 18 → getD (codesGiven u cs) k 0 ≡ u .code k
 unfolding codesGiven
 codes-are u cs k e l = code-at u 18 0 cs k (ltb 0 k) refl (omega arith) (omega arith) (omega arith)
 
 -- ---- shapes
 
-pub shape-apply : (n : ℕ) (u : Sent) (m : Timed) → Checked u → Sound m → hall .shape (hall .apply n u m) ≡ hall .sent u
+pub shape-apply : (n : ℕ) (u : Sent) (m : Timed) → Checked u → length (m .state .codes) ≡ 18 → hall .shape (hall .apply n u m) ≡ hall .sent u
 unfolding applied
 shape-apply n u m c h =
     let few : u .said .beds ≤ 18 = subst (λ (v : Sent). v .said .beds ≤ 18) (sym (c .is)) (whole (c .meta) (c .bytes) (c .laid) (c .fit) (c .index) (c .there) .few-beds) in
     ap (λ (l : List ℕ). record { started = true; objects = u .said .objects - u .said .isf; beds = l })
-    (each-same (λ k. getD (codesGiven (u .said) (m .state .codes)) k 0) (u .said .code) (u .said .beds) (λ k l. codes-are (u .said) (m .state .codes) k (h .codes) (omega arith)))
+    (each-same (λ k. getD (codesGiven (u .said) (m .state .codes)) k 0) (u .said .code) (u .said .beds) (λ k l. codes-are (u .said) (m .state .codes) k h (omega arith)))
 
 pub shape-slot : (n : ℕ) (m : Timed) → hall .shape (hall .slot n m) ≡ hall .shape m
 shape-slot n m = let s = slots.shape-slot n m in rw (s .initialized, s .objects, s .isf, s .beds, s .codes) refl

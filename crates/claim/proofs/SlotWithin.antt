@@ -1,11 +1,9 @@
 -- A slot that starts no later than a stream position keeps document 01's ranges at that position. Assumes nothing.
 use Prim.Native.Nat.{ℕ, zero, suc, _+_, _-_, _*_, _<_, _≤_}
-use mathlib.Core.Path.{_≡_, refl, sym, ap, subst, _∙_}
+use mathlib.Core.Path.{_≡_, refl, ap, _∙_}
 use mathlib.Core.Bool.{Bool, true, false, cond}
 use mathlib.Core.List.{List, [], _∷_}
 use native.Mathlib.Omega.{arith}
-use borrow.Author.Tests.{ltb-true}
-use lib.Dec.{T, eqb, ltb}
 use lib.ListN.{length, getD}
 use lib.Ieee.{Float, nan, binary32}
 use lib.Ieee.Bits.{ofBits-fits}
@@ -16,79 +14,18 @@ use Rattle.vectors.specs.declared.Maybe.the-variants.{Absent, Value}
 use Rattle.vectors.specs.Fit.{VecFits}
 use Rattle.timed.specs.Infos.{flagOf, headAt, maybeAt}
 use Rattle.timed.specs.Objects.{noSource, noTrack}
-use Rattle.timed.specs.Slot.{Ramps, InRange, Work, middle, noBlock, due, blockApplied, blockAt, blocksApplied, active, updatedSources}
-use Rattle.timed.specs.State.{Timed, noElement, elementOf, timingOf, reachOf, taken, slotOf, slotAt}
-use Rattle.timed.specs.declared.state.BlockState.{BlockState}
+use Rattle.timed.specs.Slot.{InRange}
+use Rattle.timed.specs.State.{Timed, elementOf, slotAt}
 use Rattle.timed.specs.declared.state.MetadataRendererState.{MetadataRendererState}
-use Rattle.timed.specs.declared.slot.Timing.{Timing}
-use Rattle.timed.specs.declared.slot.Reach.{Reach}
-use Rattle.timed.proofs.Keeps.{times-in, cond-keeps, set-each}
-use Rattle.timed.proofs.Ramps.{ramp-ramps}
+use Rattle.timed.proofs.Kept.{slot-within}
 use Rattle.store.specs.Ranges.{leastFlags, headsValid}
 use Rattle.store.specs.Ranged.{Single, Singles, SourceSingles, TrackSingles, ElementRanged, StateRanged, InfosRanged}
 use Rattle.store.proofs.Whole.{all-at}
 use Rattle.claim.proofs.Sound.{Within}
-use Rattle.claim.proofs.SlotShape.{Shaped, slotOn, shape-slot}
+use Rattle.claim.proofs.SlotShape.{Shaped, shape-slot}
 use Rattle.claim.proofs.SlotInfos.{Like, like-head, slot-like}
 use Rattle.claim.proofs.SlotObjects.{Holds, InfosHave}
 use Rattle.claim.proofs.SlotState.{StateHas, slot-has}
-
--- ---- offsets and ramps
-
-abbrev InSlot : ℕ → Work → Type 0
-InSlot n k = Ramps n (k .slot .schedule) (k .slot .remaining)
-
-unused : (u t : Bool) → cond u false t ≡ true → t ≡ true
-unused true t e = absurd (subst T (sym e) tt)
-unused false t e = e
-
-most : (ramp offset payload start : ℕ) → ramp ≤ 2097152 → payload + offset < start + 1048576 → middle + ramp + offset + payload - (start + 2097152) ≤ 140737489403904
-most ramp offset payload start h d = omega arith
-
-least : (n ramp offset payload start : ℕ) → start ≤ n → middle ≤ middle + ramp + offset + payload - (start + 2097152) + (2097152 + 64 * n)
-least n ramp offset payload start l = omega arith
-
-module _ (n : ℕ) (w : Timing) (r : Reach) (early : w .start ≤ n) where
-  applied-ramps : (b : ℕ) (k : Work) → b < 8 → due w (getD (k .slot .schedule) b noBlock) ≡ true → InSlot n k → InSlot n (blockApplied w r b k)
-  unfolding blockApplied
-  applied-ramps b k l d h =
-      let x = getD (k .slot .schedule) b noBlock in
-      let y : BlockState = record { offset = x .offset; ramp = x .ramp; used = true } in
-      let t = ltb-true (w .payload + x .offset) (w .start + 1048576) (unused (x .used) (ltb (w .payload + x .offset) (w .start + 1048576)) d) in
-      record {
-        offsets = set-each (λ i z. i < 8 → z .offset ≤ 2097152) (k .slot .schedule) b y noBlock (h .offsets b) (h .offsets);
-        ramps = set-each (λ i z. i < 8 → z .ramp ≤ 2097152) (k .slot .schedule) b y noBlock (h .ramps b) (h .ramps);
-        most = most (x .ramp) (x .offset) (w .payload) (w .start) (h .ramps b l) t;
-        least = least n (x .ramp) (x .offset) (w .payload) (w .start) early;
-      }
-
-  blocks-ramps : (m : ℕ) (k : Work) → m ≤ 8 → InSlot n k → InSlot n (blocksApplied w r m k)
-  unfolding blocksApplied
-  blocks-ramps m k few h =
-      times-in (InSlot n) (blockAt w r) m
-      (λ b x l i. cond-keeps (InSlot n) (due w (getD (x .slot .schedule) b noBlock)) (blockApplied w r b x) x (λ d. applied-ramps b x (omega arith) d i) (λ _. i))
-      m 0 (omega arith) k h
-
-slot-of-range : (n : ℕ) (w : Timing) (i : ℕ) (t : Timed) → w .start ≤ n → ((e : ℕ) → e < 2 → InRange n (elementOf (t .state) e)) → (e : ℕ) → e < 2 → InRange n (elementOf (slotOf w i t .state) e)
-unfolding slotOf updatedSources
-slot-of-range n w i t early h =
-    let s = t .state in
-    let e = elementOf s i in
-    let r = reachOf s i in
-    let k : Work = record { slot = slotOn s e; infos = t .infos } in
-    let f = updatedSources w r e (s .gains) (s .sources) (t .infos) .updated .element in
-    set-each (λ j x. j < 2 → InRange n x) (s .states) i f noElement
-    (λ l. record { blocks = h i l .blocks; ramps = ramp-ramps n (e .tracks) (r .count) (blocksApplied w r (e .blocks) k .slot) (blocks-ramps n w r early (e .blocks) k (h i l .blocks) (h i l .ramps)) })
-    h
-
-slot-range : (n start : ℕ) (t : Timed) → start ≤ n → ((e : ℕ) → e < 2 → InRange n (elementOf (t .state) e)) → (e : ℕ) → e < 2 → InRange n (elementOf (slotAt start t .state) e)
-unfolding slotAt
-slot-range n start t early h =
-    let s = t .state in
-    let w = timingOf start s in
-    let i = taken w (s .states) (s .elements) in
-    let P : Timed → Type 0 = λ x. (e : ℕ) → e < 2 → InRange n (elementOf (x .state) e) in
-    cond-keeps P (eqb (s .elements) 0) t _ (λ _. h) (λ _. cond-keeps P (active (elementOf s i)) (slotOf w i t) t (λ _. slot-of-range n w i t early h) (λ _. h))
 
 -- ---- floats
 
@@ -189,6 +126,6 @@ within-slot n start m early _ h =
       state =
           state-ranged n (m .state) (h .state) (slotAt start m .state) (shape-slot start m)
           (slot-has Single Single start m (state-has n (m .state) (h .state)) (infos-single (m .infos)))
-          (slot-range n start m early (h .state .within .states));
+          (slot-within n start m early (h .state .within) .states);
       infos = like-ranged (slot-like start m) (h .infos);
     }

@@ -1,7 +1,14 @@
 -- Document 01, demand 3, closed: for every list of calls, on the real timed state, metadata and state block. Assumes nothing.
 use mathlib.Core.Path.{refl}
+use Rattle.words.specs.Words.{Bytes}
 use Rattle.rules.specs.Claim.{EveryList, Keeps}
 use Rattle.rules.proofs.Facts.{Facts}
+use Rattle.rules.specs.Refusals.{Args}
+use Rattle.rules.specs.Samples.{State, pushed, flushed}
+use Rattle.rules.specs.Ranges.{Ranged}
+use Rattle.rules.specs.Calls.{frameOf}
+use Rattle.rules.proofs.Judged.{Passed}
+use Rattle.rules.proofs.Ranged.{pushed-ranged, flushed-ranged}
 use Rattle.rules.proofs.Keeps as rules
 use Rattle.rules.proofs.Theorem.{every-list}
 use Rattle.claim.specs.Hall.{hall, block}
@@ -15,7 +22,7 @@ use Rattle.claim.proofs.Blank.{sound-blank, within-blank, within-later}
 use Rattle.claim.proofs.Blocks.{size-of, valid-of, back-of, decoded-of}
 
 -- what the rules take from the crates `timed`, `updates`, `records` and `store`
-pub facts : Facts hall block
+unfoldable pub facts : Facts hall block
 facts =
     record {
       Checked = Checked;
@@ -25,7 +32,7 @@ facts =
       sound-apply = sound-apply;
       sound-slot = sound-slot;
       mixable = mixable;
-      shape-apply = shape-apply;
+      shape-apply = λ n u m c h. shape-apply n u m c (h .codes);
       sent-started = λ u c. refl;
       shape-slot = λ n m h. shape-slot n m;
       shape-objects = λ m h e. shape-objects m;
@@ -48,3 +55,12 @@ demand3 = every-list hall block facts
 -- a call that is accepted, on a block of any bytes, leaves a valid block
 pub keeps : Keeps hall block
 keeps = rules.keeps hall block facts
+
+-- the same of the renderers between blocks
+pub pushed-within : (r : State hall) (a : Args) → Bytes (a .meta) → Passed hall r a → Ranged hall Within r → Ranged hall Within (pushed hall (frameOf hall a) r .next)
+unfolding facts
+pushed-within = pushed-ranged hall block facts
+
+pub flushed-within : (r : State hall) → Ranged hall Within r → Ranged hall Within (flushed hall r .next)
+unfolding facts
+flushed-within = flushed-ranged hall block facts

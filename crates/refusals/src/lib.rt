@@ -13,8 +13,8 @@ pub enum Refusal {
     // 9 to 14, the Rust's own; (expected, provided), (expected), (code)
     SampleRateChanged(u32, u32),
     MissingOamd,
-    ObjectCountMismatch(usize, usize),
+    ObjectCountMismatch(u32, u32),
     UnsupportedSampleCount,
-    BedChannelCountMismatch(usize),
-    UnsupportedBedChannel(usize),
+    BedChannelCountMismatch(u32),
+    UnsupportedBedChannel(u32),
 }

@@ -86,7 +86,7 @@ unfolding withChannels
 earlier [] to s i h = refl
 earlier (c ∷ cs) to s i h = earlier cs (to + 256) (withFloats s to c) i (omega arith) ∙ floats-keep c to s .before i h
 
-length-channels : (cs : List (List Float)) (to : ℕ) (s : List ℕ) → length (withChannels cs 256 to s) ≡ length s
+pub length-channels : (cs : List (List Float)) (to : ℕ) (s : List ℕ) → length (withChannels cs 256 to s) ≡ length s
 unfolding withChannels
 length-channels [] to s = refl
 length-channels (c ∷ cs) to s = length-channels cs (to + 256) (withFloats s to c) ∙ length-floats c to s

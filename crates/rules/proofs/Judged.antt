@@ -81,8 +81,14 @@ is-roomy stride bytes e =
     record { whole = eqb-true (stride % 64) 0 (c .0); some = leb-true 64 stride (c .1); long = leb-true (48 * stride) bytes (a .1) }
 
 -- ---- the frame's length
-pub samples-fit : (a : Args) → sized a ≡ true → a .samples ≤ a .stride
-samples-fit a e =
+pub record Sizes (a : Args) : Type 0 where
+  pub samples : a .samples ≤ a .stride
+  pub codes : length (a .codes) ≤ 18
+  pub objects : a .objects ≤ 16
+  pub pcm : length (a .pcm) ≡ 4 * ((length (a .codes) + a .objects) * a .samples)
+
+pub is-sized : (a : Args) → sized a ≡ true → Sizes a
+is-sized a e =
     let channels = length (a .codes) + a .objects in
     let x1 = leb (a .samples) (a .stride) in
     let x2 = leb (length (a .codes)) 18 in
@@ -93,13 +99,33 @@ samples-fit a e =
     let y4 = and-true (x1 && x2 && x3 && x4) x5 (y5 .0) in
     let y3 = and-true (x1 && x2 && x3) x4 (y4 .0) in
     let y2 = and-true (x1 && x2) x3 (y3 .0) in
-    leb-true (a .samples) (a .stride) (and-true x1 x2 (y2 .0) .0)
+    let y1 = and-true x1 x2 (y2 .0) in
+    record {
+      samples = leb-true (a .samples) (a .stride) (y1 .0);
+      codes = leb-true (length (a .codes)) 18 (y1 .1);
+      objects = leb-true (a .objects) 16 (y2 .1);
+      pcm = eqb-true (length (a .pcm)) (4 * (channels * a .samples)) (y4 .1);
+    }
+
+pub samples-fit : (a : Args) → sized a ≡ true → a .samples ≤ a .stride
+samples-fit a e = is-sized a e .samples
 
 -- ---- a push
 module _ (L : Leaves) where
   -- the updates as 9 to 14 see them
   abbrev pub sentOf : List (L .Update) → List Sent
   sentOf us = map (λ (u : L .Update). record { offset = L .offset u; shape = L .sent u }) us
+
+  -- no refusal from 1 to 8
+  pub record Early (r : State L) (a : Args) : Type 0 where
+    pub room : room (a .stride) (length (a .out)) ≡ true
+    pub sized : sized a ≡ true
+    pub listed : listed (a .rate) ≡ true
+    pub position : r .position + a .samples ≤ 1099511627776
+    pub laidOut : L .laidOut (a .meta) ≡ true
+    pub inRange : L .inRange (a .meta) ≡ true
+    pub enough : lackingFrom L (offsets L (a .samples)) 0 (L .updates (a .meta)) (L .counts (r .meta)) ≡ false
+    pub pass : allPass (a .pcm) 0 ((length (a .codes) + a .objects) * a .samples) ≡ true
 
   pub record Passed (r : State L) (a : Args) : Type 0 where
     pub room : room (a .stride) (length (a .out)) ≡ true
@@ -112,10 +138,9 @@ module _ (L : Leaves) where
     pub pass : allPass (a .pcm) 0 ((length (a .codes) + a .objects) * a .samples) ≡ true
     pub later : later (sentOf (L .updates (a .meta))) (a .objects) (a .codes) (a .samples) (a .rate) (r .rate) (L .shape (r .meta)) ≡ clear
 
-  pub is-passed : (r : State L) (a : Args) → found L r a ≡ clear → Passed r a
-  is-passed r a e =
-      let s = then-clear (early L r a) _ e in
-      let s1 = then-clear (unless (room (a .stride) (length (a .out))) 1 0 0) _ (s .0) in
+  pub is-early : (r : State L) (a : Args) → early L r a ≡ clear → Early r a
+  is-early r a e =
+      let s1 = then-clear (unless (room (a .stride) (length (a .out))) 1 0 0) _ e in
       let s2 = then-clear (unless (sized a) 2 0 0) _ (s1 .1) in
       let s3 = then-clear (unless (listed (a .rate)) 3 0 0) _ (s2 .1) in
       let s4 = then-clear (unless (leb (r .position + a .samples) 1099511627776) 4 0 0) _ (s3 .1) in
@@ -132,8 +157,13 @@ module _ (L : Leaves) where
         inRange = unless-clear (L .inRange (a .meta)) 6 0 0 (s6 .0);
         enough = not-true x7 (unless-clear (not x7) 7 0 0 (s7 .0));
         pass = unless-clear (allPass (a .pcm) 0 ((length (a .codes) + a .objects) * a .samples)) 8 0 0 (s7 .1);
-        later = s .1;
       }
+
+  pub is-passed : (r : State L) (a : Args) → found L r a ≡ clear → Passed r a
+  is-passed r a e =
+      let s = then-clear (early L r a) _ e in
+      let x = is-early r a (s .0) in
+      record { room = x .room; sized = x .sized; listed = x .listed; position = x .position; laidOut = x .laidOut; inRange = x .inRange; enough = x .enough; pass = x .pass; later = s .1 }
 
 -- ---- samples
 -- channel i at sample t

@@ -27,7 +27,7 @@ use Rattle.rules.proofs.Judged.{Passed}
 use Rattle.rules.proofs.Clock.{untouched}
 
 module _ (L : Leaves) (B : Layout L) (F : Facts L B) where
-  abbrev R : State L → Type 0
+  abbrev pub R : State L → Type 0
   R = Ranged L (F .Within)
 
   pub fresh-ranged : R (fresh L)
@@ -48,7 +48,7 @@ module _ (L : Leaves) (B : Layout L) (F : Facts L B) where
   }
 
   -- ---- updates and slots
-  applied-ranged : (t : ℕ) (u : L .Update) (r : State L) → F .Checked u → L .lacks u (L .counts (r .meta)) ≡ false → R r → R (applied L t u r)
+  pub applied-ranged : (t : ℕ) (u : L .Update) (r : State L) → F .Checked u → L .lacks u (L .counts (r .meta)) ≡ false → R r → R (applied L t u r)
   applied-ranged t u r k l g =
       let s = slot-kept (not (started L (r .meta)) || eqb t 0) in
       record {
@@ -70,7 +70,7 @@ module _ (L : Leaves) (B : Layout L) (F : Facts L B) where
       slot-kept true = (lit< tt, omega arith)
       slot-kept false = (g .phase, g .start)
 
-  slotted-ranged : (r : State L) → R r → R (slotted L r)
+  pub slotted-ranged : (r : State L) → R r → R (slotted L r)
   slotted-ranged r g =
       let s = g .start in
       record {
@@ -89,7 +89,7 @@ module _ (L : Leaves) (B : Layout L) (F : Facts L B) where
       }
 
   -- ---- a sample
-  passed-ranged : (m : Moment) (r : State L) → listed (r .rate) ≡ true → suc (r .position) ≤ 1099511627776 → R r → R (passed L m r .next)
+  pub passed-ranged : (m : Moment) (r : State L) → listed (r .rate) ≡ true → suc (r .position) ≤ 1099511627776 → R r → R (passed L m r .next)
   passed-ranged m r l h g =
       let s = slot-kept (started L (r .meta)) (leb 64 (suc (r .phase))) refl in
       record {
@@ -114,14 +114,14 @@ module _ (L : Leaves) (B : Layout L) (F : Facts L B) where
       slot-kept false last e = let s = g .start in (g .phase, omega arith)
 
   -- ---- refusal 7 as the frame meets it: the counts are those of the walk
-  or-false : (a b : Bool) → (a || b) ≡ false → (a ≡ false) × (b ≡ false)
+  pub or-false : (a b : Bool) → (a || b) ≡ false → (a ≡ false) × (b ≡ false)
   or-false true b e = absurd (subst T e tt)
   or-false false b e = (refl, e)
 
-  abbrev Met : L .Counts → State L → Type 0
+  abbrev pub Met : L .Counts → State L → Type 0
   Met k s = R s × (L .counts (s .meta) ≡ k)
 
-  updated-ranged : (t : ℕ) (us : List (L .Update)) (r : State L) (k : L .Counts) → All (F .Checked) us → lacking L t us k ≡ false → Met k r → Met (countsAfter L t us k) (updated L t us r)
+  pub updated-ranged : (t : ℕ) (us : List (L .Update)) (r : State L) (k : L .Counts) → All (F .Checked) us → lacking L t us k ≡ false → Met k r → Met (countsAfter L t us k) (updated L t us r)
   updated-ranged t [] r k c e g = g
   updated-ranged t (u ∷ us) r k c e g = go (eqb (L .offset u) t) e (λ s o i h. updated-ranged t us s o (c .1) i h)
     where
@@ -134,12 +134,12 @@ module _ (L : Leaves) (B : Layout L) (F : Facts L B) where
           (applied-ranged t u r (c .0) (ap (L .lacks u) (g .1) ∙ p .0) (g .0), F .counts-apply (r .position) u (r .meta) (c .0) (g .0 .meta) ∙ ap (L .nextCounts u) (g .1))
       go false e rec = rec r k e g
 
-  slotted-met : (k : L .Counts) (r : State L) → Met k r → Met k (slotted L r)
+  pub slotted-met : (k : L .Counts) (r : State L) → Met k r → Met k (slotted L r)
   slotted-met k r g =
       (slotted-ranged r (g .0), either (λ (m : L .Meta). L .counts m ≡ k) (started L (r .meta) && eqb (r .phase) 0) (F .counts-slot (r .position) (r .start) (r .meta) (g .0 .meta) ∙ g .1) (g .1))
 
   -- ---- a frame
-  framed-ranged : (f : Frame (L .Update)) → All (F .Checked) (f .updates) → (n t : ℕ) (r : State L) (m : L .Counts) → lackingFrom L n t (f .updates) m ≡ false
+  pub framed-ranged : (f : Frame (L .Update)) → All (F .Checked) (f .updates) → (n t : ℕ) (r : State L) (m : L .Counts) → lackingFrom L n t (f .updates) m ≡ false
       → listed (r .rate) ≡ true → r .position + n ≤ 1099511627776 → Met m r → R (framed L f n t r .next)
   framed-ranged f k zero t r m e l h g = g .0
   framed-ranged f k (suc n) t r m e l h g =
@@ -152,7 +152,7 @@ module _ (L : Leaves) (B : Layout L) (F : Facts L B) where
       framed-ranged f k n (suc t) (sampled L f t r .next) (countsAfter L t (f .updates) m) (p .1) w (omega arith)
       (passed-ranged (moment L f t (s .meta)) s w (omega arith) (i .0), i .1)
 
-  opened-ranged : (rate : ℕ) (r : State L) → listed rate ≡ true → R r → R (opened L rate r) × (listed (opened L rate r .rate) ≡ true)
+  pub opened-ranged : (rate : ℕ) (r : State L) → listed rate ≡ true → R r → R (opened L rate r) × (listed (opened L rate r .rate) ≡ true)
   opened-ranged rate r l g = (
     record {
       rate = inr now;

@@ -33,7 +33,7 @@ module _ (all : List Sent) (objects : ℕ) (codes : List ℕ) where
   match-clear s e = eqb-true (s .objects) objects (unless-clear (eqb (s .objects) objects) 11 (s .objects) objects e)
 
   -- updates that passed 11 leave a shape that matches
-  matches-on : (t : ℕ) (vs : List Sent) (s : Shape) → countsAt all objects codes t vs ≡ clear → Matches s → Matches (shapeAt all objects codes t vs s)
+  pub matches-on : (t : ℕ) (vs : List Sent) (s : Shape) → countsAt all objects codes t vs ≡ clear → Matches s → Matches (shapeAt all objects codes t vs s)
   matches-on t [] s e m = m
   matches-on t (u ∷ vs) s e m =
       let p = then-clear (cond (eqb (u .offset) t) (objectsMatch all objects codes (u .shape)) clear) (countsAt all objects codes t vs) e in
@@ -43,10 +43,10 @@ module _ (all : List Sent) (objects : ℕ) (codes : List ℕ) where
       go true e st = match-clear (u .shape) e
       go false e st = m st
 
-  abbrev counts : ℕ → Found
+  abbrev pub counts : ℕ → Found
   counts t = countsAt all objects codes t all
 
-  abbrev after : ℕ → Shape → Shape
+  abbrev pub after : ℕ → Shape → Shape
   after t s = shapeAt all objects codes t all s
 
   -- 11 for the updates of every sample
@@ -57,11 +57,11 @@ module _ (all : List Sent) (objects : ℕ) (codes : List ℕ) where
       let p = then-clear (mixes all objects codes (after t s)) (walk all objects codes n (suc t) (after t s)) (then-clear (counts t) _ e .1) in
       ap counts (let q : t + suc k ≡ suc t + k = omega arith in q) ∙ walked n (suc t) k (after t s) (p .1) (omega arith)
 
-  record Judged (n : ℕ) (s : Shape) : Type 0 where
-    first : Matches (after 0 s)
-    then-all : (k : ℕ) → k < n → counts k ≡ clear
+  pub record Judged (n : ℕ) (s : Shape) : Type 0 where
+    pub first : Matches (after 0 s)
+    pub then-all : (k : ℕ) → k < n → counts k ≡ clear
 
-  judged : (n rate old : ℕ) (s : Shape) → later all objects codes n rate old s ≡ clear → Judged n s
+  pub judged : (n rate old : ℕ) (s : Shape) → later all objects codes n rate old s ≡ clear → Judged n s
   judged n rate old s e =
       let p1 = then-clear (unless (eqb old 0 || eqb old rate) 9 old rate) _ e .1 in
       let p2 = then-clear (unless (s .started || not (none all objects codes all)) 10 0 0) _ p1 .1 in

@@ -58,7 +58,7 @@ fn heads_valid(infos: &[u8]) -> bool
     true
 }
 
-fn listed(rate: u32) -> bool
+pub fn listed(rate: u32) -> bool
     ensures { λ r. ⌜ r ≡ refusals.listed rate ⌝ }
 {
     match rate {

@@ -8,9 +8,9 @@ use Rattle.timed.specs.declared.slot.Timing.{Timing}
 use Rattle.timed.proofs.Keeps.{cond-keeps, set-each}
 use Rattle.timed.proofs.Ramps.{sources-range, later}
 
-slot-of-within : (w : Timing) (i : ℕ) (t : Timed) → Within (w .start) (t .state) → Within (w .start) (slotOf w i t .state)
+slot-of-within : (p : ℕ) (w : Timing) (i : ℕ) (t : Timed) → w .start ≤ p → Within p (t .state) → Within p (slotOf w i t .state)
 unfolding slotOf
-slot-of-within w i t h =
+slot-of-within p w i t early h =
     record {
       payload = h .payload;
       objects = h .objects;
@@ -20,17 +20,18 @@ slot-of-within w i t h =
       channels = h .channels;
       elements = h .elements;
       states =
-          set-each (λ k e. k < 2 → InRange (w .start) e) (t .state .states) i (updatedSources w (reachOf (t .state) i) (elementOf (t .state) i) (t .state .gains) (t .state .sources) (t .infos) .updated .element) noElement
-          (λ j. sources-range w (reachOf (t .state) i) (elementOf (t .state) i) (t .state .gains) (t .state .sources) (t .infos) (h .states i j)) (h .states);
+          set-each (λ k e. k < 2 → InRange p e) (t .state .states) i (updatedSources w (reachOf (t .state) i) (elementOf (t .state) i) (t .state .gains) (t .state .sources) (t .infos) .updated .element) noElement
+          (λ j. sources-range p w (reachOf (t .state) i) (elementOf (t .state) i) (t .state .gains) (t .state .sources) (t .infos) early (h .states i j)) (h .states);
     }
 
-pub slot-within : (start : ℕ) (t : Timed) → Within start (t .state) → Within start (slotAt start t .state)
+-- a slot that starts no later than the stream position p
+pub slot-within : (p start : ℕ) (t : Timed) → start ≤ p → Within p (t .state) → Within p (slotAt start t .state)
 unfolding slotAt
-slot-within start t h =
+slot-within p start t early h =
     let w = timingOf start (t .state) in
     let i = taken w (t .state .states) (t .state .elements) in
-    cond-keeps (λ (x : Timed). Within start (x .state)) (eqb (t .state .elements) 0) t _ (λ _. h)
-    (λ _. cond-keeps (λ (x : Timed). Within start (x .state)) (active (elementOf (t .state) i)) (slotOf w i t) t (λ _. slot-of-within w i t h) (λ _. h))
+    cond-keeps (λ (x : Timed). Within p (x .state)) (eqb (t .state .elements) 0) t _ (λ _. h)
+    (λ _. cond-keeps (λ (x : Timed). Within p (x .state)) (active (elementOf (t .state) i)) (slotOf w i t) t (λ _. slot-of-within p w i t early h) (λ _. h))
 
 -- time goes on
 pub within-later : (p q : ℕ) (s : MetadataRendererState) → p ≤ q → Within p s → Within q s

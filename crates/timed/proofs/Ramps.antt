@@ -24,33 +24,36 @@ both : (u t : Bool) → cond u false t ≡ true → t ≡ true
 both true t e = absurd (subst T (sym e) tt)
 both false t e = e
 
-abbrev InSlot : ℕ → Work → Type 0
+abbrev pub InSlot : ℕ → Work → Type 0
 InSlot p k = Ramps p (k .slot .schedule) (k .slot .remaining)
 
 most : (ramp offset payload start : ℕ) → ramp ≤ 2097152 → payload + offset < start + 1048576 → middle + ramp + offset + payload - (start + 2097152) ≤ 140737489403904
 most ramp offset payload start h d = omega arith
 
-least : (ramp offset payload start : ℕ) → middle ≤ middle + ramp + offset + payload - (start + 2097152) + (2097152 + 64 * start)
-least ramp offset payload start = omega arith
+least : (p ramp offset payload start : ℕ) → start ≤ p → middle ≤ middle + ramp + offset + payload - (start + 2097152) + (2097152 + 64 * p)
+least p ramp offset payload start l = omega arith
 
-applied-ramps : (w : Timing) (r : Reach) (b : ℕ) (k : Work) → b < 8 → due w (getD (k .slot .schedule) b noBlock) ≡ true → InSlot (w .start) k → InSlot (w .start) (blockApplied w r b k)
-unfolding blockApplied
-applied-ramps w r b k l d h =
-    let x = getD (k .slot .schedule) b noBlock in
-    let t = ltb-true (w .payload + x .offset) (w .start + 1048576) (both (x .used) (ltb (w .payload + x .offset) (w .start + 1048576)) d) in
-    record {
-      offsets = set-each (λ (i : ℕ) (y : BlockState). i < 8 → y .offset ≤ 2097152) (k .slot .schedule) b (record { offset = x .offset; ramp = x .ramp; used = true }) noBlock (h .offsets b) (h .offsets);
-      ramps = set-each (λ (i : ℕ) (y : BlockState). i < 8 → y .ramp ≤ 2097152) (k .slot .schedule) b (record { offset = x .offset; ramp = x .ramp; used = true }) noBlock (h .ramps b) (h .ramps);
-      most = most (x .ramp) (x .offset) (w .payload) (w .start) (h .ramps b l) t;
-      least = least (x .ramp) (x .offset) (w .payload) (w .start);
-    }
+-- a slot that starts no later than the stream position p
+module _ (p : ℕ) (w : Timing) (r : Reach) (early : w .start ≤ p) where
+  applied-ramps : (b : ℕ) (k : Work) → b < 8 → due w (getD (k .slot .schedule) b noBlock) ≡ true → InSlot p k → InSlot p (blockApplied w r b k)
+  unfolding blockApplied
+  applied-ramps b k l d h =
+      let x = getD (k .slot .schedule) b noBlock in
+      let y : BlockState = record { offset = x .offset; ramp = x .ramp; used = true } in
+      let t = ltb-true (w .payload + x .offset) (w .start + 1048576) (both (x .used) (ltb (w .payload + x .offset) (w .start + 1048576)) d) in
+      record {
+        offsets = set-each (λ i z. i < 8 → z .offset ≤ 2097152) (k .slot .schedule) b y noBlock (h .offsets b) (h .offsets);
+        ramps = set-each (λ i z. i < 8 → z .ramp ≤ 2097152) (k .slot .schedule) b y noBlock (h .ramps b) (h .ramps);
+        most = most (x .ramp) (x .offset) (w .payload) (w .start) (h .ramps b l) t;
+        least = least p (x .ramp) (x .offset) (w .payload) (w .start) early;
+      }
 
-pub blocks-ramps : (w : Timing) (r : Reach) (n : ℕ) (k : Work) → n ≤ 8 → Ramps (w .start) (k .slot .schedule) (k .slot .remaining) → Ramps (w .start) (blocksApplied w r n k .slot .schedule) (blocksApplied w r n k .slot .remaining)
-unfolding blocksApplied
-blocks-ramps w r n k few h =
-    times-in (InSlot (w .start)) (blockAt w r) n
-    (λ b s l i. cond-keeps (InSlot (w .start)) (due w (getD (s .slot .schedule) b noBlock)) (blockApplied w r b s) s (λ d. applied-ramps w r b s (omega arith) d i) (λ _. i))
-    n 0 (omega arith) k h
+  pub blocks-ramps : (n : ℕ) (k : Work) → n ≤ 8 → InSlot p k → InSlot p (blocksApplied w r n k)
+  unfolding blocksApplied
+  blocks-ramps n k few h =
+      times-in (InSlot p) (blockAt w r) n
+      (λ b s l i. cond-keeps (InSlot p) (due w (getD (s .slot .schedule) b noBlock)) (blockApplied w r b s) s (λ d. applied-ramps b s (omega arith) d i) (λ _. i))
+      n 0 (omega arith) k h
 
 -- ---- the ramp
 
@@ -62,10 +65,10 @@ ramp-ramps p before n s h =
 
 -- ---- the element
 
-pub sources-range : (w : Timing) (r : Reach) (e : ElementRendererState) (gains : List Float) (sources : List DynamicSourceState) (is : List ℕ) → InRange (w .start) e → InRange (w .start) (updatedSources w r e gains sources is .updated .element)
+pub sources-range : (p : ℕ) (w : Timing) (r : Reach) (e : ElementRendererState) (gains : List Float) (sources : List DynamicSourceState) (is : List ℕ) → w .start ≤ p → InRange p e → InRange p (updatedSources w r e gains sources is .updated .element)
 unfolding updatedSources
-sources-range w r e gains sources is h =
-    record { blocks = h .blocks; ramps = ramp-ramps (w .start) (e .tracks) (r .count) _ (blocks-ramps w r (e .blocks) _ (h .blocks) (h .ramps)) }
+sources-range p w r e gains sources is early h =
+    record { blocks = h .blocks; ramps = ramp-ramps p (e .tracks) (r .count) _ (blocks-ramps p w r early (e .blocks) _ (h .blocks) (h .ramps)) }
 
 pub later : (p q : ℕ) (e : ElementRendererState) → p ≤ q → InRange p e → InRange q e
 later p q e l h = record { blocks = h .blocks; ramps = record { offsets = h .ramps .offsets; ramps = h .ramps .ramps; most = h .ramps .most; least = omega (arith, h .ramps .least) } }

@@ -190,7 +190,7 @@ impl ElementRendererState {
         gains: [f32; 18],
         sources: [DynamicSourceState; 16],
     ) -> Updated
-        requires { ⌜ (length (now infos) ≡ 22528) × InTime when × Reaches reach × InRange (when .start) self ⌝ }
+        requires { ⌜ (length (now infos) ≡ 22528) × InTime when × Reaches reach × InRange 1099511627776 self ⌝ }
         ensures { λ r. ⌜ IsUpdated (updatedSources when reach self gains sources (now (infos .entry))) r (now (infos .exit)) ⌝ }
     {
         let schedule = self.schedule;

@@ -33,7 +33,7 @@ impl MetadataRendererState {
 
     // A slot of element `index`.
     fn slot_of(self, infos: &mut [u8], index: usize, when: Timing) -> MetadataRendererState
-        requires { ⌜ (length (now infos) ≡ 22528) × (index < 2) × InTime when × Within (when .start) self ⌝ }
+        requires { ⌜ (length (now infos) ≡ 22528) × (index < 2) × InTime when × Within 1099511627776 self ⌝ }
         ensures { λ r. ⌜ IsTimed (slotOf when index (record { state = self; infos = now (infos .entry) })) r (now (infos .exit)) ⌝ }
     {
         let reach = Reach {
@@ -69,7 +69,7 @@ impl MetadataRendererState {
 
     // The slot that starts at a sample of the stream.
     pub fn update_timeslot(self, infos: &mut [u8], start: StreamSample) -> MetadataRendererState
-        requires { ⌜ (length (now infos) ≡ 22528) × (start .0 ≤ 1099511627776) × Within (start .0) self ⌝ }
+        requires { ⌜ (length (now infos) ≡ 22528) × (start .0 ≤ 1099511627776) × Within 1099511627776 self ⌝ }
         ensures { λ r. ⌜ IsTimed (slotAt (start .0) (record { state = self; infos = now (infos .entry) })) r (now (infos .exit)) ⌝ }
     {
         if self.elements == 0 {

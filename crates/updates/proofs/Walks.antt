@@ -58,7 +58,7 @@ module _ (f : ℕ → ℕ) (n t : ℕ) where
     unfolding judgedAll
     stands-at-end i j l h = sym (ap (λ (is : List ℕ). judgedAll u is j) (nothing i l)) ∙ h .rest
 
-judged-both : (u : ℕ → Update) (a b : List ℕ) (j : Judged) → judgedAll u (a ++ b) j ≡ judgedAll u b (judgedAll u a j)
+pub judged-both : (u : ℕ → Update) (a b : List ℕ) (j : Judged) → judgedAll u (a ++ b) j ≡ judgedAll u b (judgedAll u a j)
 unfolding judgedAll
 judged-both u [] b j = refl
 judged-both u (i ∷ a) b j = judged-both u a b (judgedNext (u i) j)

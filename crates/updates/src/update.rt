@@ -51,7 +51,7 @@ fn next_gains(gains: [f32; 18], was: usize, count: usize) -> [f32; 18]
 }
 
 // The bed codes.
-fn next_codes(codes: [u8; 18], meta: &[u8], u: usize) -> [u8; 18]
+pub fn next_codes(codes: [u8; 18], meta: &[u8], u: usize) -> [u8; 18]
     requires { ⌜ 40 * u + 40 ≤ length (now meta) ⌝ }
     ensures { λ r. ⌜ r ≡ codesGiven (updateOf (now (meta .entry)) u) codes ⌝ }
 {

@@ -4,6 +4,7 @@ use mathlib.Core.Logic.{inl, inr}
 use native.Mathlib.Omega.{arith}
 use borrow.Author.Tests.{not-false}
 use borrow.Author.Needs.{needs}
+use Rattle.timed.proofs.Kept.{within-later}
 use Rattle.probes.proofs.probe_timed.probe_update_timeslot.Statement.{statement}
 use Rattle.probes.proofs.probe_timed.probe_update_timeslot.Tie as tie
 
@@ -20,7 +21,7 @@ returns-3 : tie.Need-returns-3
 returns-3 c = inr (record { state = refl; infos = refl })
 
 update-timeslot-requires : tie.Need-update-timeslot-requires
-update-timeslot-requires c κs = (omega arith, omega arith, c .before .before .state-fits .ensures (not-false (c .before .before .state-fits .result) (c .before .if3 .left)))
+update-timeslot-requires c κs = (omega arith, omega arith, within-later (c .before .before .before .before .before .before .args .start) 1099511627776 _ (omega arith) (c .before .before .state-fits .ensures (not-false (c .before .before .state-fits .result) (c .before .if3 .left))))
 
 same-length : tie.Need-same-length
 same-length c = search needs

@@ -12,7 +12,7 @@ apply-blocks-requires c κs = search needs
 ramp-requires : tie.Need-ramp-requires
 ramp-requires c κs =
     let s = c .before .before .before .before .before .before .before .args in
-    (omega (arith, c .before .before .before .before .before .before .before .pre .2), rw (c .before .before .apply-blocks .ensures .slot) (blocks-ramps (s .when) (s .reach) (s .self .blocks) _ (c .before .before .before .before .before .before .before .pre .3 .blocks) (c .before .before .before .before .before .before .before .pre .3 .ramps) .most))
+    (omega (arith, c .before .before .before .before .before .before .before .pre .2), rw (c .before .before .apply-blocks .ensures .slot) (blocks-ramps 1099511627776 (s .when) (s .reach) (c .before .before .before .before .before .before .before .pre .1 .start) (s .self .blocks) _ (c .before .before .before .before .before .before .before .pre .3 .blocks) (c .before .before .before .before .before .before .before .pre .3 .ramps) .most))
 
 same-length : tie.Need-same-length
 same-length c = search needs

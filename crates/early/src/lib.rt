@@ -1,0 +1,142 @@
+// Refusals 1 to 8 of a push: "Lowest number first among 1 to 8". Each is decided before the next is worked out.
+ghost use mathlib.Core.Path.{_≡_};
+ghost use mathlib.Core.List.{List, []};
+ghost use Prim.Native.Nat.{ℕ, _+_, _*_, _≤_};
+ghost use lib.Dec.{leb};
+ghost use lib.ListN.{length};
+ghost use Rattle.records.specs.Answers.{IsLayout};
+ghost use Rattle.updates.specs.Whole.{WholeUpdates};
+ghost use Rattle.updates.specs.Shape.{shapeOf};
+ghost use Rattle.rules.specs.Parts.{Places};
+ghost use Rattle.rules.specs.Refusals as rules;
+ghost use Rattle.refusals.specs.Numbers.{foundOf};
+ghost use Rattle.store.specs.Layout.{joined};
+ghost use Rattle.claim.specs.Hall.{sentOf, hall};
+use records::layout::Layout;
+use refusals::Refusal;
+use store::Small;
+use timed::state::MetadataRendererState;
+
+// Whether the stride is one of those allowed and an output of so many bytes has room for it: refusal 1.
+pub fn room(stride: u32, bytes: usize) -> bool
+    ensures { λ r. ⌜ r ≡ rules.room stride bytes ⌝ }
+{
+    if stride % 64 != 0 {
+        return false;
+    }
+    if stride < 64 {
+        return false;
+    }
+    if stride > 1536 {
+        return false;
+    }
+    48 * (stride as usize) <= bytes
+}
+
+// Whether each bed code is listed.
+fn codes_listed(codes: &[u8]) -> bool
+    ensures { λ r. ⌜ r ≡ rules.every (λ c. leb c 17) (now (codes .entry)) ⌝ }
+{
+    let mut i = 0usize;
+    while i < codes.len() {
+        if codes[i] > 17 {
+            return false;
+        }
+        i += 1;
+    }
+    true
+}
+
+// The bytes of so many samples in each channel.
+fn pcm_bytes(channels: usize, samples: u32) -> usize
+    requires { ⌜ channels ≤ 34 ⌝ }
+    ensures { λ r. ⌜ r ≡ 4 * (channels * samples) ⌝ }
+{
+    4 * (channels * (samples as usize))
+}
+
+// Whether samples, beds, objects, codes and the PCM's length are as allowed: refusal 2.
+fn sized(pcm: &[u8], codes: &[u8], samples: u32, objects: u32, stride: u32) -> bool
+    ensures { λ r. ⌜ r ≡ rules.sized (record { pcm = now (pcm .entry); meta = []; out = []; codes = now (codes .entry); rate = 0; samples = samples; objects = objects; stride = stride }) ⌝ }
+{
+    if samples > stride {
+        return false;
+    }
+    if codes.len() > 18 {
+        return false;
+    }
+    if objects > 16 {
+        return false;
+    }
+    if !codes_listed(codes) {
+        return false;
+    }
+    let channels = codes.len() + objects as usize;
+    if pcm.len() != pcm_bytes(channels, samples) {
+        return false;
+    }
+    if samples == 0 {
+        return true;
+    }
+    channels != 0
+}
+
+// Whether the stream with so many samples more stays within 2^40: refusal 4.
+fn stays(position: u64, samples: u32) -> bool
+    ensures { λ r. ⌜ r ≡ leb (position + samples) 1099511627776 ⌝ }
+{
+    position <= 1099511627776 - samples as u64
+}
+
+// Whether an update that would be applied keeps an element that lacks flags: refusal 7.
+fn lacks(s: MetadataRendererState, meta: &[u8], l: Layout, samples: u32) -> bool
+    requires { ⌜ IsLayout (now meta) l × WholeUpdates (now meta) (l .first) (l .count) ⌝ }
+    ensures { λ r. ⌜ r ≡ rules.lackingFrom hall (rules.offsets hall samples) 0 (sentOf (now (meta .entry))) (shapeOf s) ⌝ }
+{
+    let before = updates::shape::shape_of(s);
+    let judged = updates::walk::judge_frame(before, meta, l, samples as usize);
+    judged.lacks
+}
+
+// The first of refusals 1 to 8 of a push on a renderer whose small part is s; the output has so many bytes.
+pub fn refusal(
+    s: Small,
+    pcm: &[u8],
+    meta: &[u8],
+    bytes: usize,
+    codes: &[u8],
+    rate: u32,
+    samples: u32,
+    objects: u32,
+    stride: u32,
+) -> Refusal
+    ensures { λ r. ⌜ ((out : List ℕ) → length out ≡ bytes → (is : List ℕ) (ps : Places) → foundOf r ≡ rules.early hall (joined s is ps) (record { pcm = now (pcm .entry); meta = now (meta .entry); out = out; codes = now (codes .entry); rate = rate; samples = samples; objects = objects; stride = stride })) ⌝ }
+{
+    if !room(stride, bytes) {
+        return Refusal::Lent;
+    }
+    if !sized(pcm, codes, samples, objects, stride) {
+        return Refusal::Sizes;
+    }
+    if !store::ranges::listed(rate) {
+        return Refusal::Rate;
+    }
+    if !stays(s.position, samples) {
+        return Refusal::StreamEnd;
+    }
+    let l = records::layout::layout_of(meta);
+    if !l.laid {
+        return Refusal::Records;
+    }
+    if !records::ranges::in_range(meta) {
+        return Refusal::Ranges;
+    }
+    let state = s.state;
+    if lacks(state, meta, l, samples) {
+        return Refusal::Flags;
+    }
+    if !mixing::samples_pass(pcm, 0, pcm.len() / 4) {
+        return Refusal::Samples;
+    }
+    Refusal::Clear
+}

@@ -1,0 +1,171 @@
+-- Before a chunk: one update after the other of those at its first sample, and the slot. Assumes nothing.
+use Prim.Native.Nat.{ℕ, zero, suc, _+_, _-_, _≤_, _<_}
+use mathlib.Core.Path.{_≡_, refl, sym, ap, _∙_}
+use mathlib.Core.Bool.{Bool, true, false, not, _&&_, _||_, cond}
+use mathlib.Core.List.{List, [], _∷_}
+use native.Mathlib.Omega.{arith}
+use native.Mathlib.Numerals.{add-one}
+use borrow.Author.Tests.{eq-eqb, ne-eqb}
+use lib.Dec.{eqb}
+use lib.ListN.{length, getD}
+use Rattle.timed.specs.State.{Timed, IsTimed, slotAt}
+use Rattle.timed.specs.declared.state.MetadataRendererState.{MetadataRendererState}
+use Rattle.timed.proofs.Kept as timed
+use Rattle.fields.specs.Update.{offset}
+use Rattle.records.specs.Runs.{each}
+use Rattle.records.specs.Laid.{updateAt, count}
+use Rattle.records.specs.Order.{FirstAt}
+use Rattle.records.specs.Answers.{IsLayout}
+use Rattle.records.specs.declared.layout.Layout as records
+use Rattle.updates.specs.Said.{Update, updateOf}
+use Rattle.updates.specs.Applied as updates
+use Rattle.rules.specs.Samples.{Renderer, applied, updated, slotted}
+use Rattle.rules.specs.Ranges.{Ranged}
+use Rattle.store.specs.declared.Small.{Small}
+use Rattle.store.specs.Layout.{size, joined, infosOf, placesOf}
+use Rattle.claim.specs.Hall.{Sent, hall, sentAt, sentOf}
+use Rattle.claim.proofs.Sound.{Within}
+use Rattle.frame.specs.Held.{held, IsHeld}
+use Rattle.frame.specs.Begin.{withState, atSlot, CanStart}
+use Rattle.frame.proofs.Changed.{changed, changed-long, changed-held}
+
+-- ---- one update
+
+abbrev pub sent : ℕ → Update → Sent
+sent t u = record { offset = t; said = u }
+
+-- the small part after an update, by whether a new slot starts
+abbrev pub after : Bool → Small → MetadataRendererState → Small
+after new s m = cond new (atSlot (withState s m)) (withState s m)
+
+module _ (t : ℕ) (u : Update) (s : Small) (b : List ℕ) where
+  abbrev pub before : Timed
+  before = record { state = s .state; infos = infosOf b }
+
+  by-start : (new : Bool) (m : Timed) → (not (s .state .initialized) || eqb t 0) ≡ new → updates.applied (s .position) u before ≡ m → joined (after new s (m .state)) (m .infos) (placesOf b) ≡ applied hall t (sent t u) (held s b)
+  by-start true m e f = rw (e, f)
+  by-start false m e f = rw (e, f)
+
+  pub one-applied :
+      (new : Bool) (at : ℕ) (m : MetadataRendererState) (is : List ℕ) (r : Small) → length b ≡ size → length is ≡ 22528 → (not (s .state .initialized) || eqb t 0) ≡ new → at ≡ s .position →
+      IsTimed (updates.applied at u before) m is → r ≡ after new s m → IsHeld (applied hall t (sent t u) (held s b)) r (changed b is)
+  one-applied new at m is r whole long e here h q =
+      record { is = changed-held b is whole long r ∙ rw (q, h .state, h .infos, here) (by-start new _ e refl); long = changed-long b is whole long }
+
+-- ---- the slot
+
+module _ (s : Small) (b : List ℕ) where
+  by-slot : (on : Bool) (m : Timed) → (s .state .initialized && eqb (s .phase) 0) ≡ on → cond on (slotAt (s .start) (record { state = s .state; infos = infosOf b })) (record { state = s .state; infos = infosOf b }) ≡ m → joined (withState s (m .state)) (m .infos) (placesOf b) ≡ slotted hall (held s b)
+  by-slot true m e f = rw (e, f)
+  by-slot false m e f = rw (e, f)
+
+  -- no slot starts
+  pub slot-rests : length b ≡ size → (s .state .initialized && eqb (s .phase) 0) ≡ false → IsHeld (slotted hall (held s b)) s b
+  slot-rests whole e = record { is = by-slot false _ e refl; long = whole }
+
+  pub slot-starts :
+      (m : MetadataRendererState) (is : List ℕ) (r : Small) → length b ≡ size → length is ≡ 22528 → s .state .initialized ≡ true → s .phase ≡ 0 →
+      IsTimed (slotAt (s .start) (record { state = s .state; infos = infosOf b })) m is → r ≡ withState s m → IsHeld (slotted hall (held s b)) r (changed b is)
+  slot-starts m is r whole long e z h q =
+      record {
+        is = changed-held b is whole long r ∙ rw (q, h .state, h .infos) (by-slot true _ (rw (e, eq-eqb (s .phase) 0 z)) refl);
+        long = changed-long b is whole long;
+      }
+
+-- ---- those sent for one time
+
+-- the k from i on
+later : (ℕ → Sent) → ℕ → ℕ → List Sent
+later g zero i = []
+later g (suc k) i = g i ∷ later g k (suc i)
+
+each-later : (f g : ℕ → Sent) (n i : ℕ) → ((k : ℕ) → f k ≡ g (i + k)) → each f n ≡ later g n i
+unfolding each later
+each-later f g zero i h = refl
+each-later f g (suc n) i h =
+    let z : i + 0 ≡ i = omega arith in
+    let s : (k : ℕ) → f (suc k) ≡ g (suc i + k) = λ k. h (suc k) ∙ ap g (omega arith) in
+    rw (h 0, z, each-later (λ k. f (suc k)) g n (suc i) s)
+
+module _ (t : ℕ) (g : ℕ → Sent) (n : ℕ) where
+  -- what is left to apply from i on
+  pub rest : ℕ → Renderer Timed → Renderer Timed
+  rest i r = updated hall t (later g (n - i) i) r
+
+  rest-more : (i : ℕ) (r : Renderer Timed) → i < n → rest i r ≡ rest (suc i) (cond (eqb (g i .offset) t) (applied hall t (g i) r) r)
+  unfolding rest later
+  rest-more i r l = let e : n - i ≡ suc (n - suc i) = omega arith in rw e
+
+  rest-here : (i : ℕ) (r : Renderer Timed) → i < n → g i .offset ≡ t → rest i r ≡ rest (suc i) (applied hall t (g i) r)
+  rest-here i r l e = rest-more i r l ∙ rw (eq-eqb (g i .offset) t e)
+
+  rest-past : (i : ℕ) (r : Renderer Timed) → i < n → (g i .offset ≡ t → ⊥) → rest i r ≡ rest (suc i) r
+  rest-past i r l e = rest-more i r l ∙ rw (ne-eqb (g i .offset) t e)
+
+  rest-none : (i : ℕ) (r : Renderer Timed) → n ≤ i → rest i r ≡ r
+  unfolding rest later
+  rest-none i r l = let e : n - i ≡ 0 = omega arith in rw e
+
+  -- those before the first are passed over
+  skip : (d from : ℕ) (r : Renderer Timed) → from + d ≤ n → ((k : ℕ) → from ≤ k → k < from + d → g k .offset ≡ t → ⊥) → rest from r ≡ rest (from + d) r
+  skip zero from r l h = let e : from + 0 ≡ from = omega arith in rw e
+  skip (suc d) from r l h =
+      let e : from + suc d ≡ suc from + d = omega arith in
+      rest-past from r (omega arith) (h from (omega arith) (omega arith))
+      ∙ rw e (skip d (suc from) r (omega arith) (λ k a c. h k (omega arith) (omega arith)))
+
+-- ---- along the layout
+
+module _ (m : List ℕ) (l : records.Layout) (t at : ℕ) (all : Renderer Timed) where
+  -- where the walk stands: the updates from i on lead to `all`
+  pub record Standing (i : ℕ) (s : Small) (b : List ℕ) : Type 0 where
+    pub within : i ≤ l .count
+    pub time : i < l .count → getD (l .offset) i 0 ≡ t
+    pub long : length b ≡ size
+    pub here : at ≡ s .position
+    pub left : rest t (sentAt m) (l .count) i (held s b) ≡ all
+
+  module _ (g : IsLayout m l) where
+    pub standing :
+        (from i : ℕ) (s : Small) (b : List ℕ) → FirstAt (λ k. getD (l .offset) k 0) (l .count) t from i → length b ≡ size → at ≡ s .position →
+        rest t (sentAt m) (l .count) from (held s b) ≡ all → Standing i s b
+    standing from i s b h long here left =
+        let a = h .after in
+        let w = h .within in
+        let e : from + (i - from) ≡ i = omega arith in
+        let z = skip t (sentAt m) (l .count) (i - from) from (held s b) (omega arith) (λ k p q o. h .none k p (omega arith) (g .offsets k (omega (arith, g .counted)) ∙ o)) in
+        record { within = w; time = h .here; long = long; here = here; left = sym (rw e at z) ∙ left }
+
+    -- an update more
+    pub goes-on :
+        (i j : ℕ) (s r : Small) (b c : List ℕ) → i < l .count → Standing i s b → IsHeld (applied hall t (sent t (updateOf m (getD (l .first) i 0))) (held s b)) r c →
+        FirstAt (λ k. getD (l .offset) k 0) (l .count) t (i + 1) j → Standing j r c
+    goes-on i j s r b c low h next first =
+        let k : i < count m = omega (arith, g .counted) in
+        let o : sentAt m i .offset ≡ t = sym (g .offsets i k) ∙ h .time low in
+        let u : updateOf m (getD (l .first) i 0) ≡ updateOf m (updateAt m i) = ap (updateOf m) (g .firsts i k) in
+        let one : held r c ≡ applied hall t (sentAt m i) (held s b) = next .is ∙ rw u in
+        standing (i + 1) j r c first (next .long) (h .here ∙ sym (ap (λ (x : Renderer Timed). x .position) (next .is)))
+        (rw (add-one, one) (sym (rest-here t (sentAt m) (l .count) i (held s b) low o) ∙ h .left))
+
+    pub ends : (i : ℕ) (s : Small) (b : List ℕ) → l .count ≤ i → Standing i s b → IsHeld all s b
+    ends i s b low h = record { is = sym (rest-none t (sentAt m) (l .count) i (held s b) low) ∙ h .left; long = h .long }
+
+-- all of them
+pub from-first : (m : List ℕ) (l : records.Layout) → IsLayout m l → (t : ℕ) (r : Renderer Timed) → rest t (sentAt m) (l .count) 0 r ≡ updated hall t (sentOf m) r
+unfolding rest
+from-first m l g t r =
+    let z : l .count - 0 ≡ count m = omega (arith, g .counted) in
+    rw (z, ← each-later (sentAt m) (sentAt m) (count m) 0 (λ k. ap (sentAt m) (omega arith)))
+
+-- ---- the slot after them
+
+pub can-start : {x : Renderer Timed} {s : Small} {b : List ℕ} → IsHeld x s b → CanStart x → CanStart (held s b)
+can-start h c = rw (h .is) c
+
+pub slotted-after : {x : Renderer Timed} {s r : Small} {b c : List ℕ} → IsHeld x s b → IsHeld (slotted hall (held s b)) r c → IsHeld (slotted hall x) r c
+slotted-after h g = record { is = g .is ∙ ap (slotted hall) (h .is); long = g .long }
+
+-- a renderer within document 01's ranges
+pub ranged-starts : (r : Renderer Timed) → Ranged hall Within r → CanStart r
+ranged-starts r g = record { within = timed.within-later (r .position) 1099511627776 (r .meta .state) (g .position) (g .meta .state .within); start = omega (arith, g .start, g .position) }

@@ -1,0 +1,44 @@
+-- The infos of a block, lent and changed: the places stay. Assumes nothing.
+use Prim.Native.Nat.{ℕ, _+_, _*_}
+use mathlib.Core.Path.{_≡_, sym, ap, _∙_}
+use mathlib.Core.Bool.{cond}
+use mathlib.Core.List.{List, [], _++_}
+use native.Mathlib.Omega.{arith}
+use lib.Dec.{ltb}
+use lib.ListN.{length, take, drop, length-append, length-drop}
+use lib.Seq.{length-take-le, take-at, drop-at, drop-drop}
+use Rattle.words.specs.Words.{wordsAt}
+use Rattle.store.specs.declared.Small.{Small}
+use Rattle.store.specs.Layout.{size, joined, infosOf, placesOf}
+use Rattle.store.proofs.Bytes.{words-drop}
+use Rattle.frame.specs.Held.{held}
+
+-- a block with other infos
+abbrev pub changed : List ℕ → List ℕ → List ℕ
+changed b is = take 1360 b ++ (is ++ drop 22528 (drop 1360 b))
+
+module _ (b is : List ℕ) (whole : length b ≡ size) (long : length is ≡ 22528) where
+  front : length (take 1360 b) ≡ 1360
+  front = length-take-le 1360 b (omega arith)
+
+  rest : drop 1360 (changed b is) ≡ is ++ drop 22528 (drop 1360 b)
+  rest = drop-at (take 1360 b) (is ++ drop 22528 (drop 1360 b)) 1360 front
+
+  pub changed-long : length (changed b is) ≡ size
+  changed-long =
+      let f = front in
+      rw (length-append, length-append, length-drop, length-drop) (omega arith)
+
+  changed-infos : infosOf (changed b is) ≡ is
+  changed-infos = rw rest (take-at is (drop 22528 (drop 1360 b)) 22528 long)
+
+  past : drop 23888 (changed b is) ≡ drop 23888 b
+  past = sym (drop-drop 22528 1360 (changed b is)) ∙ rw rest (drop-at is (drop 22528 (drop 1360 b)) 22528 long ∙ drop-drop 22528 1360 b)
+
+  changed-place : (c : ℕ) → placesOf (changed b is) c ≡ placesOf b c
+  changed-place c =
+      ap (λ (ws : List ℕ). cond (ltb c 12) ws [])
+      (words-drop (changed b is) 23888 (256 * c) 64 ∙ ap (λ (s : List ℕ). wordsAt s (256 * c) 64) past ∙ sym (words-drop b 23888 (256 * c) 64))
+
+  pub changed-held : (s : Small) → held s (changed b is) ≡ joined s is (placesOf b)
+  changed-held s = λ i. joined s (changed-infos i) (λ c. changed-place c i)

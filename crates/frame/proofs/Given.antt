@@ -1,0 +1,134 @@
+-- A block that the limiter gave out is what the rules give, behind the samples that are ready. Assumes nothing.
+use mathlib.Core.Path.{_≡_, refl, sym, ap, ap₂, _∙_}
+use mathlib.Core.List.{List, [], _∷_, map}
+use Prim.Native.Nat.{ℕ, zero, suc, _+_, _-_, _*_, _<_, _≤_}
+use native.Mathlib.Nat.{not-suc-le-zero, le-of-suc-le-suc}
+use native.Mathlib.Omega.{arith}
+use borrow.Author.Tests.{lt-ltb}
+use lib.ListN.{length, take, drop, length-drop}
+use lib.Seq.{take-all}
+use lib.Ieee.{Float, binary32, ofBits, toBits}
+use Rattle.words.specs.Words.{word, floatAt, withFloat, wordsAt, withWords}
+use Rattle.limiter.specs.Limiter.{blockGain, scaled, scaledBlock, grown}
+use Rattle.limiter.specs.Places.{floatsAt, withFloats, channelsAt, withChannels, Given}
+use Rattle.rules.specs.Parts.{Channels, none, twelve, floats}
+use Rattle.rules.specs.Samples.{limited, gainAfter, flushed}
+use Rattle.rules.specs.Block.{writtenFrom, written}
+use Rattle.store.specs.declared.Small.{Small}
+use Rattle.store.specs.Layout.{size, placesOf}
+use Rattle.store.proofs.Bytes.{words-drop}
+use Rattle.frame.specs.Held.{held}
+use Rattle.frame.specs.Out.{behindFrom, behind}
+use Rattle.frame.specs.Give.{emptied, Gave}
+
+-- ---- floats and words
+
+floats-words : (s : List ℕ) (at n : ℕ) → floatsAt s at n ≡ map (ofBits binary32) (wordsAt s at n)
+unfolding floatAt
+floats-words s at zero = refl
+floats-words s at (suc n) = ap (λ (xs : List Float). floatAt s at ∷ xs) (floats-words s (at + 4) n)
+
+-- the first n of m floats
+floats-take : (s : List ℕ) (at n m : ℕ) → n ≤ m → take n (map (ofBits binary32) (wordsAt s at m)) ≡ map (ofBits binary32) (wordsAt s at n)
+floats-take s at zero m h = refl
+floats-take s at (suc n) zero h = absurd (not-suc-le-zero h)
+floats-take s at (suc n) (suc m) h = ap (λ (xs : List Float). ofBits binary32 (word s at) ∷ xs) (floats-take s (at + 4) n m (le-of-suc-le-suc h))
+
+with-words : (s : List ℕ) (at : ℕ) (xs : List Float) → withFloats s at xs ≡ withWords s at (map (toBits binary32) xs)
+unfolding withFloat
+with-words s at [] = refl
+with-words s at (x ∷ xs) = with-words (withFloat s at x) (at + 4) xs
+
+-- ---- channels as a list
+
+listed : ℕ → ℕ → Channels → List (List Float)
+listed zero c f = []
+listed (suc k) c f = f c ∷ listed k (suc c) f
+
+listed-twelve : (f : Channels) → listed 12 0 f ≡ twelve f
+unfolding listed
+listed-twelve f = refl
+
+channels-listed : (f : Channels) (s : List ℕ) (n : ℕ) → ((c : ℕ) → c < 12 → floatsAt s (256 * c) n ≡ f c) → (k c : ℕ) → c + k ≤ 12 → channelsAt k n s (256 * c) ≡ listed k c f
+unfolding channelsAt listed
+channels-listed f s n e zero c h = refl
+channels-listed f s n e (suc k) c h =
+    let a : 256 * c + 256 ≡ 256 * suc c = omega arith in
+    ap₂ (λ (x : List Float) (xs : List (List Float)). x ∷ xs) (e c (omega arith))
+    (ap (channelsAt k n s) a ∙ channels-listed f s n e k (suc c) (omega arith))
+
+module _ (g : Float) (f : Channels) (stride ready : ℕ) where
+  channels-behind : (k c : ℕ) (out : List ℕ) → withChannels (scaledBlock g (listed k c f)) (4 * stride) (4 * (c * stride + ready)) out ≡ behindFrom k c ready (λ c. scaled g (f c)) stride out
+  unfolding withChannels scaledBlock listed
+  channels-behind zero c out = refl
+  channels-behind (suc k) c out =
+      let at = 4 * (c * stride + ready) in
+      let a : at + 4 * stride ≡ 4 * (suc c * stride + ready) = omega arith in
+      ap₂ (withChannels (scaledBlock g (listed k (suc c) f)) (4 * stride)) a (with-words out at (scaled g (f c)))
+      ∙ channels-behind k (suc c) (withWords out at (map (toBits binary32) (scaled g (f c))))
+
+-- ---- a block of n samples
+
+module _ (f : Channels) (s : List ℕ) (n : ℕ) (e : (c : ℕ) → c < 12 → floatsAt s (256 * c) n ≡ f c) where
+  channels-twelve : channelsAt 12 n s 0 ≡ twelve f
+  channels-twelve = channels-listed f s n e 12 0 (omega arith) ∙ listed-twelve f
+
+  module _ (stride ready : ℕ) {g h : Float} {rate : ℕ} {out out' : List ℕ} (given : Given g n rate s (4 * stride) (4 * ready) out h out') where
+    pub gain-after : h ≡ gainAfter n rate g f
+    gain-after = given .gain ∙ ap (λ (cs : List (List Float)). grown n rate (blockGain g cs)) channels-twelve
+
+    pub given-behind : out' ≡ behind ready (limited g f) stride out
+    unfolding behind
+    given-behind =
+        let a : 4 * ready ≡ 4 * (0 * stride + ready) = omega arith in
+        given .samples
+        ∙ ap (λ (cs : List (List Float)). withChannels (scaledBlock (blockGain g cs) cs) (4 * stride) (4 * ready) out) (channels-twelve ∙ sym (listed-twelve f))
+        ∙ ap (λ (at : ℕ). withChannels (scaledBlock (blockGain g (listed 12 0 f)) (listed 12 0 f)) (4 * stride) at out) a
+        ∙ channels-behind (blockGain g (listed 12 0 f)) f stride ready 12 0 out
+        ∙ ap (λ (cs : List (List Float)). behindFrom 12 0 ready (λ c. scaled (blockGain g cs) (f c)) stride out) (listed-twelve f)
+
+-- ---- the places of a block
+
+-- the samples that wait
+waiting : ℕ → List ℕ → Channels
+waiting n b c = take n (floats (placesOf b) c)
+
+waiting-at : (n : ℕ) (b : List ℕ) → n ≤ 64 → length b ≡ size → (c : ℕ) → c < 12 → floatsAt (take (length b - 23888) (drop 23888 b)) (256 * c) n ≡ waiting n b c
+unfolding waiting
+waiting-at n b h l c m =
+    let d : length (drop 23888 b) ≤ length b - 23888 = rw length-drop (omega arith) in
+    ap (λ (s : List ℕ). floatsAt s (256 * c) n) (take-all (length b - 23888) (drop 23888 b) d)
+    ∙ floats-words (drop 23888 b) (256 * c) n
+    ∙ ap (map (ofBits binary32)) (sym (words-drop b 23888 (256 * c) n))
+    ∙ sym (floats-take b (23888 + 256 * c) n 64 h)
+    ∙ (let q = lt-ltb c 12 m in rw q refl)
+
+-- what `give` leaves
+pub gave : (s : Small) (b out : List ℕ) (stride ready : ℕ) {h : Float} {r : Small} {out' : List ℕ} → length b ≡ size → s .pending ≤ 64 → r ≡ emptied s h
+    → Given (s .gain) (s .pending) (s .rate) (take (length b - 23888) (drop 23888 b)) (4 * stride) (4 * ready) out h out' → Gave s b stride ready out r out'
+unfolding flushed waiting
+gave s b out stride ready l m p given =
+    let e = waiting-at (s .pending) b m l in
+    let f = waiting (s .pending) b in
+    let part = take (length b - 23888) (drop 23888 b) in
+    record {
+      next = ap (λ (r : Small). held r b) (p ∙ ap (emptied s) (gain-after f part (s .pending) e stride ready given));
+      given = given-behind f part (s .pending) e stride ready given;
+    }
+
+-- ---- nothing behind others, and behind nothing
+
+pub none-behind : (k stride : ℕ) (out : List ℕ) → behind k none stride out ≡ out
+unfolding behind
+none-behind k stride out = refl
+
+behind-none : (given : Channels) (stride : ℕ) (k c : ℕ) (out : List ℕ) → behindFrom k c 0 given stride out ≡ writtenFrom k c given stride out
+behind-none given stride zero c out = refl
+behind-none given stride (suc k) c out =
+    let a : 4 * (c * stride + 0) ≡ 4 * (c * stride) = omega arith in
+    ap (λ (at : ℕ). behindFrom k (suc c) 0 given stride (withWords out at (map (toBits binary32) (given c)))) a
+    ∙ behind-none given stride k (suc c) (withWords out (4 * (c * stride)) (map (toBits binary32) (given c)))
+
+pub behind-written : (given : Channels) (stride : ℕ) (out : List ℕ) → behind 0 given stride out ≡ written given stride out
+unfolding behind written
+behind-written given stride out = behind-none given stride 12 0 out

@@ -1,0 +1,298 @@
+-- The frame's loop over the rules: what holds before each turn, and that a turn keeps it. Assumes nothing beyond `Facts` and `Shaped`.
+use Prim.Native.Nat.{ℕ, zero, suc, _+_, _-_, _*_, _%_, _≤_, _<_, zero-le}
+use native.Mathlib.Nat.{zero-add, suc-add}
+use native.Mathlib.Omega.{arith}
+use mathlib.Core.Path.{_≡_, refl, sym, ap, _∙_, subst}
+use mathlib.Core.Bool.{Bool, true, false, cond, _&&_, _||_}
+use mathlib.Core.List.{List, [], _∷_}
+use lib.Dec.{T, leb, eqb, eqb·suc-zero, lit<}
+use lib.ListN.{length, length-append}
+use borrow.Author.Tests.{eqb-true, eqb-false}
+use Rattle.ieee.specs.Bounds.{All}
+use Rattle.rules.specs.Parts.{Channels, joined}
+use Rattle.rules.specs.Leaves.{Leaves, Shape, started}
+use Rattle.rules.specs.Samples.{Frame, State, After, applied, updated, slotted, framed, opened, pushed}
+use Rattle.rules.specs.Refusals.{Args, Sent, listed, lacking, countsAfter, lackingFrom, offsets, shapeAt}
+use Rattle.rules.specs.Ranges.{Ranged}
+use Rattle.rules.specs.Calls.{frameOf}
+use Rattle.rules.specs.Block.{Layout, written}
+use Rattle.rules.proofs.Facts.{Facts}
+use Rattle.rules.proofs.Judged.{Passed, Roomy, is-roomy, samples-fit, sentOf}
+use Rattle.rules.proofs.Clock.{untouched}
+use Rattle.rules.proofs.Ranged.{R, Met, or-false, applied-ranged, updated-ranged, slotted-met, framed-ranged, opened-ranged}
+use Rattle.rules.proofs.Shapes.{Matches, matches-on, Judged, judged}
+use Rattle.frame.specs.Chunk.{chunk}
+use Rattle.frame.specs.Out.{behind}
+use Rattle.frame.proofs.Chunks.{NoneAt, both, Quiet, Turn, chunk-passes, chunk-whole, turn}
+use Rattle.frame.proofs.Outs.{behind-joined, behind-nothing, behind-none, length-behind}
+use Rattle.frame.proofs.Counted.{Counted, framed-counted}
+
+-- ---- numbers
+
+-- of p pending samples and n more, at most 64 in all, a block is given out, or none
+ready-is : (b : Bool) (ready p n blocks pending : ℕ) → eqb pending 0 ≡ b → 64 * blocks + pending ≡ p + suc n → p + suc n ≤ 64 → cond b (ready + 64) ready ≡ ready + 64 * blocks
+ready-is true ready p n blocks pending e h l = let z = eqb-true pending 0 e in omega arith
+ready-is false ready p n blocks pending e h l = let z = eqb-false pending 0 e in omega arith
+
+-- p₀ samples were pending before the frame: the blocks b of this turn and d of the rest find room behind those that are ready
+space : (ready p₀ p t n m samples stride b d pending end : ℕ) → ready % 64 ≡ 0 → stride % 64 ≡ 0 → p₀ < 64 → samples ≤ stride → t + suc n + m ≡ samples → ready + p ≡ p₀ + t
+    → 64 * b + pending ≡ p + suc n → 64 * d + end ≡ pending + m → ready + 64 * b + 64 * d ≤ stride
+space ready p₀ p t n m samples stride b d pending end x y few fit all at c e = omega arith
+
+-- ---- refusal 7 along samples on which no update falls
+module _ (L : Leaves) where
+  none-lacks : (t : ℕ) (us : List (L .Update)) (k : L .Counts) → NoneAt L t us → (lacking L t us k ≡ false) × (countsAfter L t us k ≡ k)
+  none-lacks t [] k h = (refl, refl)
+  none-lacks t (u ∷ us) k h = let i = none-lacks t us k (h .1) in (rw (h .0) (i .0), rw (h .0) (i .1))
+
+  quiet-lacks : (n m t : ℕ) (us : List (L .Update)) (k : L .Counts) → ((j : ℕ) → t ≤ j → j < t + n → NoneAt L j us) → lackingFrom L (n + m) t us k ≡ lackingFrom L m (t + n) us k
+  quiet-lacks zero m t us k h = ap (λ (i : ℕ). lackingFrom L i t us k) (zero-add m) ∙ ap (λ (i : ℕ). lackingFrom L m i us k) (let e : t ≡ t + 0 = omega arith in e)
+  quiet-lacks (suc n) m t us k h =
+      let i = none-lacks t us k (h t (omega arith) (omega arith)) in
+      ap (λ (i : ℕ). lackingFrom L i t us k) (suc-add n m)
+      ∙ ap (λ (b : Bool). b || lackingFrom L (n + m) (suc t) us (countsAfter L t us k)) (i .0)
+      ∙ ap (lackingFrom L (n + m) (suc t) us) (i .1)
+      ∙ quiet-lacks n m (suc t) us k (λ j a b. h j (omega arith) (omega arith))
+      ∙ ap (λ (i : ℕ). lackingFrom L m i us k) (let e : suc t + n ≡ t + suc n = omega arith in e)
+
+module _ (L : Leaves) (B : Layout L) (F : Facts L B) where
+  -- updates and slots in any timed state within its ranges
+  pub record Shaped : Type 0 where
+    pub apply : (n : ℕ) (u : L .Update) (m : L .Meta) → F .Checked u → F .Within n m → L .shape (L .apply n u m) ≡ L .sent u
+    pub slot : (n : ℕ) (m : L .Meta) → L .shape (L .slot n m) ≡ L .shape m
+
+  -- the shape that sample t is heard with
+  module _ (S : Shaped) (all : List Sent) (objects : ℕ) (codes : List ℕ) (t : ℕ) where
+    updated-shape : (us : List (L .Update)) (r : State L) (k : L .Counts) → All (F .Checked) us → lacking L t us k ≡ false → Met L B F k r
+        → L .shape (updated L t us r .meta) ≡ shapeAt all objects codes t (sentOf L us) (L .shape (r .meta))
+    updated-shape [] r k c e g = refl
+    updated-shape (u ∷ us) r k c e g = go (eqb (L .offset u) t) e (λ s o i h. updated-shape us s o (c .1) i h)
+      where
+        go : (b : Bool) → cond b (L .lacks u k || lacking L t us (L .nextCounts u k)) (lacking L t us k) ≡ false
+            → ((s : State L) (o : L .Counts) → lacking L t us o ≡ false → Met L B F o s → L .shape (updated L t us s .meta) ≡ shapeAt all objects codes t (sentOf L us) (L .shape (s .meta)))
+            → L .shape (updated L t us (cond b (applied L t u r) r) .meta) ≡ shapeAt all objects codes t (sentOf L us) (cond b (L .sent u) (L .shape (r .meta)))
+        go true e rec =
+            let p = or-false L B F (L .lacks u k) (lacking L t us (L .nextCounts u k)) e in
+            rec (applied L t u r) (L .nextCounts u k) (p .1)
+            (applied-ranged L B F t u r (c .0) (ap (L .lacks u) (g .1) ∙ p .0) (g .0), F .counts-apply (r .position) u (r .meta) (c .0) (g .0 .meta) ∙ ap (L .nextCounts u) (g .1))
+            ∙ ap (shapeAt all objects codes t (sentOf L us)) (S .apply (r .position) u (r .meta) (c .0) (g .0 .meta))
+        go false e rec = rec r k e g
+
+  slotted-shape : Shaped → (r : State L) → L .shape (slotted L r .meta) ≡ L .shape (r .meta)
+  slotted-shape S r = go (started L (r .meta) && eqb (r .phase) 0)
+    where
+      go : (b : Bool) → L .shape (cond b (L .slot (r .start) (r .meta)) (r .meta)) ≡ L .shape (r .meta)
+      go true = S .slot (r .start) (r .meta)
+      go false = refl
+
+  -- ---- a push on the renderer r₀
+  module _ (r₀ : State L) (a : Args) where
+    abbrev us : List (L .Update)
+    us = L .updates (a .meta)
+
+    abbrev Fit : Shape → Type 0
+    Fit = Matches (sentOf L us) (a .objects) (a .codes)
+
+    abbrev shaped : ℕ → Shape → Shape
+    shaped t s = shapeAt (sentOf L us) (a .objects) (a .codes) t (sentOf L us) s
+
+    -- the samples from t on, from r
+    abbrev rest : ℕ → State L → After L
+    rest t r = framed L (frameOf L a) (a .samples - t) t r
+
+    -- before sample t: with the renderer r, `ready` samples of each channel in the output, the rest of the frame is the rest of the push
+    pub record Going (t : ℕ) (r : State L) (ready : ℕ) (out : List ℕ) : Type 0 where
+      pub here : t ≤ a .samples
+      pub next : rest t r .next ≡ pushed L (frameOf L a) r₀ .next
+      pub given : behind ready (rest t r .given) (a .stride) out ≡ written (pushed L (frameOf L a) r₀ .given) (a .stride) (a .out)
+      pub count : ready + length (rest t r .given 0) ≡ length (pushed L (frameOf L a) r₀ .given 0)
+      pub long : length out ≡ length (a .out)
+      pub ranged : R L B F r
+      pub listed : listed (r .rate) ≡ true
+      pub position : r .position ≡ r₀ .position + t
+      pub pending : ready + r .pending ≡ r₀ .pending + t
+      pub whole : ready % 64 ≡ 0
+      pub enough : lackingFrom L (a .samples - t) t us (L .counts (r .meta)) ≡ false
+      pub fits : t < a .samples → Fit (shaped t (L .shape (r .meta)))
+
+    abbrev met : ℕ → State L → State L
+    met t r = slotted L (updated L t us r)
+
+    -- what the updates and the slot at t leave
+    pub record Begun (t : ℕ) (r : State L) : Type 0 where
+      pub updates : R L B F (updated L t us r)
+      pub ranged : R L B F (met t r)
+      pub listed : listed (met t r .rate) ≡ true
+      pub position : met t r .position ≡ r .position
+      pub pending : met t r .pending ≡ r .pending
+      pub counts : L .counts (met t r .meta) ≡ countsAfter L t us (L .counts (r .meta))
+      pub lacks : lacking L t us (L .counts (r .meta)) ≡ false
+      pub fits : Fit (L .shape (met t r .meta))
+
+    module _ (S : Shaped) (p : Passed L r₀ a) (k : All (F .Checked) us) (t : ℕ) (r : State L) (ready : ℕ) (out : List ℕ) (g : Going t r ready out) (more : t < a .samples) where
+      -- refusal 7 at t and at the samples after it
+      lacks-here : (n : ℕ) → a .samples - t ≡ suc n → (lacking L t us (L .counts (r .meta)) ≡ false) × (lackingFrom L n (suc t) us (countsAfter L t us (L .counts (r .meta))) ≡ false)
+      lacks-here n e =
+          or-false L B F (lacking L t us (L .counts (r .meta))) (lackingFrom L n (suc t) us (countsAfter L t us (L .counts (r .meta))))
+          (ap (λ (i : ℕ). lackingFrom L i t us (L .counts (r .meta))) (sym e) ∙ g .enough)
+
+      pub begun : Begun t r
+      begun =
+          let l = lacks-here (a .samples - suc t) (omega arith) .0 in
+          let u = updated-ranged L B F t us r (L .counts (r .meta)) k l (g .ranged, refl) in
+          let s = slotted-met L B F (countsAfter L t us (L .counts (r .meta))) (updated L t us r) u in
+          let w = untouched L t us r in
+          let e = slotted-shape S (updated L t us r) ∙ updated-shape S (sentOf L us) (a .objects) (a .codes) t us r (L .counts (r .meta)) k l (g .ranged, refl) in
+          record {
+            updates = u .0;
+            ranged = s .0;
+            listed = ap listed (w .rate) ∙ g .listed;
+            position = w .position;
+            pending = w .pending;
+            counts = s .1;
+            lacks = l;
+            fits = subst Fit (sym e) (g .fits more);
+          }
+
+      -- ---- a turn of n + 1 samples
+      module _ (few : r₀ .pending < 64) (n : ℕ) (fit : t + suc n ≤ a .samples) (q : Turn L (frameOf L a) n t (met t r)) where
+        abbrev C : After L
+        C = chunk L (frameOf L a) (suc n) t (met t r)
+
+        abbrev D : After L
+        D = rest (t + suc n) (C .next)
+
+        parts : rest t r ≡ both L C D
+        parts =
+            ap (λ (i : ℕ). framed L (frameOf L a) i t r) (let e : a .samples - t ≡ suc n + (a .samples - (t + suc n)) = omega arith in e)
+            ∙ turn L (frameOf L a) n (a .samples - (t + suc n)) t r q
+
+        at-once : framed L (frameOf L a) (suc n) t r ≡ C
+        at-once = chunk-whole L (frameOf L a) n t r q
+
+        counted : Counted L (r .pending) (suc n) C
+        counted = subst (Counted L (r .pending) (suc n)) at-once (framed-counted L (frameOf L a) (suc n) t r (g .ranged .long) (g .ranged .pending))
+
+        quiet : (m : ℕ) (c : L .Counts) → lackingFrom L (n + m) (suc t) us c ≡ lackingFrom L m (t + suc n) us c
+        quiet m c =
+            quiet-lacks L n m (suc t) us c (λ j x y. q .quiet j x (omega arith)) ∙ ap (λ (i : ℕ). lackingFrom L m i us c) (let e : suc t + n ≡ t + suc n = omega arith in e)
+
+        chunk-ranged : R L B F (C .next)
+        chunk-ranged =
+            let c = L .counts (r .meta) in
+            let l : lackingFrom L n (suc t) us (countsAfter L t us c) ≡ false = ap (λ (i : ℕ). lackingFrom L i (suc t) us (countsAfter L t us c)) (let e : n ≡ n + 0 = omega arith in e) ∙ quiet 0 (countsAfter L t us c) in
+            let at = g .position in
+            let last = p .position in
+            subst (λ (x : After L). R L B F (x .next)) at-once
+            (framed-ranged L B F (frameOf L a) k (suc n) t r c
+            (ap (λ (b : Bool). b || lackingFrom L n (suc t) us (countsAfter L t us c)) (begun .lacks) ∙ l)
+            (g .listed) (omega arith) (g .ranged, refl))
+
+        rest-counted : Counted L (C .next .pending) (a .samples - (t + suc n)) D
+        rest-counted = framed-counted L (frameOf L a) (a .samples - (t + suc n)) (t + suc n) (C .next) (chunk-ranged .long) (chunk-ranged .pending)
+
+        room : (c : ℕ) → c < 12 → ready + 64 * counted .blocks + length (D .given c) ≤ a .stride
+        room c l =
+            let e = rest-counted .length c l in
+            let w = is-roomy (a .stride) (length (a .out)) (p .room) in
+            subst (λ (i : ℕ). ready + 64 * counted .blocks + i ≤ a .stride) (sym e)
+            (space ready (r₀ .pending) (r .pending) t n (a .samples - (t + suc n)) (a .samples) (a .stride) (counted .blocks) (rest-counted .blocks) (C .next .pending) (D .next .pending) (g .whole) (w .whole)
+            few (samples-fit a (p .sized)) (omega arith) (g .pending) (counted .all) (rest-counted .all))
+
+        count-more : length (rest t r .given 0) ≡ 64 * counted .blocks + length (D .given 0)
+        count-more =
+            ap (λ (x : After L). length (x .given 0)) parts ∙ length-append (C .given 0) (D .given 0) ∙ ap (λ (i : ℕ). i + length (D .given 0)) (counted .length 0 (lit< tt))
+
+        enough-more : lackingFrom L (a .samples - (t + suc n)) (t + suc n) us (L .counts (C .next .meta)) ≡ false
+        enough-more =
+            let m = a .samples - (t + suc n) in
+            ap (λ (x : L .Meta). lackingFrom L m (t + suc n) us (L .counts x)) (chunk-passes L (frameOf L a) (suc n) t (met t r) .meta)
+            ∙ ap (lackingFrom L m (t + suc n) us) (begun .counts)
+            ∙ sym (quiet m (countsAfter L t us (L .counts (r .meta))))
+            ∙ lacks-here (n + m) (omega arith) .1
+
+        fits-more : t + suc n < a .samples → Fit (shaped (t + suc n) (L .shape (C .next .meta)))
+        fits-more l =
+            let j = judged (sentOf L us) (a .objects) (a .codes) (a .samples) (a .rate) (r₀ .rate) (L .shape (r₀ .meta)) (p .later) in
+            matches-on (sentOf L us) (a .objects) (a .codes) (t + suc n) (sentOf L us) (L .shape (C .next .meta)) (j .then-all (t + suc n) l)
+            (subst (λ (x : L .Meta). Fit (L .shape x)) (sym (chunk-passes L (frameOf L a) (suc n) t (met t r) .meta)) (begun .fits))
+
+        gone : Going (t + suc n) (C .next) (ready + 64 * counted .blocks) (behind ready (C .given) (a .stride) out)
+        gone =
+            let c = chunk-passes L (frameOf L a) (suc n) t (met t r) in
+            let b = begun in
+            record {
+              here = fit;
+              next = sym (ap (λ (x : After L). x .next) parts) ∙ g .next;
+              given = behind-joined (C .given) (D .given) ready (64 * counted .blocks) (a .stride) (counted .length) room out
+                  ∙ ap (λ (x : After L). behind ready (x .given) (a .stride) out) (sym parts) ∙ g .given;
+              count = numbers-count (64 * counted .blocks) (length (D .given 0)) (length (rest t r .given 0)) (g .count) count-more;
+              long = length-behind ready (C .given) (a .stride) out ∙ g .long;
+              ranged = chunk-ranged;
+              listed = ap listed (c .rate) ∙ b .listed;
+              position = numbers-position (r₀ .position) (C .next .position) (met t r .position) (r .position) (c .position) (b .position) (g .position);
+              pending = numbers-pending (r₀ .pending) (counted .blocks) (C .next .pending) (r .pending) (counted .all) (g .pending);
+              whole = numbers-whole (counted .blocks) (g .whole);
+              enough = enough-more;
+              fits = fits-more;
+            }
+          where
+            numbers-count : (x y i : ℕ) {z : ℕ} → ready + i ≡ z → i ≡ x + y → ready + x + y ≡ z
+            numbers-count x y i e f = omega arith
+
+            numbers-position : (z x y w : ℕ) → x ≡ y + suc n → y ≡ w → w ≡ z + t → x ≡ z + (t + suc n)
+            numbers-position z x y w e f h = omega arith
+
+            numbers-pending : (z b x y : ℕ) → 64 * b + x ≡ y + suc n → ready + y ≡ z + t → ready + 64 * b + x ≡ z + (t + suc n)
+            numbers-pending z b x y e f = omega arith
+
+            numbers-whole : (b : ℕ) → ready % 64 ≡ 0 → (ready + 64 * b) % 64 ≡ 0
+            numbers-whole b e = omega arith
+
+        pub step : Going (t + suc n) (C .next) (cond (eqb (C .next .pending) 0) (ready + 64) ready) (behind ready (C .given) (a .stride) out)
+        step =
+            let h = q .room in
+            let e = begun .pending in
+            subst (λ (i : ℕ). Going (t + suc n) (C .next) i (behind ready (C .given) (a .stride) out))
+            (sym (ready-is (eqb (C .next .pending) 0) ready (r .pending) n (counted .blocks) (C .next .pending) refl (counted .all) (omega arith))) gone
+
+    -- ---- before the first sample, and after the last
+    pub starts : R L B F r₀ → Passed L r₀ a → Going 0 (opened L (a .rate) r₀) 0 (a .out)
+    unfolding pushed
+    starts g p =
+        let o = opened-ranged L B F (a .rate) r₀ (p .listed) g in
+        let j = judged (sentOf L us) (a .objects) (a .codes) (a .samples) (a .rate) (r₀ .rate) (L .shape (r₀ .meta)) (p .later) in
+        record {
+          here = zero-le;
+          next = ap (λ (x : After L). x .next) all;
+          given = behind-nothing (rest 0 (opened L (a .rate) r₀) .given) (a .stride) (a .out) ∙ ap (λ (x : After L). written (x .given) (a .stride) (a .out)) all;
+          count = zero-add (length (rest 0 (opened L (a .rate) r₀) .given 0)) ∙ ap (λ (x : After L). length (x .given 0)) all;
+          long = refl;
+          ranged = o .0;
+          listed = o .1;
+          position = omega arith;
+          pending = omega arith;
+          whole = refl;
+          enough = go (a .samples) (p .enough);
+          fits = λ l. j .first;
+        }
+      where
+        all : rest 0 (opened L (a .rate) r₀) ≡ framed L (frameOf L a) (a .samples) 0 (opened L (a .rate) r₀)
+        all = ap (λ (i : ℕ). framed L (frameOf L a) i 0 (opened L (a .rate) r₀)) (let e : a .samples - 0 ≡ a .samples = omega arith in e)
+
+        go : (n : ℕ) → lackingFrom L (offsets L n) 0 us (L .counts (r₀ .meta)) ≡ false → lackingFrom L (n - 0) 0 us (L .counts (r₀ .meta)) ≡ false
+        go zero e = refl
+        go (suc n) e =
+            ap (λ (i : ℕ). lackingFrom L i 0 us (L .counts (r₀ .meta))) (let e : suc n - 0 ≡ suc n = omega arith in e)
+            ∙ ap (λ (b : Bool). lackingFrom L (cond b 1 (suc n)) 0 us (L .counts (r₀ .meta))) (sym (eqb·suc-zero n)) ∙ e
+
+    pub ends : (t : ℕ) (r : State L) (ready : ℕ) (out : List ℕ) → Going t r ready out → a .samples ≤ t
+        → (r ≡ pushed L (frameOf L a) r₀ .next) × (out ≡ written (pushed L (frameOf L a) r₀ .given) (a .stride) (a .out)) × (ready ≡ length (pushed L (frameOf L a) r₀ .given 0))
+    ends t r ready out g h = (
+      sym (ap (λ (x : After L). x .next) none-left) ∙ g .next,
+      sym (behind-none ready (a .stride) out) ∙ ap (λ (x : After L). behind ready (x .given) (a .stride) out) (sym none-left) ∙ g .given,
+      let c = ap (λ (x : After L). length (x .given 0)) none-left in (let e : ready ≡ ready + length (rest t r .given 0) = omega arith in e) ∙ g .count,
+    )
+      where
+        none-left : rest t r ≡ framed L (frameOf L a) 0 t r
+        none-left = ap (λ (i : ℕ). framed L (frameOf L a) i t r) (let e : a .samples - t ≡ 0 = omega arith in e)

@@ -1,0 +1,93 @@
+-- Rows laid into the places of a state block: the infos stay, and each channel's 64 places are `laid`. Assumes nothing.
+use mathlib.Core.Path.{_≡_, refl, sym, ap, fun-ext, _∙_}
+use mathlib.Core.Bool.{Bool, true, false, cond}
+use mathlib.Core.List.{List, [], _∷_, _++_, append-nil}
+use Prim.Native.Nat.{ℕ, zero, suc, _+_, _-_, _*_, _≤_}
+use native.Mathlib.Omega.{arith}
+use borrow.Author.Tests.{ltb-true}
+use borrow.Rule.Slice.PartMut.{putMid}
+use lib.Dec.{T, ltb}
+use lib.ListN.{length, getD, set, take, drop, length-set, length-drop, length-append, take-append-drop, drop-of-length-le}
+use lib.Seq.{take-all, length-take-le, take-append-le, drop-append-le, drop-at}
+use lib.Ieee.{Float, nan, binary32, fits, toBits}
+use Rattle.words.specs.Words.{wordsAt}
+use Rattle.limiter.specs.Limiter.{channels}
+use Rattle.limiter.specs.Places.{withChannels}
+use Rattle.rules.specs.Parts.{laid}
+use Rattle.store.specs.Layout.{size, infosOf}
+use Rattle.store.proofs.Bytes.{words-drop}
+use Rattle.render.proofs.Behind.{Fit, append-laid, length-channels}
+use Rattle.frame.specs.Pass.{Laid}
+
+-- ---- laid
+
+-- past the twelve channels there are no places
+pub laid-nil : (k : ℕ) (xs : List Float) → laid k xs [] ≡ []
+laid-nil k [] = refl
+laid-nil k (x ∷ xs) = laid-nil (suc k) xs
+
+pub length-laid : (k : ℕ) (xs : List Float) (ws : List ℕ) → length (laid k xs ws) ≡ length ws
+length-laid k [] ws = refl
+length-laid k (x ∷ xs) ws = length-laid (suc k) xs (set ws k (toBits binary32 x)) ∙ length-set ws k (toBits binary32 x)
+
+-- an f32 slice has f32 values
+pub fit-all : (xs : List Float) → ((i : ℕ) → T (fits binary32 (getD xs i nan))) → Fit xs
+fit-all [] h = tt
+fit-all (x ∷ xs) h = (h zero, fit-all xs (λ i. h (suc i)))
+
+-- ---- a block whose first 23,888 bytes stay
+
+infos-front : (p x : List ℕ) → length p ≡ 23888 → infosOf (p ++ x) ≡ infosOf p
+infos-front p x l =
+    let d : 22528 ≤ length (drop 1360 p) = rw length-drop (omega arith) in
+    ap (take 22528) (drop-append-le 1360 p x (omega arith)) ∙ take-append-le 22528 (drop 1360 p) x d
+
+words-back : (p x : List ℕ) (at n : ℕ) → length p ≡ 23888 → wordsAt (p ++ x) (23888 + at) n ≡ wordsAt x at n
+words-back p x at n l = words-drop (p ++ x) 23888 at n ∙ ap (λ (s : List ℕ). wordsAt s at n) (drop-at p x 23888 l)
+
+module _ (rows : List Float) (pending k : ℕ) (short : pending + k ≤ 64) (b new : List ℕ) (fit : Fit rows) (lr : length rows ≡ 768) (l : length b ≡ size)
+    (p : new ≡ withChannels (channels 12 k rows) 256 (4 * pending) (take (length b - 23888) (drop 23888 b))) where
+  front : List ℕ
+  front = take 23888 b
+
+  back : List ℕ
+  back = withChannels (channels 12 k rows) 256 (4 * pending) (drop 23888 b)
+
+  front-long : length front ≡ 23888
+  unfolding front
+  front-long = length-take-le 23888 b (omega arith)
+
+  rest-long : length (drop 23888 b) ≡ 3072
+  rest-long = length-drop 23888 b ∙ omega arith
+
+  put : putMid 23888 (length b - 23888) b new ≡ front ++ back
+  unfolding front back
+  put =
+      let d = rest-long in
+      let o : length (drop 23888 b) ≤ length b - 23888 = omega arith in
+      ap (λ (t : List ℕ). take 23888 b ++ (new ++ t)) (drop-of-length-le (drop 23888 b) o)
+      ∙ ap (λ (t : List ℕ). take 23888 b ++ t) (append-nil new ∙ p ∙ ap (withChannels (channels 12 k rows) 256 (4 * pending)) (take-all (length b - 23888) (drop 23888 b) o))
+
+  put-long : length (front ++ back) ≡ size
+  unfolding front back
+  put-long =
+      let d = rest-long in
+      let f = front-long in
+      let e = length-channels (channels 12 k rows) (4 * pending) (drop 23888 b) in
+      length-append (take 23888 b) (withChannels (channels 12 k rows) 256 (4 * pending) (drop 23888 b)) ∙ omega arith
+
+  put-infos : infosOf (front ++ back) ≡ infosOf b
+  unfolding front
+  put-infos = infos-front front back front-long ∙ sym (infos-front front (drop 23888 b) front-long) ∙ ap infosOf (take-append-drop 23888 b)
+
+  put-place : (c : ℕ) (q : Bool) → ltb c 12 ≡ q
+      → cond q (wordsAt (front ++ back) (23888 + 256 * c) 64) [] ≡ laid pending (take k (drop (64 * c) rows)) (cond q (wordsAt b (23888 + 256 * c) 64) [])
+  unfolding back
+  put-place c true e =
+      words-back front back (256 * c) 64 front-long
+      ∙ append-laid k pending short rows (drop 23888 b) fit rest-long lr c (ltb-true c 12 e)
+      ∙ ap (laid pending (take k (drop (64 * c) rows))) (sym (words-drop b 23888 (256 * c) 64))
+  put-place c false e = sym (laid-nil pending (take k (drop (64 * c) rows)))
+
+  pub lay-laid : Laid rows pending k b (putMid 23888 (length b - 23888) b new)
+  lay-laid = rw put (record { long = put-long; infos = put-infos; places = fun-ext (λ c. put-place c (ltb c 12) refl) })

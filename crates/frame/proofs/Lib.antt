@@ -1,0 +1,11 @@
+pub mod Chunks
+pub mod Outs
+pub mod Counted
+pub mod Going
+pub mod Given
+pub mod Laying
+pub mod Passing
+pub mod Changed
+pub mod Begins
+pub mod Opening
+pub mod Running

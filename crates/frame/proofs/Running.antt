@@ -1,0 +1,288 @@
+-- The frame's loop on the hall renderer: what each call in a turn is owed, and what a turn leaves. Assumes nothing.
+use Prim.Native.Nat.{ℕ, zero, suc, _+_, _-_, _*_, _%_, _≤_, _<_}
+use native.Mathlib.Nat.{le-of-lt, le-of-eq}
+use native.Mathlib.Omega.{arith}
+use mathlib.Core.Path.{_≡_, refl, sym, ap, _∙_, subst}
+use mathlib.Core.Bool.{Bool, true, false, cond, not, _&&_, _||_}
+use mathlib.Core.List.{List}
+use lib.Dec.{eqb, leb}
+use lib.ListN.{length, getD}
+use borrow.Author.Tests.{leb-true, eqb-true, ne-eqb}
+use Rattle.ieee.specs.Bounds.{All}
+use Rattle.words.specs.Words.{Bytes, wordsAt}
+use Rattle.angles.specs.Angle.{Listed}
+use Rattle.fields.specs.Update.{offset}
+use Rattle.records.specs.Laid.{count, updateAt}
+use Rattle.records.specs.Answers.{IsLayout}
+use Rattle.records.specs.Order.{next}
+use Rattle.records.specs.declared.layout.Layout.{Layout}
+use Rattle.records.proofs.Times.{next-within, next-above, next-least}
+use Rattle.updates.specs.Whole.{WholeUpdates}
+use Rattle.updates.proofs.Passed.{passes-all}
+use Rattle.mixing.proofs.Passes.{pass-plain}
+use Rattle.rules.specs.Leaves.{started}
+use Rattle.rules.specs.Samples.{Frame, State, updated, slotted, opened, pushed}
+use Rattle.rules.specs.Refusals.{Args, every, room, sized}
+use Rattle.rules.specs.Calls.{frameOf}
+use Rattle.rules.proofs.Judged.{Passed, is-passed, and-true, is-roomy, is-listed, rate-high, samples-fit}
+use Rattle.rules.proofs.Ranged.{R}
+use Rattle.store.specs.declared.Small.{Small}
+use Rattle.store.specs.Layout.{size, infosOf, decode}
+use Rattle.store.specs.Ranges.{smallValid, headsValid, valid}
+use Rattle.claim.specs.Hall.{hall, block, sentAt, sentOf}
+use Rattle.claim.proofs.Checked.{each-all}
+use Rattle.claim.proofs.Shapes.{shape-apply, shape-slot}
+use Rattle.claim.proofs.Theorem.{facts}
+use Rattle.frame.specs.Held.{held, IsHeld}
+use Rattle.frame.specs.Chunk.{chunk}
+use Rattle.frame.specs.Out.{behind}
+use Rattle.frame.specs.Begin.{CanBegin}
+use Rattle.frame.specs.Pass.{CanPass, Passes}
+use Rattle.frame.specs.Turns.{runLength, readyAfter, Accepted, IsRendered}
+use Rattle.frame.specs.declared.push.Rendered.{Rendered}
+use Rattle.frame.proofs.Chunks.{NoneAt, Turn}
+use Rattle.frame.proofs.Going.{Shaped, Going, Begun, begun, step, starts, ends}
+use Rattle.frame.proofs.Opening.{RunLength, run-length-is}
+
+-- ---- what refusals 1 and 2 leave
+
+stride-few : (stride bytes : ℕ) → room stride bytes ≡ true → stride ≤ 1536
+stride-few stride bytes e =
+    let x = and-true (eqb (stride % 64) 0 && leb 64 stride && leb stride 1536) (leb (48 * stride) bytes) e in
+    leb-true stride 1536 (and-true (eqb (stride % 64) 0 && leb 64 stride) (leb stride 1536) (x .0) .1)
+
+record Sized (a : Args) : Type 0 where
+  beds : length (a .codes) ≤ 18
+  objects : a .objects ≤ 16
+  pcm : length (a .pcm) ≡ 4 * ((length (a .codes) + a .objects) * a .samples)
+
+is-sized : (a : Args) → sized a ≡ true → Sized a
+is-sized a e =
+    let channels = length (a .codes) + a .objects in
+    let x1 = leb (a .samples) (a .stride) in
+    let x2 = leb (length (a .codes)) 18 in
+    let x3 = leb (a .objects) 16 in
+    let x4 = every (λ c. leb c 17) (a .codes) in
+    let x5 = eqb (length (a .pcm)) (4 * (channels * a .samples)) in
+    let y5 = and-true (x1 && x2 && x3 && x4 && x5) (eqb (a .samples) 0 || not (eqb channels 0)) e in
+    let y4 = and-true (x1 && x2 && x3 && x4) x5 (y5 .0) in
+    let y3 = and-true (x1 && x2 && x3) x4 (y4 .0) in
+    let y2 = and-true (x1 && x2) x3 (y3 .0) in
+    record {
+      beds = leb-true (length (a .codes)) 18 (and-true x1 x2 (y2 .0) .1);
+      objects = leb-true (a .objects) 16 (y2 .1);
+      pcm = eqb-true (length (a .pcm)) (4 * (channels * a .samples)) (y4 .1);
+    }
+
+-- ---- a push that was accepted
+
+shapes : Shaped hall block facts
+unfolding facts
+shapes = record { apply = λ n u m c h. shape-apply n u m c (h .state .codes); slot = shape-slot }
+
+valid-long : (b : List ℕ) → valid b ≡ true → length b ≡ size
+unfolding valid
+valid-long b e =
+    let x = and-true (eqb (length b) size && smallValid (wordsAt b 0 340)) (headsValid (infosOf b) 0 512) e in
+    eqb-true (length b) size (and-true (eqb (length b) size) (smallValid (wordsAt b 0 340)) (x .0) .0)
+
+pub record Taken (b : List ℕ) (a : Args) (l : Layout) : Type 0 where
+  pub passed : Passed hall (decode b) a
+  pub ranged : R hall block facts (decode b)
+  pub checked : All (facts .Checked) (sentOf (a .meta))
+  pub layout : IsLayout (a .meta) l
+  pub whole : WholeUpdates (a .meta) (l .first) (l .count)
+  pub samples : a .samples ≤ 1536
+  pub long : length b ≡ size
+
+pub takes : (s : Small) (b : List ℕ) (a : Args) (l : Layout) → Accepted s b l a → Bytes b → Bytes (a .meta) → Taken b a l
+takes s b a l h bytes meta =
+    let p = is-passed hall (decode b) a (h .clear) in
+    let x = stride-few (a .stride) (length (a .out)) (p .room) in
+    let y = samples-fit a (p .sized) in
+    record {
+      passed = p;
+      ranged = facts .decoded b bytes (h .valid);
+      checked = facts .checked (a .meta) meta (p .laidOut) (p .inRange);
+      layout = h .layout;
+      whole = passes-all (a .meta) (p .laidOut) (p .inRange) meta l (h .layout);
+      samples = omega arith;
+      long = valid-long b (h .valid);
+    }
+
+pub starts-at : (s : Small) (b : List ℕ) (a : Args) (l : Layout) → Accepted s b l a → s .position ≡ decode b .position
+unfolding decode
+starts-at s b a l h = ap (λ (s : Small). s .position) (h .small)
+
+pub is-rate : (b : List ℕ) (a : Args) (l : Layout) → Taken b a l → Listed (a .rate)
+is-rate b a l k = is-listed (a .rate) (k .passed .listed)
+
+-- before sample t
+pub record Running (b : List ℕ) (a : Args) (t : ℕ) (s : Small) (state : List ℕ) (ready : ℕ) (out : List ℕ) : Type 0 where
+  pub long : length state ≡ size
+  pub going : Going hall block facts (decode b) a t (held s state) ready out
+
+pub opens : (s r : Small) (b : List ℕ) (a : Args) (l : Layout) → Accepted s b l a → Taken b a l → held r b ≡ opened hall (a .rate) (held s b) → Running b a 0 r b 0 (a .out)
+unfolding decode
+opens s r b a l h k e =
+    record {
+      long = k .long;
+      going = subst (λ (x : State hall). Going hall block facts (decode b) a 0 x 0 (a .out)) (sym (e ∙ ap (λ (s : Small). opened hall (a .rate) (held s b)) (h .small)))
+          (starts hall block facts (decode b) a (k .ranged) (k .passed));
+    }
+
+-- ---- a turn
+module _ (b : List ℕ) (a : Args) (l : Layout) (k : Taken b a l) (t : ℕ) (s : Small) (state : List ℕ) (ready : ℕ) (out : List ℕ) (h : Running b a t s state ready out) (more : t < a .samples) where
+  abbrev met : State hall
+  met = slotted hall (updated hall t (sentOf (a .meta)) (held s state))
+
+  here : Begun hall block facts (decode b) a t (held s state)
+  here = begun hall block facts (decode b) a shapes (k .passed) (k .checked) t (held s state) ready out (h .going) more
+
+  -- the updates at t, and the slot
+  pub can-begin : (at : ℕ) → at ≡ decode b .position + t → CanBegin s state (a .meta) l t at
+  unfolding facts
+  can-begin at e =
+      let r = updated hall t (sentOf (a .meta)) (held s state) in
+      let u = here .updates in
+      let p = u .position in
+      let q = u .start in
+      record {
+        long = h .long;
+        here = e ∙ sym (h .going .position);
+        layout = k .layout;
+        whole = k .whole;
+        slot = record { within = facts .within-later (r .position) 1099511627776 (r .meta) p (u .meta) .state .within; start = omega arith };
+      }
+
+  -- the next update or the frame's end
+  module _ (end : ℕ) (is-end : end ≡ next (λ i. getD (l .offset) i 0) (l .count) t (a .samples)) where
+    pub end-above : t < end
+    end-above = subst (λ (x : ℕ). t < x) (sym is-end) (next-above (λ i. getD (l .offset) i 0) t (a .samples) (l .count) more)
+
+    end-within : end ≤ a .samples
+    end-within = subst (λ (x : ℕ). x ≤ a .samples) (sym is-end) (next-within (λ i. getD (l .offset) i 0) t (a .samples) (l .count))
+
+    none-before : (j : ℕ) → t < j → j < end → NoneAt hall j (sentOf (a .meta))
+    none-before j x y =
+        each-all (λ u. eqb (u .offset) j ≡ false) (sentAt (a .meta)) (count (a .meta))
+        (λ i n. ne-eqb (offset (a .meta) (updateAt (a .meta) i)) j (λ e. late i n (k .layout .offsets i n ∙ e)))
+      where
+        late : (i : ℕ) → i < count (a .meta) → getD (l .offset) i 0 ≡ j → ⊥
+        late i n e =
+            let c = k .layout .counted in
+            let m : next (λ i. getD (l .offset) i 0) (l .count) t (a .samples) ≤ getD (l .offset) i 0 = next-least (λ i. getD (l .offset) i 0) t (a .samples) (l .count) i (omega arith) (omega arith) in
+            omega arith
+
+    -- with the small part s′ and the block state′ after them
+    module _ (s′ : Small) (state′ : List ℕ) (e : IsHeld met s′ state′) where
+      now-ranged : R hall block facts (held s′ state′)
+      now-ranged = subst (R hall block facts) (sym (e .is)) (here .ranged)
+
+      pub few : (s′ .phase < 64) × (s′ .pending < 64)
+      few = (now-ranged .phase, now-ranged .pending)
+
+      -- and n samples of the turn
+      module _ (n : ℕ) (len : RunLength (s′ .state .initialized) (s′ .phase) (s′ .pending) (end - t) n) where
+        pub turn-fits : t + n ≤ a .samples
+        turn-fits = let x = len .within in let y = end-within in let z = end-above in omega arith
+
+        pub can-pass : CanPass s′ state′ (a .pcm) out (a .codes) (a .objects) (a .samples) t n (a .stride) ready
+        unfolding facts
+        can-pass =
+            let p = k .passed in
+            let z = is-sized a (p .sized) in
+            let c = z .pcm in
+            let w = is-roomy (a .stride) (length (a .out)) (p .room) in
+            let r = now-ranged in
+            let g = h .going in
+            let q = r .start in
+            let v = r .position in
+            let o = w .long in
+            let y = g .long in
+            record {
+              block = e .long;
+              framed = record { room = omega arith; plain = pass-plain (a .pcm) 0 ((length (a .codes) + a .objects) * a .samples) (p .pass); span = turn-fits; short = let x = len .room in omega arith };
+              inputs = z .beds;
+              few = z .objects;
+              beds = r .meta .state .within .beds;
+              dynamic = subst (λ (x : State hall). started hall (x .meta) ≡ true → hall .shape (x .meta) .objects ≡ a .objects) (sym (e .is)) (here .fits);
+              pending = len .room;
+              phase = le-of-lt (r .phase);
+              position = r .position;
+              start = omega arith;
+              rate = le-of-lt (rate-high (is-listed (s′ .rate) (ap (λ (x : State hall). Rattle.rules.specs.Refusals.listed (x .rate)) (e .is) ∙ here .listed)));
+              room = λ x. roomy (g .whole) (w .whole) (k .ranged .pending) (samples-fit a (p .sized)) turn-fits (g .pending) (ap (λ (x : State hall). x .pending) (e .is) ∙ here .pending) x;
+              output = omega arith;
+            }
+          where
+            roomy : ready % 64 ≡ 0 → a .stride % 64 ≡ 0 → decode b .pending < 64 → a .samples ≤ a .stride → t + n ≤ a .samples → ready + s .pending ≡ decode b .pending + t → s′ .pending ≡ s .pending → s′ .pending + n ≡ 64 → ready + 64 ≤ a .stride
+            roomy x y z v w p q r = omega arith
+
+        turn-of : (i : ℕ) → n ≡ suc i → Turn hall (frameOf hall a) i t met
+        turn-of i q =
+            let w = len .within in
+            let o = len .room in
+            record {
+              quiet = λ j x y. none-before j x (omega arith);
+              slot = subst (λ (x : State hall). started hall (x .meta) ≡ true → x .phase + suc i ≤ 64) (e .is) (subst (λ (m : ℕ). s′ .state .initialized ≡ true → s′ .phase + m ≤ 64) q (len .slot));
+              room = subst (λ (x : State hall). x .pending + suc i ≤ 64) (e .is) (omega arith);
+            }
+
+        -- what the turn leaves
+        pub turns : (r : Small) (c o : List ℕ) → Passes (frameOf hall a) t n (a .stride) ready s′ state′ out r c o → Running b a (t + n) r c (readyAfter ready (r .pending)) o
+        turns r c o p = go n refl p
+          where
+            go : (m : ℕ) → n ≡ m → Passes (frameOf hall a) t m (a .stride) ready s′ state′ out r c o → Running b a (t + m) r c (readyAfter ready (r .pending)) o
+            go zero q p = let x = len .some in absurd (omega arith)
+            go (suc i) q p =
+                let f = frameOf hall a in
+                let fit = turn-fits in
+                let d = step hall block facts (decode b) a shapes (k .passed) (k .checked) t (held s state) ready out (h .going) more (k .ranged .pending) i (omega arith) (turn-of i q) in
+                let d′ = subst (λ (x : State hall). Going hall block facts (decode b) a (t + suc i) (chunk hall f (suc i) t x .next) (readyAfter ready (chunk hall f (suc i) t x .next .pending)) (behind ready (chunk hall f (suc i) t x .given) (a .stride) out)) (sym (e .is)) d in
+                let d″ = subst (λ (x : State hall). Going hall block facts (decode b) a (t + suc i) x (readyAfter ready (x .pending)) (behind ready (chunk hall f (suc i) t (held s′ state′) .given) (a .stride) out)) (sym (p .next .is)) d′ in
+                record { long = p .next .long; going = subst (λ (x : List ℕ). Going hall block facts (decode b) a (t + suc i) (held r c) (readyAfter ready (r .pending)) x) (sym (p .given)) d″ }
+
+-- a turn under way: the updates and the slot at t left s′ and state′, and n samples follow
+pub record Turning (b : List ℕ) (a : Args) (l : Layout) (t : ℕ) (s : Small) (state : List ℕ) (ready : ℕ) (out : List ℕ) (end : ℕ) (s′ : Small) (state′ : List ℕ) (n : ℕ) : Type 0 where
+  pub taken : Taken b a l
+  pub running : Running b a t s state ready out
+  pub more : t < a .samples
+  pub ends : end ≡ next (λ i. getD (l .offset) i 0) (l .count) t (a .samples)
+  pub begun : IsHeld (slotted hall (updated hall t (sentOf (a .meta)) (held s state))) s′ state′
+  pub count : n ≡ runLength (s′ .state .initialized) (s′ .phase) (s′ .pending) (end - t)
+
+module _ {b : List ℕ} {a : Args} {l : Layout} {t : ℕ} {s : Small} {state : List ℕ} {ready : ℕ} {out : List ℕ} {end : ℕ} {s′ : Small} {state′ : List ℕ} {n : ℕ} (u : Turning b a l t s state ready out end s′ state′ n) where
+  len : RunLength (s′ .state .initialized) (s′ .phase) (s′ .pending) (end - t) n
+  len =
+      let f = few b a l (u .taken) t s state ready out (u .running) (u .more) end (u .ends) s′ state′ (u .begun) in
+      let x = end-above b a l (u .taken) t s state ready out (u .running) (u .more) end (u .ends) in
+      subst (RunLength (s′ .state .initialized) (s′ .phase) (s′ .pending) (end - t)) (sym (u .count)) (run-length-is (s′ .state .initialized) (s′ .phase) (s′ .pending) (end - t) (f .0) (f .1) (omega arith))
+
+  pub turn-some : 0 < n
+  turn-some = len .some
+
+  pub turn-within : t + n ≤ a .samples
+  turn-within = turn-fits b a l (u .taken) t s state ready out (u .running) (u .more) end (u .ends) s′ state′ (u .begun) n len
+
+  pub turn-passes : CanPass s′ state′ (a .pcm) out (a .codes) (a .objects) (a .samples) t n (a .stride) ready
+  turn-passes = can-pass b a l (u .taken) t s state ready out (u .running) (u .more) end (u .ends) s′ state′ (u .begun) n len
+
+  pub turn-runs : (r : Small) (c o : List ℕ) (i : ℕ) → Passes (frameOf hall a) t n (a .stride) ready s′ state′ out r c o → i ≡ readyAfter ready (r .pending) → Running b a (t + n) r c i o
+  turn-runs r c o i p e =
+      subst (λ (i : ℕ). Running b a (t + n) r c i o) (sym e) (turns b a l (u .taken) t s state ready out (u .running) (u .more) end (u .ends) s′ state′ (u .begun) n len r c o p)
+
+-- ---- after the last sample
+pub ready-few : (b : List ℕ) (a : Args) (l : Layout) → Taken b a l → (t : ℕ) (s : Small) (state : List ℕ) (ready : ℕ) (out : List ℕ) → Running b a t s state ready out → ready ≤ 4096
+ready-few b a l k t s state ready out h =
+    let x = h .going .pending in
+    let y = k .ranged .pending in
+    let z = h .going .here in
+    let w = k .samples in
+    omega arith
+
+pub rendered : (b : List ℕ) (a : Args) (t : ℕ) (s : Small) (state : List ℕ) (ready : ℕ) (out : List ℕ) → Running b a t s state ready out → a .samples ≤ t
+    → IsRendered (pushed hall (frameOf hall a) (decode b)) (a .stride) (a .out) (record { small = s; ready = ready }) state out
+rendered b a t s state ready out h last =
+    let e = ends hall block facts (decode b) a t (held s state) ready out (h .going) last in
+    record { next = record { is = e .0; long = h .long }; given = e .1; ready = e .2 }

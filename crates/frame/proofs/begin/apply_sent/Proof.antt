@@ -1,0 +1,80 @@
+-- `frame::begin::apply_sent`: the updates from i on lead from the renderer now to that at the end. Assumes nothing.
+use Prim.Native.Nat.{_-_}
+use mathlib.Core.Path.{sym, _∙_}
+use native.Mathlib.Omega.{arith}
+use denote.Ref.{now}
+use Rattle.rules.specs.Samples.{updated}
+use Rattle.claim.specs.Hall.{hall, sentOf}
+use Rattle.frame.specs.Held.{held}
+use Rattle.frame.proofs.Begins.{Standing, standing, goes-on, ends, from-first}
+use Rattle.frame.proofs.begin.apply_sent.Statement.{statement}
+use Rattle.frame.proofs.begin.apply_sent.Tie as tie
+
+abbrev Inv-loop : tie.InvT-loop
+Inv-loop state₀ meta l t at first count next₀ i₀ state next i = Standing meta l t (at .0) (updated hall t (sentOf meta) (held next₀ state₀)) i next state
+
+abbrev μ-loop : tie.MeasureT-loop
+μ-loop state₀ meta l t at first count next₀ i₀ state next i = count - i
+
+sent-at-requires : tie.Need-sent-at-requires Inv-loop μ-loop
+sent-at-requires c κs = (omega (arith, c .before .before .before .pre .3 .few), omega arith)
+
+loop-holds : tie.Need-loop-holds Inv-loop μ-loop
+loop-holds c =
+    let s = c .before .before .before .before .args in
+    let p = c .before .before .before .before .pre in
+    standing (now (s .meta)) (s .l) (s .t) (s .at .0) (updated hall (s .t) (sentOf (now (s .meta))) (held (s .s) (now (s .state)))) (p .2) 0 (c .sent-at .result) (s .s) (now (s .state)) (c .sent-at .ensures) (p .0) (p .1)
+    (from-first (now (s .meta)) (s .l) (p .2) (s .t) (held (s .s) (now (s .state))))
+
+mul-apply-one : tie.Need-mul-apply-one Inv-loop μ-loop
+mul-apply-one c = omega (arith, c .before .before .before .before .before .before .before .pre .3 .few, c .before .loop-test)
+
+array-read-apply-one : tie.Need-array-read-apply-one Inv-loop μ-loop
+array-read-apply-one c = omega (arith, c .before .before .before .before .before .before .before .pre .3 .few, c .before .loop-test)
+
+apply-one-requires : tie.Need-apply-one-requires Inv-loop μ-loop
+apply-one-requires c κs = (c .before .before .loop .inv .long, c .before .before .loop .inv .here, c .before .before .before .before .before .before .before .pre .3 .all (c .before .before .loop .i) (omega (arith, c .before .loop-test)))
+
+add-sent-at : tie.Need-add-sent-at Inv-loop μ-loop
+add-sent-at c = omega (arith, c .before .before .before .before .before .before .before .before .before .before .pre .3 .few, c .before .before .before .before .loop-test)
+
+sent-at-requires-2 : tie.Need-sent-at-requires-2 Inv-loop μ-loop
+sent-at-requires-2 c κs = (omega (arith, c .before .before .before .before .before .before .before .before .before .before .pre .3 .few), omega (arith, c .before .before .before .before .loop-test))
+
+loop-less : tie.Need-loop-less Inv-loop μ-loop
+loop-less c = omega (arith, c .sent-at2 .ensures .after, c .before .before .before .before .before .loop-test)
+
+loop-again : tie.Need-loop-again Inv-loop μ-loop
+loop-again c =
+    let s = c .before .before .before .before .before .before .before .before .before .before .before .args in
+    let l = c .before .before .before .before .before .before .loop in
+    let u = c .before .before .before .apply-one in
+    goes-on (now (s .meta)) (s .l) (s .t) (s .at .0) (updated hall (s .t) (sentOf (now (s .meta))) (held (s .s) (now (s .state)))) (c .before .before .before .before .before .before .before .before .before .before .before .pre .2) (l .i) (c .sent-at2 .result) (l .next) (u .result) (l .state) (u .last .1 .0)
+    (omega (arith, c .before .before .before .before .before .loop-test)) (l .inv) (u .ensures) (c .sent-at2 .ensures)
+
+same-length : tie.Need-same-length Inv-loop μ-loop
+same-length c = c .before .loop .inv .long ∙ sym (c .before .before .before .before .before .before .pre .0)
+
+returns : tie.Need-returns Inv-loop μ-loop
+returns c =
+    let s = c .before .before .before .before .before .before .args in
+    let l = c .before .loop in
+    ends (now (s .meta)) (s .l) (s .t) (s .at .0) (updated hall (s .t) (sentOf (now (s .meta))) (held (s .s) (now (s .state)))) (c .before .before .before .before .before .before .pre .2) (l .i) (l .next) (l .state) (omega (arith, c .loop-test)) (l .inv)
+
+pub apply-sent-spec : {M : Type 1} → statement M
+apply-sent-spec =
+    tie.close
+    (tie.spec
+    Inv-loop
+    μ-loop
+    sent-at-requires
+    loop-holds
+    mul-apply-one
+    array-read-apply-one
+    apply-one-requires
+    add-sent-at
+    sent-at-requires-2
+    loop-less
+    loop-again
+    same-length
+    returns)

@@ -1,0 +1,56 @@
+-- `frame::begin::start_slot`: nothing before the first update and within a slot; else the slot, through the lent part. Assumes nothing.
+use native.Mathlib.Omega.{arith}
+use denote.Ref.{now}
+use borrow.Author.Tests.{not-true, not-false, ne-eqb}
+use borrow.Author.Needs.{needs}
+use Rattle.frame.proofs.Begins.{slot-rests, slot-starts}
+use Rattle.frame.proofs.begin.start_slot.Statement.{statement}
+use Rattle.frame.proofs.begin.start_slot.Tie as tie
+
+returns : tie.Need-returns
+returns c =
+    let s = c .before .before .before .before .args in
+    slot-rests (s .s) (now (s .state)) (c .before .before .before .before .pre .0) (rw (not-true (s .s .state .initialized) (c .if1 .taken)))
+
+returns-2 : tie.Need-returns-2
+returns-2 c =
+    let s = c .before .before .before .before .before .before .args in
+    slot-rests (s .s) (now (s .state)) (c .before .before .before .before .before .before .pre .0) (rw (not-false (s .s .state .initialized) (c .before .before .if1 .left), ne-eqb (s .s .phase) 0 (λ z. omega arith)))
+
+sub-update-timeslot : tie.Need-sub-update-timeslot
+sub-update-timeslot c = search needs
+
+part-update-timeslot-start : tie.Need-part-update-timeslot-start
+part-update-timeslot-start c = search needs
+
+part-update-timeslot-end : tie.Need-part-update-timeslot-end
+part-update-timeslot-end c = search needs
+
+update-timeslot-requires : tie.Need-update-timeslot-requires
+update-timeslot-requires c κs = search needs
+
+with-state-requires : tie.Need-with-state-requires
+with-state-requires c κs = search needs
+
+same-length : tie.Need-same-length
+same-length c = search needs
+
+returns-3 : tie.Need-returns-3
+returns-3 c =
+    let s = c .before .before .before .before .before .before .before .before .before .before .before .args in
+    let u = c .before .before .before .update-timeslot in
+    slot-starts (s .s) (now (s .state)) (u .result) (u .last .1 .0) (c .with-state .result) (c .before .before .before .before .before .before .before .before .before .before .before .pre .0) (search needs) (not-false (s .s .state .initialized) (c .before .before .before .before .before .before .before .if1 .left)) (omega arith) (u .ensures) (c .with-state .ensures)
+
+pub start-slot-spec : {M : Type 1} → statement M
+start-slot-spec =
+    tie.close
+    (tie.spec
+    returns
+    returns-2
+    sub-update-timeslot
+    part-update-timeslot-start
+    part-update-timeslot-end
+    update-timeslot-requires
+    with-state-requires
+    same-length
+    returns-3)

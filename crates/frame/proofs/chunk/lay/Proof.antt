@@ -1,0 +1,38 @@
+-- `lay`: the rows behind the pending samples. Assumes nothing.
+use borrow.Author.Needs.{needs}
+use Rattle.frame.proofs.Laying.{fit-all, lay-laid}
+use Rattle.frame.proofs.chunk.lay.Statement.{statement}
+use Rattle.frame.proofs.chunk.lay.Tie as tie
+
+sub-append-rows : tie.Need-sub-append-rows
+sub-append-rows c = search needs
+
+part-append-rows-start : tie.Need-part-append-rows-start
+part-append-rows-start c = search needs
+
+part-append-rows-end : tie.Need-part-append-rows-end
+part-append-rows-end c = search needs
+
+append-rows-requires : tie.Need-append-rows-requires
+append-rows-requires c κs = search needs
+
+same-length : tie.Need-same-length
+same-length c = search needs
+
+returns : tie.Need-returns
+returns c =
+    let s = c .before .before .before .before .before .before in
+    let a = s .args in
+    let f = c .before .before .before .before .shared-slice-known .given in
+    lay-laid (a .rows .now) (a .pending) (a .k) (s .pre .2) (a .state .now) (c .before .before .append-rows .last .1 .0) (fit-all (a .rows .now) f) (s .pre .1) (s .pre .0) (c .before .before .append-rows .ensures)
+
+pub lay-spec : {M : Type 1} → statement M
+lay-spec =
+    tie.close
+    (tie.spec
+    sub-append-rows
+    part-append-rows-start
+    part-append-rows-end
+    append-rows-requires
+    same-length
+    returns)

@@ -1,0 +1,35 @@
+-- `mix`: beds and objects where there are any. Assumes nothing.
+use borrow.Author.Needs.{needs}
+use lib.ListN.{length}
+use Rattle.frame.proofs.Passing.{count-within, framed-within}
+use Rattle.frame.proofs.chunk.mix.Statement.{statement}
+use Rattle.frame.proofs.chunk.mix.Tie as tie
+
+audible-requires : tie.Need-audible-requires
+audible-requires c κs = search needs
+
+audible-requires-2 : tie.Need-audible-requires-2
+audible-requires-2 c κs = search needs
+
+pass-run-requires : tie.Need-pass-run-requires
+pass-run-requires c κs =
+    let s = c .before .before .before .before .before .before .before .before .before in
+    let a = s .args in
+    let q = a .m .initialized in
+    let n = c .before .before .audible .ensures in
+    let d = c .before .audible2 .ensures in
+    (framed-within q (a .pcm .now) (length (a .codes .now)) (a .objects) (a .n) (a .t) (a .k) d (s .pre .0), s .pre .1, s .pre .2, count-within q n (s .pre .3), count-within q d (s .pre .4))
+
+same-length : tie.Need-same-length
+same-length c = search needs
+
+returns : tie.Need-returns
+returns c =
+    let p = c .before .before .before .before in
+    let n = p .before .audible .ensures in
+    let d = p .audible2 .ensures in
+    rw (← n, ← d) (c .before .before .pass-run .ensures)
+
+pub mix-spec : {M : Type 1} → statement M
+mix-spec =
+    tie.close (tie.spec audible-requires audible-requires-2 pass-run-requires same-length returns)

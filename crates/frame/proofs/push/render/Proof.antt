@@ -1,0 +1,153 @@
+use Prim.Native.Nat.{ℕ, _+_, _-_, _<_}
+use mathlib.Core.Path.{_≡_, sym, ap, _∙_}
+use mathlib.Core.List.{List}
+use native.Mathlib.Omega.{arith}
+use native.Mathlib.Nat.{le-of-lt}
+use borrow.Author.Needs.{needs}
+use denote.Ref.{now}
+use Rattle.rules.specs.Refusals.{Args}
+use Rattle.claim.specs.Hall.{sentOf}
+use Rattle.frame.specs.Turns.{argsOf}
+use Rattle.frame.proofs.Running.{Taken, takes, starts-at, is-rate, Running, opens, can-begin, end-above, few, Turning, turn-some, turn-within, turn-passes, turn-runs, ready-few, rendered}
+use Rattle.frame.proofs.push.render.Statement.{statement}
+use Rattle.frame.proofs.push.render.Tie as tie
+use Rattle.frame.proofs.push.render.Reads as reads
+use Rattle.frame.proofs.push.render.Lts as lts
+use Rattle.frame.proofs.begin.begin.Reads as begin-reads
+use Rattle.frame.proofs.chunk.pass.Reads as pass-reads
+use Rattle.frame.proofs.push.open.Reads as open-reads
+use Rattle.frame.proofs.push.ready_after.Reads as ready-after-reads
+use Rattle.frame.proofs.push.run_length.Reads as run-length-reads
+use Rattle.records.proofs.order.next_offset.Reads as next-offset-reads
+use Rattle.timed.proofs.clock.StreamSample.at.Reads as at-reads
+
+abbrev Inv-loop : tie.InvT-loop
+Inv-loop state₀ pcm meta out₀ codes l rate samples objects stride start small₀ ready₀ t₀ state out small ready t =
+    Running state₀ (argsOf pcm meta out₀ codes rate samples objects stride) t small state ready out
+
+abbrev μ-loop : tie.MeasureT-loop
+μ-loop state₀ pcm meta out₀ codes l rate samples objects stride start small₀ ready₀ t₀ state out small ready t = samples - t
+
+-- ---- at the start
+
+abbrev args : lts.After-shared-slice-known3 (open-reads.Asked, open-reads.Learnt, at-reads.Asked, at-reads.Learnt, begin-reads.Asked, begin-reads.Learnt, next-offset-reads.Asked, next-offset-reads.Learnt, run-length-reads.Asked, run-length-reads.Learnt, pass-reads.Asked, pass-reads.Learnt, ready-after-reads.Asked, ready-after-reads.Learnt) reads.Pre reads.Post Inv-loop μ-loop → Args
+args c = let s = c .before .before .before .before .before .args in argsOf (now (s .pcm)) (now (s .meta)) (now (s .out)) (now (s .codes)) (s .rate) (s .samples) (s .objects) (s .stride)
+
+taken : (c : lts.After-shared-slice-known3 (open-reads.Asked, open-reads.Learnt, at-reads.Asked, at-reads.Learnt, begin-reads.Asked, begin-reads.Learnt, next-offset-reads.Asked, next-offset-reads.Learnt, run-length-reads.Asked, run-length-reads.Learnt, pass-reads.Asked, pass-reads.Learnt, ready-after-reads.Asked, ready-after-reads.Learnt) reads.Pre reads.Post Inv-loop μ-loop) → Taken (now (c .before .before .before .before .before .args .state)) (args c) (c .before .before .before .before .before .args .l)
+taken c =
+    let s = c .before .before .before .before .before .args in
+    takes (s .s) (now (s .state)) (args c) (s .l) (c .before .before .before .before .before .pre) (λ i. omega (arith, c .before .before .before .before .slice-known .given i)) (λ i. omega (arith, c .before .before .shared-slice-known2 .given i))
+
+open-requires : tie.Need-open-requires Inv-loop μ-loop
+open-requires c κs = let s = c .before .before .before .before .before .args in is-rate (now (s .state)) (args c) (s .l) (taken c)
+
+loop-holds : tie.Need-loop-holds Inv-loop μ-loop
+loop-holds c =
+    let s = c .before .before .before .before .before .before .args in
+    opens (s .s) (c .«open» .result) (now (s .state)) (args (c .before)) (s .l) (c .before .before .before .before .before .before .pre) (taken (c .before)) (c .«open» .ensures (now (s .state)))
+
+-- ---- a turn
+
+cast-t20 : tie.Need-cast-t20 Inv-loop μ-loop
+cast-t20 c = omega (arith, taken (c .before .before .before) .samples, c .loop-test .taken)
+
+at-requires : tie.Need-at-requires Inv-loop μ-loop
+at-requires c κs =
+    let s = c .before .before .before .before .before .before .before .before .args in
+    omega (arith, taken (c .before .before .before) .ranged .position, starts-at (s .s) (now (s .state)) (args (c .before .before .before)) (s .l) (c .before .before .before .before .before .before .before .before .pre))
+
+begin-requires : tie.Need-begin-requires Inv-loop μ-loop
+begin-requires c κs =
+    let s = c .before .before .before .before .before .before .before .before .before .before .args in
+    let x = c .before .before .before .loop in
+    can-begin (now (s .state)) (args (c .before .before .before .before .before)) (s .l) (taken (c .before .before .before .before .before)) (x .t) (x .small) (x .state) (x .ready) (x .out) (x .inv) (c .before .before .loop-test .taken) (c .before .at .result .0)
+    (c .before .at .ensures ∙ ap (λ (p : ℕ). p + x .t) (starts-at (s .s) (now (s .state)) (args (c .before .before .before .before .before)) (s .l) (c .before .before .before .before .before .before .before .before .before .before .pre)))
+
+next-offset-requires : tie.Need-next-offset-requires Inv-loop μ-loop
+next-offset-requires c κs = taken (c .before .before .before .before .before .before .before .before) .whole .few
+
+sub-left : tie.Need-sub-left Inv-loop μ-loop
+sub-left c =
+    let s = c .before .before .before .before .before .before .before .before .before .before .before .before .before .before .args in
+    let x = c .before .before .before .before .before .before .before .loop in
+    le-of-lt
+    (end-above (now (s .state)) (args (c .before .before .before .before .before .before .before .before .before)) (s .l) (taken (c .before .before .before .before .before .before .before .before .before)) (x .t) (x .small) (x .state) (x .ready) (x .out) (x .inv) (c .before .before .before .before .before .before .loop-test .taken) (c .next-offset .result) (c .next-offset .ensures))
+
+run-length-requires : tie.Need-run-length-requires Inv-loop μ-loop
+run-length-requires c κs =
+    let s = c .before .before .before .before .before .before .before .before .before .before .before .before .before .before .args in
+    let x = c .before .before .before .before .before .before .before .loop in
+    let y = c .before .before .before .begin in
+    few (now (s .state)) (args (c .before .before .before .before .before .before .before .before .before)) (s .l) (taken (c .before .before .before .before .before .before .before .before .before)) (x .t) (x .small) (x .state) (x .ready) (x .out) (x .inv) (c .before .before .before .before .before .before .loop-test .taken) (c .next-offset .result) (c .next-offset .ensures)
+    (y .result) (y .last .1 .0) (y .ensures)
+
+turning : (c : lts.After-run-length (open-reads.Asked, open-reads.Learnt, at-reads.Asked, at-reads.Learnt, begin-reads.Asked, begin-reads.Learnt, next-offset-reads.Asked, next-offset-reads.Learnt, run-length-reads.Asked, run-length-reads.Learnt, pass-reads.Asked, pass-reads.Learnt, ready-after-reads.Asked, ready-after-reads.Learnt) reads.Pre reads.Post Inv-loop μ-loop)
+    → Turning (now (c .before .before .before .before .before .before .before .before .before .before .before .before .before .before .before .args .state)) (args (c .before .before .before .before .before .before .before .before .before .before)) (c .before .before .before .before .before .before .before .before .before .before .before .before .before .before .before .args .l) (c .before .before .before .before .before .before .before .before .loop .t) (c .before .before .before .before .before .before .before .before .loop .small) (c .before .before .before .before .before .before .before .before .loop .state) (c .before .before .before .before .before .before .before .before .loop .ready) (c .before .before .before .before .before .before .before .before .loop .out) (c .before .next-offset .result)
+    (c .before .before .before .before .begin .result) (c .before .before .before .before .begin .last .1 .0) (c .run-length .result)
+turning c =
+    record {
+      taken = taken (c .before .before .before .before .before .before .before .before .before .before);
+      running = c .before .before .before .before .before .before .before .before .loop .inv;
+      more = c .before .before .before .before .before .before .before .loop-test .taken;
+      ends = c .before .next-offset .ensures;
+      begun = c .before .before .before .before .begin .ensures;
+      count = c .run-length .ensures;
+    }
+
+pass-requires : tie.Need-pass-requires Inv-loop μ-loop
+pass-requires c κs = turn-passes (turning (c .before .before))
+
+add-t : tie.Need-add-t Inv-loop μ-loop
+add-t c = omega (arith, taken (c .before .before .before .before .before .before .before .before .before .before .before .before .before .before .before .before .before) .samples, turn-within (turning (c .before .before .before .before .before .before .before)))
+
+ready-after-requires : tie.Need-ready-after-requires Inv-loop μ-loop
+ready-after-requires c κs =
+    let s = c .before .before .before .before .before .before .before .before .before .before .before .before .before .before .before .before .before .before .before .before .before .before .args in
+    let x = c .before .before .before .before .before .before .before .before .before .before .before .before .before .before .before .loop in
+    ready-few (now (s .state)) (args (c .before .before .before .before .before .before .before .before .before .before .before .before .before .before .before .before .before)) (s .l) (taken (c .before .before .before .before .before .before .before .before .before .before .before .before .before .before .before .before .before)) (x .t) (x .small) (x .state) (x .ready) (x .out) (x .inv)
+
+loop-less : tie.Need-loop-less Inv-loop μ-loop
+loop-less c = omega (arith, turn-some (turning (c .before .before .before .before .before .before .before .before)), turn-within (turning (c .before .before .before .before .before .before .before .before)))
+
+loop-again : tie.Need-loop-again Inv-loop μ-loop
+loop-again c =
+    let s = c .before .before .before .before .before .before .before .before .before .before .before .before .before .before .before .before .before .before .before .before .before .before .before .args in
+    let y = c .before .before .before .before .before .pass in
+    turn-runs (turning (c .before .before .before .before .before .before .before .before)) (y .result) (y .last .1 .0) (y .last .1 .1 .1 .0) (c .ready-after .result) (y .ensures (s .rate) (sentOf (now (s .meta)))) (c .ready-after .ensures)
+
+-- ---- at the end
+
+same-length : tie.Need-same-length Inv-loop μ-loop
+same-length c = c .before .loop .inv .long ∙ sym (taken (c .before .before .before) .long)
+
+same-length-2 : tie.Need-same-length-2 Inv-loop μ-loop
+same-length-2 c = c .before .loop .inv .going .long
+
+returns : tie.Need-returns Inv-loop μ-loop
+returns c =
+    let s = c .before .before .before .before .before .before .before .before .args in
+    let x = c .before .loop in
+    rendered (now (s .state)) (args (c .before .before .before)) (x .t) (x .small) (x .state) (x .ready) (x .out) (x .inv) (c .loop-test .left)
+
+pub render-spec : {M : Type 1} → statement M
+render-spec =
+    tie.close
+    (tie.spec
+    Inv-loop
+    μ-loop
+    open-requires
+    loop-holds
+    cast-t20
+    at-requires
+    begin-requires
+    next-offset-requires
+    sub-left
+    run-length-requires
+    pass-requires
+    add-t
+    ready-after-requires
+    loop-less
+    loop-again
+    same-length
+    same-length-2
+    returns)

@@ -1,0 +1,63 @@
+-- A chunk of a frame on a state block: what it asks and what it leaves. Assumes nothing.
+use Prim.Native.Nat.{ℕ, _+_, _-_, _*_, _≤_}
+use mathlib.Core.Path.{_≡_}
+use mathlib.Core.Bool.{true, cond, _&&_}
+use mathlib.Core.List.{List}
+use lib.Dec.{leb}
+use lib.ListN.{length, take, drop}
+use lib.Ieee.{Float}
+use Rattle.lowpass.specs.declared.BiquadLowpassState.{BiquadLowpassState}
+use Rattle.rules.specs.Parts.{laid}
+use Rattle.rules.specs.Samples.{Frame}
+use Rattle.claim.specs.Hall.{Sent, hall}
+use Rattle.store.specs.declared.Small.{Small}
+use Rattle.store.specs.Layout.{size, infosOf, placesOf}
+use Rattle.render.specs.Sources.{Framed}
+use Rattle.frame.specs.Held.{held, IsHeld}
+use Rattle.frame.specs.Chunk.{chunk}
+use Rattle.frame.specs.Out.{behind}
+
+-- what is asked: the k samples from t on of a frame of n samples a channel; the frame's objects are the state's dynamic ones; where a block gets whole, room for it behind `ready` samples
+pub record CanPass (s : Small) (state pcm out codes : List ℕ) (objects n t k stride ready : ℕ) : Type 0 where
+  pub block : length state ≡ size
+  pub framed : Framed pcm (length codes + objects) n t k
+  pub inputs : length codes ≤ 18
+  pub few : objects ≤ 16
+  pub beds : s .state .beds ≤ 18
+  pub dynamic : s .state .initialized ≡ true → s .state .objects - s .state .isf ≡ objects
+  pub pending : s .pending + k ≤ 64
+  pub phase : s .phase ≤ 64
+  pub position : s .position ≤ 1099511627776
+  pub start : s .start ≤ 1099511627776
+  pub rate : s .rate ≤ 16777216
+  pub room : s .pending + k ≡ 64 → ready + 64 ≤ stride
+  pub output : 48 * stride ≤ length out
+
+-- the first k places of each row behind the pending samples of its channel; the infos stay
+pub record Laid (rows : List Float) (pending k : ℕ) (state state' : List ℕ) : Type 0 where
+  pub long : length state' ≡ size
+  pub infos : infosOf state' ≡ infosOf state
+  pub places : placesOf state' ≡ (λ c. laid pending (take k (drop (64 * c) rows)) (placesOf state c))
+
+-- the small part with k samples more pending: the clock rests before the first update
+abbrev pub passedClock : Small → BiquadLowpassState → ℕ → Small
+passedClock s low k =
+    record {
+      rate = s .rate;
+      phase = cond (s .state .initialized) (cond (leb 64 (s .phase + k)) 0 (s .phase + k)) (s .phase);
+      position = s .position + k;
+      start = cond (s .state .initialized && leb 64 (s .phase + k)) (s .start + 64) (s .start);
+      gain = s .gain;
+      filter = low;
+      pending = s .pending + k;
+      state = s .state;
+    }
+
+-- a frame of a push: its rate and its updates, bed codes, objects, PCM and samples a channel
+abbrev pub frameOf : ℕ → List Sent → List ℕ → ℕ → List ℕ → ℕ → Frame Sent
+frameOf rate us codes objects pcm n = record { rate = rate; samples = n; codes = codes; objects = objects; pcm = pcm; updates = us }
+
+-- the rules' chunk: what is held after it, and what is given out behind `ready` samples of each channel
+pub record Passes (f : Frame Sent) (t k stride ready : ℕ) (s : Small) (state out : List ℕ) (r : Small) (state' out' : List ℕ) : Type 0 where
+  pub next : IsHeld (chunk hall f k t (held s state) .next) r state'
+  pub given : out' ≡ behind ready (chunk hall f k t (held s state) .given) stride out

@@ -1,0 +1,53 @@
+-- The frame's loop: the samples of a turn, what a push that no refusal turned away hands to it, and what it leaves. Assumes nothing.
+use Prim.Native.Nat.{ℕ, _+_, _-_}
+use mathlib.Core.Path.{_≡_}
+use mathlib.Core.Bool.{Bool, true, cond}
+use mathlib.Core.List.{List}
+use lib.Dec.{eqb, ltb}
+use lib.ListN.{length}
+use Rattle.words.specs.Words.{wordsAt}
+use Rattle.records.specs.Answers.{IsLayout}
+use Rattle.records.specs.declared.layout.Layout.{Layout}
+use Rattle.rules.specs.Refusals.{Args, clear}
+use Rattle.rules.specs.Samples.{After}
+use Rattle.rules.specs.Calls.{found}
+use Rattle.rules.specs.Block.{written}
+use Rattle.store.specs.declared.Small.{Small}
+use Rattle.store.specs.Fields.{smallOf}
+use Rattle.store.specs.Layout.{decode}
+use Rattle.store.specs.Ranges.{valid}
+use Rattle.claim.specs.Hall.{hall}
+use Rattle.frame.specs.declared.push.Rendered.{Rendered}
+use Rattle.frame.specs.Held.{IsHeld}
+
+-- ---- the samples of a turn
+
+abbrev pub least : ℕ → ℕ → ℕ
+least a b = cond (ltb a b) a b
+
+-- up to the end of the block, of the slot where the clock runs, and of the `left` samples before the next update or the frame's end
+abbrev pub runLength : Bool → ℕ → ℕ → ℕ → ℕ
+runLength started phase pending left = cond started (least (64 - phase) (least (64 - pending) left)) (least (64 - pending) left)
+
+-- a block was given out, and nothing is pending
+abbrev pub readyAfter : ℕ → ℕ → ℕ
+readyAfter ready pending = cond (eqb pending 0) (ready + 64) ready
+
+-- ---- a push
+
+abbrev pub argsOf : List ℕ → List ℕ → List ℕ → List ℕ → ℕ → ℕ → ℕ → ℕ → Args
+argsOf pcm meta out codes rate samples objects stride =
+    record { pcm = pcm; meta = meta; out = out; codes = codes; rate = rate; samples = samples; objects = objects; stride = stride }
+
+-- s is the small part of the valid block b, l the metadata's layout, and the push is not refused
+pub record Accepted (s : Small) (b : List ℕ) (l : Layout) (a : Args) : Type 0 where
+  pub small : s ≡ smallOf (wordsAt b 0 340)
+  pub valid : valid b ≡ true
+  pub clear : found hall (decode b) a ≡ clear
+  pub layout : IsLayout (a .meta) l
+
+-- r is answered, with the block b and the output o′ at exit, where o was the output: p is what the rules say that the push leaves and gives out
+pub record IsRendered (p : After hall) (stride : ℕ) (o : List ℕ) (r : Rendered) (b o′ : List ℕ) : Type 0 where
+  pub next : IsHeld (p .next) (r .small) b
+  pub given : o′ ≡ written (p .given) stride o
+  pub ready : r .ready ≡ length (p .given 0)

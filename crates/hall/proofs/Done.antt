@@ -1,0 +1,85 @@
+-- What an accepted push and a flush with samples waiting leave is what the rules say. Assumes nothing.
+use Prim.Native.Nat.{ℕ, suc, _≤_, _<_}
+use native.Mathlib.Nat.{le-of-lt, le-trans, zero-add}
+use native.Mathlib.Omega.{arith}
+use mathlib.Core.Path.{_≡_, refl, sym, ap, _∙_, subst}
+use mathlib.Core.Logic.{_⊎_, inl, inr}
+use mathlib.Core.Bool.{true, false}
+use mathlib.Core.List.{List, map}
+use lib.Dec.{eqb, lit≤}
+use lib.ListN.{length, take, length-map}
+use lib.Seq.{length-take-le}
+use lib.Ieee.{binary32, ofBits}
+use borrow.Author.Tests.{ne-eqb}
+use Rattle.words.specs.Words.{Bytes, wordsAt, withWords}
+use Rattle.timed.specs.State.{Timed}
+use Rattle.rules.specs.Parts.{floats}
+use Rattle.rules.specs.Refusals.{Args, clear, room, listed}
+use Rattle.rules.specs.Samples.{Renderer, pushed, flushed}
+use Rattle.rules.specs.Ranges.{Ranged}
+use Rattle.rules.specs.Calls.{push, flush, frameOf, found}
+use Rattle.rules.specs.Block.{written, made}
+use Rattle.rules.proofs.Judged.{is-passed, is-listed, rate-high, is-roomy}
+use Rattle.rules.proofs.Limited.{length-limited}
+use Rattle.store.specs.declared.Small.{Small}
+use Rattle.store.specs.Fields.{smallWords, smallOf}
+use Rattle.store.specs.Layout.{size, decode}
+use Rattle.store.specs.Ranges.{valid}
+use Rattle.claim.specs.Hall.{hall, block}
+use Rattle.claim.proofs.Sound.{Within}
+use Rattle.claim.proofs.Blocks.{decoded-of}
+use Rattle.claim.proofs.Theorem.{pushed-within, flushed-within}
+use Rattle.frame.specs.Held.{held, IsHeld}
+use Rattle.hall.specs.declared.answer.Answer.{Answer}
+use Rattle.hall.specs.Answers.{Left, readyOf}
+use Rattle.frame.specs.Give.{CanGive}
+use Rattle.hall.proofs.Laws.{leaves-as, accepted, flushes}
+use Rattle.hall.proofs.Known.{valid-long, loaded, loaded-pending, loaded-ranged, saved}
+
+-- ---- push
+
+module _ (a : Args) (b : List ℕ) (bytes : Bytes b) (meta : Bytes (a .meta)) (v : valid b ≡ true) (e : found hall (decode b) a ≡ clear) where
+  pub rendered-left : (s : Small) (ready : ℕ) (c : List ℕ) → Bytes c → IsHeld (pushed hall (frameOf hall a) (decode b) .next) s c → ready ≡ length (pushed hall (frameOf hall a) (decode b) .given 0)
+      → (r : Answer) (state out : List ℕ) → r ≡ readyOf ready → state ≡ withWords c 0 (smallWords s) → out ≡ written (pushed hall (frameOf hall a) (decode b) .given) (a .stride) (a .out)
+      → Left (made hall block (push a) b) r state out
+  rendered-left s ready c k h n r state out i j o =
+      let g = pushed-within (decode b) a meta (is-passed hall (decode b) a e) (decoded-of b bytes v) in
+      leaves-as (accepted a b v e) (record { answer = i ∙ ap readyOf n; block = j ∙ saved c (pushed hall (frameOf hall a) (decode b) .next) s k h g; output = o })
+
+-- ---- flush
+
+rate-small : (n : ℕ) → (n ≡ 0) ⊎ (listed n ≡ true) → n ≤ 16777216
+rate-small n (inl z) = omega arith
+rate-small n (inr l) = le-of-lt (rate-high (is-listed n l))
+
+-- as many samples as wait
+flushed-long : (r : Renderer Timed) → Ranged hall Within r → length (flushed hall r .given 0) ≡ r .pending
+unfolding flushed
+flushed-long r g =
+    length-limited (r .gain) (λ c. take (r .pending) (floats (r .places) c)) 0
+    ∙ length-take-le (r .pending) (floats (r .places) 0) (let l = g .long 0 (omega arith) in let p = g .pending in let m = length-map (r .places 0) (ofBits binary32) in omega arith)
+
+module _ (b : List ℕ) (s : Small) (e : s ≡ smallOf (wordsAt b 0 340)) (bytes : Bytes b) (v : valid b ≡ true) (out : List ℕ) (stride : ℕ) (k : room stride (length out) ≡ true) where
+  pub can-give : CanGive s b out stride 0
+  can-give =
+      let g = loaded-ranged b s e bytes v in
+      let q = is-roomy stride (length out) k in
+      let p = g .pending in
+      let w = q .some in
+      record { block = valid-long b v; pending = le-of-lt (g .pending); rate = rate-small (s .rate) (g .rate); room = omega arith; output = q .long }
+
+  pub flushed-left : 0 < s .pending → (t : Small) → held t b ≡ flushed hall (held s b) .next → (r : Answer) (state to : List ℕ) → r ≡ readyOf (s .pending) → state ≡ withWords b 0 (smallWords t)
+      → to ≡ written (flushed hall (held s b) .given) stride out → Left (made hall block (flush out stride) b) r state to
+  flushed-left p t h r state to i j o =
+      let l = loaded b s e in
+      let g = loaded-ranged b s e bytes v in
+      let n : decode b .pending ≡ s .pending = loaded-pending b s e in
+      let some : eqb (decode b .pending) 0 ≡ false = ne-eqb (decode b .pending) 0 (λ z. omega (arith, sym n ∙ z)) in
+      let next = h ∙ ap (λ (x : Renderer Timed). flushed hall x .next) l in
+      let d = flushed-within (decode b) (subst (Ranged hall Within) l g) in
+      leaves-as (flushes out stride b v k some)
+      (record {
+        answer = i ∙ ap readyOf (sym (flushed-long (held s b) g) ∙ ap (λ (x : Renderer Timed). length (flushed hall x .given 0)) l);
+        block = j ∙ saved b (flushed hall (decode b) .next) t bytes (record { is = next; long = valid-long b v }) d;
+        output = o ∙ ap (λ (x : Renderer Timed). written (flushed hall x .given) stride out) l;
+      })

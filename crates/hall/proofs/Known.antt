@@ -1,0 +1,53 @@
+-- What a valid block's small part tells, and the block that a renderer is saved to. Assumes nothing.
+use Prim.Native.Nat.{ℕ, zero, suc, _≤_, _<_}
+use native.Mathlib.Omega.{arith}
+use mathlib.Core.Path.{_≡_, refl, sym, ap, _∙_, subst}
+use mathlib.Core.Bool.{true, _&&_}
+use mathlib.Core.List.{List}
+use lib.Dec.{eqb}
+use lib.ListN.{length, drop}
+use borrow.Author.Tests.{eqb-true}
+use Rattle.words.specs.Words.{Bytes, wordsAt, withWords}
+use Rattle.timed.specs.State.{Timed}
+use Rattle.rules.specs.Samples.{Renderer}
+use Rattle.rules.specs.Ranges.{Ranged}
+use Rattle.rules.proofs.Judged.{and-true}
+use Rattle.store.specs.declared.Small.{Small}
+use Rattle.store.specs.Fields.{smallWords, smallOf}
+use Rattle.store.specs.Layout.{size, small, rows, infosOf, placesOf, decode, encode}
+use Rattle.store.specs.Ranges.{valid, smallValid, headsValid}
+use Rattle.store.proofs.Back.{small-long}
+use Rattle.store.proofs.Rows.{rows-of}
+use Rattle.store.proofs.Whole.{small-full, saved-encode}
+use Rattle.claim.specs.Hall.{hall}
+use Rattle.claim.proofs.Sound.{Within}
+use Rattle.claim.proofs.Blocks.{ranged, decoded-of}
+use Rattle.frame.specs.Held.{held, IsHeld}
+
+pub valid-long : (b : List ℕ) → valid b ≡ true → length b ≡ size
+unfolding valid
+valid-long b v = eqb-true (length b) size (and-true (eqb (length b) size) (smallValid (wordsAt b 0 340)) (and-true (eqb (length b) size && smallValid (wordsAt b 0 340)) (headsValid (infosOf b) 0 512) v .0) .0)
+
+pub pos-of : (n : ℕ) → (n ≡ 0 → ⊥) → 0 < n
+pos-of zero h = absurd (h refl)
+pos-of (suc n) h = omega arith
+
+module _ (b : List ℕ) (s : Small) (e : s ≡ smallOf (wordsAt b 0 340)) where
+  -- a loaded small part and its block hold what the block decodes to
+  pub loaded : held s b ≡ decode b
+  unfolding decode
+  loaded = ap (λ (x : Small). held x b) e
+
+  pub loaded-pending : decode b .pending ≡ s .pending
+  loaded-pending = sym (ap (λ (r : Renderer Timed). r .pending) loaded)
+
+  pub loaded-ranged : Bytes b → valid b ≡ true → Ranged hall Within (held s b)
+  loaded-ranged bs v = subst (Ranged hall Within) (sym loaded) (decoded-of b bs v)
+
+-- the small part saved into the block with which it holds r
+pub saved : (b : List ℕ) (r : Renderer Timed) (s : Small) → Bytes b → IsHeld r s b → Ranged hall Within r → withWords b 0 (smallWords s) ≡ encode r
+saved b r s bs h g =
+    let e : s ≡ small r = ap small (h .is) in
+    ap (λ (x : Small). withWords b 0 (smallWords x)) e
+    ∙ saved-encode b r (h .long) (small-long (small r) (small-full r (ranged r g))) (ap (λ (x : Renderer Timed). x .meta .infos) (h .is))
+    (sym (rows-of b bs (h .long)) ∙ ap (λ (x : Renderer Timed). rows 12 0 (x .places)) (h .is))

@@ -1,0 +1,89 @@
+-- `push`: each way out by its law.
+use mathlib.Core.Path.{_≡_, refl, sym, ap, _∙_}
+use native.Mathlib.Omega.{arith}
+use borrow.Author.Tests.{not-true, not-false}
+use Rattle.rules.specs.Calls.{push}
+use Rattle.refusals.specs.declared.Refusal.{Refusal}
+use Rattle.refusals.specs.Numbers.{foundOf}
+use Rattle.frame.specs.Turns.{argsOf}
+use Rattle.hall.proofs.Laws.{leaves-as, wrong, refused-push}
+use Rattle.hall.proofs.Stops.{not-clear}
+use Rattle.hall.proofs.Known.{valid-long, loaded-ranged}
+use borrow.Author.Needs.{needs}
+use Rattle.hall.proofs.push.Statement.{statement}
+use Rattle.hall.proofs.push.Tie as tie
+
+is-valid-requires : tie.Need-is-valid-requires
+is-valid-requires c κs = search needs
+
+refusal-requires : tie.Need-refusal-requires
+refusal-requires c κs = search needs
+
+same-length : tie.Need-same-length
+same-length c = search needs
+
+returns : tie.Need-returns
+returns c =
+    let a = c .before .before .before .before .before .before .before .before .before .args in
+    leaves-as (wrong (push (argsOf (a .pcm .now) (a .meta .now) (a .out .now) (a .codes .now) (a .rate) (a .samples) (a .objects) (a .stride))) (a .state .now) (sym (c .before .before .is-valid .ensures) ∙ not-true _ (c .before .if1 .taken)))
+    (record { answer = c .refusal .ensures; block = refl; output = refl })
+
+load-requires : tie.Need-load-requires
+load-requires c κs = valid-long (c .before .before .before .before .before .before .before .before .before .args .state .now) (sym (c .before .before .is-valid .ensures) ∙ not-false _ (c .before .if1 .left))
+
+push-refusal-requires : tie.Need-push-refusal-requires
+push-refusal-requires c κs =
+    let w = loaded-ranged (c .before .before .before .before .before .before .before .before .before .before .args .state .now) (c .load .result) (c .load .ensures) (λ k. omega (arith, c .before .before .before .before .before .before .before .before .before .slice-known .given k)) (sym (c .before .before .before .is-valid .ensures) ∙ not-false _ (c .before .before .if1 .left)) .meta .state .within in
+    (w .beds, w .objects)
+
+enum-told : tie.Need-enum-told
+enum-told c = search needs
+
+render-requires : tie.Need-render-requires
+render-requires c κs =
+    let a = c .before .before .before .before .before .before .before .before .before .before .before .before .before .before .before .args in
+    record {
+      loaded = record { small = c .before .before .before .before .before .load .ensures; valid = sym (c .before .before .before .before .before .before .before .before .is-valid .ensures) ∙ not-false _ (c .before .before .before .before .before .before .before .if1 .left) };
+      clear = sym (c .before .before .before .before .push-refusal .ensures (a .state .now) (a .out .now) (c .before .before .before .before .before .load .ensures) refl) ∙ ap foundOf (c .before .before .enum-told .given .1);
+    }
+
+same-length-2 : tie.Need-same-length-2
+same-length-2 c = search needs
+
+same-length-3 : tie.Need-same-length-3
+same-length-3 c = search needs
+
+returns-2 : tie.Need-returns-2
+returns-2 c = search needs
+
+refusal-requires-2 : tie.Need-refusal-requires-2
+refusal-requires-2 c κs = search needs
+
+same-length-4 : tie.Need-same-length-4
+same-length-4 c = search needs
+
+returns-3 : tie.Need-returns-3
+returns-3 c =
+    let a = c .before .before .before .before .before .before .before .before .before .before .before .before .before .args in
+    let f = c .before .before .push-refusal .result in
+    refused-push (argsOf (a .pcm .now) (a .meta .now) (a .out .now) (a .codes .now) (a .rate) (a .samples) (a .objects) (a .stride)) (a .state .now) (c .refusal2 .result) (foundOf f)
+    (sym (c .before .before .before .before .before .before .is-valid .ensures) ∙ not-false _ (c .before .before .before .before .before .if1 .left)) (c .before .before .push-refusal .ensures (a .state .now) (a .out .now) (c .before .before .before .load .ensures) refl) (not-clear f (c .before .match .keys2)) (c .refusal2 .ensures)
+
+pub push-spec : {M : Type 1} → statement M
+push-spec =
+    tie.close
+    (tie.spec
+    is-valid-requires
+    refusal-requires
+    same-length
+    returns
+    load-requires
+    push-refusal-requires
+    enum-told
+    render-requires
+    same-length-2
+    same-length-3
+    returns-2
+    refusal-requires-2
+    same-length-4
+    returns-3)

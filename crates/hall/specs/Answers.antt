@@ -1,0 +1,57 @@
+-- What the host passes and gets, in the words of the rules. Assumes nothing.
+use Prim.Native.Nat.{ℕ, _<_}
+use mathlib.Core.Path.{_≡_}
+use mathlib.Core.Bool.{true}
+use mathlib.Core.List.{List}
+use lib.ListN.{length}
+use Rattle.rules.specs.Refusals.{Args, Found, clear, stop, room}
+use Rattle.rules.specs.Calls as rules
+use Rattle.rules.specs.Calls.{refused, rendered, nothing, cleared, found}
+use Rattle.rules.specs.Block.{Outcome}
+use Rattle.words.specs.Words.{wordsAt}
+use Rattle.store.specs.declared.Small.{Small}
+use Rattle.store.specs.Fields.{smallOf}
+use Rattle.store.specs.Layout.{decode}
+use Rattle.store.specs.Ranges.{valid}
+use Rattle.claim.specs.Hall.{hall}
+use Rattle.hall.specs.declared.answer.Answer.{Answer}
+
+-- "`ready N`": so many samples given out on each channel
+abbrev pub readyOf : ℕ → Answer
+readyOf n = record { kind = 0; number = 0; first = 0; second = 0; ready = n }
+
+-- "A refusal gives its number and two counts"
+abbrev pub codeOf : rules.Answer → Answer
+codeOf (rendered given) = readyOf (length (given 0))
+codeOf (refused n a b) = record { kind = 1; number = n; first = a; second = b; ready = 0 }
+codeOf nothing = record { kind = 2; number = 0; first = 0; second = 0; ready = 0 }
+codeOf cleared = record { kind = 3; number = 0; first = 0; second = 0; ready = 0 }
+
+-- what stopped a push, as an answer; nothing stops with 0
+abbrev pub codeOfFound : Found → Answer
+codeOfFound clear = codeOf (refused 0 0 0)
+codeOfFound (stop n a b) = codeOf (refused n a b)
+
+-- an entry left what the rules say: the answer, the state block, the output
+pub record Left (o : Outcome) (r : Answer) (state out : List ℕ) : Type 0 where
+  pub answer : r ≡ codeOf (o .answer)
+  pub block : state ≡ o .state
+  pub output : out ≡ o .out
+
+-- ---- what is known when the work begins
+
+-- s is the small part of the valid block b
+pub record Loaded (s : Small) (b : List ℕ) : Type 0 where
+  pub small : s ≡ smallOf (wordsAt b 0 340)
+  pub valid : valid b ≡ true
+
+-- no refusal turned the push away
+pub record Cleared (s : Small) (b : List ℕ) (a : Args) : Type 0 where
+  pub loaded : Loaded s b
+  pub clear : found hall (decode b) a ≡ clear
+
+-- samples wait, and the output has room
+pub record Waiting (s : Small) (b out : List ℕ) (stride : ℕ) : Type 0 where
+  pub loaded : Loaded s b
+  pub room : room stride (length out) ≡ true
+  pub some : 0 < s .pending

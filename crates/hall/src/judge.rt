@@ -1,0 +1,59 @@
+// Refusals 1 to 14 of a push on a valid block, before anything is written.
+ghost use mathlib.Core.Path.{_≡_};
+ghost use mathlib.Core.Bool.{true};
+ghost use mathlib.Core.List.{List};
+ghost use Prim.Native.Nat.{ℕ, _≤_};
+ghost use lib.ListN.{length};
+ghost use Rattle.words.specs.Words.{wordsAt};
+ghost use Rattle.rules.specs.Calls.{found};
+ghost use Rattle.refusals.specs.Numbers.{foundOf};
+ghost use Rattle.store.specs.Fields.{smallOf};
+ghost use Rattle.store.specs.Layout.{decode};
+ghost use Rattle.store.specs.Ranges.{valid};
+ghost use Rattle.claim.specs.Hall.{hall};
+ghost use Rattle.frame.specs.Turns.{argsOf};
+use refusals::Refusal;
+use store::Small;
+
+// `s` is the small part of a valid block; the output has `bytes` bytes.
+pub fn push_refusal(
+    s: Small,
+    pcm: &[u8],
+    meta: &[u8],
+    bytes: usize,
+    codes: &[u8],
+    rate: u32,
+    samples: u32,
+    objects: u32,
+    stride: u32,
+) -> Refusal
+    requires { ⌜ (s .state .beds ≤ 18) × (s .state .objects ≤ 32) ⌝ }
+    ensures { λ r. ⌜ ((b out : List ℕ) → s ≡ smallOf (wordsAt b 0 340) → length out ≡ bytes → foundOf r ≡ found hall (decode b) (argsOf (now (pcm .entry)) (now (meta .entry)) out (now (codes .entry)) rate samples objects stride)) ⌝ }
+{
+    let first = early::refusal(
+        s,
+        pcm,
+        meta,
+        bytes,
+        codes,
+        rate,
+        samples,
+        objects,
+        stride,
+    );
+    let Refusal::Clear = first else {
+        return first;
+    };
+    let l = records::layout::layout_of(meta);
+    let state = s.state;
+    later::refusal(
+        s.rate,
+        state,
+        meta,
+        l,
+        codes,
+        rate,
+        samples,
+        objects,
+    )
+}

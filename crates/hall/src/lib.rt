@@ -1,0 +1,90 @@
+// The entries that the host calls. Contracts: the answer, the state block and the output at exit are those of the rules' `made`, for arguments of any kind.
+ghost use mathlib.Core.Path.{_≡_};
+ghost use Rattle.rules.specs.Calls.{push, flush, reset};
+ghost use Rattle.rules.specs.Block.{made};
+ghost use Rattle.claim.specs.Hall.{hall, block};
+ghost use Rattle.hall.specs.Answers.{Left, codeOf};
+ghost use Rattle.frame.specs.Turns.{argsOf};
+use answer::Answer;
+use refusals::Refusal;
+
+pub mod answer;
+pub mod judge;
+pub mod work;
+
+// Renders a frame: beds (one code each), then objects, `samples` of each channel in `pcm`. What is ready goes to `out`, channel c from place c x `stride` on.
+#[no_mangle]
+pub extern "C" fn push(
+    state: &mut [u8],
+    pcm: &[u8],
+    meta: &[u8],
+    out: &mut [u8],
+    codes: &[u8],
+    rate: u32,
+    samples: u32,
+    objects: u32,
+    stride: u32,
+) -> Answer
+    ensures { λ r. ⌜ Left (made hall block (push (argsOf (now (pcm .entry)) (now (meta .entry)) (now (out .entry)) (now (codes .entry)) rate samples objects stride)) (now (state .entry))) r (now (state .exit)) (now (out .exit)) ⌝ }
+{
+    if !store::ranges::is_valid(state) {
+        return answer::refusal(Refusal::Lent);
+    }
+    let s = store::load(state);
+    let found = judge::push_refusal(
+        s,
+        pcm,
+        meta,
+        out.len(),
+        codes,
+        rate,
+        samples,
+        objects,
+        stride,
+    );
+    if let Refusal::Clear = found {
+        return work::render(
+            s,
+            state,
+            pcm,
+            meta,
+            out,
+            codes,
+            rate,
+            samples,
+            objects,
+            stride,
+        );
+    }
+    answer::refusal(found)
+}
+
+// Gives out the samples that wait.
+#[no_mangle]
+pub extern "C" fn flush(state: &mut [u8], out: &mut [u8], stride: u32) -> Answer
+    ensures { λ r. ⌜ Left (made hall block (flush (now (out .entry)) stride) (now (state .entry))) r (now (state .exit)) (now (out .exit)) ⌝ }
+{
+    if !store::ranges::is_valid(state) {
+        return answer::refusal(Refusal::Lent);
+    }
+    if !early::room(stride, out.len()) {
+        return answer::refusal(Refusal::Lent);
+    }
+    let s = store::load(state);
+    if s.pending == 0 {
+        return answer::none();
+    }
+    work::drain(s, state, out, stride)
+}
+
+// Makes a block of the right length a new renderer.
+#[no_mangle]
+pub extern "C" fn reset(state: &mut [u8]) -> Answer
+    ensures { λ r. ⌜ (r ≡ codeOf (made hall block reset (now (state .entry)) .answer)) × (now (state .exit) ≡ made hall block reset (now (state .entry)) .state) ⌝ }
+{
+    if state.len() != store::SIZE {
+        return answer::refusal(Refusal::Lent);
+    }
+    store::reset(state);
+    answer::fresh()
+}

@@ -1,0 +1,5 @@
+pub mod Cleared
+pub mod Found
+pub mod Laws
+pub mod Walks
+pub mod Chain
