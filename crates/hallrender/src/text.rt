@@ -5,7 +5,7 @@ ghost use Prim.Native.Nat.{_+_, _<_, _≤_};
 ghost use lib.ListN.{length, take, drop};
 ghost use Rattle.hallrender.specs.Line.{hex8};
 ghost use Rattle.hallrender.specs.Line.{lineOf};
-use hall::Answer;
+use hall::answer::Answer;
 use libc::STDOUT_FILENO;
 
 // The eight digits of a word and the byte behind them from `at` on.
@@ -35,13 +35,13 @@ fn line_of(out: &[u8], i: usize) -> [u8; 108]
 }
 
 // `ready N` and its lines. No more than the output holds, whatever is asked for.
-fn ready(count: u32, out: &[u8])
+fn ready(count: usize, out: &[u8])
     requires { ⌜ length (now out) ≡ 12288 ⌝ }
 {
     io::write_all(STDOUT_FILENO, b"ready ");
     io::print_decimal(STDOUT_FILENO, count as u64);
     io::write_all(STDOUT_FILENO, b"\n");
-    let n = crate::framing::least(count as usize, 256);
+    let n = crate::framing::least(count, 256);
     let mut i = 0usize;
     while i < n {
         let line = line_of(out, i);

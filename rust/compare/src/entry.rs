@@ -15,7 +15,7 @@ pub struct Answer {
     pub first: u32,
     pub second: u32,
     /// Samples that are ready.
-    pub ready: u32,
+    pub ready: usize,
 }
 
 mod linked {

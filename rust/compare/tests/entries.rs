@@ -19,7 +19,7 @@ fn fresh() -> Vec<u8> {
 
 fn expected_answer(outcome: &Outcome) -> Answer {
     let (kind, [number, first, second], ready) = match outcome {
-        Outcome::Ready(channels) => (0, [0; 3], channels[0].len() as u32),
+        Outcome::Ready(channels) => (0, [0; 3], channels[0].len()),
         Outcome::Refused(refusal) => (1, *refusal, 0),
         Outcome::Nothing => (2, [0; 3], 0),
         Outcome::Reset => (3, [0; 3], 0),
@@ -372,7 +372,7 @@ fn damaged_blocks() {
     let one = Outcome::Refused([1, 0, 0]);
     for seed in 0..6 {
         let block = used_block(seed);
-        let mut refused = |damage: &dyn Fn(&mut [u8]), name: &str| {
+        let refused = |damage: &dyn Fn(&mut [u8]), name: &str| {
             let mut host = Host::new(64);
             host.state.copy_from_slice(&block);
             damage(&mut host.state);

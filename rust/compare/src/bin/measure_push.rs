@@ -57,7 +57,7 @@ fn frames(length: usize) -> Vec<Frame> {
             pcm: (0..channels * length)
                 .map(|_| inputs.between(-0.05, 0.05))
                 .collect(),
-            updates: if k * length % STRIDE == 0 {
+            updates: if (k * length).is_multiple_of(STRIDE) {
                 vec![update(&mut inputs)]
             } else {
                 Vec::new()
@@ -74,7 +74,7 @@ fn rattle(state: &mut [u8], out: &mut [u8], calls: &[Call]) -> (Duration, usize)
     for call in calls {
         let answer = entry::push(state, black_box(call), out, STRIDE as u32);
         assert_eq!(answer.kind, 0, "{answer:?}");
-        ready += answer.ready as usize;
+        ready += answer.ready;
     }
     (start.elapsed(), ready)
 }
