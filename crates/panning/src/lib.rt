@@ -11,58 +11,52 @@ ghost use Rattle.panning.specs.Found.{chosen, Inside, RowIs};
 use roots::sqrt;
 use vectors::Vec3;
 
-// `RENDER_714_CHANNEL_POSITIONS`, by coordinate.
-const X_714: [f32; 12] = [
-    -0.70710677,
-    0.70710677,
-    0.0,
-    0.0,
-    -0.70710677,
-    0.70710677,
-    -1.0,
-    1.0,
-    -1.0,
-    1.0,
-    -0.70710677,
-    0.70710677,
-];
-
-const Y_714: [f32; 12] = [0.0, 0.0, 0.0, 0.0, 0.0, 0.0, 0.0, 0.0, 1.0, 1.0, 1.0, 1.0];
-
-const Z_714: [f32; 12] = [
-    1.0,
-    1.0,
-    1.0,
-    1.0,
-    -1.0,
-    -1.0,
-    -0.48368952,
-    -0.48368952,
-    0.48368952,
-    0.48368952,
-    -1.0,
-    -1.0,
-];
-
+// `RENDER_714_CHANNEL_POSITIONS`, by coordinate. A `match` compiles to a table, where an array would be built on the stack at every call.
 fn x_of(channel: usize) -> f32
     requires { ⌜ channel < 12 ⌝ }
     ensures { λ r. ⌜ r ≡ hall714 channel .x ⌝ }
 {
-    X_714[channel]
+    match channel % 16 {
+        0 => -0.70710677,
+        1 => 0.70710677,
+        2 => 0.0,
+        3 => 0.0,
+        4 => -0.70710677,
+        5 => 0.70710677,
+        6 => -1.0,
+        7 => 1.0,
+        8 => -1.0,
+        9 => 1.0,
+        10 => -0.70710677,
+        _ => 0.70710677,
+    }
 }
 
 fn y_of(channel: usize) -> f32
     requires { ⌜ channel < 12 ⌝ }
     ensures { λ r. ⌜ r ≡ hall714 channel .y ⌝ }
 {
-    Y_714[channel]
+    if channel < 8 { 0.0 } else { 1.0 }
 }
 
 fn z_of(channel: usize) -> f32
     requires { ⌜ channel < 12 ⌝ }
     ensures { λ r. ⌜ r ≡ hall714 channel .z ⌝ }
 {
-    Z_714[channel]
+    match channel % 16 {
+        0 => 1.0,
+        1 => 1.0,
+        2 => 1.0,
+        3 => 1.0,
+        4 => -1.0,
+        5 => -1.0,
+        6 => -0.48368952,
+        7 => -0.48368952,
+        8 => 0.48368952,
+        9 => 0.48368952,
+        10 => -1.0,
+        _ => -1.0,
+    }
 }
 
 // The two sides of a row.
