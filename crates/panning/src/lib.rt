@@ -11,7 +11,8 @@ ghost use Rattle.panning.specs.Found.{chosen, Inside, RowIs};
 use roots::sqrt;
 use vectors::Vec3;
 
-// `RENDER_714_CHANNEL_POSITIONS`, by coordinate. A `match` compiles to a table, where an array would be built on the stack at every call.
+// `RENDER_714_CHANNEL_POSITIONS`, by coordinate. A `match` compiles to a table, where an array would be built on the stack at every call; the arm 15, which is no channel,
+// makes it a table of sixteen, so that no index is tested.
 fn x_of(channel: usize) -> f32
     requires { ⌜ channel < 12 ⌝ }
     ensures { λ r. ⌜ r ≡ hall714 channel .x ⌝ }
@@ -28,6 +29,7 @@ fn x_of(channel: usize) -> f32
         8 => -1.0,
         9 => 1.0,
         10 => -0.70710677,
+        15 => 0.0,
         _ => 0.70710677,
     }
 }
@@ -55,6 +57,7 @@ fn z_of(channel: usize) -> f32
         8 => 0.48368952,
         9 => 0.48368952,
         10 => -1.0,
+        15 => 0.0,
         _ => -1.0,
     }
 }
