@@ -1,5 +1,6 @@
 // The bits of a root, from those of a positive finite f32.
 use crate::candidate::near_root;
+use crate::nearest::nearest_root;
 use crate::nearest::nearest_whole;
 use crate::unpack::parts;
 ghost use mathlib.Core.Path.{_≡_};
@@ -33,7 +34,7 @@ fn square_bits(b: u32) -> u32
 {
     let p = parts(b);
     let e = p.e;
-    let r = nearest_whole(even_rest(p.m, e), near_root(b as u64), false);
+    let r = nearest_root(even_rest(p.m, e), near_root(b as u64));
     ((e + 103) / 2 * 8388608 + r) as u32
 }
 

@@ -13,8 +13,8 @@ even-rest-requires c κs = search needs
 near-root-requires : tie.Need-near-root-requires
 near-root-requires c κs = search needs
 
-nearest-whole-requires : tie.Need-nearest-whole-requires
-nearest-whole-requires c κs = search needs
+nearest-root-requires : tie.Need-nearest-root-requires
+nearest-root-requires c κs = search needs
 
 add-result : tie.Need-add-result
 add-result c = search needs
@@ -29,7 +29,7 @@ cast-result : tie.Need-cast-result
 cast-result c = search needs
 
 returns : tie.Need-returns
-returns c = let rest = c .before .before .even-rest .ensures in (search needs, search needs, square-bits _ _ _ _ _ (c .before .before .before .parts .ensures) (rest .0) (rest .1) (rest .2) (c .nearest-whole .ensures))
+returns c = let rest = c .before .before .even-rest .ensures in (search needs, search needs, square-bits _ _ _ _ _ (c .before .before .before .parts .ensures) (rest .0) (rest .1) (rest .2) (c .nearest-root .ensures))
 
 pub square-bits-spec : {M : Type 1} → statement M
 square-bits-spec =
@@ -38,7 +38,7 @@ square-bits-spec =
     parts-requires
     even-rest-requires
     near-root-requires
-    nearest-whole-requires
+    nearest-root-requires
     add-result
     mul-result
     add-result-2
