@@ -7,7 +7,7 @@ use compare::model::{Model, Outcome, STREAM_END};
 use compare::{Frames, Generator};
 use std::collections::BTreeMap;
 
-const RUNS: u64 = 3_000;
+const RUNS: u64 = 12_000;
 const CALLS: usize = 16;
 
 /// What reset makes of any block.
