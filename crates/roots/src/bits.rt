@@ -10,7 +10,7 @@ ghost use lib.Ieee.{binary32, ofBits};
 ghost use Rattle.roots.specs.Root.{rootUnits};
 ghost use Rattle.roots.specs.Whole.{unitsOf, Ranged};
 
-// m with 23 or 24 more digits, so that what is left of the exponent e + 126 is even; an exponent field is as odd as its e.
+// m with 23 or 24 more digits, so that what is left of the exponent e + 126 is even.
 fn even_rest(m: u64, e: u64) -> u64
     requires { ⌜ (2 ^ 23 ≤ m) × (m < 2 ^ 24) ⌝ }
     ensures { λ r. ⌜ (r ≡ m * 2 ^ (24 - e % 2)) × (2 ^ 46 ≤ r) × (r < 2 ^ 48) × (Ranged false r) ⌝ }
@@ -27,29 +27,15 @@ fn fourth_rest(m: u64, e: u64) -> u64
     m * ((512 + s % 2 * 512) * (1 + s / 2 * 3))
 }
 
-// The bits of the square root, by halving.
-fn slow_bits(b: u32) -> u32
+// The bits of the square root. The table of candidates has this one caller, so that the compiler puts it here and a root is one call.
+fn square_bits(b: u32) -> u32
     requires { ⌜ (0 < b) × (b < 0x7f80_0000) ⌝ }
     ensures { λ r. ⌜ (0 < r) × (r < 0x7f80_0000) × (rootUnits 2 (unitsOf b) ≡ ofBits binary32 r) ⌝ }
 {
     let p = parts(b);
     let e = p.e;
-    let r = nearest_whole(even_rest(p.m, e), 8388608, false);
+    let r = nearest_root(even_rest(p.m, e), near_root(b as u64));
     ((e + 103) / 2 * 8388608 + r) as u32
-}
-
-// The same, of a normal number from one close to it. The table of candidates has this one caller, so that the compiler puts it here and a root is one call.
-fn square_bits(b: u32) -> u32
-    requires { ⌜ (0 < b) × (b < 0x7f80_0000) ⌝ }
-    ensures { λ r. ⌜ (0 < r) × (r < 0x7f80_0000) × (rootUnits 2 (unitsOf b) ≡ ofBits binary32 r) ⌝ }
-{
-    if b < 8388608 {
-        return slow_bits(b);
-    }
-    let b = b as u64;
-    let f = b / 8388608;
-    let r = nearest_root(even_rest(8388608 + b % 8388608, f), near_root(b));
-    ((f + 125) / 2 * 8388608 + r) as u32
 }
 
 // Those of the fourth root: the root of the root is close to it.

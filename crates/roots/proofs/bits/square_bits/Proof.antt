@@ -1,18 +1,11 @@
--- `roots::bits::square_bits` meets its contract, by the law of the square root of a normal number. Assumes nothing.
-use native.Mathlib.Omega.{arith}
-use Rattle.roots.proofs.Squares.{square-normal}
+-- `roots::bits::square_bits` meets its contract, by the law of the square root. Assumes nothing.
+use Rattle.roots.proofs.Squares.{square-bits}
 use borrow.Author.Needs.{needs}
 use Rattle.roots.proofs.bits.square_bits.Statement.{statement}
 use Rattle.roots.proofs.bits.square_bits.Tie as tie
 
-slow-bits-requires : tie.Need-slow-bits-requires
-slow-bits-requires c κs = search needs
-
-returns : tie.Need-returns
-returns c = search needs
-
-add-even-rest : tie.Need-add-even-rest
-add-even-rest c = search needs
+parts-requires : tie.Need-parts-requires
+parts-requires c κs = search needs
 
 even-rest-requires : tie.Need-even-rest-requires
 even-rest-requires c κs = search needs
@@ -35,19 +28,14 @@ add-result-2 c = search needs
 cast-result : tie.Need-cast-result
 cast-result c = search needs
 
-returns-2 : tie.Need-returns-2
-returns-2 c =
-    let rest = c .before .before .even-rest .ensures in
-    let b = c .before .before .before .before .args .b in
-    (search needs, search needs, square-normal b _ _ (omega arith) (omega arith) (rest .0) (rest .1) (rest .2) (c .nearest-root .ensures))
+returns : tie.Need-returns
+returns c = let rest = c .before .before .even-rest .ensures in (search needs, search needs, square-bits _ _ _ _ _ (c .before .before .before .parts .ensures) (rest .0) (rest .1) (rest .2) (c .nearest-root .ensures))
 
 pub square-bits-spec : {M : Type 1} → statement M
 square-bits-spec =
     tie.close
     (tie.spec
-    slow-bits-requires
-    returns
-    add-even-rest
+    parts-requires
     even-rest-requires
     near-root-requires
     nearest-root-requires
@@ -55,4 +43,4 @@ square-bits-spec =
     mul-result
     add-result-2
     cast-result
-    returns-2)
+    returns)
