@@ -6,7 +6,8 @@ use mathlib.Core.List.{[]}
 use lib.ListN.{replicate, length-replicate}
 use Rattle.rules.specs.Refusals.{early, later, _then_, Found}
 use Rattle.rules.specs.Samples.{State}
-use Rattle.rules.proofs.Judged.{is-early, is-sized, sentOf}
+use Rattle.rules.specs.Calls.{sentOf}
+use Rattle.rules.proofs.Judged.{is-early, is-sized}
 use Rattle.refusals.specs.Numbers.{foundOf}
 use Rattle.store.specs.Layout.{joined, infosOf, placesOf, decode}
 use Rattle.updates.proofs.Passed.{passes-all}
