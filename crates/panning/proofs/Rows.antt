@@ -1,4 +1,4 @@
--- The code's rows are the definition's: the two coefficients of a row, and the eight of the corners that the code has chosen. Assumes nothing.
+-- The code's coefficients are the definition's: the eight of the corners that the code has chosen. Assumes nothing.
 use mathlib.Core.Path.{_≡_, refl, sym, ap, _∙_, subst, subst⁻¹}
 use mathlib.Core.Bool.{Bool, true, false, cond}
 use mathlib.Core.List.{List, [], _∷_, map}
@@ -9,34 +9,24 @@ use lib.Ieee.{Float, binary32, sub, mul, eq, ne}
 use Rattle.roots.specs.Root.{root}
 use Rattle.vectors.specs.declared.Vec3.{Vec3}
 use Rattle.panning.specs.Choice.{Corner, corner, corners, 0·0, 1·0}
-use Rattle.panning.specs.Terms.{ratio, up, ahead, across, rowWeight, coefficient, innerGain, extra, nothing, panned}
-use Rattle.panning.specs.Found.{Inside, RowIs, chosen}
+use Rattle.panning.specs.Terms.{ratio, up, ahead, across, rowWeight, sideCoefficient, coefficient, innerGain, extra, nothing, panned}
+use Rattle.panning.specs.Found.{Inside, weighted, chosen}
 use Rattle.panning.specs.declared.Ends.{Ends}
 use Rattle.panning.specs.declared.Cube.{Cube}
-use Rattle.panning.specs.declared.Pair.{Pair}
 use Rattle.panning.specs.declared.Panned.{Panned}
 
-pub row-yes : {a b v w s l r : Float} → ne w 0·0 ≡ true → s ≡ ratio a b v → l ≡ root (mul binary32 w (sub binary32 1·0 s)) → r ≡ root (mul binary32 w s)
-    → RowIs a b v w (record { left = l; right = r })
-row-yes {a} {b} {v} {w} {s} {l} {r} t e f g = record {
-  left-is = f ∙ ap (λ (x : Float). root (mul binary32 w (sub binary32 1·0 x))) e ∙ sym (ap (λ (y : Bool). cond y (root (mul binary32 w (sub binary32 1·0 (ratio a b v)))) 0·0) t);
-  right-is = g ∙ ap (λ (x : Float). root (mul binary32 w x)) e ∙ sym (ap (λ (y : Bool). cond y (root (mul binary32 w (ratio a b v))) 0·0) t);
-}
+-- the coefficient of a side, by the test of its row's weight
+pub side-yes : (w s : Float) {r : Float} → ne w 0·0 ≡ true → r ≡ root (mul binary32 w s) → r ≡ weighted w s
+side-yes w s t e = e ∙ sym (ap (λ (y : Bool). cond y (root (mul binary32 w s)) 0·0) t)
 
-pub row-no : {a b v w : Float} → ne w 0·0 ≡ false → RowIs a b v w (record { left = 0·0; right = 0·0 })
-row-no {a} {b} {v} {w} t = record {
-  left-is = sym (ap (λ (y : Bool). cond y (root (mul binary32 w (sub binary32 1·0 (ratio a b v)))) 0·0) t);
-  right-is = sym (ap (λ (y : Bool). cond y (root (mul binary32 w (ratio a b v))) 0·0) t);
-}
+pub side-no : (w s : Float) → ne w 0·0 ≡ false → 0·0 ≡ weighted w s
+side-no w s t = sym (ap (λ (y : Bool). cond y (root (mul binary32 w s)) 0·0) t)
 
 -- the two ends of a row
 pub ends-of : {l h l' h' : ℕ} → l ≡ l' → h ≡ h' → _≡_ {A = Ends} (record { low = l; high = h }) (record { low = l'; high = h' })
 ends-of p q = cc
 
 -- ---- the eight coefficients
-row-moved : {a b v w u : Float} {r : Pair} → w ≡ u → RowIs a b v w r → RowIs a b v u r
-row-moved {a} {b} {v} {r = r} e h = subst (λ (y : Float). RowIs a b v y r) e h
-
 eight : {A : Type 0} {a b c d e f g h a' b' c' d' e' f' g' h' : A} → a ≡ a' → b ≡ b' → c ≡ c' → d ≡ d' → e ≡ e' → f ≡ f' → g ≡ g' → h ≡ h'
     → a ∷ b ∷ c ∷ d ∷ e ∷ f ∷ g ∷ h ∷ [] ≡ a' ∷ b' ∷ c' ∷ d' ∷ e' ∷ f' ∷ g' ∷ h' ∷ []
 eight i j k l m n o p = cc
@@ -47,25 +37,33 @@ weigh g h i = cc
 less : {a a' : Float} → a ≡ a' → sub binary32 1·0 a ≡ sub binary32 1·0 a'
 less h = cc
 
+side-moved : (right : Bool) {w w' s s' x : Float} → w ≡ w' → s ≡ s' → x ≡ sideCoefficient w s right → x ≡ sideCoefficient w' s' right
+side-moved right {w' = w'} {s = s} h i e = e ∙ ap (λ (v : Float). sideCoefficient v s right) h ∙ ap (λ (v : Float). sideCoefficient w' v right) i
+
 pub ratio-of : (v : Float) {a b a' b' r : Float} → a ≡ a' → b ≡ b' → r ≡ ratio a b v → r ≡ ratio a' b' v
 ratio-of v h i e = cc
 
-module _ (sp : ℕ → Vec3) (c : Cube) (p : Vec3) (g : Float) {u b t : Float} {bf br tf tr : Pair}
+module _ (sp : ℕ → Vec3) (c : Cube) (p : Vec3) (g : Float) {u b t : Float}
     (up-is : u ≡ ratio (sp (c .bottom .front .low) .y) (sp (c .top .front .low) .y) (p .y))
     (bottom-is : b ≡ ratio (sp (c .bottom .rear .low) .z) (sp (c .bottom .front .low) .z) (p .z))
     (top-is : t ≡ ratio (sp (c .top .rear .low) .z) (sp (c .top .front .low) .z) (p .z)) where
-  pub coefficients-are : RowIs (sp (c .bottom .front .low) .x) (sp (c .bottom .front .high) .x) (p .x) (mul binary32 (mul binary32 b (sub binary32 1·0 u)) g) bf
-      → RowIs (sp (c .bottom .rear .low) .x) (sp (c .bottom .rear .high) .x) (p .x) (mul binary32 (mul binary32 (sub binary32 1·0 b) (sub binary32 1·0 u)) g) br
-      → RowIs (sp (c .top .front .low) .x) (sp (c .top .front .high) .x) (p .x) (mul binary32 (mul binary32 t u) g) tf
-      → RowIs (sp (c .top .rear .low) .x) (sp (c .top .rear .high) .x) (p .x) (mul binary32 (mul binary32 (sub binary32 1·0 t) u) g) tr
-      → bf .left ∷ bf .right ∷ br .left ∷ br .right ∷ tf .left ∷ tf .right ∷ tr .left ∷ tr .right ∷ [] ≡ map (coefficient sp (chosen c) p g) corners
+  pub coefficients-are : {bf br tf tr : Float} {bfl bfr brl brr tfl tfr trl trr : Float}
+      → bf ≡ ratio (sp (c .bottom .front .low) .x) (sp (c .bottom .front .high) .x) (p .x)
+      → br ≡ ratio (sp (c .bottom .rear .low) .x) (sp (c .bottom .rear .high) .x) (p .x)
+      → tf ≡ ratio (sp (c .top .front .low) .x) (sp (c .top .front .high) .x) (p .x)
+      → tr ≡ ratio (sp (c .top .rear .low) .x) (sp (c .top .rear .high) .x) (p .x)
+      → bfl ≡ weighted (mul binary32 (mul binary32 b (sub binary32 1·0 u)) g) (sub binary32 1·0 bf) → bfr ≡ weighted (mul binary32 (mul binary32 b (sub binary32 1·0 u)) g) bf
+      → brl ≡ weighted (mul binary32 (mul binary32 (sub binary32 1·0 b) (sub binary32 1·0 u)) g) (sub binary32 1·0 br) → brr ≡ weighted (mul binary32 (mul binary32 (sub binary32 1·0 b) (sub binary32 1·0 u)) g) br
+      → tfl ≡ weighted (mul binary32 (mul binary32 t u) g) (sub binary32 1·0 tf) → tfr ≡ weighted (mul binary32 (mul binary32 t u) g) tf
+      → trl ≡ weighted (mul binary32 (mul binary32 (sub binary32 1·0 t) u) g) (sub binary32 1·0 tr) → trr ≡ weighted (mul binary32 (mul binary32 (sub binary32 1·0 t) u) g) tr
+      → bfl ∷ bfr ∷ brl ∷ brr ∷ tfl ∷ tfr ∷ trl ∷ trr ∷ [] ≡ map (coefficient sp (chosen c) p g) corners
   unfolding coefficient rowWeight up ahead across
-  coefficients-are h i j k =
-      let h' = row-moved (weigh g bottom-is (less up-is)) h in
-      let i' = row-moved (weigh g (less bottom-is) (less up-is)) i in
-      let j' = row-moved (weigh g top-is up-is) j in
-      let k' = row-moved (weigh g (less top-is) up-is) k in
-      eight (h' .left-is) (h' .right-is) (i' .left-is) (i' .right-is) (j' .left-is) (j' .right-is) (k' .left-is) (k' .right-is)
+  coefficients-are h i j k hl hr il ir jl jr kl kr =
+      let hw = weigh g bottom-is (less up-is) in
+      let iw = weigh g (less bottom-is) (less up-is) in
+      let jw = weigh g top-is up-is in
+      let kw = weigh g (less top-is) up-is in
+      eight (side-moved false hw h hl) (side-moved true hw h hr) (side-moved false iw i il) (side-moved true iw i ir) (side-moved false jw j jl) (side-moved true jw j jr) (side-moved false kw k kl) (side-moved true kw k kr)
 
 -- ---- the whole
 module _ (sp : ℕ → Vec3) (l : List ℕ) (n : Float) (p : Vec3) (g s : Float) where

@@ -1,14 +1,12 @@
--- What the code has found: the channels of the corners, and the coefficients of a row. Assumes nothing.
+-- What the code has found: the channels of the corners, and a coefficient. Assumes nothing.
 use Prim.Native.Nat.{ℕ, _<_}
-use mathlib.Core.Path.{_≡_}
-use mathlib.Core.Bool.{Bool, true, false}
-use lib.Ieee.{Float}
+use mathlib.Core.Bool.{Bool, true, false, cond}
+use lib.Ieee.{Float, binary32, mul, ne}
+use Rattle.roots.specs.Root.{root}
 use Rattle.panning.specs.declared.Ends.{Ends}
 use Rattle.panning.specs.declared.Layer.{Layer}
 use Rattle.panning.specs.declared.Cube.{Cube}
-use Rattle.panning.specs.declared.Pair.{Pair}
-use Rattle.panning.specs.Choice.{Corner}
-use Rattle.panning.specs.Terms.{ratio, sideCoefficient}
+use Rattle.panning.specs.Choice.{Corner, 0·0}
 
 abbrev pub sideOf : Bool → Ends → ℕ
 sideOf false e = e .low
@@ -36,7 +34,6 @@ pub record Inside (r : Cube) : Type 0 where
   pub trl : r .top .rear .low < 12
   pub trr : r .top .rear .high < 12
 
--- the two coefficients of a row of weight w between the coordinates a and b, about v
-pub record RowIs (a b v w : Float) (r : Pair) : Type 0 where
-  pub left-is : r .left ≡ sideCoefficient w (ratio a b v) false
-  pub right-is : r .right ≡ sideCoefficient w (ratio a b v) true
+-- the coefficient of a side with the share `part` of a row of weight w
+abbrev pub weighted : Float → Float → Float
+weighted w part = cond (ne w 0·0) (root (mul binary32 w part)) 0·0

@@ -7,62 +7,59 @@ ghost use Rattle.panning.specs.Choice.{corners};
 ghost use Rattle.panning.specs.Terms.{ratio, innerGain, extra, coefficient, nothing};
 ghost use Rattle.panning.specs.Hall.{hall714, 12·0, PannedIs};
 ghost use Rattle.panning.specs.Corners714.{pairEnds, narrowEnds, wideEnds, frontEnds, floorEnds, ceilingEnds, cube714};
-ghost use Rattle.panning.specs.Found.{chosen, Inside, RowIs};
+ghost use Rattle.panning.specs.Found.{chosen, Inside, weighted};
 use roots::sqrt;
 use vectors::Vec3;
 
-// `RENDER_714_CHANNEL_POSITIONS`, by coordinate.
-const X_714: [f32; 12] = [
-    -0.70710677,
-    0.70710677,
-    0.0,
-    0.0,
-    -0.70710677,
-    0.70710677,
-    -1.0,
-    1.0,
-    -1.0,
-    1.0,
-    -0.70710677,
-    0.70710677,
-];
-
-const Y_714: [f32; 12] = [0.0, 0.0, 0.0, 0.0, 0.0, 0.0, 0.0, 0.0, 1.0, 1.0, 1.0, 1.0];
-
-const Z_714: [f32; 12] = [
-    1.0,
-    1.0,
-    1.0,
-    1.0,
-    -1.0,
-    -1.0,
-    -0.48368952,
-    -0.48368952,
-    0.48368952,
-    0.48368952,
-    -1.0,
-    -1.0,
-];
-
+// `RENDER_714_CHANNEL_POSITIONS`, by coordinate. A `match` compiles to a table, where an array would be built on the stack at every call; the arm 15, which is no channel,
+// makes it a table of sixteen, so that no index is tested.
 fn x_of(channel: usize) -> f32
     requires { ⌜ channel < 12 ⌝ }
     ensures { λ r. ⌜ r ≡ hall714 channel .x ⌝ }
 {
-    X_714[channel]
+    match channel % 16 {
+        0 => -0.70710677,
+        1 => 0.70710677,
+        2 => 0.0,
+        3 => 0.0,
+        4 => -0.70710677,
+        5 => 0.70710677,
+        6 => -1.0,
+        7 => 1.0,
+        8 => -1.0,
+        9 => 1.0,
+        10 => -0.70710677,
+        15 => 0.0,
+        _ => 0.70710677,
+    }
 }
 
 fn y_of(channel: usize) -> f32
     requires { ⌜ channel < 12 ⌝ }
     ensures { λ r. ⌜ r ≡ hall714 channel .y ⌝ }
 {
-    Y_714[channel]
+    if channel < 8 { 0.0 } else { 1.0 }
 }
 
 fn z_of(channel: usize) -> f32
     requires { ⌜ channel < 12 ⌝ }
     ensures { λ r. ⌜ r ≡ hall714 channel .z ⌝ }
 {
-    Z_714[channel]
+    match channel % 16 {
+        0 => 1.0,
+        1 => 1.0,
+        2 => 1.0,
+        3 => 1.0,
+        4 => -1.0,
+        5 => -1.0,
+        6 => -0.48368952,
+        7 => -0.48368952,
+        8 => 0.48368952,
+        9 => 0.48368952,
+        10 => -1.0,
+        15 => 0.0,
+        _ => -1.0,
+    }
 }
 
 // The two sides of a row.
@@ -196,27 +193,19 @@ fn extra(gain: f32, size: f32) -> f32
     }
 }
 
-struct Pair {
-    left: f32,
-    right: f32,
+// The share of a row's right side.
+fn blend(row: Ends, x: f32) -> f32
+    requires { ⌜ (row .low < 12) × (row .high < 12) ⌝ }
+    ensures { λ r. ⌜ r ≡ ratio (hall714 (row .low) .x) (hall714 (row .high) .x) x ⌝ }
+{
+    ratio(x_of(row.low), x_of(row.high), x)
 }
 
-// The coefficients of the two corners of a row, w being the row's weight.
-fn row_pair(row: Ends, x: f32, w: f32) -> Pair
-    requires { ⌜ (row .low < 12) × (row .high < 12) ⌝ }
-    ensures { λ r. ⌜ RowIs (hall714 (row .low) .x) (hall714 (row .high) .x) x w r ⌝ }
+// The coefficient of a corner whose share of its row, of weight w, is `part`.
+fn side(w: f32, part: f32) -> f32
+    ensures { λ r. ⌜ r ≡ weighted w part ⌝ }
 {
-    if w != 0.0 {
-        let blend = ratio(x_of(row.low), x_of(row.high), x);
-        return Pair {
-            left: sqrt(w * (1.0 - blend)),
-            right: sqrt(w * blend),
-        };
-    }
-    Pair {
-        left: 0.0,
-        right: 0.0,
-    }
+    if w != 0.0 { sqrt(w * part) } else { 0.0 }
 }
 
 // The coefficients at the corners c, for the gain g that they share.
@@ -230,19 +219,23 @@ fn coefficients(c: Cube, place: Vec3, g: f32) -> [f32; 8]
     let down = 1.0 - up;
     let front_bottom = ratio(z_of(bottom.rear.low), z_of(bottom.front.low), place.z);
     let front_top = ratio(z_of(top.rear.low), z_of(top.front.low), place.z);
-    let bf = row_pair(bottom.front, place.x, front_bottom * down * g);
-    let br = row_pair(bottom.rear, place.x, (1.0 - front_bottom) * down * g);
-    let tf = row_pair(top.front, place.x, front_top * up * g);
-    let tr = row_pair(top.rear, place.x, (1.0 - front_top) * up * g);
+    let bf = front_bottom * down * g;
+    let br = (1.0 - front_bottom) * down * g;
+    let tf = front_top * up * g;
+    let tr = (1.0 - front_top) * up * g;
+    let bf_right = blend(bottom.front, place.x);
+    let br_right = blend(bottom.rear, place.x);
+    let tf_right = blend(top.front, place.x);
+    let tr_right = blend(top.rear, place.x);
     [
-        bf.left,
-        bf.right,
-        br.left,
-        br.right,
-        tf.left,
-        tf.right,
-        tr.left,
-        tr.right,
+        side(bf, 1.0 - bf_right),
+        side(bf, bf_right),
+        side(br, 1.0 - br_right),
+        side(br, br_right),
+        side(tf, 1.0 - tf_right),
+        side(tf, tf_right),
+        side(tr, 1.0 - tr_right),
+        side(tr, tr_right),
     ]
 }
 

@@ -1,8 +1,8 @@
 -- Where r - 1 / 2 is below the root and r + 1 / 2 is not, r is the nearest whole number. s stands for r + 1. Assumes nothing.
-use mathlib.Core.Path.{_≡_, subst}
+use mathlib.Core.Path.{_≡_, sym, subst}
 use mathlib.Core.Logic.{inl, inr}
 use mathlib.Core.Bool.{Bool, true, false}
-use Prim.Native.Nat.{ℕ, _+_, _-_, _*_, _/_, _^_, _≤_, _<_}
+use Prim.Native.Nat.{ℕ, zero, suc, _+_, _-_, _*_, _/_, _^_, _≤_, _<_}
 use native.Mathlib.Nat.{le-trans, le-of-lt, lt-of-lt-of-le, lt-of-le-of-lt, lt-irrefl, mul-le-mul}
 use native.Mathlib.Omega.{arith}
 use lib.Dec.{lit<, lit≤}
@@ -32,6 +32,16 @@ below e h = omega arith
 
 pub not-below : {t u n : ℕ} → t ≡ u → n ≤ t → n ≤ u
 not-below e h = omega arith
+
+-- ---- the tests with one product, that of r with itself
+pub below-square : (r s n : ℕ) → s ≡ r * r → s < n + r → topOf false r < n
+unfolding topOf
+below-square zero s n e h = omega arith
+below-square (suc k) s n e h = let f : suc k - 1 ≡ k = omega arith in subst (λ (x : ℕ). suc k * x < n) (sym f) (omega arith)
+
+pub up-to-square : (r s n : ℕ) → s ≡ r * r → n ≤ s + r → n ≤ topOf false (r + 1)
+unfolding topOf
+up-to-square r s n e h = let f : r + 1 - 1 ≡ r = omega arith in subst (λ (x : ℕ). n ≤ (r + 1) * x) (sym f) (omega arith)
 
 -- ---- from the tests on both sides
 module _ (f : Bool) (n : ℕ) (i : Ranged f n) where

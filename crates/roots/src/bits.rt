@@ -1,6 +1,6 @@
 // The bits of a root, from those of a positive finite f32.
-use crate::candidate::near_fourth;
 use crate::candidate::near_root;
+use crate::nearest::nearest_root;
 use crate::nearest::nearest_whole;
 use crate::unpack::parts;
 ghost use mathlib.Core.Path.{_≡_};
@@ -27,17 +27,36 @@ fn fourth_rest(m: u64, e: u64) -> u64
     m * ((512 + s % 2 * 512) * (1 + s / 2 * 3))
 }
 
+// The bits of the square root. The table of candidates has this one caller, so that the compiler puts it here and a root is one call.
+fn square_bits(b: u32) -> u32
+    requires { ⌜ (0 < b) × (b < 0x7f80_0000) ⌝ }
+    ensures { λ r. ⌜ (0 < r) × (r < 0x7f80_0000) × (rootUnits 2 (unitsOf b) ≡ ofBits binary32 r) ⌝ }
+{
+    let p = parts(b);
+    let e = p.e;
+    let r = nearest_root(even_rest(p.m, e), near_root(b as u64));
+    ((e + 103) / 2 * 8388608 + r) as u32
+}
+
+// Those of the fourth root: the root of the root is close to it.
+fn fourth_bits(b: u32) -> u32
+    requires { ⌜ (0 < b) × (b < 0x7f80_0000) ⌝ }
+    ensures { λ r. ⌜ (r < 0x7f80_0000) × (rootUnits 4 (unitsOf b) ≡ ofBits binary32 r) ⌝ }
+{
+    let p = parts(b);
+    let e = p.e;
+    let near = square_bits(square_bits(b));
+    let r = nearest_whole(fourth_rest(p.m, e), 8388608 + near as u64 % 8388608, true);
+    ((e + 355) / 4 * 8388608 + r) as u32
+}
+
 // The bits of the fourth root or of the square root.
 pub fn root_bits(b: u32, fourth: bool) -> u32
     requires { ⌜ (0 < b) × (b < 0x7f80_0000) ⌝ }
     ensures { λ r. ⌜ (r < 0x7f80_0000) × (rootUnits (cond fourth 4 2) (unitsOf b) ≡ ofBits binary32 r) ⌝ }
 {
-    let p = parts(b);
-    let e = p.e;
     if fourth {
-        let r = nearest_whole(fourth_rest(p.m, e), near_fourth(b as u64), true);
-        return ((e + 355) / 4 * 8388608 + r) as u32;
+        return fourth_bits(b);
     }
-    let r = nearest_whole(even_rest(p.m, e), near_root(b as u64), false);
-    ((e + 103) / 2 * 8388608 + r) as u32
+    square_bits(b)
 }

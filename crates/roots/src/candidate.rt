@@ -1,4 +1,4 @@
-// Numbers close to the roots of an f32. Nothing is claimed of them but their size: exact tests decide.
+// Numbers close to the square root of an f32. Nothing is claimed of them but their size: exact tests decide.
 ghost use Prim.Native.Nat.{_^_, _<_};
 
 // For each of 64 equal parts of the digits' range, at an even exponent field and then at an odd one, a parabola close to the digits of the
@@ -157,12 +157,4 @@ pub fn near_root(b: u64) -> u64
         p % 16384,
         b % 131072,
     )
-}
-
-// Those of a number close to the fourth root: the root of one close to the root.
-pub fn near_fourth(b: u64) -> u64
-    requires { ⌜ b < 2 ^ 32 ⌝ }
-    ensures { λ r. ⌜ r < 2 ^ 25 ⌝ }
-{
-    near_root((b / 8388608 + 125) / 2 * 8388608 + near_root(b))
 }

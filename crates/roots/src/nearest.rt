@@ -1,5 +1,6 @@
 // The whole number nearest to a root: from a number close to it by exact tests, or by halving the range.
 ghost use mathlib.Core.Path.{_≡_};
+ghost use mathlib.Core.Bool.{false};
 ghost use Prim.Native.Nat.{_*_, _/_, _^_, _<_, _≤_};
 ghost use Rattle.roots.specs.Whole.{topOf, Ranged, NearWhole};
 
@@ -67,4 +68,18 @@ pub fn nearest_whole(n: u64, r: u64, fourth: bool) -> u64
         return r - 1;
     }
     by_halves(n, fourth)
+}
+
+// The same for the square root. Nearly always the number close to it is the one: tested with one product.
+pub fn nearest_root(n: u64, r: u64) -> u64
+    requires { ⌜ (Ranged false n) × (r < 2 ^ 25) × (n < 2 ^ 48) ⌝ }
+    ensures { λ r. ⌜ NearWhole false n r ⌝ }
+{
+    let s = squared(r);
+    if s < n + r {
+        if n <= s + r {
+            return r;
+        }
+    }
+    nearest_whole(n, r, false)
 }

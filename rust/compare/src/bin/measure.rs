@@ -107,7 +107,7 @@ fn read_row(pcm: &[u8], row: &mut [f32]) {
     }
 }
 
-/// Objects at random places above the floor, each panned and mixed over a slot.
+/// Objects of size 0 at random places above the floor, each panned and its corners mixed over a slot, as `render` does.
 fn panning() {
     let mut inputs = Generator::new(5);
     let samples: Vec<f32> = (0..64).map(|_| inputs.between(-1.0, 1.0)).collect();
@@ -121,7 +121,8 @@ fn panning() {
         "pan and mix_segment, 20,000 slots of 64 samples",
         || {
             for &place in &places {
-                for (channel, gain) in probe::panning::pan(place, 0.7, 0.0).terms() {
+                let panned = probe::panning::pan(place, 0.7, 0.0);
+                for (channel, gain) in panned.corners.into_iter().zip(panned.coefficients) {
                     probe::mixing::mix_segment(&samples, &mut mixed[channel], 0, gain);
                 }
             }
