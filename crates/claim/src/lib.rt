@@ -1,4 +1,1 @@
 // The rules' interface filled with the real timed state, metadata and state block, and demand 3 for every list of calls (proofs/).
-
-// Bytes of a state block.
-pub const STATE_BYTES: usize = 26960;

@@ -12,10 +12,10 @@ use Rattle.ieee.specs.Bounds.{All}
 use Rattle.rules.specs.Leaves.{Leaves, Shape}
 use Rattle.rules.specs.Samples.{State, After, updated, slotted, framed, opened, pushed}
 use Rattle.rules.specs.Refusals.{Args, listed, lacking, countsAfter, lackingFrom, offsets, shapeAt}
-use Rattle.rules.specs.Calls.{frameOf}
+use Rattle.rules.specs.Calls.{sentOf, frameOf}
 use Rattle.rules.specs.Block.{Layout, written}
 use Rattle.rules.proofs.Facts.{Facts}
-use Rattle.rules.proofs.Judged.{Passed, is-roomy, samples-fit, sentOf}
+use Rattle.rules.proofs.Judged.{Passed, is-roomy, samples-fit}
 use Rattle.rules.proofs.Clock.{untouched}
 use Rattle.rules.proofs.Ranged.{R, or-false, updated-ranged, slotted-met, framed-ranged, opened-ranged}
 use Rattle.rules.proofs.Shapes.{Matches, matches-on, judged, updated-shape, slotted-shape}

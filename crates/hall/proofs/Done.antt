@@ -1,12 +1,12 @@
 -- What an accepted push and a flush with samples waiting leave is what the rules say. Assumes nothing.
-use Prim.Native.Nat.{ℕ, suc, _≤_, _<_}
-use native.Mathlib.Nat.{le-of-lt, le-trans, zero-add}
+use Prim.Native.Nat.{ℕ, _≤_, _<_}
+use native.Mathlib.Nat.{le-of-lt}
 use native.Mathlib.Omega.{arith}
-use mathlib.Core.Path.{_≡_, refl, sym, ap, _∙_, subst}
+use mathlib.Core.Path.{_≡_, sym, ap, _∙_, subst}
 use mathlib.Core.Logic.{_⊎_, inl, inr}
 use mathlib.Core.Bool.{true, false}
-use mathlib.Core.List.{List, map}
-use lib.Dec.{eqb, lit≤}
+use mathlib.Core.List.{List}
+use lib.Dec.{eqb}
 use lib.ListN.{length, take, length-map}
 use lib.Seq.{length-take-le}
 use lib.Ieee.{binary32, ofBits}
@@ -23,7 +23,7 @@ use Rattle.rules.proofs.Judged.{is-passed, is-listed, rate-high, is-roomy}
 use Rattle.rules.proofs.Limited.{length-limited}
 use Rattle.store.specs.declared.Small.{Small}
 use Rattle.store.specs.Fields.{smallWords, smallOf}
-use Rattle.store.specs.Layout.{size, decode}
+use Rattle.store.specs.Layout.{decode}
 use Rattle.store.specs.Ranges.{valid}
 use Rattle.claim.specs.Hall.{hall, block}
 use Rattle.claim.proofs.Sound.{Within}

@@ -1,11 +1,11 @@
 -- What a valid block's small part tells, and the block that a renderer is saved to. Assumes nothing.
-use Prim.Native.Nat.{ℕ, zero, suc, _≤_, _<_}
+use Prim.Native.Nat.{ℕ, zero, suc, _<_}
 use native.Mathlib.Omega.{arith}
 use mathlib.Core.Path.{_≡_, refl, sym, ap, _∙_, subst}
 use mathlib.Core.Bool.{true, _&&_}
 use mathlib.Core.List.{List}
 use lib.Dec.{eqb}
-use lib.ListN.{length, drop}
+use lib.ListN.{length}
 use borrow.Author.Tests.{eqb-true}
 use Rattle.words.specs.Words.{Bytes, wordsAt, withWords}
 use Rattle.timed.specs.State.{Timed}
@@ -14,7 +14,7 @@ use Rattle.rules.specs.Ranges.{Ranged}
 use Rattle.rules.proofs.Judged.{and-true}
 use Rattle.store.specs.declared.Small.{Small}
 use Rattle.store.specs.Fields.{smallWords, smallOf}
-use Rattle.store.specs.Layout.{size, small, rows, infosOf, placesOf, decode, encode}
+use Rattle.store.specs.Layout.{size, small, rows, infosOf, decode, encode}
 use Rattle.store.specs.Ranges.{valid, smallValid, headsValid}
 use Rattle.store.proofs.Back.{small-long}
 use Rattle.store.proofs.Rows.{rows-of}

@@ -1,6 +1,5 @@
 // Refusals 1 to 14 of a push on a valid block, before anything is written.
 ghost use mathlib.Core.Path.{_≡_};
-ghost use mathlib.Core.Bool.{true};
 ghost use mathlib.Core.List.{List};
 ghost use Prim.Native.Nat.{ℕ, _≤_};
 ghost use lib.ListN.{length};
@@ -9,7 +8,6 @@ ghost use Rattle.rules.specs.Calls.{found};
 ghost use Rattle.refusals.specs.Numbers.{foundOf};
 ghost use Rattle.store.specs.Fields.{smallOf};
 ghost use Rattle.store.specs.Layout.{decode};
-ghost use Rattle.store.specs.Ranges.{valid};
 ghost use Rattle.claim.specs.Hall.{hall};
 ghost use Rattle.frame.specs.Turns.{argsOf};
 use refusals::Refusal;

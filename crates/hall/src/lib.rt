@@ -9,8 +9,8 @@ use answer::Answer;
 use refusals::Refusal;
 
 pub mod answer;
-pub mod judge;
-pub mod work;
+mod judge;
+mod work;
 
 // Renders a frame: beds (one code each), then objects, `samples` of each channel in `pcm`. What is ready goes to `out`, channel c from place c x `stride` on.
 #[no_mangle]

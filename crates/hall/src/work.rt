@@ -1,14 +1,6 @@
 // An accepted push and a flush with samples waiting, on the state block in place.
-ghost use mathlib.Core.Path.{_≡_};
-ghost use mathlib.Core.Bool.{true};
-ghost use Prim.Native.Nat.{_<_};
-ghost use Rattle.words.specs.Words.{wordsAt};
-ghost use Rattle.rules.specs.Refusals.{room, clear};
-ghost use Rattle.rules.specs.Calls.{push, flush, found};
+ghost use Rattle.rules.specs.Calls.{push, flush};
 ghost use Rattle.rules.specs.Block.{made};
-ghost use Rattle.store.specs.Fields.{smallOf};
-ghost use Rattle.store.specs.Layout.{decode};
-ghost use Rattle.store.specs.Ranges.{valid};
 ghost use Rattle.claim.specs.Hall.{hall, block};
 ghost use Rattle.hall.specs.Answers.{Waiting, Cleared, Left};
 ghost use Rattle.frame.specs.Turns.{argsOf};

@@ -3,8 +3,7 @@ ghost use mathlib.Core.Path.{_≡_};
 ghost use mathlib.Core.List.{_∷_, _++_};
 ghost use Prim.Native.Nat.{_+_, _<_, _≤_};
 ghost use lib.ListN.{length, take, drop};
-ghost use Rattle.hallrender.specs.Line.{hex8};
-ghost use Rattle.hallrender.specs.Line.{lineOf};
+ghost use Rattle.hallrender.specs.Line.{hex8, lineOf};
 use hall::answer::Answer;
 use libc::STDOUT_FILENO;
 

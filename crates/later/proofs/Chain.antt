@@ -11,10 +11,7 @@ use Rattle.records.specs.Laid.{count}
 use Rattle.records.specs.Answers.{IsLayout}
 use Rattle.records.specs.declared.layout.Layout.{Layout}
 use Rattle.rules.specs.Leaves.{Shape}
-use Rattle.rules.specs.Refusals.{Found, clear, stop, _then_, unless, objectsMatch, countsAt, shapeAt, walk, none, Args, early, later}
-use Rattle.rules.specs.Samples.{State}
-use Rattle.rules.specs.Calls.{found}
-use Rattle.claim.specs.Hall.{hall, shapeOf}
+use Rattle.rules.specs.Refusals.{Found, clear, stop, _then_, unless, objectsMatch, countsAt, shapeAt, walk, none, later}
 use Rattle.refusals.specs.Numbers.{foundOf}
 use Rattle.refusals.specs.declared.Refusal.{Refusal}
 use Rattle.later.specs.declared.present.Present.{Present}
@@ -93,7 +90,3 @@ module _ (m : List ℕ) (l : Layout) (g : IsLayout m l) (objects : ℕ) (codes :
 
             pub walk-is : isClear c ≡ true → (w : Refusal) → foundOf w ≡ walk (toldOf m) objects codes n 0 (presentShape p) → foundOf w ≡ all
             walk-is e w w-is = w-is ∙ ap (walk (toldOf m) objects codes n 0) p-is ∙ chain-passes c (present first) _ all present-is after-zero e
-
--- refusals 1 to 14 of a push are those of `early`, then those that `refusal` decides
-pub found-is : (r : State hall) (a : Args) → found hall r a ≡ (early hall r a then later (toldOf (a .meta)) (a .objects) (a .codes) (a .samples) (a .rate) (r .rate) (shapeOf (r .meta .state)))
-found-is r a = refl

@@ -2,13 +2,14 @@
 use Prim.Native.Nat.{ℕ, _-_, _≤_}
 use mathlib.Core.Path.{_≡_}
 use mathlib.Core.Bool.{Bool, true, false}
-use mathlib.Core.List.{List, map}
+use mathlib.Core.List.{List}
 use lib.Dec.{eqb}
 use lib.ListN.{getD}
 use Rattle.fields.specs.Update.{objects, bedOrIsf, beds, code}
 use Rattle.records.specs.Runs.{each}
 use Rattle.rules.specs.Leaves.{Shape}
 use Rattle.rules.specs.Refusals.{Found, clear, stop, Sent, unless, countsAt, shapeAt}
+use Rattle.rules.specs.Calls.{sentOf}
 use Rattle.claim.specs.Hall as claim
 use Rattle.refusals.specs.Numbers.{foundOf}
 use Rattle.refusals.specs.declared.Refusal.{Refusal}
@@ -16,7 +17,7 @@ use Rattle.later.specs.declared.present.Present.{Present}
 
 -- the updates in the order sent, each with its offset and its shape
 abbrev pub toldOf : List ℕ → List Sent
-toldOf m = map (λ (u : claim.Sent). record { offset = claim.hall .offset u; shape = claim.hall .sent u }) (claim.sentOf m)
+toldOf m = sentOf claim.hall (claim.sentOf m)
 
 -- the shape of the update at record u
 abbrev pub saidShape : List ℕ → ℕ → Shape

@@ -1,26 +1,15 @@
--- A run, one sample at a time: what the frame's proof needs of `rowRun`, `filterAfter` and `laid`. Assumes nothing.
+-- Runs of moments at which the same is heard. Assumes nothing.
 use mathlib.Core.Path.{_≡_, refl, ap, ap₂, _∙_}
-use mathlib.Core.Bool.{Bool, true, false, cond}
+use mathlib.Core.Bool.{cond}
 use mathlib.Core.List.{List, [], _∷_, _++_}
 use Prim.Native.Nat.{ℕ, zero, suc}
 use lib.Dec.{eqb}
 use lib.Ieee.{Float}
 use Rattle.lowpass.specs.Lowpass.{output, next}
 use Rattle.lowpass.specs.declared.BiquadLowpassState.{BiquadLowpassState}
-use Rattle.rules.specs.Parts.{laid}
 use Rattle.rules.specs.Mix.{Moment, heard, fed}
 use Rattle.rules.specs.Samples.{row}
 use Rattle.render.specs.Run.{filterAfter, rowRun}
-
--- the run's first sample is laid, and then the rest behind it
-module _ (m : ℕ → Moment) (low : BiquadLowpassState) (c t k p : ℕ) (ws : List ℕ) where
-  pub laid-step : laid p (rowRun m low c t (suc k)) ws ≡ laid (suc p) (rowRun m (next low (fed (m t))) c (suc t) k) (laid p (row (m t) low c) ws)
-  laid-step = go (eqb c 3)
-    where
-      go : (b : Bool) → laid p (cond b (output low (fed (m t)) ∷ []) (heard (m t) c ∷ []) ++ rowRun m (next low (fed (m t))) c (suc t) k) ws
-          ≡ laid (suc p) (rowRun m (next low (fed (m t))) c (suc t) k) (laid p (cond b (output low (fed (m t)) ∷ []) (heard (m t) c ∷ [])) ws)
-      go true = refl
-      go false = refl
 
 -- moments at which the same is heard
 module _ (m n : ℕ → Moment) (same : (t c : ℕ) → heard (m t) c ≡ heard (n t) c) where

@@ -28,11 +28,11 @@ use Rattle.rules.specs.Leaves.{Leaves, Source, Bed}
 use Rattle.rules.specs.Mix.{Moment, addsOf, sampleAt, scaledBy, fedBy, bedsOn, objectsOn, heard, fed}
 use Rattle.rules.specs.Samples.{State}
 use Rattle.rules.specs.Refusals.{Args, Found, clear, unless, _then_, every, room, sized, listed, lackingFrom, offsets, later}
-use Rattle.rules.specs.Calls.{found}
+use Rattle.rules.specs.Calls.{sentOf, found}
 use Rattle.rules.specs.Claim.{Replaced, withPcm}
 use Rattle.rules.proofs.Facts.{InHall}
 use Rattle.rules.proofs.Terms.{object-no-bass}
-use Rattle.rules.proofs.Judged.{is-passed, sentOf}
+use Rattle.rules.proofs.Judged.{is-passed}
 
 -- ---- an object adds nothing on channel 3
 no-objects : (ss : List Source) (own : List Float) → All InHall ss → objectsOn 3 ss own ≡ []

@@ -2,7 +2,7 @@
 use mathlib.Core.Path.{_≡_, refl, sym, subst}
 use mathlib.Core.Logic.{_⊎_, inl, inr, ⊎-elim}
 use mathlib.Core.Bool.{Bool, true, false, not, _&&_, _||_}
-use mathlib.Core.List.{List, map}
+use mathlib.Core.List.{List}
 use Prim.Native.Nat.{ℕ, zero, suc, _+_, _*_, _%_, _≤_, _<_}
 use native.Mathlib.Nat.{mul-le-mul-right, zero-add}
 use native.Mathlib.Omega.{arith}
@@ -17,8 +17,8 @@ use Rattle.angles.specs.Angle.{Listed, r32000, r44100, r48000, r88200, r96000}
 use Rattle.rules.specs.Leaves.{Leaves}
 use Rattle.rules.specs.Mix.{sampleAt, samplesAt}
 use Rattle.rules.specs.Samples.{State}
-use Rattle.rules.specs.Refusals.{Args, Found, clear, stop, _then_, unless, every, room, sized, listed, lackingFrom, offsets, early, Sent, later}
-use Rattle.rules.specs.Calls.{found}
+use Rattle.rules.specs.Refusals.{Args, Found, clear, stop, _then_, unless, every, room, sized, listed, lackingFrom, offsets, early, later}
+use Rattle.rules.specs.Calls.{sentOf, found}
 use Rattle.rules.proofs.Passing.{sample-bounded}
 
 -- ---- tests
@@ -113,10 +113,6 @@ samples-fit a e = is-sized a e .samples
 
 -- ---- a push
 module _ (L : Leaves) where
-  -- the updates as 9 to 14 see them
-  abbrev pub sentOf : List (L .Update) → List Sent
-  sentOf us = map (λ (u : L .Update). record { offset = L .offset u; shape = L .sent u }) us
-
   -- no refusal from 1 to 8
   pub record Early (r : State L) (a : Args) : Type 0 where
     pub room : room (a .stride) (length (a .out)) ≡ true
@@ -137,7 +133,7 @@ module _ (L : Leaves) where
     pub inRange : L .inRange (a .meta) ≡ true
     pub enough : lackingFrom L (offsets L (a .samples)) 0 (L .updates (a .meta)) (L .counts (r .meta)) ≡ false
     pub pass : allPass (a .pcm) 0 ((length (a .codes) + a .objects) * a .samples) ≡ true
-    pub later : later (sentOf (L .updates (a .meta))) (a .objects) (a .codes) (a .samples) (a .rate) (r .rate) (L .shape (r .meta)) ≡ clear
+    pub later : later (sentOf L (L .updates (a .meta))) (a .objects) (a .codes) (a .samples) (a .rate) (r .rate) (L .shape (r .meta)) ≡ clear
 
   pub is-early : (r : State L) (a : Args) → early L r a ≡ clear → Early r a
   is-early r a e =

@@ -13,12 +13,12 @@ use Rattle.rules.specs.Leaves.{Leaves, Shape, started}
 use Rattle.rules.specs.Mix.{Moment}
 use Rattle.rules.specs.Samples.{Frame, State, applied, updated, slotted, sampled, opened, pushed}
 use Rattle.rules.specs.Refusals.{Args, Found, clear, _then_, unless, Sent, objectsMatch, countsAt, shapeAt, mixes, walk, later, none}
-use Rattle.rules.specs.Calls.{frameOf}
+use Rattle.rules.specs.Calls.{sentOf, frameOf}
 use Rattle.rules.specs.Block.{Layout}
 use Rattle.rules.specs.Claim.{begun, momentAt}
 use Rattle.rules.proofs.Lists.{either}
 use Rattle.rules.proofs.Facts.{Facts}
-use Rattle.rules.proofs.Judged.{then-clear, unless-clear, sentOf, Passed}
+use Rattle.rules.proofs.Judged.{then-clear, unless-clear, Passed}
 use Rattle.rules.proofs.Kept.{Good, Admitted, updated-good, before-good}
 use Rattle.rules.proofs.Frames.{sampled-fine}
 use Rattle.rules.proofs.Begun.{at, before, begins, updated-started}

@@ -67,9 +67,6 @@ run-past : (p s : List ℕ) (at : ℕ) (ws : List ℕ) → withWords (p ++ s) (l
 run-past p s at [] = refl
 run-past p s at (w ∷ ws) = rw (written-past p s at 4 w, add-assoc (length p) at 4) (run-past p (withWord s at w) (at + 4) ws)
 
-too-short : {A : Type 0} (n k : ℕ) → suc k ≤ n → n ≤ k → A
-too-short n k h l = absurd (omega arith)
-
 pub stored : (ws s : List ℕ) → 4 * length ws ≤ length s → withWords s 0 ws ≡ bytesOf ws ++ drop (4 * length ws) s
 unfolding bytesOf withNumber
 stored [] s h = refl

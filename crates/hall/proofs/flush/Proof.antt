@@ -1,5 +1,5 @@
 -- `flush`: each way out by its law.
-use mathlib.Core.Path.{_≡_, refl, sym, ap, _∙_}
+use mathlib.Core.Path.{refl, sym, _∙_}
 use borrow.Author.Tests.{eq-eqb, not-true, not-false}
 use Rattle.rules.specs.Calls.{flush}
 use Rattle.hall.proofs.Laws.{leaves-as, wrong, no-room, nothing-waits}

@@ -1,9 +1,8 @@
 -- `push`: each way out by its law.
-use mathlib.Core.Path.{_≡_, refl, sym, ap, _∙_}
+use mathlib.Core.Path.{refl, sym, ap, _∙_}
 use native.Mathlib.Omega.{arith}
 use borrow.Author.Tests.{not-true, not-false}
 use Rattle.rules.specs.Calls.{push}
-use Rattle.refusals.specs.declared.Refusal.{Refusal}
 use Rattle.refusals.specs.Numbers.{foundOf}
 use Rattle.frame.specs.Turns.{argsOf}
 use Rattle.hall.proofs.Laws.{leaves-as, wrong, refused-push}

@@ -1,5 +1,5 @@
 -- `reset`: a block of another length is left; any other is filled.
-use mathlib.Core.Path.{_≡_, refl, sym, ap, _∙_}
+use mathlib.Core.Path.{sym, ap, _∙_}
 use borrow.Author.Tests.{eq-eqb, ne-eqb}
 use Rattle.rules.specs.Calls.{reset}
 use Rattle.rules.specs.Block.{Outcome}

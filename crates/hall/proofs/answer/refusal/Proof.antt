@@ -7,9 +7,6 @@ use Rattle.hall.specs.Answers.{codeOfFound}
 use borrow.Author.Needs.{needs}
 use Rattle.hall.proofs.answer.refusal.Statement.{statement}
 use Rattle.hall.proofs.answer.refusal.Tie as tie
-use Rattle.hall.proofs.answer.refusal.Reads as reads
-use Rattle.hall.proofs.answer.refusal.Lts as lts
-use Rattle.hall.proofs.answer.stopped.Reads as stopped-reads
 
 by-kind : {x y : Refusal} {r : Answer} → x ≡ y → r ≡ codeOfFound (foundOf y) → r ≡ codeOfFound (foundOf x)
 by-kind e h = h ∙ ap (λ (x : Refusal). codeOfFound (foundOf x)) (sym e)

@@ -1,12 +1,13 @@
 -- `push_refusal`: the first eight, then the others.
 use Prim.Native.Nat.{ℕ}
 use native.Mathlib.Omega.{arith}
-use mathlib.Core.Path.{_≡_, refl, sym, ap, _∙_}
-use mathlib.Core.List.{List, []}
-use lib.ListN.{length, replicate, length-replicate}
-use Rattle.rules.specs.Refusals.{clear, early, later, _then_, Found}
+use mathlib.Core.Path.{sym, ap, _∙_}
+use mathlib.Core.List.{[]}
+use lib.ListN.{replicate, length-replicate}
+use Rattle.rules.specs.Refusals.{early, later, _then_, Found}
 use Rattle.rules.specs.Samples.{State}
-use Rattle.rules.proofs.Judged.{Early, is-early, is-sized, sentOf}
+use Rattle.rules.specs.Calls.{sentOf}
+use Rattle.rules.proofs.Judged.{is-early, is-sized}
 use Rattle.refusals.specs.Numbers.{foundOf}
 use Rattle.store.specs.Layout.{joined, infosOf, placesOf, decode}
 use Rattle.updates.proofs.Passed.{passes-all}
