@@ -1,6 +1,7 @@
 //! What the comparing tests share: the Rattle functions, generators of inputs, what document 01
 //! has a call answer, and equality of floats.
 
+pub mod block;
 pub mod calls;
 pub mod entry;
 mod frames;

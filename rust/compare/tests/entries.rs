@@ -1,6 +1,8 @@
 //! The exported entries `push`, `flush` and `reset` against the model: answers, ready samples bit
-//! for bit, and every byte of the state block and the output that a call must leave alone.
+//! for bit, every byte of the state block and the output that a call must leave alone, and the
+//! renderer that the block holds.
 
+use compare::block;
 use compare::calls::{Call, Calls, Step};
 use compare::entry::{self, Answer, BLOCK};
 use compare::model::{Model, Outcome, STREAM_END};
@@ -189,6 +191,10 @@ fn entries_answer_as_the_model() {
                     Outcome::Reset
                 }
             };
+            if k % 4 == 3 {
+                let differs = block::difference(&host.state, &model.oracle.state());
+                assert_eq!(differs, None, "{name}");
+            }
             let answer = expected_answer(&outcome);
             *answers.entry((answer.kind, answer.number)).or_insert(0u64) += 1;
         }

@@ -1,6 +1,7 @@
 //! The program `hallrender` on 10,000 streams: its standard output is, byte for byte, what the
 //! oracle has it print.
 
+use compare::calls::{Call, Step};
 use compare::streams;
 use std::collections::{BTreeMap, BTreeSet};
 use std::io::Write;
@@ -102,4 +103,35 @@ fn a_frame_without_metadata_then_flush() {
     stream[44..48].copy_from_slice(&1f32.to_le_bytes());
     stream[80] = 7;
     assert_eq!(run(&stream), "refused 10 0 0\nnone\n");
+}
+
+/// Each count of a header at its limit, and one past it.
+#[test]
+#[cfg_attr(no_sources, ignore = "Rust sources not at hand")]
+fn limits_of_a_frame() {
+    for (samples, beds, objects, records) in [
+        (256, 1, 0, 0),
+        (257, 1, 0, 0),
+        (4, 18, 0, 0),
+        (4, 0, 16, 0),
+        (4, 0, 17, 0),
+        (0, 0, 0, 1_200),
+        (0, 0, 0, 1_201),
+    ] {
+        let call = Call {
+            rate: 48_000,
+            samples,
+            codes: vec![2; beds as usize],
+            objects,
+            meta: vec![0; 40 * records],
+            pcm: vec![0; 4 * (samples * (beds + objects)) as usize],
+        };
+        let mut stream = Vec::new();
+        streams::append(&mut stream, &Step::Push(call));
+        streams::append(&mut stream, &Step::Flush);
+        let past = samples > 256 || objects > 16 || records > 1_200;
+        let found = run(&stream);
+        assert_eq!(found, streams::played(&stream));
+        assert_eq!(found == "bad record\n", past, "{found}");
+    }
 }

@@ -1,0 +1,140 @@
+//! A state block (docs/STATE-BLOCK.md) beside the Rust's own state.
+
+use crate::same;
+use oracle::frame::Anchor;
+use oracle::state::{Element, Info, Source, State};
+
+struct Block<'a>(&'a [u8]);
+
+impl Block<'_> {
+    fn word(&self, at: usize) -> u32 {
+        u32::from_le_bytes(self.0[at..at + 4].try_into().unwrap())
+    }
+
+    fn count(&self, at: usize) -> usize {
+        self.word(at) as usize
+    }
+
+    fn flag(&self, at: usize) -> bool {
+        self.word(at) == 1
+    }
+
+    fn long(&self, at: usize) -> i64 {
+        i64::from_le_bytes(self.0[at..at + 8].try_into().unwrap())
+    }
+
+    /// The floats from `at` on are these.
+    fn holds(&self, at: usize, floats: &[f32]) -> bool {
+        let held = |i: usize| f32::from_bits(self.word(at + 4 * i));
+        floats.iter().enumerate().all(|(i, &x)| same(held(i), x))
+    }
+
+    fn same_clock(&self, state: &State) -> bool {
+        self.word(0) == state.sample_rate.unwrap_or(0)
+            && self.count(4) == state.metadata_timeslot_phase
+            && self.long(8) == state.stream_sample_offset
+            && self.long(16) == state.metadata_timeslot_stream_sample
+            && self.holds(24, &[state.limiter_gain])
+            && state
+                .lfe_lowpass
+                .is_none_or(|filter| self.holds(28, &filter))
+    }
+
+    fn same_pending(&self, channels: &[Vec<f32>]) -> bool {
+        let places = |(c, channel): (usize, &Vec<f32>)| self.holds(23_888 + 256 * c, channel);
+        self.count(64) == channels[0].len() && channels.iter().enumerate().all(places)
+    }
+
+    fn same_counts(&self, state: &State) -> bool {
+        let metadata = &state.metadata;
+        let code = |(i, &code): (usize, &u8)| self.word(96 + 4 * i) == code.into();
+        self.flag(68) == metadata.initialized
+            && self.long(72) == metadata.payload_stream_sample
+            && self.count(80) == metadata.object_count
+            && self.count(84) == metadata.bed_or_isf_objects
+            && self.count(88) == metadata.bed_channels.len()
+            && self.count(92) == metadata.elements.len()
+            && metadata.bed_channels.iter().enumerate().all(code)
+            && self.holds(168, &metadata.bed_sources)
+    }
+
+    fn same_source(&self, at: usize, source: &Source) -> bool {
+        self.holds(at, &[source.gain, source.size])
+            && self.holds(at + 8, &source.cubical_position)
+            && self.flag(at + 20) == source.position_valid
+    }
+
+    fn same_element(&self, index: usize, element: &Element) -> bool {
+        let at = 624 + 368 * index;
+        let raised = |at: usize| i64::from(self.word(at)) - (1 << 20);
+        let block = |b: usize| {
+            raised(at + 16 + 12 * b) == element.block_offsets[b]
+                && raised(at + 20 + 12 * b) == element.ramp_duration[b]
+                && self.flag(at + 24 + 12 * b) == element.block_used[b]
+        };
+        let track = |t: usize| {
+            self.flag(at + 112 + 16 * t) == element.update_now[t]
+                && self.holds(at + 116 + 16 * t, &element.future[t])
+        };
+        let infos = |(o, infos): (usize, &Vec<Info>)| {
+            let at = |b: usize| 1_360 + 44 * (256 * index + 8 * o + b);
+            infos
+                .iter()
+                .enumerate()
+                .all(|(b, i)| self.same_info(at(b), i))
+        };
+        self.count(at) == element.block_used.len()
+            && self.count(at + 4) == element.update_now.len()
+            && self.long(at + 8) - (1 << 47) == element.future_distance
+            && (0..element.block_used.len()).all(block)
+            && (0..element.update_now.len()).all(track)
+            && element.info_blocks.iter().enumerate().all(infos)
+    }
+
+    /// An infinite distance stands in the block as it was sent, in the Rust as 100.
+    fn same_info(&self, at: usize, info: &Info) -> bool {
+        let [flags, anchor, depth, _] = self.word(at).to_le_bytes();
+        let present =
+            |bit: u8, at: usize| (flags & bit != 0).then_some(f32::from_bits(self.word(at)));
+        let same_value = |a: Option<f32>, b: Option<f32>| match (a, b) {
+            (Some(a), Some(b)) => same(a, b),
+            (a, b) => a.is_none() && b.is_none(),
+        };
+        let distance = present(16, at + 12).map(|x| if x.is_infinite() { 100.0 } else { x });
+        (flags & 1 != 0) == info.valid_position
+            && (flags & 2 != 0) == info.differential_position
+            && [Anchor::Room, Anchor::Screen, Anchor::Speaker][usize::from(anchor)] == info.anchor
+            && [0.25, 0.5, 1.0, 2.0][usize::from(depth)] == info.depth_factor
+            && same_value(present(4, at + 4), info.gain)
+            && same_value(present(32, at + 8), info.size)
+            && same_value(distance, info.distance)
+            && self.holds(at + 16, &[info.screen_factor])
+            && self.holds(at + 20, &info.position)
+            && self.holds(at + 32, &info.last_precise)
+    }
+}
+
+/// The part of the block that is not the Rust's.
+pub fn difference(block: &[u8], state: &State) -> Option<&'static str> {
+    let block = Block(block);
+    let metadata = &state.metadata;
+    let source = |(i, s): (usize, &Source)| block.same_source(240 + 24 * i, s);
+    let element = |(i, e): (usize, &Element)| block.same_element(i, e);
+    let parts = [
+        ("clock, gain, low-pass", block.same_clock(state)),
+        (
+            "pending samples",
+            block.same_pending(&state.limiter_pending),
+        ),
+        ("counts, beds", block.same_counts(state)),
+        (
+            "sources",
+            metadata.dynamic_sources.iter().enumerate().all(source),
+        ),
+        (
+            "elements",
+            metadata.elements.iter().enumerate().all(element),
+        ),
+    ];
+    parts.iter().find(|(_, same)| !same).map(|(name, _)| *name)
+}
