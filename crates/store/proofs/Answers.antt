@@ -13,11 +13,7 @@ use Rattle.store.specs.Fields.{smallOf}
 use Rattle.store.specs.Layout.{size, infosOf}
 use Rattle.store.specs.Ranges.{longest, clockTests, fieldTests, wordTests, smallValid, headsValid, valid}
 use Rattle.store.proofs.Tables.{every-at}
-use Rattle.store.proofs.Loops.{and-false}
-
-and-true : (a b : Bool) → b ≡ true → (a && b) ≡ a
-and-true true b e = e
-and-true false b e = refl
+use Rattle.store.proofs.Loops.{and-true, and-false}
 
 pub clock-position : (s : Small) → every (clockTests s) ≡ true → s .position ≤ longest
 clock-position s e = leb→le (s .position) longest (every-at (clockTests s) (subst T (sym e) tt) 2)

@@ -7,5 +7,6 @@ pub mod Valid
 pub mod Decoded
 pub mod Fresh
 pub mod Loops
+pub mod Heads
 pub mod Answers
 pub mod Rows

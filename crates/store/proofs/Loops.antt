@@ -29,6 +29,10 @@ pub all-true : (bs : List Bool) → All (λ b. b ≡ true) bs → every bs ≡ t
 all-true [] h = refl
 all-true (b ∷ bs) h = rw (h .0) (all-true bs (h .1))
 
+pub and-true : (a b : Bool) → b ≡ true → (a && b) ≡ a
+and-true true b e = e
+and-true false b e = refl
+
 pub and-false : (a b : Bool) → b ≡ false → (a && b) ≡ false
 and-false true b e = e
 and-false false b e = refl
@@ -53,18 +57,12 @@ module _ (j k limit : ℕ) (w : List ℕ) where
   at-most-stop at i n h e = at-most-next at i n h ∙ rw e
 
 module _ (is : List ℕ) where
-  heads-next : (k n : ℕ) → k < n → headsValid is (44 * k) (n - k) ≡ (headValid (word is (44 * k)) && headsValid is (44 * (k + 1)) (n - (k + 1)))
+  pub heads-next : (k n : ℕ) → k < n → headsValid is (44 * k) (n - k) ≡ (headValid (word is (44 * k)) && headsValid is (44 * (k + 1)) (n - (k + 1)))
   unfolding headsValid
   heads-next k n h =
       let e : n - k ≡ suc (n - (k + 1)) = omega arith in
       let a : 44 * k + 44 ≡ 44 * (k + 1) = omega arith in
       rw e (ap (λ (q : ℕ). headValid (word is (44 * k)) && headsValid is q (n - (k + 1))) a)
-
-  pub heads-step : (k n : ℕ) → k < n → headValid (word is (44 * k)) ≡ true → headsValid is (44 * k) (n - k) ≡ headsValid is (44 * (k + 1)) (n - (k + 1))
-  heads-step k n h e = heads-next k n h ∙ rw e
-
-  pub heads-stop : (k n : ℕ) → k < n → headValid (word is (44 * k)) ≡ false → headsValid is (44 * k) (n - k) ≡ false
-  heads-stop k n h e = heads-next k n h ∙ rw e
 
 -- a table read one entry further
 table-next : {A : Type 0} (g : List ℕ → A) (k i : ℕ) (w : List ℕ) → table g k (suc i) w ≡ table g k i w ++ (g (drop (k * i) w) ∷ [])

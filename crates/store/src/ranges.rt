@@ -7,7 +7,7 @@ ghost use lib.ListN.{length, drop};
 ghost use Rattle.rules.specs.Refusals as refusals;
 ghost use Rattle.store.specs.Table.{atMost, every};
 ghost use Rattle.store.specs.Ranges.{longest, clockTests, countTests, elementTests, leastFlags, fieldTests};
-ghost use Rattle.store.specs.Ranges.{partTests, wordTests, smallValid, headValid, headsValid, valid};
+ghost use Rattle.store.specs.Ranges.{partTests, wordTests, smallValid, headsValid, valid};
 use crate::Small;
 use crate::read;
 use timed::state;
@@ -31,31 +31,28 @@ fn at_most(w: &[u32; 340], at: usize, j: usize, k: usize, n: usize, limit: u32) 
     true
 }
 
-// An info's head: flags + 256 anchor + 65,536 depth.
-fn head_valid(h: u32) -> bool
-    ensures { λ r. ⌜ r ≡ headValid h ⌝ }
-{
-    if h >= 262144 {
-        return false;
-    }
-    if h % 256 >= 64 {
-        return false;
-    }
-    h / 256 % 256 < 3
-}
-
+// The heads of 512 infos (flags + 256 anchor + 65,536 depth), with no branch a head: an OR is below a power of two where every term is.
+// The anchors go in plus 1, in the second byte: all are below 3 where those are below 4.
 fn heads_valid(infos: &[u8]) -> bool
     requires { ⌜ length (now infos) ≡ 22528 ⌝ }
     ensures { λ r. ⌜ r ≡ headsValid (now (infos .entry)) 0 512 ⌝ }
 {
+    let mut heads = 0u32;
+    let mut anchors = 0u32;
     let mut k = 0usize;
     while k < 512 {
-        if !head_valid(words::u32_at(infos, 44 * k)) {
-            return false;
-        }
+        let h = words::u32_at(infos, 44 * k);
+        heads |= h;
+        anchors |= h % 65536 + 256;
         k += 1;
     }
-    true
+    if heads >= 262144 {
+        return false;
+    }
+    if heads % 256 >= 64 {
+        return false;
+    }
+    anchors < 1024
 }
 
 pub fn listed(rate: u32) -> bool
