@@ -22,41 +22,53 @@ abbrev pub longest : ℕ
 longest = 1099511627776
 
 -- the clock and what is pending
-abbrev pub clockTests : Small → List Bool
-clockTests s =
-    (eqb (s .rate) 0 || listed (s .rate))
-    ∷ ltb (s .phase) 64
-    ∷ leb (s .position) longest
-    ∷ leb (s .start + s .phase) (s .position)
-    ∷ ltb (s .pending) 64
-    ∷ (not (eqb (s .rate) 0) || eqb (s .pending) 0)
+abbrev pub clockIn : ℕ → ℕ → ℕ → ℕ → ℕ → List Bool
+clockIn rate phase position start pending =
+    (eqb rate 0 || listed rate)
+    ∷ ltb phase 64
+    ∷ leb position longest
+    ∷ leb (start + phase) position
+    ∷ ltb pending 64
+    ∷ (not (eqb rate 0) || eqb pending 0)
     ∷ []
+
+abbrev pub clockTests : Small → List Bool
+clockTests s = clockIn (s .rate) (s .phase) (s .position) (s .start) (s .pending)
 
 -- the last applied update's position and counts: "An update has up to 32 objects in all, 16 of them dynamic, 18 bed channels (never more than objects), 2 elements"
-abbrev pub countTests : MetadataRendererState → List Bool
-countTests s =
-    leb (s .payload .0) longest
-    ∷ leb (s .objects) 32
-    ∷ leb (s .isf) 255
-    ∷ leb (s .objects - s .isf) 16
-    ∷ leb (s .beds) 18
-    ∷ leb (s .beds) (s .objects)
-    ∷ leb (s .elements) 2
+abbrev pub countsIn : ℕ → ℕ → ℕ → ℕ → ℕ → List Bool
+countsIn payload objects isf beds elements =
+    leb payload longest
+    ∷ leb objects 32
+    ∷ leb isf 255
+    ∷ leb (objects - isf) 16
+    ∷ leb beds 18
+    ∷ leb beds objects
+    ∷ leb elements 2
     ∷ []
+
+abbrev pub countTests : MetadataRendererState → List Bool
+countTests s = countsIn (s .payload .0) (s .objects) (s .isf) (s .beds) (s .elements)
 
 -- element i has flags for the dynamic objects where it is in use
+abbrev pub least : ℕ → ℕ → ℕ → ℕ → ℕ
+least i elements objects isf = cond (ltb i elements) (objects - isf) 0
+
 abbrev pub leastFlags : ℕ → MetadataRendererState → ℕ
-leastFlags i s = cond (ltb i (s .elements)) (s .objects - s .isf) 0
+leastFlags i s = least i (s .elements) (s .objects) (s .isf)
 
 -- an element's counts, and its remaining ramp (plus 2^47)
-abbrev pub elementTests : ℕ → ℕ → ElementRendererState → List Bool
-elementTests position least e =
-    leb (e .blocks) 8
-    ∷ leb (e .flags) 16
-    ∷ leb least (e .flags)
-    ∷ leb (e .remaining) 140737489403904
-    ∷ leb middle (e .remaining + (2097152 + 64 * position))
+abbrev pub elementIn : ℕ → ℕ → ℕ → ℕ → ℕ → List Bool
+elementIn position least blocks flags remaining =
+    leb blocks 8
+    ∷ leb flags 16
+    ∷ leb least flags
+    ∷ leb remaining 140737489403904
+    ∷ leb middle (remaining + (2097152 + 64 * position))
     ∷ []
+
+abbrev pub elementTests : ℕ → ℕ → ElementRendererState → List Bool
+elementTests position least e = elementIn position least (e .blocks) (e .flags) (e .remaining)
 
 -- the tables of an element's words: each block's offset and ramp (plus 2^20) and whether it was applied, whether each object moves
 abbrev pub partTests : List ℕ → List Bool

@@ -1,18 +1,15 @@
 // The ranges of a block's fields.
 ghost use mathlib.Core.Path.{_≡_};
-ghost use Prim.Native.Nat.{_+_, _*_, _≤_, _<_};
+ghost use Prim.Native.Nat.{_+_, _-_, _*_, _≤_, _<_};
 ghost use mathlib.Core.Bool.{not, _||_};
 ghost use lib.Dec.{eqb};
 ghost use lib.ListN.{length, drop};
 ghost use Rattle.rules.specs.Refusals as refusals;
 ghost use Rattle.store.specs.Table.{atMost, every};
-ghost use Rattle.store.specs.Ranges.{longest, clockTests, countTests, elementTests, leastFlags, fieldTests};
+ghost use Rattle.store.specs.Ranges.{longest, clockIn, countsIn, least, elementIn, fieldTests};
+ghost use Rattle.store.specs.Fields.{smallOf};
 ghost use Rattle.store.specs.Ranges.{partTests, wordTests, smallValid, headsValid, valid};
-use crate::Small;
 use crate::read;
-use timed::state;
-use timed::state::ElementRendererState;
-use timed::state::MetadataRendererState;
 
 // Whether word j of each of n entries of k words, from word `at` on, is at most `limit`.
 fn at_most(w: &[u32; 340], at: usize, j: usize, k: usize, n: usize, limit: u32) -> bool
@@ -84,116 +81,125 @@ fn idle_valid(rate: u32, pending: u32) -> bool
 }
 
 // The clock and what is pending.
-fn clock_valid(s: Small) -> bool
-    ensures { λ r. ⌜ r ≡ every (clockTests s) ⌝ }
+fn clock_valid(rate: u32, phase: u32, position: u64, start: u64, pending: u32) -> bool
+    ensures { λ r. ⌜ r ≡ every (clockIn rate phase position start pending) ⌝ }
 {
-    if !rate_valid(s.rate) {
+    if !rate_valid(rate) {
         return false;
     }
-    if s.phase >= 64 {
+    if phase >= 64 {
         return false;
     }
-    if s.position > 1099511627776 {
+    if position > 1099511627776 {
         return false;
     }
-    if s.start > s.position {
+    if start > position {
         return false;
     }
-    if s.start + s.phase as u64 > s.position {
+    if start + phase as u64 > position {
         return false;
     }
-    if s.pending >= 64 {
+    if pending >= 64 {
         return false;
     }
-    if !idle_valid(s.rate, s.pending) {
+    if !idle_valid(rate, pending) {
         return false;
     }
     true
 }
 
 // The last applied update's position and counts.
-fn counts_valid(s: MetadataRendererState) -> bool
-    ensures { λ r. ⌜ r ≡ every (countTests s) ⌝ }
+fn counts_valid(payload: u64, objects: u32, isf: u32, beds: u32, elements: u32) -> bool
+    ensures { λ r. ⌜ r ≡ every (countsIn payload objects isf beds elements) ⌝ }
 {
-    let payload = s.payload;
-    if payload.0 > 1099511627776 {
+    if payload > 1099511627776 {
         return false;
     }
-    if s.objects > 32 {
+    if objects > 32 {
         return false;
     }
-    if s.isf > 255 {
+    if isf > 255 {
         return false;
     }
-    if state::dynamic(s.objects, s.isf) > 16 {
+    if dynamic(objects, isf) > 16 {
         return false;
     }
-    if s.beds > 18 {
+    if beds > 18 {
         return false;
     }
-    if s.beds > s.objects {
+    if beds > objects {
         return false;
     }
-    if s.elements > 2 {
+    if elements > 2 {
         return false;
     }
     true
 }
 
-// An element's counts and its remaining ramp, at a stream position; `least` is how many flags it must have.
-fn element_valid(position: u64, least: usize, e: ElementRendererState) -> bool
-    requires { ⌜ position ≤ longest ⌝ }
-    ensures { λ r. ⌜ r ≡ every (elementTests position least e) ⌝ }
+fn dynamic(objects: u32, isf: u32) -> u32
+    ensures { λ r. ⌜ r ≡ objects - isf ⌝ }
 {
-    if e.blocks > 8 {
-        return false;
+    if isf < objects {
+        return objects - isf;
     }
-    if e.flags > 16 {
-        return false;
-    }
-    if e.flags < least {
-        return false;
-    }
-    if e.remaining > 140737489403904 {
-        return false;
-    }
-    if e.remaining + (2097152 + 64 * position) < 140737488355328 {
-        return false;
-    }
-    true
-}
-
-// Every field of the small part that its record tells.
-fn fields_valid(s: Small) -> bool
-    ensures { λ r. ⌜ r ≡ every (fieldTests s) ⌝ }
-{
-    if !clock_valid(s) {
-        return false;
-    }
-    let state = s.state;
-    if !counts_valid(state) {
-        return false;
-    }
-    let states = state.states;
-    let first = states[0];
-    let second = states[1];
-    if !element_valid(s.position, least_flags(0, state), first) {
-        return false;
-    }
-    if !element_valid(s.position, least_flags(1, state), second) {
-        return false;
-    }
-    true
+    0
 }
 
 // How many flags element i must have.
-fn least_flags(i: usize, s: MetadataRendererState) -> usize
-    ensures { λ r. ⌜ r ≡ leastFlags i s ⌝ }
+fn least_flags(i: u32, elements: u32, objects: u32, isf: u32) -> u32
+    ensures { λ r. ⌜ r ≡ least i elements objects isf ⌝ }
 {
-    if i < s.elements {
-        return state::dynamic(s.objects, s.isf);
+    if i < elements {
+        return dynamic(objects, isf);
     }
     0
+}
+
+// An element's counts and its remaining ramp, at a stream position; `least` is how many flags it must have.
+fn element_valid(position: u64, least: u32, blocks: u32, flags: u32, remaining: u64) -> bool
+    requires { ⌜ position ≤ longest ⌝ }
+    ensures { λ r. ⌜ r ≡ every (elementIn position least blocks flags remaining) ⌝ }
+{
+    if blocks > 8 {
+        return false;
+    }
+    if flags > 16 {
+        return false;
+    }
+    if flags < least {
+        return false;
+    }
+    if remaining > 140737489403904 {
+        return false;
+    }
+    if remaining + (2097152 + 64 * position) < 140737488355328 {
+        return false;
+    }
+    true
+}
+
+// Every field of the small part that its record tells, from the words alone: the record need not be made.
+fn fields_valid(w: &[u32; 340]) -> bool
+    ensures { λ r. ⌜ r ≡ every (fieldTests (smallOf (now (w .entry)))) ⌝ }
+{
+    let position = read::long(w, 2);
+    let start = read::long(w, 4);
+    let payload = read::long(w, 18);
+    let first = read::long(w, 158);
+    let second = read::long(w, 250);
+    if !clock_valid(w[0], w[1], position, start, w[16]) {
+        return false;
+    }
+    if !counts_valid(payload, w[20], w[21], w[22], w[23]) {
+        return false;
+    }
+    if !element_valid(position, least_flags(0, w[23], w[20], w[21]), w[156], w[157], first) {
+        return false;
+    }
+    if !element_valid(position, least_flags(1, w[23], w[20], w[21]), w[248], w[249], second) {
+        return false;
+    }
+    true
 }
 
 // The tables of the element whose words start at `at`.
@@ -244,7 +250,7 @@ fn small_valid(w: &[u32; 340]) -> bool
     if !words_valid(w) {
         return false;
     }
-    fields_valid(read::small(w))
+    fields_valid(w)
 }
 
 // Whether a block has the right length and every field in its range.

@@ -35,7 +35,7 @@ fn joined(low: u32, high: u32) -> u64
 }
 
 // A number of two words, the low one first.
-fn long(w: &[u32; 340], at: usize) -> u64
+pub fn long(w: &[u32; 340], at: usize) -> u64
     requires { ⌜ at + 1 < 340 ⌝ }
     ensures { λ r. ⌜ r ≡ longOf (now (w .entry)) at ⌝ }
 {
