@@ -1,6 +1,6 @@
 // The ranges of a block's fields.
 ghost use mathlib.Core.Path.{_≡_};
-ghost use Prim.Native.Nat.{_+_, _-_, _*_, _≤_, _<_};
+ghost use Prim.Native.Nat.{_+_, _*_, _≤_, _<_};
 ghost use mathlib.Core.Bool.{not, _||_};
 ghost use lib.Dec.{eqb};
 ghost use lib.ListN.{length, drop};
@@ -10,6 +10,7 @@ ghost use Rattle.store.specs.Ranges.{longest, clockIn, countsIn, least, 
 ghost use Rattle.store.specs.Fields.{smallOf};
 ghost use Rattle.store.specs.Ranges.{partTests, wordTests, smallValid, headsValid, valid};
 use crate::read;
+use timed::state;
 
 // Whether word j of each of n entries of k words, from word `at` on, is at most `limit`.
 fn at_most(w: &[u32; 340], at: usize, j: usize, k: usize, n: usize, limit: u32) -> bool
@@ -121,7 +122,7 @@ fn counts_valid(payload: u64, objects: u32, isf: u32, beds: u32, elements: u32) 
     if isf > 255 {
         return false;
     }
-    if dynamic(objects, isf) > 16 {
+    if state::dynamic(objects as usize, isf as usize) > 16 {
         return false;
     }
     if beds > 18 {
@@ -136,27 +137,18 @@ fn counts_valid(payload: u64, objects: u32, isf: u32, beds: u32, elements: u32) 
     true
 }
 
-fn dynamic(objects: u32, isf: u32) -> u32
-    ensures { λ r. ⌜ r ≡ objects - isf ⌝ }
-{
-    if isf < objects {
-        return objects - isf;
-    }
-    0
-}
-
 // How many flags element i must have.
-fn least_flags(i: u32, elements: u32, objects: u32, isf: u32) -> u32
+fn least_flags(i: u32, elements: u32, objects: u32, isf: u32) -> usize
     ensures { λ r. ⌜ r ≡ least i elements objects isf ⌝ }
 {
     if i < elements {
-        return dynamic(objects, isf);
+        return state::dynamic(objects as usize, isf as usize);
     }
     0
 }
 
 // An element's counts and its remaining ramp, at a stream position; `least` is how many flags it must have.
-fn element_valid(position: u64, least: u32, blocks: u32, flags: u32, remaining: u64) -> bool
+fn element_valid(position: u64, least: usize, blocks: u32, flags: u32, remaining: u64) -> bool
     requires { ⌜ position ≤ longest ⌝ }
     ensures { λ r. ⌜ r ≡ every (elementIn position least blocks flags remaining) ⌝ }
 {
@@ -166,7 +158,7 @@ fn element_valid(position: u64, least: u32, blocks: u32, flags: u32, remaining: 
     if flags > 16 {
         return false;
     }
-    if flags < least {
+    if (flags as usize) < least {
         return false;
     }
     if remaining > 140737489403904 {
@@ -193,10 +185,22 @@ fn fields_valid(w: &[u32; 340]) -> bool
     if !counts_valid(payload, w[20], w[21], w[22], w[23]) {
         return false;
     }
-    if !element_valid(position, least_flags(0, w[23], w[20], w[21]), w[156], w[157], first) {
+    if !element_valid(
+        position,
+        least_flags(0, w[23], w[20], w[21]),
+        w[156],
+        w[157],
+        first,
+    ) {
         return false;
     }
-    if !element_valid(position, least_flags(1, w[23], w[20], w[21]), w[248], w[249], second) {
+    if !element_valid(
+        position,
+        least_flags(1, w[23], w[20], w[21]),
+        w[248],
+        w[249],
+        second,
+    ) {
         return false;
     }
     true
