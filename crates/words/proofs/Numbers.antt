@@ -7,12 +7,17 @@ use native.Mathlib.Omega.{arith}
 use lib.Dec.{lit≤}
 use lib.Pow.{pow-add}
 use lib.ListN.{length, getD, set, length-set}
-use Rattle.words.specs.Words.{number, withNumber, half, withHalf}
+use Rattle.words.specs.Words.{number, withNumber, half, withHalf, word}
 
 -- two bytes
 pub half-read : (s : List ℕ) (at : ℕ) → getD s at 0 + getD s (at + 1) 0 * 256 ≡ half s at
 unfolding number
 half-read s at = rw (add-zero at) (omega arith)
+
+-- four bytes
+pub word-read : (s : List ℕ) (at : ℕ) → getD s at 0 + getD s (at + 1) 0 * 256 + getD s (at + 2) 0 * 65536 + getD s (at + 3) 0 * 16777216 ≡ word s at
+unfolding number
+word-read s at = rw (add-zero at) (omega arith)
 
 pub half-written : (s : List ℕ) (at v : ℕ) → v < 65536 → set (set s at (v % 256)) (at + 1) (v / 256) ≡ withHalf s at v
 unfolding withNumber

@@ -25,11 +25,22 @@ pub fn u16_at(s: &[u8], at: usize) -> u16
     wide(low) + wide(high) * 256
 }
 
+fn wider(x: u8) -> u32
+    ensures { λ r. ⌜ (r ≡ x) × (r < 256) ⌝ }
+{
+    x as u32
+}
+
+// One sum of four bytes, which compiles to one load also where a loop over it is vectorised.
 pub fn u32_at(s: &[u8], at: usize) -> u32
     requires { ⌜ at + 4 ≤ length (now s) ⌝ }
     ensures { λ r. ⌜ r ≡ word (now (s .entry)) at ⌝ }
 {
-    u16_at(s, at) as u32 + (u16_at(s, at + 2) as u32) * 65536
+    let a = s[at];
+    let b = s[at + 1];
+    let c = s[at + 2];
+    let d = s[at + 3];
+    wider(a) + wider(b) * 256 + wider(c) * 65536 + wider(d) * 16777216
 }
 
 pub fn u64_at(s: &[u8], at: usize) -> u64

@@ -1,25 +1,37 @@
--- `u32_at`: two halves. Assumes nothing.
-use mathlib.Core.Path.{sym, ap₂, _∙_}
+-- `u32_at`: four bytes. Assumes nothing.
+use mathlib.Core.Path.{ap₂, _∙_}
 use Prim.Native.Nat.{ℕ, _+_, _*_}
-use Rattle.words.proofs.Numbers.{number-parts}
+use Rattle.words.proofs.Numbers.{word-read}
 use borrow.Author.Needs.{needs}
 use Rattle.words.proofs.u32_at.Statement.{statement}
 use Rattle.words.proofs.u32_at.Tie as tie
 
-u16-at-requires : tie.Need-u16-at-requires
-u16-at-requires c κs = search needs
+shared-slice-read-a : tie.Need-shared-slice-read-a
+shared-slice-read-a c = search needs
 
-cast-result : tie.Need-cast-result
-cast-result c = search needs
+add-b : tie.Need-add-b
+add-b c = search needs
 
-add-u16-at : tie.Need-add-u16-at
-add-u16-at c = search needs
+shared-slice-read-b : tie.Need-shared-slice-read-b
+shared-slice-read-b c = search needs
 
-u16-at-requires-2 : tie.Need-u16-at-requires-2
-u16-at-requires-2 c κs = search needs
+add-c : tie.Need-add-c
+add-c c = search needs
 
-cast-result-2 : tie.Need-cast-result-2
-cast-result-2 c = search needs
+shared-slice-read-c : tie.Need-shared-slice-read-c
+shared-slice-read-c c = search needs
+
+add-d : tie.Need-add-d
+add-d c = search needs
+
+shared-slice-read-d : tie.Need-shared-slice-read-d
+shared-slice-read-d c = search needs
+
+wider-requires : tie.Need-wider-requires
+wider-requires c κs = search needs
+
+wider-requires-2 : tie.Need-wider-requires-2
+wider-requires-2 c κs = search needs
 
 mul-result : tie.Need-mul-result
 mul-result c = search needs
@@ -27,20 +39,52 @@ mul-result c = search needs
 add-result : tie.Need-add-result
 add-result c = search needs
 
+wider-requires-3 : tie.Need-wider-requires-3
+wider-requires-3 c κs = search needs
+
+mul-result-2 : tie.Need-mul-result-2
+mul-result-2 c = search needs
+
+add-result-2 : tie.Need-add-result-2
+add-result-2 c = search needs
+
+wider-requires-4 : tie.Need-wider-requires-4
+wider-requires-4 c κs = search needs
+
+mul-result-3 : tie.Need-mul-result-3
+mul-result-3 c = search needs
+
+add-result-3 : tie.Need-add-result-3
+add-result-3 c = search needs
+
 returns : tie.Need-returns
 returns c =
-    let a = c .before .before .before .args in
-    ap₂ (λ (x y : ℕ). x + y * 65536) (c .before .u16-at .ensures) (c .u16-at2 .ensures) ∙ sym (number-parts (a .s .now) (a .at) 2 2)
+    let y = c .before in
+    let x = y .before in
+    let w = x .before in
+    let a = w .before .before .before .before .before .before .args in
+    ap₂ (λ (m n : ℕ). m + n * 16777216) (ap₂ (λ (m n : ℕ). m + n * 65536) (ap₂ (λ (m n : ℕ). m + n * 256) (w .wider .ensures .0) (x .wider2 .ensures .0)) (y .wider3 .ensures .0)) (c .wider4 .ensures .0)
+    ∙ word-read (a .s .now) (a .at)
 
 pub u32-at-spec : {M : Type 1} → statement M
 u32-at-spec =
     tie.close
     (tie.spec
-    u16-at-requires
-    cast-result
-    add-u16-at
-    u16-at-requires-2
-    cast-result-2
+    shared-slice-read-a
+    add-b
+    shared-slice-read-b
+    add-c
+    shared-slice-read-c
+    add-d
+    shared-slice-read-d
+    wider-requires
+    wider-requires-2
     mul-result
     add-result
+    wider-requires-3
+    mul-result-2
+    add-result-2
+    wider-requires-4
+    mul-result-3
+    add-result-3
     returns)
