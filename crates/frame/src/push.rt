@@ -12,6 +12,7 @@ ghost use Rattle.frame.specs.Held.{held};
 ghost use Rattle.frame.specs.Turns.{least, runLength, readyAfter, argsOf, Accepted, IsRendered};
 use crate::begin::begin;
 use crate::chunk::pass;
+use crate::flush::give;
 use lowpass::BiquadLowpassState;
 use records::layout::Layout;
 use records::order::next_offset;
@@ -104,19 +105,10 @@ pub fn render(
         small = begin(small, state, meta, l, t, at);
         let left = next_offset(l, t, samples) - t;
         let k = run_length(small.state.initialized, small.phase, small.pending, left);
-        small = pass(
-            small,
-            state,
-            pcm,
-            out,
-            codes,
-            objects,
-            samples,
-            t,
-            k,
-            stride,
-            ready,
-        );
+        small = pass(small, state, pcm, codes, objects, samples, t, k);
+        if small.pending == 64 {
+            small = give(small, state, out, stride, ready);
+        }
         t += k;
         ready = ready_after(ready, small.pending);
     }
