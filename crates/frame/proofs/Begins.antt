@@ -1,6 +1,6 @@
 -- Before a chunk: one update after the other of those at its first sample, and the slot. Assumes nothing.
 use Prim.Native.Nat.{ℕ, zero, suc, _+_, _-_, _≤_, _<_}
-use mathlib.Core.Path.{_≡_, refl, sym, ap, _∙_}
+use mathlib.Core.Path.{_≡_, refl, sym, ap, subst, _∙_}
 use mathlib.Core.Bool.{Bool, true, false, not, _&&_, _||_, cond}
 use mathlib.Core.List.{List, [], _∷_}
 use native.Mathlib.Omega.{arith}
@@ -26,7 +26,7 @@ use Rattle.store.specs.Layout.{size, joined, infosOf, placesOf}
 use Rattle.claim.specs.Hall.{Sent, hall, sentAt, sentOf}
 use Rattle.claim.proofs.Sound.{Within}
 use Rattle.frame.specs.Held.{held, IsHeld}
-use Rattle.frame.specs.Begin.{withState, atSlot, CanStart}
+use Rattle.frame.specs.Begin.{withState, atSlot, CanStart, Rests}
 use Rattle.frame.proofs.Changed.{changed, changed-long, changed-held}
 
 -- ---- one update
@@ -169,3 +169,17 @@ slotted-after h g = record { is = g .is ∙ ap (slotted hall) (h .is); long = g 
 -- a renderer within document 01's ranges
 pub ranged-starts : (r : Renderer Timed) → Ranged hall Within r → CanStart r
 ranged-starts r g = record { within = timed.within-later (r .position) 1099511627776 (r .meta .state) (g .position) (g .meta .state .within); start = omega (arith, g .start, g .position) }
+
+-- none is sent for the time
+pub past : {f : ℕ → ℕ} {n t from i : ℕ} → FirstAt f n t from i → n ≤ i → FirstAt f n t from n
+past {f} {n} {t} {from} {i} h l =
+    let w = h .within in
+    let e : i ≡ n = omega arith in
+    subst (λ (j : ℕ). FirstAt f n t from j) e h
+
+-- nothing begins
+pub rests : (m : List ℕ) (l : records.Layout) → IsLayout m l → (t : ℕ) (s : Small) (b : List ℕ) → length b ≡ size → Rests l t (s .state .initialized) (s .phase) → IsHeld (slotted hall (updated hall t (sentOf m) (held s b))) s b
+rests m l g t s b long h =
+    let all = updated hall t (sentOf m) (held s b) in
+    let e = ends m l t (s .position) all g (l .count) s b (omega arith) (standing m l t (s .position) all g 0 (l .count) s b (h .none) long refl (from-first m l g t (held s b))) in
+    slotted-after e (slot-rests s b long (h .slot))

@@ -29,10 +29,11 @@ use Rattle.render.specs.Run.{momentAt, filterAfter, rowRun, Passed}
 use Rattle.render.proofs.Channels.{fewer}
 use Rattle.render.proofs.Tables.{beds-each, sources-each}
 use Rattle.render.proofs.Steps.{filter-as, run-as}
-use Rattle.frame.specs.Held.{held}
+use Rattle.frame.specs.Held.{held, IsHeld}
 use Rattle.frame.specs.Chunk.{chunk}
 use Rattle.frame.specs.Out.{behind}
 use Rattle.frame.specs.Give.{CanGive, emptied, Gave}
+use Rattle.frame.specs.Pass as pass
 use Rattle.frame.specs.Pass.{CanPass, Laid, passedClock, frameOf, Passes}
 use Rattle.frame.proofs.Given.{none-behind}
 use Rattle.frame.proofs.Laying.{laid-nil, length-laid}
@@ -87,14 +88,14 @@ module _ (codes pcm : List ℕ) (objects n t c : ℕ) where
 -- ---- the renderer after a chunk, before a whole block is given out
 
 module _ (f : Frame Sent) (t k : ℕ) (s : Small) (b : List ℕ) where
-  abbrev pub at : ℕ → Moment
-  at t = moment hall f t (record { state = s .state; infos = infosOf b })
+  abbrev at : ℕ → Moment
+  at = pass.at f t k s b
 
-  abbrev pub rows : Places
-  rows c = laid (s .pending) (rowRun at (s .filter) c t k) (placesOf b c)
+  abbrev rows : Places
+  rows = pass.rows f t k s b
 
-  abbrev pub settled : Renderer Timed
-  settled = joined (passedClock s (filterAfter at (s .filter) t k) k) (infosOf b) rows
+  abbrev settled : Renderer Timed
+  settled = pass.settled f t k s b
 
   -- no whole block
   chunk-waits : leb 64 (s .pending + k) ≡ false → chunk hall f k t (held s b) .next ≡ settled
@@ -165,10 +166,30 @@ pub same-heard : (rate : ℕ) (us : List Sent) (codes pcm : List ℕ) (objects n
     → (t c : ℕ) → heard (mixed (s .state) codes objects pcm n t) c ≡ heard (moment hall (frameOf rate us codes objects pcm n) t (record { state = s .state; infos = infosOf b })) c
 same-heard rate us codes pcm objects n s b h d t c = mixed-heard codes pcm objects n t c (s .state .initialized) (s .state) h d
 
--- a whole block can be given out
-pub can-give : {s r : Small} {b b' pcm out codes : List ℕ} {objects n t k stride ready : ℕ} {low : BiquadLowpassState} → CanPass s b pcm out codes objects n t k stride ready → 64 ≤ s .pending + k
-    → r ≡ passedClock s low k → length b' ≡ size → CanGive r b' out stride ready
-can-give {s} {k = k} h w e l =
-    let p : s .pending + k ≡ 64 = let q = h .pending in omega arith in
-    let q = h .room p in
-    rw e (record { block = l; pending = h .pending; rate = h .rate; room = omega arith; output = h .output })
+-- what a turn of the frame's loop may do: pass its samples, and where a block gets whole, give it out behind `ready` samples
+pub record Passable (s : Small) (b pcm out codes : List ℕ) (objects n t k stride ready : ℕ) : Type 0 where
+  pub passes : CanPass s b pcm codes objects n t k
+  pub rate : s .rate ≤ 16777216
+  pub room : s .pending + k ≡ 64 → ready + 64 ≤ stride
+  pub output : 48 * stride ≤ length out
+
+module _ (f : Frame Sent) {s r : Small} {b b' pcm out codes : List ℕ} {objects n t k stride ready : ℕ} (h : Passable s b pcm out codes objects n t k stride ready) (e : IsHeld (pass.settled f t k s b) r b') where
+  pending-after : r .pending ≡ s .pending + k
+  pending-after = ap (λ (x : Renderer Timed). x .pending) (e .is)
+
+  -- a whole block can be given out
+  pub can-give : r .pending ≡ 64 → CanGive r b' out stride ready
+  can-give w =
+      let p = pending-after in
+      let q = h .room (sym p ∙ w) in
+      record { block = e .long; pending = omega arith; rate = rw (ap (λ (x : Renderer Timed). x .rate) (e .is)) (h .rate); room = omega arith; output = h .output }
+
+  pub passes-on : (r .pending ≡ 64 → ⊥) → Passes f t k stride ready s b out r b' out
+  passes-on w =
+      let p = pending-after in
+      let q = h .passes .pending in
+      let n : s .pending + k ≡ 64 → ⊥ = λ z. w (p ∙ z) in
+      passes-waiting f t k s b stride ready out (e .is) (e .long) (omega arith)
+
+  pub passes-given : {r' : Small} {out' : List ℕ} → r .pending ≡ 64 → Gave r b' stride ready out r' out' → Passes f t k stride ready s b out r' b' out'
+  passes-given w g = passes-whole f t k s b stride ready out (e .is) (e .long) (sym pending-after ∙ w) g

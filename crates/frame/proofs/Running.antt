@@ -39,7 +39,8 @@ use Rattle.frame.specs.Held.{held, IsHeld}
 use Rattle.frame.specs.Chunk.{chunk}
 use Rattle.frame.specs.Out.{behind}
 use Rattle.frame.specs.Begin.{CanBegin}
-use Rattle.frame.specs.Pass.{CanPass, Passes}
+use Rattle.frame.specs.Pass.{Passes}
+use Rattle.frame.proofs.Passing.{Passable}
 use Rattle.frame.specs.Turns.{runLength, readyAfter, Accepted, IsRendered}
 use Rattle.frame.proofs.Begins.{ranged-starts}
 use Rattle.frame.proofs.Chunks.{NoneAt, Turn}
@@ -162,7 +163,7 @@ module _ (b : List ℕ) (a : Args) (l : Layout) (k : Taken b a l) (t : ℕ) (s :
         pub turn-fits : t + n ≤ a .samples
         turn-fits = let x = len .within in let y = end-within in let z = end-above in omega arith
 
-        pub can-pass : CanPass s′ state′ (a .pcm) out (a .codes) (a .objects) (a .samples) t n (a .stride) ready
+        pub can-pass : Passable s′ state′ (a .pcm) out (a .codes) (a .objects) (a .samples) t n (a .stride) ready
         unfolding facts
         can-pass =
             let p = k .passed in
@@ -176,16 +177,18 @@ module _ (b : List ℕ) (a : Args) (l : Layout) (k : Taken b a l) (t : ℕ) (s :
             let o = w .long in
             let y = g .long in
             record {
-              block = e .long;
-              framed = record { room = omega arith; plain = pass-plain (a .pcm) 0 ((length (a .codes) + a .objects) * a .samples) (p .pass); span = turn-fits; short = let x = len .room in omega arith };
-              inputs = z .codes;
-              few = z .objects;
-              beds = r .meta .state .within .beds;
-              dynamic = subst (λ (x : State hall). started hall (x .meta) ≡ true → hall .shape (x .meta) .objects ≡ a .objects) (sym (e .is)) (here .fits);
-              pending = len .room;
-              phase = le-of-lt (r .phase);
-              position = r .position;
-              start = omega arith;
+              passes = record {
+                block = e .long;
+                framed = record { room = omega arith; plain = pass-plain (a .pcm) 0 ((length (a .codes) + a .objects) * a .samples) (p .pass); span = turn-fits; short = let x = len .room in omega arith };
+                inputs = z .codes;
+                few = z .objects;
+                beds = r .meta .state .within .beds;
+                dynamic = subst (λ (x : State hall). started hall (x .meta) ≡ true → hall .shape (x .meta) .objects ≡ a .objects) (sym (e .is)) (here .fits);
+                pending = len .room;
+                phase = le-of-lt (r .phase);
+                position = r .position;
+                start = omega arith;
+              };
               rate = le-of-lt (rate-high (is-listed (s′ .rate) (ap (λ (x : State hall). listed (x .rate)) (e .is) ∙ here .listed)));
               room = λ x. roomy (g .whole) (w .whole) (k .ranged .pending) (z .samples) turn-fits (g .pending) (ap (λ (x : State hall). x .pending) (e .is) ∙ here .pending) x;
               output = omega arith;
@@ -240,7 +243,7 @@ module _ {b : List ℕ} {a : Args} {l : Layout} {t : ℕ} {s : Small} {state : L
   pub turn-within : t + n ≤ a .samples
   turn-within = turn-fits b a l (u .taken) t s state ready out (u .running) (u .more) end (u .ends) s′ state′ (u .begun) n len
 
-  pub turn-passes : CanPass s′ state′ (a .pcm) out (a .codes) (a .objects) (a .samples) t n (a .stride) ready
+  pub turn-passes : Passable s′ state′ (a .pcm) out (a .codes) (a .objects) (a .samples) t n (a .stride) ready
   turn-passes = can-pass b a l (u .taken) t s state ready out (u .running) (u .more) end (u .ends) s′ state′ (u .begun) n len
 
   pub turn-runs : (r : Small) (c o : List ℕ) (i : ℕ) → Passes (frameOf hall a) t n (a .stride) ready s′ state′ out r c o → i ≡ readyAfter ready (r .pending) → Running b a (t + n) r c i o

@@ -1,10 +1,13 @@
 -- Before a chunk: what is asked there, and the small part that updates and slots leave. Assumes nothing.
 use Prim.Native.Nat.{ℕ, _≤_}
 use mathlib.Core.Path.{_≡_}
+use mathlib.Core.Bool.{Bool, false, _&&_}
 use mathlib.Core.List.{List}
-use lib.ListN.{length}
+use lib.Dec.{eqb}
+use lib.ListN.{length, getD}
 use Rattle.timed.specs.State.{Timed, Within}
 use Rattle.timed.specs.declared.state.MetadataRendererState.{MetadataRendererState}
+use Rattle.records.specs.Order.{FirstAt}
 use Rattle.records.specs.Answers.{IsLayout}
 use Rattle.records.specs.declared.layout.Layout as records
 use Rattle.updates.specs.Whole.{WholeUpdates}
@@ -35,3 +38,8 @@ pub record CanBegin (s : Small) (b m : List ℕ) (l : records.Layout) (t at : �
   pub layout : IsLayout m l
   pub whole : WholeUpdates m (l .first) (l .count)
   pub slot : CanStart (updated hall t (sentOf m) (held s b))
+
+-- nothing begins at offset t: no update is sent for it and no slot starts
+pub record Rests (l : records.Layout) (t : ℕ) (started : Bool) (phase : ℕ) : Type 0 where
+  pub none : FirstAt (λ k. getD (l .offset) k 0) (l .count) t 0 (l .count)
+  pub slot : (started && eqb phase 0) ≡ false

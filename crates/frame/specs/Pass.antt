@@ -7,18 +7,21 @@ use lib.Dec.{leb}
 use lib.ListN.{length, take, drop}
 use lib.Ieee.{Float}
 use Rattle.lowpass.specs.declared.BiquadLowpassState.{BiquadLowpassState}
-use Rattle.rules.specs.Parts.{laid}
-use Rattle.rules.specs.Samples.{Frame}
+use Rattle.timed.specs.State.{Timed}
+use Rattle.rules.specs.Parts.{Places, laid}
+use Rattle.rules.specs.Mix.{Moment}
+use Rattle.rules.specs.Samples.{Frame, Renderer, moment}
 use Rattle.claim.specs.Hall.{Sent, hall}
 use Rattle.store.specs.declared.Small.{Small}
-use Rattle.store.specs.Layout.{size, infosOf, placesOf}
+use Rattle.store.specs.Layout.{size, joined, infosOf, placesOf}
 use Rattle.render.specs.Sources.{Framed}
+use Rattle.render.specs.Run.{filterAfter, rowRun}
 use Rattle.frame.specs.Held.{held, IsHeld}
 use Rattle.frame.specs.Chunk.{chunk}
 use Rattle.frame.specs.Out.{behind}
 
--- what is asked: the k samples from t on of a frame of n samples a channel; the frame's objects are the state's dynamic ones; where a block gets whole, room for it behind `ready` samples
-pub record CanPass (s : Small) (state pcm out codes : List ℕ) (objects n t k stride ready : ℕ) : Type 0 where
+-- what is asked: the k samples from t on of a frame of n samples a channel; the frame's objects are the state's dynamic ones
+pub record CanPass (s : Small) (state pcm codes : List ℕ) (objects n t k : ℕ) : Type 0 where
   pub block : length state ≡ size
   pub framed : Framed pcm (length codes + objects) n t k
   pub inputs : length codes ≤ 18
@@ -29,9 +32,6 @@ pub record CanPass (s : Small) (state pcm out codes : List ℕ) (objects n t k s
   pub phase : s .phase ≤ 64
   pub position : s .position ≤ 1099511627776
   pub start : s .start ≤ 1099511627776
-  pub rate : s .rate ≤ 16777216
-  pub room : s .pending + k ≡ 64 → ready + 64 ≤ stride
-  pub output : 48 * stride ≤ length out
 
 -- the first k places of each row behind the pending samples of its channel; the infos stay
 pub record Laid (rows : List Float) (pending k : ℕ) (state state' : List ℕ) : Type 0 where
@@ -56,6 +56,17 @@ passedClock s low k =
 -- a frame of a push: its rate and its updates, bed codes, objects, PCM and samples a channel
 abbrev pub frameOf : ℕ → List Sent → List ℕ → ℕ → List ℕ → ℕ → Frame Sent
 frameOf rate us codes objects pcm n = record { rate = rate; samples = n; codes = codes; objects = objects; pcm = pcm; updates = us }
+
+module _ (f : Frame Sent) (t k : ℕ) (s : Small) (b : List ℕ) where
+  abbrev pub at : ℕ → Moment
+  at t = moment hall f t (record { state = s .state; infos = infosOf b })
+
+  abbrev pub rows : Places
+  rows c = laid (s .pending) (rowRun at (s .filter) c t k) (placesOf b c)
+
+  -- the renderer after the chunk, before a whole block is given out
+  abbrev pub settled : Renderer Timed
+  settled = joined (passedClock s (filterAfter at (s .filter) t k) k) (infosOf b) rows
 
 -- the rules' chunk: what is held after it, and what is given out behind `ready` samples of each channel
 pub record Passes (f : Frame Sent) (t k stride ready : ℕ) (s : Small) (state out : List ℕ) (r : Small) (state' out' : List ℕ) : Type 0 where

@@ -9,7 +9,8 @@ ghost use Rattle.claim.specs.Hall.{Sent};
 ghost use Rattle.render.specs.Sources.{Framed, bedsOf, sourcesOf};
 ghost use Rattle.render.specs.Run.{momentAt, Passed};
 ghost use Rattle.store.specs.Layout.{size};
-ghost use Rattle.frame.specs.Pass.{CanPass, Laid, passedClock, frameOf, Passes};
+ghost use Rattle.frame.specs.Held.{IsHeld};
+ghost use Rattle.frame.specs.Pass.{CanPass, Laid, passedClock, frameOf, settled};
 use lowpass::BiquadLowpassState;
 use store::Small;
 use timed::state::MetadataRendererState;
@@ -113,32 +114,24 @@ fn tick(s: Small, filter: BiquadLowpassState, k: u32) -> Small
     }
 }
 
-// The k samples from t on of a frame of n samples; a whole block goes into the output behind `ready` samples of each channel.
+// The k samples from t on of a frame of n samples, pending.
 pub fn pass(
     s: Small,
     state: &mut [u8],
     pcm: &[u8],
-    out: &mut [u8],
     codes: &[u8],
     objects: usize,
     n: usize,
     t: usize,
     k: usize,
-    stride: usize,
-    ready: usize,
 ) -> Small
-    requires { ⌜ CanPass s (now state) (now pcm) (now out) (now codes) objects n t k stride ready ⌝ }
-    ensures { λ r. ⌜ ((rate : ℕ) (us : List Sent) → Passes (frameOf rate us (now (codes .entry)) objects (now (pcm .entry)) n) t k stride ready s (now (state .entry)) (now (out .entry)) r (now (state .exit)) (now (out .exit))) ⌝ }
+    requires { ⌜ CanPass s (now state) (now pcm) (now codes) objects n t k ⌝ }
+    ensures { λ r. ⌜ ((rate : ℕ) (us : List Sent) → IsHeld (settled (frameOf rate us (now (codes .entry)) objects (now (pcm .entry)) n) t k s (now (state .entry))) r (now (state .exit))) ⌝ }
 {
     let mut rows = [0.0f32; 768];
     let m = s.state;
     let before = s.filter;
     let filter = mix(m, before, &mut rows, pcm, codes, objects, n, t, k);
-    let pending = s.pending as usize;
-    lay(state, &rows, pending, k);
-    let next = tick(s, filter, k as u32);
-    if pending + k < 64 {
-        return next;
-    }
-    crate::flush::give(next, state, out, stride, ready)
+    lay(state, &rows, s.pending as usize, k);
+    tick(s, filter, k as u32)
 }

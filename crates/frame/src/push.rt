@@ -1,6 +1,7 @@
 // A frame that no refusal turned away, in chunks: each turn takes the updates at its first sample and the slot that starts there, then the samples up to the next
 // update, the end of the slot, of the limiter's block or of the frame.
 ghost use mathlib.Core.Path.{_≡_};
+ghost use mathlib.Core.Bool.{false};
 ghost use mathlib.Core.List.{List};
 ghost use Prim.Native.Nat.{ℕ, _<_, _≤_};
 ghost use Rattle.angles.specs.Angle.{Listed};
@@ -9,12 +10,15 @@ ghost use Rattle.rules.specs.Calls.{frameOf};
 ghost use Rattle.store.specs.Layout.{decode};
 ghost use Rattle.claim.specs.Hall.{hall};
 ghost use Rattle.frame.specs.Held.{held};
+ghost use Rattle.frame.specs.Begin.{Rests};
 ghost use Rattle.frame.specs.Turns.{least, runLength, readyAfter, argsOf, Accepted, IsRendered};
 use crate::begin::begin;
 use crate::chunk::pass;
+use crate::flush::give;
 use lowpass::BiquadLowpassState;
 use records::layout::Layout;
 use records::order::next_offset;
+use records::order::sent_at;
 use store::Small;
 use timed::clock::FrameOffset;
 use timed::clock::StreamSample;
@@ -38,6 +42,20 @@ fn run_length(started: bool, phase: u32, pending: u32, left: usize) -> usize
         return least(64 - phase as usize, room);
     }
     room
+}
+
+// False only where no update is sent for sample offset t and no slot starts there.
+fn begins(started: bool, phase: u32, l: Layout, t: usize) -> bool
+    requires { ⌜ l .count ≤ 16 ⌝ }
+    ensures { λ r. ⌜ (r ≡ false → Rests l t started phase) ⌝ }
+{
+    if sent_at(l, t, 0) < l.count {
+        return true;
+    }
+    if started {
+        return phase == 0;
+    }
+    false
 }
 
 // How many samples are ready after a chunk: a block more where nothing is pending now.
@@ -101,22 +119,15 @@ pub fn render(
     let mut t = 0usize;
     while t < samples {
         let at = start.at(FrameOffset(t as u32));
-        small = begin(small, state, meta, l, t, at);
+        if begins(small.state.initialized, small.phase, l, t) {
+            small = begin(small, state, meta, l, t, at);
+        }
         let left = next_offset(l, t, samples) - t;
         let k = run_length(small.state.initialized, small.phase, small.pending, left);
-        small = pass(
-            small,
-            state,
-            pcm,
-            out,
-            codes,
-            objects,
-            samples,
-            t,
-            k,
-            stride,
-            ready,
-        );
+        small = pass(small, state, pcm, codes, objects, samples, t, k);
+        if small.pending == 64 {
+            small = give(small, state, out, stride, ready);
+        }
         t += k;
         ready = ready_after(ready, small.pending);
     }

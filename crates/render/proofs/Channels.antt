@@ -1,10 +1,10 @@
 -- Samples of a channel out of the frame's PCM: within it, none a NaN. Assumes nothing.
 use mathlib.Core.Path.{_≡_, ap, subst, _∙_}
 use mathlib.Core.List.{List, _++_}
-use Prim.Native.Nat.{ℕ, zero, suc, _+_, _-_, _*_, _%_, _<_, _≤_}
+use Prim.Native.Nat.{ℕ, _+_, _*_, _%_, _<_, _≤_}
 use native.Mathlib.Omega.{arith}
 use native.Mathlib.Nat.{mul-le-mul-right}
-use lib.ListN.{length, take, drop, replicate}
+use lib.ListN.{length, length-append, take, drop, replicate}
 use lib.Seq.{take-at, length-take-le}
 use lib.Ieee.{Float}
 use Rattle.words.specs.Words.{word}
@@ -31,28 +31,20 @@ fewer pcm a b n t k f =
     let e : a * n ≤ (a + b) * n = mul-le-mul-right n (omega arith) in
     record { room = omega arith; plain = λ j l. f .plain j (omega arith); span = f .span; short = f .short }
 
--- ---- the row that is read
-
-pub drop-same : {A : Type 0} (x : A) (k n : ℕ) → drop k (replicate n x) ≡ replicate (n - k) x
-drop-same x zero n = let e : n - 0 ≡ n = omega arith in rw e
-drop-same x (suc k) zero = let e : 0 - suc k ≡ 0 = omega arith in rw e
-drop-same x (suc k) (suc n) = let e : suc n - suc k ≡ n - k = omega arith in rw e (drop-same x k n)
-
--- a row of zeros
+-- ---- the row that is read: zeros
 pub zeros-length : {r : List Float} (k : ℕ) → r ≡ replicate 64 0·0 → k ≤ 64 → length (take k r) ≡ k
 zeros-length k p h = ap (λ (l : List Float). length (take k l)) p ∙ length-take-le k (replicate 64 0·0) h
 
-module _ (pcm : List ℕ) (n t k i : ℕ) where
-  -- with the samples read to its start
-  pub row-read : {r read : List Float} → r ≡ replicate 64 0·0 → k ≤ 64 → read ≡ samples pcm (4 * (i * n + t)) (length (take k r))
-      → read ++ drop k r ≡ channelRow pcm n t k i ++ replicate (64 - k) 0·0
-  row-read {r} p h q =
-      ap (λ (l : List Float). l ++ drop k r) (q ∙ ap (samples pcm (4 * (i * n + t))) (zeros-length k p h))
-      ∙ ap (λ (l : List Float). channelRow pcm n t k i ++ l) (ap (drop k) p ∙ drop-same 0·0 k 64)
+-- with the samples of channel i read to its start
+module _ (pcm : List ℕ) (n t k i : ℕ) {r read : List Float} (p : r ≡ replicate 64 0·0) (h : k ≤ 64) (q : read ≡ channelRow pcm n t (length (take k r)) i) where
+  row-read : read ≡ channelRow pcm n t k i
+  row-read = q ∙ ap (λ (m : ℕ). channelRow pcm n t m i) (zeros-length k p h)
 
-  -- the samples again
-  pub row-start : {r : List Float} → r ≡ channelRow pcm n t k i ++ replicate (64 - k) 0·0 → take k r ≡ channelRow pcm n t k i
-  row-start p = ap (take k) p ∙ take-at (channelRow pcm n t k i) (replicate (64 - k) 0·0) k (length-samples pcm (4 * (i * n + t)) k)
+  pub row-start : take k (read ++ drop k r) ≡ channelRow pcm n t k i
+  row-start = rw row-read (take-at (channelRow pcm n t k i) (drop k r) k (length-samples pcm (4 * (i * n + t)) k))
 
-  pub row-length : {r : List Float} → r ≡ channelRow pcm n t k i ++ replicate (64 - k) 0·0 → length (take k r) ≡ k
-  row-length p = ap length (row-start p) ∙ length-samples pcm (4 * (i * n + t)) k
+  pub row-length : length (take k (read ++ drop k r)) ≡ k
+  row-length = ap length row-start ∙ length-samples pcm (4 * (i * n + t)) k
+
+  pub row-reaches : k ≤ length (read ++ drop k r)
+  row-reaches = omega (arith, length-append read (drop k r), ap length row-read ∙ length-samples pcm (4 * (i * n + t)) k)

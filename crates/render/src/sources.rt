@@ -1,6 +1,5 @@
 // The beds and the objects of a run, each read once out of the frame's PCM and mixed into twelve rows of 64 places.
 ghost use mathlib.Core.Path.{_≡_};
-ghost use mathlib.Core.List.{_++_};
 ghost use Prim.Native.Nat.{_+_, _-_, _<_, _≤_};
 ghost use lib.ListN.{length, replicate};
 ghost use Rattle.beds.specs.Matching.{matching};
@@ -18,14 +17,12 @@ fn silence() -> [f32; 64]
     [0.0; 64]
 }
 
-// The run's samples of channel i, read once.
-fn read_channel(pcm: &[u8], i: usize, n: usize, t: usize, k: usize) -> [f32; 64]
-    requires { ⌜ Reached (now pcm) i n t k × (k ≤ 64) ⌝ }
-    ensures { λ r. ⌜ r ≡ channelRow (now (pcm .entry)) n t k i ++ replicate (64 - k) 0·0 ⌝ }
+// The run's samples of channel i, from t on, as many as `row` has.
+fn read_channel(row: &mut [f32], pcm: &[u8], i: usize, n: usize, t: usize)
+    requires { ⌜ Reached (now pcm) i n t (length (now row)) ⌝ }
+    ensures { λ _. ⌜ now (row .exit) ≡ channelRow (now (pcm .entry)) n t (length (now (row .entry))) i ⌝ }
 {
-    let mut row = silence();
-    mixing::read_row(pcm, 4 * (i * n + t), &mut row[..k]);
-    row
+    mixing::read_row(pcm, 4 * (i * n + t), row);
 }
 
 // A bed's terms, by its route.
@@ -71,7 +68,8 @@ fn mix_bed(
     let Found::At(i) = found else {
         return;
     };
-    let row = read_channel(pcm, i, n, t, k);
+    let mut row = silence();
+    read_channel(&mut row[..k], pcm, i, n, t);
     mix_routed(rows, &row[..k], code, gain);
 }
 
@@ -88,7 +86,8 @@ fn mix_source(
     requires { ⌜ Reached (now pcm) i n t k × (k ≤ 64) × (length (now rows) ≡ 768) ⌝ }
     ensures { λ _. ⌜ now (rows .exit) ≡ mixedTerms (channelRow (now (pcm .entry)) n t k i) (objectTerms (sourceOf source)) (now (rows .entry)) ⌝ }
 {
-    let row = read_channel(pcm, i, n, t, k);
+    let mut row = silence();
+    read_channel(&mut row[..k], pcm, i, n, t);
     let place = source.place;
     crate::terms::mix_object(rows, &row[..k], place, source.gain, source.size);
 }

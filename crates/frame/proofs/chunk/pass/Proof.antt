@@ -1,4 +1,4 @@
--- `pass`: rows, places, the clock, and a whole block given out. Assumes nothing.
+-- `pass`: rows, places and the clock. Assumes nothing.
 use borrow.Author.Needs.{needs}
 use mathlib.Core.Path.{_≡_, sym, _∙_}
 use lib.ListN.{length, length-map}
@@ -8,8 +8,8 @@ use native.Mathlib.Omega.{arith}
 use Rattle.rules.specs.Samples.{Frame}
 use Rattle.claim.specs.Hall.{Sent}
 use Rattle.frame.specs.Held.{held}
-use Rattle.frame.specs.Pass.{frameOf}
-use Rattle.frame.proofs.Passing.{Full, mixed, same-heard, settled, held-settled, passes-waiting, passes-whole, can-give}
+use Rattle.frame.specs.Pass.{frameOf, settled}
+use Rattle.frame.proofs.Passing.{Full, mixed, same-heard, held-settled}
 use Rattle.frame.proofs.chunk.pass.Statement.{statement}
 use Rattle.frame.proofs.chunk.pass.Tie as tie
 
@@ -24,12 +24,9 @@ full c =
     let p = c .pre in
     record { codes = omega arith; gains = omega arith; sources = omega arith }
 
-whole : (c : tie.Start) → 64 ≤ c .args .s .pending + c .args .k → c .args .s .pending + c .args .k ≡ 64
-whole c h = let p = c .pre .pending in omega arith
-
 -- from the clock's place back to the start
 abbrev start : tie.After-tick → tie.Start
-start c = c .before .before .before .before .before .before .before .before .before .before .before .before .before .before .before .before
+start c = c .before .before .before .before .before .before .before .before .before .before .before .before .before .before .before
 
 abbrev frame : tie.After-tick → ℕ → List Sent → Frame Sent
 frame c rate us = let a = start c .args in frameOf rate us (a .codes .now) (a .objects) (a .pcm .now) (a .n)
@@ -51,8 +48,8 @@ slice-aggregate-mix c = search needs
 mix-requires : tie.Need-mix-requires
 mix-requires c κs = search needs
 
-cast-pending : tie.Need-cast-pending
-cast-pending c = search needs
+cast-lay : tie.Need-cast-lay
+cast-lay c = search needs
 
 slice-aggregate-lay : tie.Need-slice-aggregate-lay
 slice-aggregate-lay c = search needs
@@ -66,54 +63,11 @@ cast-tick c = search needs
 tick-requires : tie.Need-tick-requires
 tick-requires c κs = search needs
 
-add-if1 : tie.Need-add-if1
-add-if1 c =
-    let p = start c .pre .pending in
-    omega arith
-
 same-length : tie.Need-same-length
 same-length c = search needs
 
 returns : tie.Need-returns
-returns c = λ rate us.
-    let a = start (c .before) .args in
-    passes-waiting (frame (c .before) rate us) (a .t) (a .k) (a .s) (a .state .now) (a .stride) (a .ready) (a .out .now) (settles (c .before) rate us) (c .before .before .before .before .lay .ensures .long) (c .if1 .taken)
-
-give-requires : tie.Need-give-requires
-give-requires c κs =
-    let tk = c .before .before .before in
-    can-give (start tk .pre) (c .before .before .if1 .left) (tk .tick .ensures) (tk .before .before .before .lay .ensures .long)
-
-same-length-2 : tie.Need-same-length-2
-same-length-2 c = search needs
-
-same-length-3 : tie.Need-same-length-3
-same-length-3 c = search needs
-
-returns-2 : tie.Need-returns-2
-returns-2 c = λ rate us.
-    let g = c .before .before in
-    let el = g .before .before .before in
-    let tk = el .before in
-    let a = start tk .args in
-    passes-whole (frame tk rate us) (a .t) (a .k) (a .s) (a .state .now) (a .stride) (a .ready) (a .out .now) (settles tk rate us) (tk .before .before .before .lay .ensures .long)
-    (whole (start tk) (el .if1 .left)) (g .give .ensures)
+returns c = λ rate us. record { is = settles c rate us; long = c .before .before .before .lay .ensures .long }
 
 pub pass-spec : {M : Type 1} → statement M
-pass-spec =
-    tie.close
-    (tie.spec
-    slice-aggregate-mix
-    mix-requires
-    cast-pending
-    slice-aggregate-lay
-    lay-requires
-    cast-tick
-    tick-requires
-    add-if1
-    same-length
-    returns
-    give-requires
-    same-length-2
-    same-length-3
-    returns-2)
+pass-spec = tie.close (tie.spec slice-aggregate-mix mix-requires slice-aggregate-lay cast-lay lay-requires cast-tick tick-requires same-length returns)
