@@ -57,7 +57,7 @@ fn pcm_bytes(channels: usize, samples: u32) -> usize
 
 // Whether samples, beds, objects, codes and the PCM's length are as allowed: refusal 2.
 fn sized(pcm: &[u8], codes: &[u8], samples: u32, objects: u32, stride: u32) -> bool
-    ensures { λ r. ⌜ r ≡ rules.sized (record { pcm = now (pcm .entry); meta = []; out = []; codes = now (codes .entry); rate = 0; samples = samples; objects = objects; stride = stride }) ⌝ }
+    ensures { λ r. ⌜ r ≡ rules.sized (rules.argsOf (now (pcm .entry)) [] [] (now (codes .entry)) 0 samples objects stride) ⌝ }
 {
     if samples > stride {
         return false;
@@ -110,7 +110,7 @@ pub fn refusal(
     objects: u32,
     stride: u32,
 ) -> Refusal
-    ensures { λ r. ⌜ ((out : List ℕ) → length out ≡ bytes → (is : List ℕ) (ps : Places) → foundOf r ≡ rules.early hall (joined s is ps) (record { pcm = now (pcm .entry); meta = now (meta .entry); out = out; codes = now (codes .entry); rate = rate; samples = samples; objects = objects; stride = stride })) ⌝ }
+    ensures { λ r. ⌜ ((out : List ℕ) → length out ≡ bytes → (is : List ℕ) (ps : Places) → foundOf r ≡ rules.early hall (joined s is ps) (rules.argsOf (now (pcm .entry)) (now (meta .entry)) out (now (codes .entry)) rate samples objects stride)) ⌝ }
 {
     if !room(stride, bytes) {
         return Refusal::Lent;

@@ -160,7 +160,7 @@ module _ (L : Leaves) (B : Layout L) (F : Facts L B) where
             let c = L .counts (r .meta) in
             let l : lackingFrom L n (suc t) us (countsAfter L t us c) ≡ false = ap (λ (i : ℕ). lackingFrom L i (suc t) us (countsAfter L t us c)) (let e : n ≡ n + 0 = omega arith in e) ∙ quiet 0 (countsAfter L t us c) in
             let at = g .position in
-            let last = p .position in
+            let last = p .early .position in
             subst (λ (x : After L). R L B F (x .next)) at-once
             (framed-ranged L B F (frameOf L a) k (suc n) t r c
             (ap (λ (b : Bool). b || lackingFrom L n (suc t) us (countsAfter L t us c)) (begun .lacks) ∙ l)
@@ -172,10 +172,10 @@ module _ (L : Leaves) (B : Layout L) (F : Facts L B) where
         room : (c : ℕ) → c < 12 → ready + 64 * counted .blocks + length (D .given c) ≤ a .stride
         room c l =
             let e = rest-counted .length c l in
-            let w = is-roomy (a .stride) (length (a .out)) (p .room) in
+            let w = is-roomy (a .stride) (length (a .out)) (p .early .room) in
             subst (λ (i : ℕ). ready + 64 * counted .blocks + i ≤ a .stride) (sym e)
             (space ready (r₀ .pending) (r .pending) t n (a .samples - (t + suc n)) (a .samples) (a .stride) (counted .blocks) (rest-counted .blocks) (C .next .pending) (D .next .pending) (g .whole) (w .whole)
-            few (samples-fit a (p .sized)) (omega arith) (g .pending) (counted .all) (rest-counted .all))
+            few (samples-fit a (p .early .sized)) (omega arith) (g .pending) (counted .all) (rest-counted .all))
 
         count-more : length (rest t r .given 0) ≡ 64 * counted .blocks + length (D .given 0)
         count-more =
@@ -238,7 +238,7 @@ module _ (L : Leaves) (B : Layout L) (F : Facts L B) where
     pub starts : R L B F r₀ → Passed L r₀ a → Going 0 (opened L (a .rate) r₀) 0 (a .out)
     unfolding pushed
     starts g p =
-        let o = opened-ranged L B F (a .rate) r₀ (p .listed) g in
+        let o = opened-ranged L B F (a .rate) r₀ (p .early .listed) g in
         let j = judged (sentOf L us) (a .objects) (a .codes) (a .samples) (a .rate) (r₀ .rate) (L .shape (r₀ .meta)) (p .later) in
         record {
           here = zero-le;
@@ -251,7 +251,7 @@ module _ (L : Leaves) (B : Layout L) (F : Facts L B) where
           position = omega arith;
           pending = omega arith;
           whole = refl;
-          enough = go (a .samples) (p .enough);
+          enough = go (a .samples) (p .early .enough);
           fits = λ l. j .first;
         }
       where

@@ -78,14 +78,14 @@ pub record Taken (b : List ℕ) (a : Args) (l : Layout) : Type 0 where
 pub takes : (s : Small) (b : List ℕ) (a : Args) (l : Layout) → Accepted s b l a → Bytes b → Bytes (a .meta) → Taken b a l
 takes s b a l h bytes meta =
     let p = is-passed hall (decode b) a (h .clear) in
-    let x = is-roomy (a .stride) (length (a .out)) (p .room) .most in
-    let y = samples-fit a (p .sized) in
+    let x = is-roomy (a .stride) (length (a .out)) (p .early .room) .most in
+    let y = samples-fit a (p .early .sized) in
     record {
       passed = p;
       ranged = facts .decoded b bytes (h .valid);
-      checked = facts .checked (a .meta) meta (p .laidOut) (p .inRange);
+      checked = facts .checked (a .meta) meta (p .early .laidOut) (p .early .inRange);
       layout = h .layout;
-      whole = passes-all (a .meta) (p .laidOut) (p .inRange) meta l (h .layout);
+      whole = passes-all (a .meta) (p .early .laidOut) (p .early .inRange) meta l (h .layout);
       samples = omega arith;
       long = valid-long b (h .valid);
     }
@@ -95,7 +95,7 @@ unfolding decode
 starts-at s b a l h = ap (λ (s : Small). s .position) (h .small)
 
 pub is-rate : (b : List ℕ) (a : Args) (l : Layout) → Taken b a l → Listed (a .rate)
-is-rate b a l k = is-listed (a .rate) (k .passed .listed)
+is-rate b a l k = is-listed (a .rate) (k .passed .early .listed)
 
 -- before sample t
 pub record Running (b : List ℕ) (a : Args) (t : ℕ) (s : Small) (state : List ℕ) (ready : ℕ) (out : List ℕ) : Type 0 where
@@ -167,9 +167,9 @@ module _ (b : List ℕ) (a : Args) (l : Layout) (k : Taken b a l) (t : ℕ) (s :
         unfolding facts
         can-pass =
             let p = k .passed in
-            let z = is-sized a (p .sized) in
+            let z = is-sized a (p .early .sized) in
             let c = z .pcm in
-            let w = is-roomy (a .stride) (length (a .out)) (p .room) in
+            let w = is-roomy (a .stride) (length (a .out)) (p .early .room) in
             let r = now-ranged in
             let g = h .going in
             let q = r .start in
@@ -179,7 +179,7 @@ module _ (b : List ℕ) (a : Args) (l : Layout) (k : Taken b a l) (t : ℕ) (s :
             record {
               passes = record {
                 block = e .long;
-                framed = record { room = omega arith; plain = pass-plain (a .pcm) 0 ((length (a .codes) + a .objects) * a .samples) (p .pass); span = turn-fits; short = let x = len .room in omega arith };
+                framed = record { room = omega arith; plain = pass-plain (a .pcm) 0 ((length (a .codes) + a .objects) * a .samples) (p .early .pass); span = turn-fits; short = let x = len .room in omega arith };
                 inputs = z .codes;
                 few = z .objects;
                 beds = r .meta .state .within .beds;

@@ -35,10 +35,6 @@ readyAfter ready pending = cond (eqb pending 0) (ready + 64) ready
 
 -- ---- a push
 
-abbrev pub argsOf : List ℕ → List ℕ → List ℕ → List ℕ → ℕ → ℕ → ℕ → ℕ → Args
-argsOf pcm meta out codes rate samples objects stride =
-    record { pcm = pcm; meta = meta; out = out; codes = codes; rate = rate; samples = samples; objects = objects; stride = stride }
-
 -- s is the small part of the valid block b, l the metadata's layout, and the push is not refused
 pub record Accepted (s : Small) (b : List ℕ) (l : Layout) (a : Args) : Type 0 where
   pub small : s ≡ smallOf (wordsAt b 0 340)

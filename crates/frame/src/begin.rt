@@ -70,8 +70,8 @@ fn apply_one(s: Small, state: &mut [u8], meta: &[u8], u: usize, t: usize, at: St
 {
     let before = s.state;
     let new = starts_slot(before.initialized, t);
-    let first = 1360usize;
-    let end = 23888usize;
+    let first = store::INFOS;
+    let end = store::PLACES;
     let after = apply_update(before, &mut state[first..end], meta, u, at);
     let next = with_state(s, after);
     if new {
@@ -116,8 +116,8 @@ fn start_slot(s: Small, state: &mut [u8]) -> Small
         return s;
     }
     let start = s.start;
-    let first = 1360usize;
-    let end = 23888usize;
+    let first = store::INFOS;
+    let end = store::PLACES;
     let after = before.update_timeslot(&mut state[first..end], StreamSample(start));
     with_state(s, after)
 }

@@ -63,7 +63,7 @@ fn lay(state: &mut [u8], rows: &[f32], pending: usize, k: usize)
     requires { ⌜ (length (now state) ≡ size) × (length (now rows) ≡ 768) × (pending + k ≤ 64) ⌝ }
     ensures { λ _. ⌜ Laid (now (rows .entry)) pending k (now (state .entry)) (now (state .exit)) ⌝ }
 {
-    let start = 23888usize;
+    let start = store::PLACES;
     render::places::append_rows(rows, &mut state[start..], pending, k);
 }
 

@@ -9,7 +9,7 @@ ghost use Rattle.refusals.specs.Numbers.{foundOf};
 ghost use Rattle.store.specs.Fields.{smallOf};
 ghost use Rattle.store.specs.Layout.{decode};
 ghost use Rattle.claim.specs.Hall.{hall};
-ghost use Rattle.frame.specs.Turns.{argsOf};
+ghost use Rattle.rules.specs.Refusals.{argsOf};
 use refusals::Refusal;
 use store::Small;
 

@@ -4,7 +4,7 @@ ghost use Rattle.rules.specs.Calls.{push, flush, reset};
 ghost use Rattle.rules.specs.Block.{made};
 ghost use Rattle.claim.specs.Hall.{hall, block};
 ghost use Rattle.hall.specs.Answers.{Left, codeOf};
-ghost use Rattle.frame.specs.Turns.{argsOf};
+ghost use Rattle.rules.specs.Refusals.{argsOf};
 use answer::Answer;
 use refusals::Refusal;
 

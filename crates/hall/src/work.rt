@@ -3,7 +3,7 @@ ghost use Rattle.rules.specs.Calls.{push, flush};
 ghost use Rattle.rules.specs.Block.{made};
 ghost use Rattle.claim.specs.Hall.{hall, block};
 ghost use Rattle.hall.specs.Answers.{Waiting, Cleared, Left};
-ghost use Rattle.frame.specs.Turns.{argsOf};
+ghost use Rattle.rules.specs.Refusals.{argsOf};
 use crate::answer;
 use crate::answer::Answer;
 use store::Small;

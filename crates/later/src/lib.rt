@@ -1,7 +1,7 @@
 // Refusals 9 to 14 of a push whose 1 to 8 found nothing: a pass over its samples that changes nothing. Document 01: "After 8: 9, 10, 11 for updates at offset 0, 12, 11 for the present
 // state, then 11, 13, 14 as they arise in time."
-pub mod checks;
-pub mod present;
+mod checks;
+mod present;
 
 ghost use mathlib.Core.Path.{_≡_};
 ghost use mathlib.Core.Bool.{_||_, not};

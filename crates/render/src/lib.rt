@@ -1,5 +1,5 @@
 // One run of samples: the beds and the objects mixed into twelve rows.
 pub mod places;
 pub mod run;
-pub mod sources;
-pub mod terms;
+mod sources;
+mod terms;

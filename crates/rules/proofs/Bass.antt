@@ -119,5 +119,5 @@ module _ (L : Leaves) (r : State L) (a : Args) where
   pub still-clear : (j : ℕ) (qcm : List ℕ) → Replaced (a .samples) j (a .pcm) qcm → found L r a ≡ clear → found L r (withPcm qcm a) ≡ clear
   still-clear j qcm p e =
       let k = (length (a .codes) + a .objects) * a .samples in
-      let q = is-passed L r a e .pass in
+      let q = is-passed L r a e .early .pass in
       ap₂ foundBy (same-size qcm (p .length)) (passes-still (a .samples) j (a .pcm) qcm p k q ∙ sym q) ∙ e

@@ -58,10 +58,10 @@ module _ (L : Leaves) (B : Layout L) (F : Facts L B) where
     asked-called a h (stop n x y) e = record { rest = rest; range = λ b. quiet (a .stride) (a .out) (left L B (refused n x y) r (a .out) (a .stride) b) refl refl }
     asked-called a h clear e =
         let p = is-passed L r a e in
-        let q = is-roomy (a .stride) (length (a .out)) (p .room) in
+        let q = is-roomy (a .stride) (length (a .out)) (p .early .room) in
         let d = pushed-fine L B F r a (h .0) (h .1) p rest in
         let y = pushed L (frameOf L a) r in
-        let fit = blocks-fit (d .blocks) (y .next .pending) (r .pending) (a .samples) (a .stride) (d .all) (steady rest .few) (samples-fit a (p .sized)) (q .whole) in
+        let fit = blocks-fit (d .blocks) (y .next .pending) (r .pending) (a .samples) (a .stride) (d .all) (steady rest .few) (samples-fit a (p .early .sized)) (q .whole) in
         record {
           rest = inr (d .next);
           range = λ b. given-range (y .given) (64 * d .blocks) (a .stride) (y .next) (a .out) b fit (q .long) (d .given) (d .length);

@@ -29,10 +29,10 @@ module _ (L : Leaves) (B : Layout L) (F : Facts L B) where
   admitted r a b m p =
       let channels = length (a .codes) + a .objects in
       record {
-        rate = is-listed (a .rate) (p .listed);
-        updates = F .checked (a .meta) m (p .laidOut) (p .inRange);
-        input = λ i t h l. sample-in (a .pcm) channels (a .samples) b (p .pass) i t (omega arith) l;
-        own = λ t l. samples-in (a .pcm) channels (a .samples) b (p .pass) (a .objects) (length (a .codes)) t (le-refl channels) l;
+        rate = is-listed (a .rate) (p .early .listed);
+        updates = F .checked (a .meta) m (p .early .laidOut) (p .early .inRange);
+        input = λ i t h l. sample-in (a .pcm) channels (a .samples) b (p .early .pass) i t (omega arith) l;
+        own = λ t l. samples-in (a .pcm) channels (a .samples) b (p .early .pass) (a .objects) (length (a .codes)) t (le-refl channels) l;
       }
 
   module _ (f : Frame (L .Update)) (k : Admitted L B F f) where

@@ -125,14 +125,7 @@ module _ (L : Leaves) where
     pub pass : allPass (a .pcm) 0 ((length (a .codes) + a .objects) * a .samples) ≡ true
 
   pub record Passed (r : State L) (a : Args) : Type 0 where
-    pub room : room (a .stride) (length (a .out)) ≡ true
-    pub sized : sized a ≡ true
-    pub listed : listed (a .rate) ≡ true
-    pub position : r .position + a .samples ≤ 1099511627776
-    pub laidOut : L .laidOut (a .meta) ≡ true
-    pub inRange : L .inRange (a .meta) ≡ true
-    pub enough : lackingFrom L (offsets L (a .samples)) 0 (L .updates (a .meta)) (L .counts (r .meta)) ≡ false
-    pub pass : allPass (a .pcm) 0 ((length (a .codes) + a .objects) * a .samples) ≡ true
+    pub early : Early r a
     pub later : later (sentOf L (L .updates (a .meta))) (a .objects) (a .codes) (a .samples) (a .rate) (r .rate) (L .shape (r .meta)) ≡ clear
 
   pub is-early : (r : State L) (a : Args) → early L r a ≡ clear → Early r a
@@ -157,10 +150,7 @@ module _ (L : Leaves) where
       }
 
   pub is-passed : (r : State L) (a : Args) → found L r a ≡ clear → Passed r a
-  is-passed r a e =
-      let s = then-clear (early L r a) _ e in
-      let x = is-early r a (s .0) in
-      record { room = x .room; sized = x .sized; listed = x .listed; position = x .position; laidOut = x .laidOut; inRange = x .inRange; enough = x .enough; pass = x .pass; later = s .1 }
+  is-passed r a e = let s = then-clear (early L r a) _ e in record { early = is-early r a (s .0); later = s .1 }
 
 -- ---- samples
 -- channel i at sample t

@@ -181,15 +181,15 @@ module _ (L : Leaves) (B : Layout L) (F : Facts L B) where
 
   pub pushed-ranged : (r : State L) (a : Args) → Bytes (a .meta) → Passed L r a → R r → R (pushed L (frameOf L a) r .next)
   unfolding pushed
-  pushed-ranged r a b p g = go (a .samples) (p .enough) (p .position)
+  pushed-ranged r a b p g = go (a .samples) (p .early .enough) (p .early .position)
     where
       o : R (opened L (a .rate) r) × (listed (opened L (a .rate) r .rate) ≡ true)
-      o = opened-ranged (a .rate) r (p .listed) g
+      o = opened-ranged (a .rate) r (p .early .listed) g
 
       go : (n : ℕ) → lackingFrom L (offsets L n) 0 (L .updates (a .meta)) (L .counts (r .meta)) ≡ false → r .position + n ≤ 1099511627776 → R (framed L (frameOf L a) n 0 (opened L (a .rate) r) .next)
       go zero e h = o .0
       go (suc n) e h =
-          framed-ranged (frameOf L a) (F .checked (a .meta) b (p .laidOut) (p .inRange)) (suc n) 0 (opened L (a .rate) r) (L .counts (r .meta))
+          framed-ranged (frameOf L a) (F .checked (a .meta) b (p .early .laidOut) (p .early .inRange)) (suc n) 0 (opened L (a .rate) r) (L .counts (r .meta))
           (ap (λ (t : Bool). lackingFrom L (cond t 1 (suc n)) 0 (L .updates (a .meta)) (L .counts (r .meta))) (sym (eqb·suc-zero n)) ∙ e) (o .1) h (o .0, refl)
 
   pub flushed-ranged : (r : State L) → R r → R (flushed L r .next)

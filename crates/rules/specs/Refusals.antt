@@ -20,6 +20,10 @@ pub record Args : Type 0 where
   pub objects : ℕ
   pub stride : ℕ
 
+abbrev pub argsOf : List ℕ → List ℕ → List ℕ → List ℕ → ℕ → ℕ → ℕ → ℕ → Args
+argsOf pcm meta out codes rate samples objects stride =
+    record { pcm = pcm; meta = meta; out = out; codes = codes; rate = rate; samples = samples; objects = objects; stride = stride }
+
 -- nothing, or a refusal: "its number and two counts, zero where unnamed"
 pub data Found : Type 0 where
   clear : Found

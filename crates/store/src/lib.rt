@@ -11,8 +11,10 @@ pub mod ranges;
 pub mod read;
 pub mod write;
 
-// Bytes of a block.
+// Bytes of a block, and where its infos and its places begin.
 pub const SIZE: usize = 26960;
+pub const INFOS: usize = 1360;
+pub const PLACES: usize = 23888;
 
 // The part of a renderer that goes from call to call by value: the clock, the limiter's gain, the low-pass, the number of pending samples, the timed state.
 pub struct Small {

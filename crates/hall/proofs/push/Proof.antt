@@ -4,7 +4,7 @@ use native.Mathlib.Omega.{arith}
 use borrow.Author.Tests.{not-true, not-false}
 use Rattle.rules.specs.Calls.{push}
 use Rattle.refusals.specs.Numbers.{foundOf}
-use Rattle.frame.specs.Turns.{argsOf}
+use Rattle.rules.specs.Refusals.{argsOf}
 use Rattle.hall.proofs.Laws.{leaves-as, wrong, refused-push}
 use Rattle.hall.proofs.Stops.{not-clear}
 use Rattle.hall.proofs.Known.{valid-long, loaded-ranged}

@@ -10,7 +10,7 @@ use Rattle.rules.specs.Calls.{frameOf}
 use Rattle.claim.specs.Hall.{sentOf, hall}
 use Rattle.rules.specs.Samples.{updated, slotted}
 use Rattle.frame.specs.Held.{held, IsHeld}
-use Rattle.frame.specs.Turns.{argsOf}
+use Rattle.rules.specs.Refusals.{argsOf}
 use Rattle.frame.proofs.Begins.{rests}
 use Rattle.frame.proofs.Running.{Taken, takes, starts-at, is-rate, Running, opens, can-begin, end-above, few, Turning, turn-some, turn-within, turn-passes, turn-runs, ready-few, rendered}
 use Rattle.frame.proofs.Passing.{can-give, passes-on, passes-given}

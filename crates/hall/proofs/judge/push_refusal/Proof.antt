@@ -12,7 +12,7 @@ use Rattle.refusals.specs.Numbers.{foundOf}
 use Rattle.store.specs.Layout.{joined, infosOf, placesOf, decode}
 use Rattle.updates.proofs.Passed.{passes-all}
 use Rattle.claim.specs.Hall.{hall}
-use Rattle.frame.specs.Turns.{argsOf}
+use Rattle.rules.specs.Refusals.{argsOf}
 use Rattle.hall.proofs.Stops.{not-clear, first-stops, then-second}
 use Rattle.hall.proofs.Known.{loaded}
 use borrow.Author.Needs.{needs}

@@ -1,6 +1,6 @@
 -- `render`: the push of the rules, saved.
 use native.Mathlib.Omega.{arith}
-use Rattle.frame.specs.Turns.{argsOf}
+use Rattle.rules.specs.Refusals.{argsOf}
 use Rattle.hall.proofs.Done.{rendered-left}
 use borrow.Author.Needs.{needs}
 use Rattle.hall.proofs.work.render.Statement.{statement}
