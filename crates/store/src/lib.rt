@@ -13,7 +13,9 @@ pub mod write;
 
 // Bytes of a block, and where its infos and its places begin.
 pub const SIZE: usize = 26960;
+
 pub const INFOS: usize = 1360;
+
 pub const PLACES: usize = 23888;
 
 // The part of a renderer that goes from call to call by value: the clock, the limiter's gain, the low-pass, the number of pending samples, the timed state.
