@@ -1,20 +1,24 @@
 -- Nothing overflows: a bound of the format on the exact result bounds the rounded one, since rounding is monotone. No error is counted. `Bounded b x`: x is finite and of size at most b units.
 -- Assumes nothing.
 use mathlib.Core.Path.{_≡_, sym, ap, _∙_, subst}
-use mathlib.Core.Logic.{_⊎_, inl, inr}
+use mathlib.Core.Logic.{_⊎_, _↔_, inl, inr}
+use mathlib.Core.Bool.{true, false, _&&_}
 use mathlib.Core.List.{List, [], _∷_}
 use Prim.Native.Nat.{ℕ, suc, _+_, _*_, _^_, _≤_, _<_}
 use native.Mathlib.Nat.{le-trans, le-of-eq, lt-of-le-of-lt, zero-lt-suc, mul-assoc, mul-le-mul, mul-le-mul-right}
 use native.Mathlib.Omega.{arith}
 use lib.ListN.{length}
-use lib.Ieee.{Float, binary32, neg, add, sub, mul}
+use lib.Dec.{T}
+use lib.Ieee.{Float, nan, inf, fin, binary32, fits, neg, add, sub, mul, lt, le, eq}
+use lib.Ieee.Fits.{and-i, and-l, and-r}
 use Rattle.ieee.specs.Units.{Tame}
 pub use Rattle.ieee.specs.Bounds.{Bounded, All, sumFrom}
 use Rattle.ieee.proofs.Grid.{OnGrid, grid-at}
-use Rattle.ieee.proofs.Value.{One, one-pos, Top, mag, P, N}
+use Rattle.ieee.proofs.Value.{One, one-pos, Top, F32, mag, P, N}
 use Rattle.ieee.proofs.Constants.{0·0, zero-f32, zero-mag}
 use Rattle.ieee.proofs.Ops.{Rounds, small, add-rounds, mul-rounds, sub-open, neg-f32, neg-P, neg-N}
 use Rattle.ieee.proofs.Signed.{at-most, minus-at-most, mag-is, one-sided}
+use Rattle.ieee.proofs.Compare.{→le, le→}
 
 pub bounded-by : {a b : ℕ} {x : Float} → a ≤ b → Bounded a x → Bounded b x
 bounded-by h k = record { f32 = k .f32; most = le-trans (k .most) h }
@@ -28,6 +32,30 @@ neg-bounded {a} {x} k = record { f32 = neg-f32 x (k .f32); most = omega (arith, 
 -- a value in [-1, 1]
 pub bounded-tame : {x : Float} → Bounded One x → Tame x
 bounded-tame {x} k = record { f32 = k .f32; high = omega (arith, mag-is x, k .most); deep = omega (arith, mag-is x, k .most) }
+
+-- what compares as from -b to b is finite and of size at most b's, and the other way round
+pub between-bounded : (b x : Float) → F32 b → N b ≡ 0 → T (fits binary32 x) → T (le (neg b) x && le x b) ↔ Bounded (mag b) x
+between-bounded b x f n t = (to b x f n t, from)
+  where
+    to : (b x : Float) → F32 b → N b ≡ 0 → T (fits binary32 x) → T (le (neg b) x && le x b) → Bounded (mag b) x
+    to nan x f n t h = absurd (f .fine)
+    to (inf s) x f n t h = absurd (f .fine)
+    to (fin s m e) nan f n t h = absurd (unfold le lt eq neg in h)
+    to (fin s m e) (inf true) f n t h = absurd (unfold le lt eq neg in h)
+    to (fin s m e) (inf false) f n t h = absurd (unfold le lt eq neg in h)
+    to (fin s m e) (fin u k d) f n t h =
+        let b = fin s m e in
+        let x = fin u k d in
+        let g : F32 x = record { fine = tt; fit = t } in
+        let i : N x ≤ mag b + P x = omega (arith, le→ (neg b) x (neg-f32 b f) g (and-l (le (neg b) x) (le x b) h), mag-is b, neg-P b f, neg-N b f) in
+        let j : P x ≤ mag b + N x = omega (arith, le→ x b g f (and-r (le (neg b) x) (le x b) h), mag-is b) in
+        record { f32 = g; most = elim (one-sided x) [ inl z ↦ omega (arith, mag-is x) | inr z ↦ omega (arith, mag-is x) ] }
+
+    from : Bounded (mag b) x → T (le (neg b) x && le x b)
+    from k =
+        and-i (le (neg b) x) (le x b)
+        (→le (neg b) x (neg-f32 b f) (k .f32) (omega (arith, k .most, mag-is x, mag-is b, neg-P b f, neg-N b f)))
+        (→le x b (k .f32) f (omega (arith, k .most, mag-is x, mag-is b)))
 
 -- ---- one operation
 pub rounds-bounded : {w c A B : ℕ} {z : Float} → OnGrid w → 0 < c → Rounds z A B c → A ≤ B + w * c → B ≤ A + w * c → Bounded w z

@@ -1,11 +1,11 @@
 -- The constants of the port, by their values in units: 0, 1, 0.9, 8, 16; and the whole numbers below 2 ^ 24, which are f32 values below `Top`. Assumes nothing.
 use mathlib.Core.Path.{_≡_, refl, sym, ap, _∙_, subst}
-use Prim.Native.Nat.{ℕ, _*_, _≤_, _<_}
+use Prim.Native.Nat.{ℕ, _*_, _^_, _≤_, _<_}
 use native.Mathlib.Nat.{le-of-lt, mul-one, lt-of-le-of-lt, mul-le-mul-right}
 use mathlib.Core.Bool.{false}
 use lib.IntN.{pos, negsuc}
-use lib.Dec.{lit<}
-use lib.Ieee.{Float, fin, binary32, fits, round, ofInt}
+use lib.Dec.{T, le→leb, lit<}
+use lib.Ieee.{Float, fin, binary32, fits, round, ofInt, inFloat}
 use Rattle.ieee.proofs.Grid.{OnGrid, rnd, rnd-exact}
 use Rattle.ieee.proofs.Value.{One, Top, F32, mag, P, Is, rounded}
 
@@ -92,3 +92,8 @@ unfolding ofInt
 whole-is n h =
     let r : rnd (n * One) 1 ≡ n * One = ap (λ (k : ℕ). rnd k 1) (sym (mul-one (n * One))) ∙ rnd-exact (whole-grid n h) 1 (lit< tt) in
     subst (Is (round binary32 false n 1) false) r (rounded false n 1 (n * One) 1 (lit< tt) (lit< tt) refl (subst (λ (k : ℕ). k < Top) (sym r) (whole-less n (le-of-lt h))))
+
+-- and one up to 2 ^ 24 can be cast
+pub in-float : (n : ℕ) → n ≤ 2 ^ 24 → T (inFloat binary32 (pos n))
+unfolding inFloat
+in-float n h = le→leb n (2 ^ 24) h

@@ -1,11 +1,12 @@
--- Operations that change nothing, or only the sign, as equations of floats, the sign of a zero with them: x * 1.0 is x, 0.0 + y is y, 0.0 - x is -x, x - x is 0. Assumes nothing.
+-- Operations that change nothing, or only the sign, as equations of floats, the sign of a zero with them: x * 1.0 is x, 0.0 + y is y, 0.0 - x is -x, x - x is 0,
+-- x * 0.0 is a zero of x's sign. Assumes nothing.
 use mathlib.Core.Path.{_≡_, refl, sym, ap, _∙_, subst}
 use mathlib.Core.Logic.{_⊎_, inl, inr}
 use Prim.Native.Nat.{ℕ, zero, suc, _+_, _-_, _*_, _^_, _<_}
-use native.Mathlib.Nat.{zero-lt-suc, mul-pos}
+use native.Mathlib.Nat.{zero-lt-suc, mul-pos, mul-zero}
 use native.Mathlib.Numerals.{unary-clauses}
 use native.Mathlib.Omega.{arith}
-use mathlib.Core.Bool.{Bool, true, false}
+use mathlib.Core.Bool.{Bool, true, false, _&&_}
 use lib.IntN.{ℤ, pos, negsuc}
 use lib.Dec.{T, eqb→eq}
 use lib.Ieee.{Float, nan, inf, fin, binary32, unlike, fits, neg, add, sub, mul, sum, round, lt, eq}
@@ -13,7 +14,7 @@ use lib.Ieee.Scale.{finite}
 use lib.Ieee.Positive.{den, first-pos}
 use lib.Ieee.Fits.{up-pos}
 use Rattle.ieee.proofs.Grid.{rnd, rnd-zero, rnd-exact}
-use Rattle.ieee.proofs.Value.{One, one-pos, Top, F32, mag, P, N, shape}
+use Rattle.ieee.proofs.Value.{One, one-pos, Top, F32, sign, mag, P, N, shape, Is}
 use Rattle.ieee.proofs.Constants.{0·0, 1·0, zero-f32, one-f32, zero-mag, one-P, top-pos}
 use Rattle.ieee.proofs.Unique.{same-value, is-same}
 use Rattle.ieee.proofs.Ops.{add-rounds, sub-rounds, mul-round, sub-open, neg-f32, neg-P, neg-N}
@@ -23,6 +24,11 @@ use Rattle.ieee.proofs.Compare.{→eq}
 -- a parameter or an element of a slice is known to fit by an equation
 pub fine : (x : Float) → fits binary32 x ≡ true → T (finite x) → F32 x
 fine x e t = record { fine = t; fit = subst T (sym e) tt }
+
+-- the sign of a product with a positive number
+like : (s : Bool) → unlike s false ≡ s
+like false = refl
+like true = refl
 
 pub mul-one : (x : Float) → fits binary32 x ≡ true → mul binary32 x 1·0 ≡ x
 mul-one nan h = unfold mul in refl
@@ -34,10 +40,6 @@ mul-one (fin s m e) h =
     let r : rnd (mag x * mag 1·0) One ≡ mag x = ap (λ (k : ℕ). rnd (mag x * k) One) one-P ∙ rnd-exact (shape x f .grid) One one-pos in
     let i = mul-round s false m e 1 (pos 0) (shape x f) (shape 1·0 one-f32) (subst (λ (k : ℕ). k < Top) (sym r) (shape x f .less)) in
     is-same f (record { f32 = i .f32; signed = i .signed ∙ like s; size = i .size ∙ r })
-  where
-    like : (s : Bool) → unlike s false ≡ s
-    like false = refl
-    like true = refl
 
 -- ---- 0 + y is y
 one-of : (x : Float) → F32 x → (rnd (P x - N x) 1 ≡ P x) × (rnd (N x - P x) 1 ≡ N x)
@@ -113,3 +115,28 @@ pub inf-less-itself : (s : Bool) → sub binary32 (inf s) (inf s) ≡ nan
 unfolding sub add neg
 inf-less-itself false = refl
 inf-less-itself true = refl
+
+-- ---- zeros of either sign
+
+zero-is : (s : Bool) → Is (fin s 0 (pos 0)) s 0
+unfolding fits mag One
+zero-is false = record { f32 = record { fine = tt; fit = tt }; signed = refl; size = refl }
+zero-is true = record { f32 = record { fine = tt; fit = tt }; signed = refl; size = refl }
+
+pub times-zero : (x : Float) → F32 x → mul binary32 x 0·0 ≡ fin (sign x) 0 (pos 0)
+times-zero nan f = absurd (f .fine)
+times-zero (inf s) f = absurd (f .fine)
+times-zero (fin s m e) f =
+    let x = fin s m e in
+    let z = zero-is s in
+    let r : rnd (mag x * mag 0·0) One ≡ 0 = ap (λ (k : ℕ). rnd (mag x * k) One) zero-mag ∙ ap (λ (k : ℕ). rnd k One) (mul-zero (mag x)) ∙ rnd-zero One one-pos in
+    let i = mul-round s false m e 0 (pos 0) (shape x f) (shape 0·0 zero-f32) (subst (λ (k : ℕ). k < Top) (sym r) top-pos) in
+    is-same (z .f32) (record { f32 = i .f32; signed = i .signed ∙ like s; size = i .size ∙ r ∙ sym (z .size) })
+
+-- two zeros add up to -0 only where both are -0
+pub add-zeros : (s t : Bool) → add binary32 (fin s 0 (pos 0)) (fin t 0 (pos 0)) ≡ fin (s && t) 0 (pos 0)
+unfolding add sum round
+add-zeros false false = refl
+add-zeros false true = refl
+add-zeros true false = refl
+add-zeros true true = refl

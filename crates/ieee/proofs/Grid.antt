@@ -3,10 +3,12 @@
 use mathlib.Core.Path.{_≡_, refl, sym, ap, _∙_, subst}
 use mathlib.Core.Logic.{_⊎_, inl, inr}
 use Prim.Native.Nat.{ℕ, suc, _+_, _-_, _*_, _/_, _%_, _^_, _≤_, _<_, zero-le, compare, Ordering, Ordering·lt, Ordering·eq, Ordering·gt}
-use native.Mathlib.Nat.{le-refl, le-trans, le-of-eq, le-antisymm, lt-of-le-of-lt, eq-or-lt-of-le, mul-comm, mul-assoc, mul-left-comm, mul-le-mul-right, mul-le-mul-left, le-of-mul-le-mul-right, le-div-iff-mul-le, div-lt-iff-lt-mul, div-div-eq-div-mul, mul-pos, div-add-mod', eq-zero-or-pos, mod-lt}
+use native.Mathlib.Nat.{le-refl, le-trans, le-of-eq, le-of-lt, le-antisymm, lt-of-le-of-lt, eq-or-lt-of-le, eq-zero-or-pos, mul-comm, mul-assoc, mul-left-comm, mul-one, mul-pos}
+use native.Mathlib.Nat.{mul-le-mul-right, mul-le-mul-left, le-of-mul-le-mul-right, eq-of-mul-eq-mul-right, sub-add-cancel}
+use native.Mathlib.Nat.{le-div-iff-mul-le, div-lt-iff-lt-mul, div-div-eq-div-mul, div-add-mod', mod-lt}
 use native.Mathlib.Omega.{arith}
-use mathlib.Core.Bool.{not}
-use lib.Dec.{T, isLe, isEq, eqb, leb→le, nleb→lt, eqb→eq, eqb-refl, lit<}
+use mathlib.Core.Bool.{Bool, true, false, not}
+use lib.Dec.{T, isLe, isEq, eqb, leb, leb→le, nleb→lt, eqb→eq, eqb-refl, lit<}
 use lib.Arith.{lt-of-le-ne}
 use lib.Pow.{pow-add, pow-pos, pow-mono, shl-lt}
 use lib.Ieee.{size, nearest}
@@ -16,13 +18,20 @@ use lib.Ieee.Nearest.{closest, closest-mono, nearest-ge, div-mono}
 use lib.Ieee.Order.{drop, kept}
 pub use Rattle.ieee.specs.Nearest.{OnGrid, Within}
 
+pub le-or-lt : (a b : ℕ) → (a ≤ b) ⊎ (b < a)
+le-or-lt a b = go (leb a b) (leb→le a b) (nleb→lt a b)
+  where
+    go : (t : Bool) → (T t → a ≤ b) → (T (not t) → b < a) → (a ≤ b) ⊎ (b < a)
+    go true h k = inl (h tt)
+    go false h k = inr (k tt)
+
 -- ---- what `compare` says
-abbrev Cmp : Ordering → ℕ → ℕ → Type 0
+abbrev pub Cmp : Ordering → ℕ → ℕ → Type 0
 Cmp Ordering·lt a b = a < b
 Cmp Ordering·eq a b = a ≡ b
 Cmp Ordering·gt a b = b < a
 
-cmp : (a b : ℕ) → Cmp (compare a b) a b
+pub cmp : (a b : ℕ) → Cmp (compare a b) a b
 cmp a b = go (compare a b) (leb→le a b) (nleb→lt a b) (eqb→eq a b) (λ (e : a ≡ b). subst (λ (x : ℕ). T (eqb a x)) e (eqb-refl a))
   where
     go : (o : Ordering) → (T (isLe o) → a ≤ b) → (T (not (isLe o)) → b < a) → (T (isEq o) → a ≡ b) → (a ≡ b → T (isEq o)) → Cmp o a b
@@ -78,7 +87,7 @@ fewer x y h = omega arith
 room : (j k : ℕ) → j < k → 24 + j ≤ 23 + k
 room j k h = omega arith
 
-size-mono : (a b : ℕ) → a ≤ b → size a ≤ size b
+pub size-mono : (a b : ℕ) → a ≤ b → size a ≤ size b
 size-mono a b h = size-le a (size b) (lt-of-le-of-lt h (size-lt b))
 
 -- ---- n / c rounded
@@ -205,6 +214,27 @@ grid-zero = record { q = 0; j = 0; small = lit< tt; is = refl }
 
 pub grid-small : (q : ℕ) → q < 16777216 → OnGrid q
 grid-small q h = record { q = q; j = 0; small = h; is = omega arith }
+
+-- a power of two, put to a number or taken from it, leaves it on the grid
+pub grid-up : (w k : ℕ) → OnGrid w → OnGrid (w * 2 ^ k)
+grid-up w k g =
+    let e : w * 2 ^ k ≡ g .q * 2 ^ (g .j + k) = ap (λ (x : ℕ). x * 2 ^ k) (g .is) ∙ mul-assoc (g .q) (2 ^ g .j) (2 ^ k) ∙ ap (λ (x : ℕ). g .q * x) (sym (pow-add 2 (g .j) k)) in
+    record { q = g .q; j = g .j + k; small = g .small; is = e }
+
+pub grid-down : (w k : ℕ) → OnGrid (w * 2 ^ k) → OnGrid w
+grid-down w k g = elim (le-or-lt k (g .j)) [ inl l ↦ many l | inr l ↦ few (le-of-lt l) ]
+  where
+    -- a * 2 ^ j, by a power 2 ^ i that is in it
+    part : (a : ℕ) {i j : ℕ} → i ≤ j → a * 2 ^ j ≡ a * 2 ^ (j - i) * 2 ^ i
+    part a {i} {j} l = ap (λ (x : ℕ). a * 2 ^ x) (sym (sub-add-cancel l)) ∙ ap (λ (x : ℕ). a * x) (pow-add 2 (j - i) i) ∙ sym (mul-assoc a (2 ^ (j - i)) (2 ^ i))
+
+    many : k ≤ g .j → OnGrid w
+    many l = record { q = g .q; j = g .j - k; small = g .small; is = eq-of-mul-eq-mul-right (2 ^ k) (pow-pos k) w (g .q * 2 ^ (g .j - k)) (g .is ∙ part (g .q) l) }
+
+    few : g .j ≤ k → OnGrid w
+    few l =
+        let e : w * 2 ^ (k - g .j) ≡ g .q = eq-of-mul-eq-mul-right (2 ^ g .j) (pow-pos (g .j)) (w * 2 ^ (k - g .j)) (g .q) (sym (part w l) ∙ g .is) in
+        grid-small w (lt-of-le-of-lt (le-trans (le-of-eq (sym (mul-one w))) (le-trans (mul-le-mul-left w (pow-pos (k - g .j))) (le-of-eq e))) (g .small))
 
 pub rnd-zero : (c : ℕ) → 0 < c → rnd 0 c ≡ 0
 rnd-zero c C = subst (λ (x : ℕ). rnd x c ≡ 0) (native.Mathlib.Nat.zero-mul c) (rnd-exact grid-zero c C)

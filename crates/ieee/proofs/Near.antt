@@ -1,7 +1,7 @@
 -- The error of a sum, a difference and a product of f32 values, over ℤ: the bridge from `Rounds` to `ring` and `NN`. `val x` is the exact value of a finite f32 in units of
 -- 2 ^ -149. To follow a computation, give each result its integer `val`, take its error from `add-near`, `sub-near` (`Sum`: one part in 2 ^ 24) or `mul-near` (`Near`: that and half a
 -- unit), and its size from `sum-size`, `near-size`; each asks that the exact result is at most `most` and then also says that the result is finite. Assumes nothing.
-use mathlib.Core.Path.{_≡_, refl, sym, ap, _∙_, subst}
+use mathlib.Core.Path.{_≡_, refl, sym, ap, ap₂, _∙_, subst}
 use mathlib.Core.List.{[], _∷_}
 use mathlib.Core.Bool.{Bool, true, false, cond}
 use Prim.Native.Nat.{ℕ, _+_, _*_, _^_, _≤_, _<_}
@@ -14,8 +14,9 @@ use Rattle.ieee.specs.Bounds.{Bounded}
 use Rattle.ieee.proofs.Grid.{grid-pow, Within}
 use Rattle.ieee.proofs.Value.{One, Top, F32, sign, mag, P, N, one-pos}
 use Rattle.ieee.proofs.Ops.{Rounds, Small, small, add-rounds, sub-rounds, mul-rounds}
+use Rattle.ieee.proofs.Digits.{Plus, Minus}
 use Rattle.ieee.proofs.Signed.{near, near-whole}
-use Rattle.ieee.proofs.Ring.{var, con, _⊕_, _⊖_, _⊗_, ring}
+use Rattle.ieee.proofs.Ring.{var, con, _⊕_, _⊖_, _⊗_, neg, ring}
 use Rattle.ieee.proofs.NotNegative.{abs-mul, abs-neg, abs-from, gap-above, gap-below, gap-of}
 
 -- the value of a finite f32, in units
@@ -105,6 +106,25 @@ sub-near {x} {y} f g h =
 pub record Ratio (x : Float) (a : ℤ) (c : ℕ) : Type 0 where
   pub f32 : F32 x
   pub is : pos c *ℤ val x ≡ a *ℤ pos One
+
+-- from n * u units, where c * u is 1.0
+pub plus-ratio : {x : Float} (n u c : ℕ) → One ≡ c * u → Plus x (n * u) → Ratio x (pos n) c
+plus-ratio {x} n u c o p = record {
+  f32 = p .f32;
+  is = ap₂ (λ (i j : ℕ). pos c *ℤ (pos i -ℤ pos j)) (p .up) (p .down) ∙ go (pos c) (pos n) (pos u) ∙ ap (λ (k : ℕ). pos n *ℤ pos k) (sym o);
+}
+  where
+    go : (c n u : ℤ) → c *ℤ (n *ℤ u -ℤ pos 0) ≡ n *ℤ (c *ℤ u)
+    go c n u = ring (c ∷ n ∷ u ∷ []) (var 0 ⊗ (var 1 ⊗ var 2 ⊖ con (pos 0))) (var 1 ⊗ (var 0 ⊗ var 2)) tt
+
+pub minus-ratio : {x : Float} (n u c : ℕ) → One ≡ c * u → Minus x (n * u) → Ratio x (negℤ (pos n)) c
+minus-ratio {x} n u c o p = record {
+  f32 = p .f32;
+  is = ap₂ (λ (i j : ℕ). pos c *ℤ (pos i -ℤ pos j)) (p .up) (p .down) ∙ go (pos c) (pos n) (pos u) ∙ ap (λ (k : ℕ). negℤ (pos n) *ℤ pos k) (sym o);
+}
+  where
+    go : (c n u : ℤ) → c *ℤ (pos 0 -ℤ n *ℤ u) ≡ negℤ n *ℤ (c *ℤ u)
+    go c n u = ring (c ∷ n ∷ u ∷ []) (var 0 ⊗ (con (pos 0) ⊖ var 1 ⊗ var 2)) (neg (var 1) ⊗ (var 0 ⊗ var 2)) tt
 
 -- c p = a u, and so are the products with y
 scaled : (p a y : ℤ) (c u : ℕ) → pos c *ℤ p ≡ a *ℤ pos u → c * natAbs (p *ℤ y) ≡ natAbs (a *ℤ y) * u

@@ -1,26 +1,19 @@
 -- A finite f32 is its sign and its size: two with the same sign and the same size are the same float. So x + 0.0, x * 1.0 and 0.0 - x give x or -x itself, and not only its value.
 -- Assumes nothing.
-use mathlib.Core.Path.{_≡_, refl, sym, ap, _∙_}
-use Prim.Native.Nat.{ℕ, _+_, _-_, _*_, _/_, _^_, _<_}
+use mathlib.Core.Path.{_≡_, refl, sym, ap, ap₂, _∙_}
+use Prim.Native.Nat.{ℕ, _+_, _<_}
 use native.Mathlib.Omega.{arith}
 use mathlib.Core.Bool.{Bool, true, false, cond}
-use lib.Ieee.{Float, nan, inf, fin, binary32, size, top, hid, toBits}
+use lib.Ieee.{Float, binary32, ofBits}
 use lib.Ieee.Bits.{ofBits-toBits}
-use Rattle.ieee.proofs.Value.{One, F32, sign, mag, P, N, Is}
-
--- the bit pattern, by the sign and the size alone
-pattern : Bool → ℕ → ℕ
-pattern s n = let k = size n - 24 in cond s (top binary32) 0 + k * hid binary32 + n / 2 ^ k
-
-pattern-is : (x : Float) → F32 x → toBits binary32 x ≡ pattern (sign x) (mag x)
-unfolding toBits mag One pattern
-pattern-is nan f = absurd (f .fine)
-pattern-is (inf s) f = absurd (f .fine)
-pattern-is (fin s m e) f = refl
+use Rattle.ieee.proofs.Value.{F32, sign, mag, P, N, Is}
+use Rattle.ieee.proofs.Bits.{pattern, to-bits}
 
 pub unique : (x y : Float) → F32 x → F32 y → sign x ≡ sign y → mag x ≡ mag y → x ≡ y
 unique x y f g s m =
-    sym (ofBits-toBits binary32 x (f .fit)) ∙ ap (lib.Ieee.ofBits binary32) (pattern-is x f ∙ ap (λ (b : Bool). pattern b (mag x)) s ∙ ap (pattern (sign y)) m ∙ sym (pattern-is y g)) ∙ ofBits-toBits binary32 y (g .fit)
+    sym (ofBits-toBits binary32 x (f .fit))
+    ∙ ap (ofBits binary32) (to-bits x (f .fine) ∙ ap₂ (λ (b : Bool) (n : ℕ). cond b 2147483648 0 + pattern n) s m ∙ sym (to-bits y (g .fine)))
+    ∙ ofBits-toBits binary32 y (g .fit)
 
 -- where the value is not 0 it has the sign in it
 pub same-value : (x z : Float) → F32 x → F32 z → P z ≡ P x → N z ≡ N x → 0 < mag x → z ≡ x

@@ -1,46 +1,76 @@
--- What callers use of the roots. `root-nearest`: the square root in the terms of crate `ieee`. `root-meant` and the like: no f32 is nearer.
--- `unique`: two f32 than which none is nearer are equal, but for a tie. `root-bound`, `root-mono`: order. Assumes nothing.
-use mathlib.Core.Path.{_≡_, refl, sym, ap, _∙_, subst}
-use mathlib.Core.Logic.{_⊎_, inl, inr}
+-- What callers use of the roots. `root-meant`, `half-meant`, `fourth-meant`: no f32 is nearer to the root; `root-only`, `half-only`, `fourth-only`: no other f32 is as near.
+-- `root-nearest`: the square root in the terms of crate `ieee`. `root-bound`, `root-mono`: order. Assumes nothing.
+use mathlib.Core.Path.{_≡_, refl, sym, ap, _∙_}
+use mathlib.Core.Logic.{inl, inr}
 use mathlib.Core.Bool.{false}
-use Prim.Native.Nat.{ℕ, _+_, _*_, _^_, _≤_, _<_}
-use native.Mathlib.Nat.{le-trans, le-of-eq, le-antisymm, lt-of-lt-of-le, lt-irrefl, add-comm, mul-le-mul, mul-le-mul-right, mul-lt-mul-of-pos-left, mul-lt-mul-of-pos-right, eq-or-lt-of-le}
+use Prim.Native.Nat.{ℕ, _+_, _-_, _*_, _^_, _≤_, _<_}
+use native.Mathlib.Nat.{le-trans, le-of-eq, le-antisymm, lt-of-lt-of-le, lt-irrefl, eq-or-lt-of-le, add-comm, mul-le-mul, mul-le-mul-right, pow-le-pow-left}
+use native.Mathlib.Nat.{mul-lt-mul-of-pos-left, mul-lt-mul-of-pos-right}
 use native.Mathlib.Omega.{arith}
 use lib.IntN.{pos}
-use lib.Dec.{lit<}
+use lib.Dec.{lit<, lit≤}
 use lib.Ieee.{Float, fin, round}
 use Rattle.ieee.specs.Units.{One, F32, mag, P, N}
 use Rattle.ieee.specs.Nearest.{OnGrid, Root, Nearest}
-use Rattle.ieee.proofs.Grid.{grid-at}
+use Rattle.ieee.proofs.Grid.{le-or-lt, grid-at, grid-pow, grid-up}
 use Rattle.ieee.proofs.Value.{shape, one-pos}
-use Rattle.roots.specs.Root.{root, rootPower, NearestRoot}
-use Rattle.roots.proofs.Closest.{le-or-lt}
+use Rattle.ieee.proofs.Signed.{one-sided, mag-is, P-grid}
+use Rattle.ieee.proofs.Unique.{same-value}
+use Rattle.roots.specs.Root.{powerOf, root, rootPower, NearestRoot}
 use Rattle.roots.proofs.Rooted.{GridRoot}
 use Rattle.roots.proofs.Squares.{square-is}
-use Rattle.roots.proofs.Meaning.{RootOf, square, fourth, root-rooted, power-rooted}
+use Rattle.roots.proofs.Ties.{root-least, no-tie}
+use Rattle.roots.proofs.Meaning.{Power, power-large, RootOf, square, fourth, root-rooted, power-rooted}
 
--- ---- no f32 is nearer
-meant : {p c : ℕ} {x y : Float} → RootOf p c x y → NearestRoot p (P x * c) (P y)
-meant r = record { above = λ v f h. r .near .above (mag v) (shape v f .grid) h; below = λ v f h. r .near .below (mag v) (shape v f .grid) h }
+-- ---- document 01, item 1: "Square root and fourth root, nearest f32, ties to even." No f32 is nearer
+meant : {p : ℕ} {x y : Float} → RootOf p x y → NearestRoot p x y
+meant r = record { f32 = r .f32; plus = r .plus; above = λ v f h. r .near .above (mag v) (shape v f .grid) h; below = λ v f h. r .near .below (mag v) (shape v f .grid) h }
 
-pub root-meant : (x : Float) → F32 x → N x ≡ 0 → NearestRoot 2 (P x * 2 ^ 149) (P (root x))
+pub root-meant : (x : Float) → F32 x → N x ≡ 0 → NearestRoot 2 x (root x)
 root-meant x f n = meant (root-rooted x f n)
 
-pub half-meant : (x : Float) → F32 x → N x ≡ 0 → NearestRoot 2 (P x * 2 ^ 149) (P (rootPower 2 x))
-half-meant x f n = meant (power-rooted 2 (2 ^ 149) square x f n)
+pub half-meant : (x : Float) → F32 x → N x ≡ 0 → NearestRoot 2 x (rootPower 2 x)
+half-meant x f n = meant (power-rooted square x f n)
 
-pub fourth-meant : (x : Float) → F32 x → N x ≡ 0 → NearestRoot 4 (P x * 2 ^ 447) (P (rootPower 4 x))
-fourth-meant x f n = meant (power-rooted 4 (2 ^ 447) fourth x f n)
+pub fourth-meant : (x : Float) → F32 x → N x ≡ 0 → NearestRoot 4 x (rootPower 4 x)
+fourth-meant x f n = meant (power-rooted fourth x f n)
 
--- two such are equal, or lie equally far from the root on its two sides
-pub unique : (p S : ℕ) (u v : Float) → F32 u → F32 v → NearestRoot p S (mag u) → NearestRoot p S (mag v) → (mag u ≡ mag v) ⊎ ((mag u + mag v) ^ p ≡ 2 ^ p * S)
-unique p S u v f g a b = elim (le-or-lt (mag u) (mag v)) [
-  | inr h ↦ inr (le-antisymm (subst (λ (x : ℕ). x ^ p ≤ 2 ^ p * S) (add-comm (mag v) (mag u)) (a .below v g h)) (b .above u f h))
-  | inl l ↦ elim (eq-or-lt-of-le l) [
-    | inl e ↦ inl e
-    | inr h ↦ inr (le-antisymm (b .below u f h) (subst (λ (x : ℕ). 2 ^ p * S ≤ x ^ p) (add-comm (mag v) (mag u)) (a .above v g h)))
-  ]
-]
+-- ---- and no other is as near, so that there is no tie
+only : {p : ℕ} → Power p → {x y z : Float} → F32 x → 0 < P x → RootOf p x z → NearestRoot p x y → y ≡ z
+only {p} q {x} {y} {z} f some r n = same-value z y (r .f32) (n .f32) same (n .plus ∙ sym (r .plus)) (omega (arith, size, root-least p (q .some) (grid-pow 26) large (r .near)))
+  where
+    large : (2 ^ 26) ^ p ≤ powerOf p (P x)
+    large = power-large q (P x) some
+
+    size : mag z ≡ P z
+    size = omega (arith, mag-is z, r .plus)
+
+    turn : (mag z + P y) ^ p ≡ (P y + P z) ^ p
+    turn = ap (λ (k : ℕ). k ^ p) (omega (arith, size))
+
+    tie : (P y + P z) ^ p ≡ 2 ^ p * powerOf p (P x) → P y ≡ P z
+    tie = no-tie p (q .some) (grid-up (P x) (149 * (p - 1)) (P-grid f)) (le-trans (pow-le-pow-left (lit≤ tt) p) large) (r .near)
+
+    same : P y ≡ P z
+    same = elim (le-or-lt (P y) (P z)) [
+      | inr h ↦ tie (le-antisymm (le-trans (le-of-eq (sym turn)) (n .below z (r .f32) (omega (arith, size)))) (r .near .above (P y) (P-grid (n .f32)) h))
+      | inl l ↦ elim (eq-or-lt-of-le l) [
+        | inl e ↦ e
+        | inr h ↦ tie (le-antisymm (r .near .below (P y) (P-grid (n .f32)) h) (le-trans (n .above z (r .f32) (omega (arith, size))) (le-of-eq turn)))
+      ]
+    ]
+
+plus : (x : Float) → 0 < P x → N x ≡ 0
+plus x some = elim (one-sided x) [ inl z ↦ omega arith | inr z ↦ z ]
+
+pub root-only : {x y : Float} → F32 x → 0 < P x → NearestRoot 2 x y → y ≡ root x
+root-only {x} f some = only square f some (root-rooted x f (plus x some))
+
+pub half-only : {x y : Float} → F32 x → 0 < P x → NearestRoot 2 x y → y ≡ rootPower 2 x
+half-only {x} f some = only square f some (power-rooted square x f (plus x some))
+
+pub fourth-only : {x y : Float} → F32 x → 0 < P x → NearestRoot 4 x y → y ≡ rootPower 4 x
+fourth-only {x} f some = only fourth f some (power-rooted fourth x f (plus x some))
 
 -- ---- in the terms of crate `ieee`
 both : (w r S : ℕ) → (w + r) ^ 2 ≡ (r + w) * (r + w)
@@ -70,15 +100,6 @@ root-le {r} {S} {c} g o h = elim (le-or-lt r c) [ inl l ↦ l | inr l ↦ absurd
 
     more : (r + c) * (r + c) ≤ 4 * S → (c + c + 1) * (c + c + 1) ≤ (r + c) * (r + c) → ⊥
     more a b = omega arith
-
-pub root-ge : {r S c : ℕ} → Root r S → OnGrid c → c * c ≤ S → c ≤ r
-root-ge {r} {S} {c} g o h = elim (le-or-lt c r) [ inl l ↦ l | inr l ↦ absurd (less (r + c) (g .above c o l) (mul-le-mul (step l) (step l))) ]
-  where
-    step : r < c → r + c + 1 ≤ c + c
-    step l = omega arith
-
-    less : (t : ℕ) → 4 * S ≤ t * t → (t + 1) * (t + 1) ≤ (c + c) * (c + c) → ⊥
-    less t a b = omega arith
 
 one-at : (k : ℕ) → k ≤ 16777216 → OnGrid (k * One)
 unfolding One

@@ -7,7 +7,7 @@ use native.Mathlib.Nat.{le-trans, le-of-lt, lt-of-lt-of-le, lt-of-le-of-lt, lt-i
 use native.Mathlib.Omega.{arith}
 use lib.Dec.{lit<, lit≤}
 use Rattle.roots.specs.Whole.{topOf, Ranged, NearWhole}
-use Rattle.roots.proofs.Closest.{le-or-lt}
+use Rattle.ieee.proofs.Grid.{le-or-lt}
 
 top-mono : (f : Bool) {r s : ℕ} → r ≤ s → topOf f r ≤ topOf f s
 unfolding topOf

@@ -1,12 +1,7 @@
--- What the inner functions find, in whole numbers: the digits of an f32, and the number nearest to a root. Assumes nothing.
-use Prim.Native.Nat.{ℕ, _+_, _-_, _*_, _/_, _%_, _^_, _≤_, _<_}
+-- What the inner functions find, in whole numbers: the digits of an f32's size, and the number nearest to a root. Assumes nothing.
+use Prim.Native.Nat.{ℕ, _+_, _-_, _*_, _/_, _^_, _≤_, _<_}
 use mathlib.Core.Path.{_≡_}
-use mathlib.Core.Bool.{Bool, true, false, cond}
-use lib.Dec.{ltb}
-
--- the units of the positive finite f32 whose bits are b
-abbrev pub unitsOf : ℕ → ℕ
-unitsOf b = cond (ltb b 8388608) b ((8388608 + b % 8388608) * 2 ^ (b / 8388608 - 1))
+use mathlib.Core.Bool.{Bool, true, false}
 
 -- n units as m * 2 ^ (e - 23), m having 24 digits
 pub record Normal (n m e : ℕ) : Type 0 where

@@ -7,8 +7,9 @@ ghost use mathlib.Core.Path.{_≡_};
 ghost use mathlib.Core.Bool.{true, false, cond};
 ghost use Prim.Native.Nat.{_+_, _-_, _*_, _%_, _^_, _<_, _≤_};
 ghost use lib.Ieee.{binary32, ofBits};
+ghost use Rattle.ieee.specs.Units.{unitsOf};
 ghost use Rattle.roots.specs.Root.{rootUnits};
-ghost use Rattle.roots.specs.Whole.{unitsOf, Ranged};
+ghost use Rattle.roots.specs.Whole.{Ranged};
 
 // m with 23 or 24 more digits, so that what is left of the exponent e + 126 is even.
 fn even_rest(m: u64, e: u64) -> u64
@@ -46,7 +47,8 @@ fn fourth_bits(b: u32) -> u32
     let p = parts(b);
     let e = p.e;
     let near = square_bits(square_bits(b));
-    let r = nearest_whole(fourth_rest(p.m, e), 8388608 + near as u64 % 8388608, true);
+    let close = 8388608 + near as u64 % 8388608;
+    let r = nearest_whole(fourth_rest(p.m, e), close, true);
     ((e + 355) / 4 * 8388608 + r) as u32
 }
 

@@ -13,14 +13,14 @@ square-bits-requires c κs = search needs
 square-bits-requires-2 : tie.Need-square-bits-requires-2
 square-bits-requires-2 c κs = search needs
 
+cast-close : tie.Need-cast-close
+cast-close c = search needs
+
+add-close : tie.Need-add-close
+add-close c = search needs
+
 fourth-rest-requires : tie.Need-fourth-rest-requires
 fourth-rest-requires c κs = search needs
-
-cast-nearest-whole : tie.Need-cast-nearest-whole
-cast-nearest-whole c = search needs
-
-add-nearest-whole : tie.Need-add-nearest-whole
-add-nearest-whole c = search needs
 
 nearest-whole-requires : tie.Need-nearest-whole-requires
 nearest-whole-requires c κs = search needs
@@ -47,9 +47,9 @@ fourth-bits-spec =
     parts-requires
     square-bits-requires
     square-bits-requires-2
+    cast-close
+    add-close
     fourth-rest-requires
-    cast-nearest-whole
-    add-nearest-whole
     nearest-whole-requires
     add-result
     mul-result
