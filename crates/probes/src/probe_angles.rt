@@ -1,6 +1,7 @@
+use angles::Turn;
 use angles::filter::Coefficients;
 ghost use mathlib.Core.Path.{_≡_};
-ghost use Rattle.angles.specs.Angle.{cosine, sine, w0, Listed};
+ghost use Rattle.angles.specs.Angle.{cosine, sine, w0, Meant, Listed};
 ghost use Rattle.angles.specs.Filter.{coefficientsOf};
 
 // At a rate that is not listed, zeros.
@@ -9,7 +10,7 @@ pub extern "C" fn probe_coefficients(rate: u32) -> Coefficients
     ensures { λ r. ⌜ (Listed rate → r ≡ coefficientsOf (cosine (w0 rate)) (sine (w0 rate))) ⌝ }
 {
     match rate {
-        32000 | 44100 | 48000 | 88200 | 96000 => angles::coefficients(rate),
+        8000..=192000 => angles::coefficients(rate),
         _ => Coefficients {
             a1: 0.0,
             a2: 0.0,
@@ -17,5 +18,16 @@ pub extern "C" fn probe_coefficients(rate: u32) -> Coefficients
             b1: 0.0,
             b2: 0.0,
         },
+    }
+}
+
+// At a rate that is not listed, zeros.
+#[no_mangle]
+pub extern "C" fn probe_angle(rate: u32) -> Turn
+    ensures { λ r. ⌜ (Listed rate → Meant 0 (w0 rate) (r .cos) × Meant 1 (w0 rate) (r .sin)) ⌝ }
+{
+    match rate {
+        8000..=192000 => angles::angle(rate),
+        _ => Turn { cos: 0.0, sin: 0.0 },
     }
 }

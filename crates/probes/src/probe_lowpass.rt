@@ -9,7 +9,7 @@ pub extern "C" fn probe_lowpass_new(rate: u32) -> BiquadLowpassState
     ensures { λ r. ⌜ (Listed rate → r ≡ new rate) ⌝ }
 {
     match rate {
-        32000 | 44100 | 48000 | 88200 | 96000 => BiquadLowpassState::new(rate),
+        8000..=192000 => BiquadLowpassState::new(rate),
         _ => BiquadLowpassState {
             a1: 0.0,
             a2: 0.0,
