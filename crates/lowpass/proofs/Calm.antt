@@ -1,10 +1,10 @@
--- The low-pass cannot run away. `Calm X f` is what holds of a filter between two samples, X bounding the samples: a new filter has it (`calm-new`), a sample of size at most X
+-- The low-pass cannot run away. `Calm X f` is what holds of a filter between two samples, X bounding the samples: a new filter has it (`calm-start`), a sample of size at most X
 -- keeps it (`calm-next`, `calm-all`), it holds for every larger X (`calm-more`), and with it every output is finite and at most 2 X (`output-bounded`, `filtered-bounded`).
 -- X is in units, from 2 ^ -100 to 2 ^ 20 (`Range`). Assumes nothing.
 use mathlib.Core.List.{List, [], _∷_}
 use Prim.Native.Nat.{ℕ, _*_, _≤_}
 use native.Mathlib.Nat.{le-trans, mul-le-mul-left}
-use lib.Dec.{T, lit≤}
+use lib.Dec.{lit≤}
 use lib.IntN.{natAbs, _-ℤ_}
 use lib.Ieee.{Float}
 use Rattle.angles.specs.declared.filter.Coefficients.{Coefficients}
@@ -13,10 +13,10 @@ use Rattle.ieee.proofs.Constants.{zero-f32}
 use Rattle.ieee.proofs.Bound.{bounded-by, zero-bounded}
 use Rattle.ieee.proofs.Near.{val, abs-most, bounded-abs, most}
 use Rattle.lowpass.specs.Lowpass.{BiquadLowpassState, fresh, output, next, filtered, afterAll}
-use Rattle.lowpass.specs.Bound.{Bounded, All, Range, passes}
+use Rattle.lowpass.specs.Bound.{Bounded, All, Range}
 use Rattle.lowpass.proofs.Ellipse.{Inside, start, wider, bound}
 use Rattle.lowpass.proofs.Boxed.{step}
-use Rattle.lowpass.proofs.Passing.{Passing, passing, α-high, A-high}
+use Rattle.lowpass.proofs.Passing.{Passing, α-high, A-high}
 use Rattle.lowpass.proofs.Errors.{small}
 use Rattle.lowpass.proofs.Rounded.{steps}
 
@@ -37,6 +37,10 @@ high-enough : {X : ℕ} → Range X → 32 * X ≤ most
 unfolding most
 high-enough r = le-trans (mul-le-mul-left 32 (r .high)) (lit≤ tt)
 
+-- ---- the last output
+pub last-bounded : {X : ℕ} {f : BiquadLowpassState} → Calm X f → Bounded (2 * X) (f .y1)
+last-bounded c = bounded-abs (c .y1-f32) (bound (c .inside))
+
 -- ---- the output, with the ellipse kept
 record Made (X : ℕ) (rate : ℕ) (f : BiquadLowpassState) (x : Float) : Type 0 where
   f32 : F32 (output f x)
@@ -47,7 +51,7 @@ made {X} {f} r c x h =
     let C = c .known in
     let k₁ : natAbs (val (f .y1)) ≤ 2 * X = bound (c .inside) in
     let k₂ : natAbs (val (f .y2)) ≤ 2 * X = abs-most (c .y2-small) in
-    let s = steps X (le-trans (lit≤ tt) (low-enough r)) (high-enough r) f x C h (c .x1-small) (c .x2-small) (bounded-abs (c .y1-f32) k₁) (c .y2-small) in
+    let s = steps X (le-trans (lit≤ tt) (low-enough r)) (high-enough r) f x C h (c .x1-small) (c .x2-small) (last-bounded c) (c .y2-small) in
     record {
       f32 = s .0;
       kept = step (c .rate) (C .α) (C .A) (C .k) (C .box) X (val (output f x)) (val (f .y1)) (val (f .y2)) (c .inside)
@@ -61,16 +65,13 @@ output-bounded r c {x} h = let m = made r c x h in bounded-abs (m .f32) (bound (
 pub calm-next : {X : ℕ} {f : BiquadLowpassState} → Range X → Calm X f → {x : Float} → Bounded X x → Calm X (next f x)
 calm-next r c {x} h =
     let m = made r c x h in
-    record { rate = c .rate; known = c .known; x1-small = h; x2-small = c .x1-small; y1-f32 = m .f32; y2-small = bounded-abs (c .y1-f32) (bound (c .inside)); inside = m .kept }
+    record { rate = c .rate; known = c .known; x1-small = h; x2-small = c .x1-small; y1-f32 = m .f32; y2-small = last-bounded c; inside = m .kept }
 
 -- a new filter
 pub calm-start : (rate X : ℕ) (c : Coefficients) → Passing rate (c .a1) (c .a2) (c .b0) (c .b1) (c .b2) → Calm X (fresh c)
 unfolding mag One
 calm-start rate X c k =
     record { rate = rate; known = k; x1-small = zero-bounded X; x2-small = zero-bounded X; y1-f32 = zero-f32; y2-small = zero-bounded (2 * X); inside = start rate X }
-
-pub calm-new : (rate X : ℕ) (c : Coefficients) → T (passes rate (fresh c)) → Calm X (fresh c)
-calm-new rate X c t = calm-start rate X c (passing rate (fresh c) t)
 
 pub calm-more : {X Y : ℕ} {f : BiquadLowpassState} → X ≤ Y → Calm X f → Calm Y f
 calm-more l c = record {

@@ -1,35 +1,76 @@
--- The coefficients of the five rates pass: a new filter of a listed rate is calm, and stays so. Assumes nothing.
-use mathlib.Core.Path.{sym, subst}
-use mathlib.Core.List.{List}
-use Prim.Native.Nat.{ℕ, _*_}
-use lib.Dec.{T}
-use lib.Ieee.{Float, fits, ofBits}
-use Rattle.angles.specs.Angle.{Listed, r32000, r44100, r48000, r88200, r96000, w0, cosine, sine}
-use Rattle.angles.specs.Filter.{coefficientsOf, coefficientsAt}
-use Rattle.angles.specs.declared.filter.Coefficients.{Coefficients}
-use Rattle.angles.proofs.Table.{coefficients-are}
-use Rattle.ieee.specs.Units.{One, mag}
-use Rattle.lowpass.specs.Lowpass.{fresh, new, filtered}
-use Rattle.lowpass.specs.Bound.{Bounded, All, Range, passes}
-use Rattle.lowpass.proofs.Calm.{Calm, calm-new, filtered-bounded}
+-- At every rate that is accepted a new filter is calm for every bound on the samples, and stays so: so its outputs are at most twice the largest sample. Assumes nothing.
+use mathlib.Core.Path.{_≡_, refl, subst}
+use mathlib.Core.List.{List, [], _∷_, _++_}
+use Prim.Native.Nat.{ℕ, _+_, _*_, _^_, _≤_}
+use native.Mathlib.Nat.{le-trans, le-refl, le-max-left, le-max-right}
+use native.Mathlib.Omega.{arith}
+use lib.Ieee.{Float}
+use Rattle.ieee.specs.Units.{One, F32, mag}
+use Rattle.ieee.proofs.Digits.{Minus}
+use Rattle.ieee.proofs.Near.{plus-ratio, minus-ratio}
+use Rattle.angles.specs.Angle.{Listed, w0, cosine, sine}
+use Rattle.angles.specs.Filter.{coefficientsOf}
+use Rattle.angles.proofs.Made.{one-24, Made}
+use Rattle.angles.proofs.Sizes.{Sized, sized, whole, coefficients-made}
+use Rattle.lowpass.specs.Lowpass.{BiquadLowpassState, new, next, filtered, afterAll}
+use Rattle.lowpass.specs.Bound.{Bounded, All, Range, largest, Twice}
+use Rattle.lowpass.proofs.Passing.{Passing}
+use Rattle.lowpass.proofs.Box as box
+use Rattle.lowpass.proofs.Calm.{Calm, last-bounded, calm-start, calm-all, filtered-bounded}
 
--- by their bits
-at-passes : {rate : ℕ} (l : Listed rate) → T (passes rate (fresh (coefficientsAt l)))
-unfolding passes mag One fits ofBits
-at-passes r32000 = tt
-at-passes r44100 = tt
-at-passes r48000 = tt
-at-passes r88200 = tt
-at-passes r96000 = tt
+-- ---- the coefficients lie in the box
+one-48 : One ≡ 281474976710656 * 2 ^ 101
+unfolding One
+one-48 = refl
 
-pub listed-passes : {rate : ℕ} → Listed rate → T (passes rate (new rate))
-unfolding new
-listed-passes {rate} l = subst (λ (k : Coefficients). T (passes rate (fresh k))) (sym (coefficients-are l)) (at-passes l)
+passing : {cos sin : Float} {r C v a : ℕ} → Listed r → C + v ≡ 16777216 → Sized r v a → Made cos sin C v a
+    → let c = coefficientsOf cos sin in Passing r (c .a1) (c .a2) (c .b0) (c .b1) (c .b2)
+unfolding coefficientsOf
+passing l w s m = record {
+  α = m .α;
+  A = 2 * m .A;
+  k = box.k l w s m;
+  β₀ = m .β₂;
+  β₁ = m .β₁;
+  β₂ = m .β₂;
+  a1-is = minus-ratio (2 * m .A) (2 ^ 125) 16777216 one-24 (subst (Minus _) (even (m .A) (2 ^ 125)) (m .a1-is));
+  a2-is = plus-ratio (m .α) (2 ^ 125) 16777216 one-24 (m .a2-is);
+  b0-is = plus-ratio (m .β₂) (2 ^ 101) 281474976710656 one-48 (m .b2-is);
+  b1-is = plus-ratio (m .β₁) (2 ^ 101) 281474976710656 one-48 (m .b1-is);
+  b2-is = plus-ratio (m .β₂) (2 ^ 101) 281474976710656 one-48 (m .b2-is);
+  box = box.box l w s m;
+  rate-high = l .high;
+  gain = box.gain l w s m;
+}
+  where
+    even : (a u : ℕ) → a * (2 * u) ≡ 2 * a * u
+    even a u = omega arith
 
+pub listed-passes : {rate : ℕ} → Listed rate → let c = coefficientsOf (cosine (w0 rate)) (sine (w0 rate)) in Passing rate (c .a1) (c .a2) (c .b0) (c .b1) (c .b2)
+listed-passes l = passing l (whole l) (sized l) (coefficients-made l)
+
+-- ---- a new filter
 pub calm-listed : {rate : ℕ} → Listed rate → (X : ℕ) → Calm X (new rate)
 unfolding new
-calm-listed {rate} l X = calm-new rate X (coefficientsOf (cosine (w0 rate)) (sine (w0 rate))) (listed-passes l)
+calm-listed {rate} l X = calm-start rate X (coefficientsOf (cosine (w0 rate)) (sine (w0 rate))) (listed-passes l)
 
--- document 01's filter: at a listed rate, from the start, samples of size at most X give finite outputs of size at most 2 X
+-- samples of size at most X give outputs of size at most 2 X
 pub lowpass-bounded : {rate X : ℕ} → Listed rate → Range X → (xs : List Float) → All (Bounded X) xs → All (Bounded (2 * X)) (filtered (new rate) xs)
 lowpass-bounded {rate} {X} l r xs h = filtered-bounded r (calm-listed l X) xs h
+
+-- ---- fed xs: calm for every X that is in range and not below the largest of them
+within : {X : ℕ} (xs : List Float) → All F32 xs → largest xs ≤ X → All (Bounded X) xs
+within [] h l = tt
+within (x ∷ xs) h l = (record { f32 = h .0; most = le-trans (le-max-left (mag x) (largest xs)) l }, within xs (h .1) (le-trans (le-max-right (mag x) (largest xs)) l))
+
+pub calm-fed : {rate X : ℕ} → Listed rate → Range X → (xs : List Float) → All F32 xs → largest xs ≤ X → Calm X (afterAll (new rate) xs)
+calm-fed {rate} {X} l r xs h k = calm-all r (calm-listed l X) xs (within xs h k)
+
+-- one sample more
+pub fed-more : (f : BiquadLowpassState) (xs : List Float) (x : Float) → afterAll f (xs ++ (x ∷ [])) ≡ next (afterAll f xs) x
+fed-more f [] x = refl
+fed-more f (y ∷ xs) x = fed-more (next f y) xs x
+
+-- document 02, R-7
+pub lowpass-twice : {rate : ℕ} → Listed rate → Twice rate
+lowpass-twice l xs h r = last-bounded (calm-fed l r xs h (le-refl (largest xs)))

@@ -2,7 +2,11 @@
 use mathlib.Core.Bool.{Bool, true, false, _&&_}
 use mathlib.Core.List.{List, [], _∷_}
 use lib.Dec.{T}
-pub use Rattle.lowpass.specs.Bound.{every}
+
+-- every one of a list of tests
+abbrev pub every : List Bool → Bool
+every [] = true
+every (b ∷ bs) = b && every bs
 
 pub both : (a b : Bool) → T (a && b) → T a × T b
 both true true w = (tt, tt)
