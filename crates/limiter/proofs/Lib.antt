@@ -7,5 +7,4 @@ pub mod Lowered
 pub mod Growth
 pub mod Return
 pub mod Theorem
-pub mod Cases
 pub mod Sums

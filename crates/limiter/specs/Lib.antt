@@ -1,6 +1,5 @@
 pub mod Limiter
 pub mod Level
 pub mod Range
-pub mod Cases
 pub mod Sums
 pub mod Places

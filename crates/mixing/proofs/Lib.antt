@@ -2,3 +2,4 @@ pub mod Laws
 pub mod Parts
 pub mod Rows
 pub mod Passes
+pub mod Meant

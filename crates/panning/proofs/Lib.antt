@@ -1,5 +1,4 @@
 pub mod Rows
 pub mod Arms
 pub mod Corners714
-pub mod Cases
 pub mod Mixed

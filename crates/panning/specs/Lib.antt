@@ -4,4 +4,3 @@ pub mod Table
 pub mod Hall
 pub mod Corners714
 pub mod Found
-pub mod Cases

@@ -1,8 +1,5 @@
--- Turns of a loop, a number that an f32 holds, and an applied block from what was read. Assumes nothing.
-use Prim.Native.Nat.{ℕ, suc, _+_, _-_, _<_, _≤_, _^_}
-use lib.Dec.{T, le→leb}
-use lib.IntN.{pos}
-use lib.Ieee.{inFloat, binary32}
+-- Turns of a loop, and an applied block from what was read. Assumes nothing.
+use Prim.Native.Nat.{ℕ, suc, _+_, _-_, _<_}
 use mathlib.Core.Path.{_≡_}
 use native.Mathlib.Numerals.{add-one}
 use native.Mathlib.Omega.{arith}
@@ -27,11 +24,6 @@ turn n i f s h =
 pub ended : {S : Type 0} (n i : ℕ) (f : ℕ → S → S) (s : S) → n - i ≡ 0 → times (n - i) i f s ≡ s
 unfolding times
 ended n i f s e = rw e
-
--- a number that an f32 holds
-pub in-float : (m : ℕ) → m ≤ 2 ^ 24 → T (inFloat binary32 (pos m))
-unfolding inFloat
-in-float m h = le→leb m (2 ^ 24) h
 
 -- an applied block, from what was read
 pub moved-by : (arrived : Bool) (k : ℕ) (s : DynamicSourceState) (is : List ℕ) (b : BlockPosition) (p : Placed) → b ≡ blockPosition is k → p ≡ placed b (s .place) → moved arrived k s is ≡ afterMove arrived k s is b p

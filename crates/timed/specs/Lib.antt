@@ -3,4 +3,3 @@ pub mod Infos
 pub mod Objects
 pub mod Slot
 pub mod State
-pub mod Cases

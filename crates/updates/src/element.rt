@@ -1,6 +1,6 @@
 // An element of an update: `apply_element`. The element's record is record p of the metadata.
 ghost use mathlib.Core.Path.{_≡_};
-ghost use mathlib.Core.Bool.{not};
+ghost use mathlib.Core.Bool.{not, cond};
 ghost use Prim.Native.Nat.{ℕ, _+_, _-_, _*_, _<_, _≤_};
 ghost use lib.ListN.{length, replicate};
 ghost use Rattle.fields.specs.Block.{blocks};
@@ -90,9 +90,13 @@ fn schedule_of(schedule: [BlockState; 8], meta: &[u8], p: usize, n: usize) -> [B
     next
 }
 
-fn new_tracks() -> [Track; 16]
-    ensures { λ r. ⌜ r ≡ replicate 16 newTrack ⌝ }
+// The flags and targets of an element that is kept or new.
+fn next_tracks(tracks: [Track; 16], kept: bool) -> [Track; 16]
+    ensures { λ r. ⌜ r ≡ cond kept tracks (replicate 16 newTrack) ⌝ }
 {
+    if kept {
+        return tracks;
+    }
     let origin = vectors::zero_vec3();
     let track = Track {
         now: false,
@@ -125,8 +129,9 @@ fn next_element(
 {
     let before = element.schedule;
     let schedule = schedule_of(before, meta, p, n);
+    let old = element.tracks;
+    let tracks = next_tracks(old, kept);
     if kept {
-        let tracks = element.tracks;
         return ElementRendererState {
             blocks: n,
             flags: element.flags,
@@ -135,7 +140,6 @@ fn next_element(
             tracks: tracks,
         };
     }
-    let tracks = new_tracks();
     ElementRendererState {
         blocks: n,
         flags: counts.dynamic,

@@ -1,20 +1,18 @@
 -- `limiter::Limiter::grow` meets its contract. Assumes nothing.
 use mathlib.Core.Path.{sym, ap}
 use mathlib.Core.Bool.{Bool, cond}
-use lib.Dec.{le→leb}
 use lib.IntN.{pos}
-use lib.Ieee.{binary32, ofBits, ofInt, inFloat, add, div}
+use lib.Ieee.{binary32, ofBits, ofInt, add, div}
+use Rattle.ieee.proofs.Constants.{in-float}
 use Rattle.limiter.specs.Limiter.{1·0, grown}
 use Rattle.limiter.proofs.Limiter.grow.Statement.{statement}
 use Rattle.limiter.proofs.Limiter.grow.Tie as tie
 
 int-to-float-decay : tie.Need-int-to-float-decay
-unfolding inFloat
-int-to-float-decay c = le→leb (c .before .args .samples) 16777216 (c .before .pre .0)
+int-to-float-decay c = in-float _ (c .before .pre .0)
 
 int-to-float-decay-2 : tie.Need-int-to-float-decay-2
-unfolding inFloat
-int-to-float-decay-2 c = le→leb (c .before .before .args .rate) 16777216 (c .before .before .pre .1)
+int-to-float-decay-2 c = in-float _ (c .before .before .pre .1)
 
 returns : tie.Need-returns
 unfolding ofBits grown

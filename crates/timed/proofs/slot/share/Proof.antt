@@ -1,8 +1,8 @@
 -- `timed::slot::share`: the remaining ramp is a number that an f32 holds. Assumes nothing.
 use native.Mathlib.Omega.{arith}
 use borrow.Author.Needs.{needs}
+use Rattle.ieee.proofs.Constants.{in-float}
 use Rattle.timed.specs.Slot.{share}
-use Rattle.timed.proofs.Laws.{in-float}
 use Rattle.timed.proofs.slot.share.Statement.{statement}
 use Rattle.timed.proofs.slot.share.Tie as tie
 
