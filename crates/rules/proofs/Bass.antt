@@ -17,7 +17,7 @@ use Rattle.mixing.specs.Sums as sums
 use Rattle.mixing.specs.Sums.{total}
 use Rattle.mixing.specs.Samples.{passes, allPass}
 use Rattle.mixing.proofs.Passes.{pass-at}
-use Rattle.roots.proofs.Closest.{le-or-lt}
+use Rattle.ieee.proofs.Grid.{le-or-lt}
 use Rattle.beds.specs.declared.Found as matched
 use Rattle.beds.specs.declared.Found.the-variants.{At, Nothing}
 use Rattle.beds.specs.Matching.{matching}
@@ -29,7 +29,7 @@ use Rattle.rules.specs.Mix.{Moment, addsOf, sampleAt, scaledBy, fedBy, b
 use Rattle.rules.specs.Samples.{State}
 use Rattle.rules.specs.Refusals.{Args, Found, clear, unless, _then_, every, room, sized, listed, lackingFrom, offsets, later}
 use Rattle.rules.specs.Calls.{sentOf, found}
-use Rattle.rules.specs.Claim.{Replaced, withPcm}
+use Rattle.rules.specs.Promises.{Replaced, withPcm}
 use Rattle.rules.proofs.Facts.{InHall}
 use Rattle.rules.proofs.Terms.{object-no-bass}
 use Rattle.rules.proofs.Judged.{is-passed}

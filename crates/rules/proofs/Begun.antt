@@ -1,6 +1,6 @@
 -- When the objects are there: from the first update on. Assumes nothing beyond `Facts`.
 use mathlib.Core.Path.{_≡_, refl, sym, ap, ap₂, _∙_}
-use mathlib.Core.Bool.{Bool, true, false, cond, _||_}
+use mathlib.Core.Bool.{Bool, true, false, cond, _||_, or-false, or-true, or-assoc}
 use mathlib.Core.List.{List, [], _∷_}
 use Prim.Native.Nat.{ℕ, zero, suc}
 use native.Mathlib.Omega.{arith}
@@ -11,23 +11,11 @@ use Rattle.rules.specs.Leaves.{Leaves, Shape, started}
 use Rattle.rules.specs.Samples.{State, applied, updated}
 use Rattle.rules.specs.Refusals.{Args}
 use Rattle.rules.specs.Block.{Layout}
-use Rattle.rules.specs.Claim.{upTo, begun}
+use Rattle.rules.specs.Promises.{upTo, begun}
 use Rattle.rules.proofs.Lists.{either}
 use Rattle.rules.proofs.Facts.{Facts}
 
 -- ---- tests
-or-right : (a : Bool) → (a || true) ≡ true
-or-right true = refl
-or-right false = refl
-
-or-none : (a : Bool) → a ≡ (a || false)
-or-none true = refl
-or-none false = refl
-
-or-assoc : (a b c : Bool) → (a || b || c) ≡ (a || (b || c))
-or-assoc true b c = refl
-or-assoc false b c = refl
-
 crossed : (a b x y : Bool) → ((a || x) || (b || y)) ≡ ((a || b) || (x || y))
 crossed true b x y = refl
 crossed false true true y = refl
@@ -77,7 +65,7 @@ module _ (L : Leaves) where
 
   module _ (B : Layout L) (F : Facts L B) where
     pub updated-started : (t : ℕ) (us : List (L .Update)) (r : State L) → All (F .Checked) us → F .Sound (r .meta) → started L (updated L t us r .meta) ≡ (started L (r .meta) || at t us)
-    updated-started t [] r k s = or-none (started L (r .meta))
+    updated-started t [] r k s = sym (or-false (started L (r .meta)))
     updated-started t (u ∷ us) r k s =
         updated-started t us (cond (eqb (L .offset u) t) (applied L t u r) r) (k .1)
         (either (λ (r : State L). F .Sound (r .meta)) (eqb (L .offset u) t) {x = applied L t u r} {y = r} (F .sound-apply (r .position) u (r .meta) (k .0) s) s)
@@ -86,5 +74,5 @@ module _ (L : Leaves) where
         go : (b : Bool) → (started L (cond b (applied L t u r) r .meta) || at t us) ≡ (started L (r .meta) || (b || at t us))
         go true =
             ap (λ (b : Bool). b || at t us) (ap (λ (s : Shape). s .started) (F .shape-apply (r .position) u (r .meta) (k .0) s) ∙ F .sent-started u (k .0))
-            ∙ sym (or-right (started L (r .meta)))
+            ∙ sym (or-true (started L (r .meta)))
         go false = refl

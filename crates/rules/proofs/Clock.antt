@@ -11,19 +11,35 @@ use Rattle.rules.specs.Samples.{State, applied, updated, slotted, passed
 use Rattle.rules.proofs.Lists.{either, both}
 
 module _ (L : Leaves) where
-  -- updates leave the rate, the stream's position and the pending samples
+  -- updates leave all but the slot and the timed state
   pub record Untouched (r s : State L) : Type 0 where
     pub rate : s .rate ≡ r .rate
     pub position : s .position ≡ r .position
+    pub gain : s .gain ≡ r .gain
+    pub filter : s .filter ≡ r .filter
     pub pending : s .pending ≡ r .pending
+    pub places : s .places ≡ r .places
+
+  untouched-self : (r : State L) → Untouched r r
+  untouched-self r = record { rate = refl; position = refl; gain = refl; filter = refl; pending = refl; places = refl }
+
+  untouched-one : (t : ℕ) (u : L .Update) (r : State L) → Untouched r (applied L t u r)
+  untouched-one t u r = record { rate = refl; position = refl; gain = refl; filter = refl; pending = refl; places = refl }
 
   pub untouched : (t : ℕ) (us : List (L .Update)) (r : State L) → Untouched r (updated L t us r)
-  untouched t [] r = record { rate = refl; position = refl; pending = refl }
+  untouched t [] r = untouched-self r
   untouched t (u ∷ us) r =
       let s = cond (eqb (L .offset u) t) (applied L t u r) r in
       let h = untouched t us s in
-      let k : Untouched r s = either (Untouched r) (eqb (L .offset u) t) (record { rate = refl; position = refl; pending = refl }) (record { rate = refl; position = refl; pending = refl }) in
-      record { rate = h .rate ∙ k .rate; position = h .position ∙ k .position; pending = h .pending ∙ k .pending }
+      let k : Untouched r s = either (Untouched r) (eqb (L .offset u) t) (untouched-one t u r) (untouched-self r) in
+      record {
+        rate = h .rate ∙ k .rate;
+        position = h .position ∙ k .position;
+        gain = h .gain ∙ k .gain;
+        filter = h .filter ∙ k .filter;
+        pending = h .pending ∙ k .pending;
+        places = h .places ∙ k .places;
+      }
 
   pub record Alike (r s : State L) : Type 0 where
     pub position : r .position ≡ s .position

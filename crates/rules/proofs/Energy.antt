@@ -15,7 +15,7 @@ use Rattle.energy.proofs.Hall.{pans714}
 use Rattle.rules.specs.Parts.{0·0}
 use Rattle.rules.specs.Leaves.{Source}
 use Rattle.rules.specs.Mix.{objectTerms}
-use Rattle.rules.specs.Claim.{Squares}
+use Rattle.rules.specs.Promises.{Squares}
 use Rattle.rules.proofs.Facts.{InHall}
 
 -- the eleven channels that are not 3

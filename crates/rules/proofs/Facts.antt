@@ -2,7 +2,7 @@
 use Prim.Native.Nat.{ℕ, _≤_}
 use mathlib.Core.Path.{_≡_}
 use mathlib.Core.Bool.{true, false}
-use mathlib.Core.List.{List}
+use mathlib.Core.List.{List, map}
 use lib.Dec.{T}
 use lib.ListN.{length}
 use Rattle.ieee.specs.Bounds.{All}
@@ -38,11 +38,12 @@ pub record Facts (L : Leaves) (B : Layout L) : Type 1 where
   pub sound-apply : (n : ℕ) (u : L .Update) (m : L .Meta) → Checked u → Sound m → Sound (L .apply n u m)
   pub sound-slot : (n : ℕ) (m : L .Meta) → Sound m → Sound (L .slot n m)
   pub mixable : (m : L .Meta) → Sound m → Mixable (L .beds m) (L .objects m)
-  -- the shape after an update is the update's, and started; a slot keeps it; it counts the objects
+  -- the shape after an update is the update's, and started; a slot keeps it; it counts the objects and has the beds' codes
   pub shape-apply : (n : ℕ) (u : L .Update) (m : L .Meta) → Checked u → Sound m → L .shape (L .apply n u m) ≡ L .sent u
   pub sent-started : (u : L .Update) → Checked u → L .sent u .started ≡ true
   pub shape-slot : (n : ℕ) (m : L .Meta) → Sound m → L .shape (L .slot n m) ≡ L .shape m
   pub shape-objects : (m : L .Meta) → Sound m → started L m ≡ true → length (L .objects m) ≡ L .shape m .objects
+  pub shape-beds : (m : L .Meta) → Sound m → started L m ≡ true → map (λ (b : Bed). b .code) (L .beds m) ≡ L .shape m .beds
   -- the timed state's ranges at a stream position, gains of any bits
   pub Within : ℕ → L .Meta → Type 0
   pub within-blank : Within 0 (L .blank)

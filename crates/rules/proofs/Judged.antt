@@ -1,25 +1,24 @@
 -- What holds of a push that no refusal turned away. Assumes nothing.
 use mathlib.Core.Path.{_≡_, refl, sym, subst}
-use mathlib.Core.Logic.{_⊎_, inl, inr, ⊎-elim}
 use mathlib.Core.Bool.{Bool, true, false, not, _&&_, _||_}
 use mathlib.Core.List.{List}
 use Prim.Native.Nat.{ℕ, zero, suc, _+_, _*_, _%_, _≤_, _<_}
 use native.Mathlib.Nat.{mul-le-mul-right, zero-add}
 use native.Mathlib.Omega.{arith}
 use borrow.Author.Tests.{leb-true, eqb-true, not-true}
-use lib.Dec.{T, eqb, leb, lit≤, lit<}
+use lib.Dec.{T, eqb, leb}
 use lib.ListN.{length}
 use Rattle.ieee.specs.Units.{One}
 use Rattle.ieee.specs.Bounds.{Bounded, All}
 use Rattle.words.specs.Words.{Bytes, floatAt}
 use Rattle.mixing.specs.Samples.{allPass}
-use Rattle.angles.specs.Angle.{Listed, r32000, r44100, r48000, r88200, r96000}
+use Rattle.rates.specs.Rates.{lowest, highest, Listed}
 use Rattle.rules.specs.Leaves.{Leaves}
 use Rattle.rules.specs.Mix.{sampleAt, samplesAt}
 use Rattle.rules.specs.Samples.{State}
 use Rattle.rules.specs.Refusals.{Args, Found, clear, stop, _then_, unless, every, room, sized, listed, lackingFrom, offsets, early, later}
 use Rattle.rules.specs.Calls.{sentOf, found}
-use Rattle.rules.proofs.Passing.{sample-bounded}
+use Rattle.mixing.proofs.Meant.{sample-bounded}
 
 -- ---- tests
 pub stops : {n a b : ℕ} → stop n a b ≡ clear → ⊥
@@ -37,35 +36,16 @@ pub and-true : (a b : Bool) → (a && b) ≡ true → (a ≡ true) × (b ≡ tru
 and-true true b e = (refl, e)
 and-true false b e = absurd (subst T (sym e) tt)
 
-or-true : (a b : Bool) → (a || b) ≡ true → (a ≡ true) ⊎ (b ≡ true)
-or-true true b e = inl refl
-or-true false b e = inr e
-
 -- ---- a listed rate
 pub is-listed : (rate : ℕ) → listed rate ≡ true → Listed rate
-is-listed rate e =
-    ⊎-elim (λ e. ⊎-elim (λ e. ⊎-elim (λ e. ⊎-elim (is 32000 r32000) (is 44100 r44100) (or-true (eqb rate 32000) (eqb rate 44100) e)) (is 48000 r48000)
-    (or-true (eqb rate 32000 || eqb rate 44100) (eqb rate 48000) e)) (is 88200 r88200)
-    (or-true (eqb rate 32000 || eqb rate 44100 || eqb rate 48000) (eqb rate 88200) e)) (is 96000 r96000)
-    (or-true (eqb rate 32000 || eqb rate 44100 || eqb rate 48000 || eqb rate 88200) (eqb rate 96000) e)
-  where
-    is : (n : ℕ) → Listed n → eqb rate n ≡ true → Listed rate
-    is n l e = subst Listed (sym (eqb-true rate n e)) l
+is-listed rate e = let a = and-true (leb lowest rate) (leb rate highest) e in record { low = leb-true lowest rate (a .0); high = leb-true rate highest (a .1) }
 
 -- a rate's size
 pub rate-low : {rate : ℕ} → Listed rate → 64 ≤ rate
-rate-low r32000 = lit≤ tt
-rate-low r44100 = lit≤ tt
-rate-low r48000 = lit≤ tt
-rate-low r88200 = lit≤ tt
-rate-low r96000 = lit≤ tt
+rate-low l = omega (arith, l .low)
 
 pub rate-high : {rate : ℕ} → Listed rate → rate < 16777216
-rate-high r32000 = lit< tt
-rate-high r44100 = lit< tt
-rate-high r48000 = lit< tt
-rate-high r88200 = lit< tt
-rate-high r96000 = lit< tt
+rate-high l = omega (arith, l .high)
 
 -- ---- the stride and the output
 pub record Roomy (stride bytes : ℕ) : Type 0 where

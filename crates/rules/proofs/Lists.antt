@@ -1,11 +1,11 @@
 -- What holds of each element of a list, and of the lists of places. Assumes nothing.
-use mathlib.Core.Path.{_≡_, refl, ap, _∙_}
-use mathlib.Core.Bool.{Bool, true, false, cond}
+use mathlib.Core.Path.{_≡_, refl, ap, _∙_, subst}
+use mathlib.Core.Bool.{Bool, true, false, cond, _||_}
 use mathlib.Core.List.{List, [], _∷_, _++_, map}
-use Prim.Native.Nat.{ℕ, zero, suc, _+_, _<_}
+use Prim.Native.Nat.{ℕ, zero, suc, _<_}
 use native.Mathlib.Nat.{not-suc-le-zero, le-of-suc-le-suc}
 use borrow.Author.Tests.{lt-ltb, leb-false}
-use lib.Dec.{leb, lit<}
+use lib.Dec.{T, leb, lit<}
 use lib.ListN.{length, getD, set, take, replicate, length-set}
 use lib.Ieee.{Float, binary32, toBits}
 use Rattle.ieee.specs.Bounds.{All}
@@ -20,6 +20,10 @@ either P false p q = q
 pub both {ℓ} : {A : Type ℓ} (R : A → A → Type 0) (b : Bool) {x y x′ y′ : A} → R x x′ → R y y′ → R (cond b x y) (cond b x′ y′)
 both R true p q = p
 both R false p q = q
+
+pub neither : (a b : Bool) → (a || b) ≡ false → (a ≡ false) × (b ≡ false)
+neither true b e = absurd (subst T e tt)
+neither false b e = (refl, e)
 
 module _ {A : Type 0} (P : A → Type 0) where
   pub all-append : (xs ys : List A) → All P xs → All P ys → All P (xs ++ ys)

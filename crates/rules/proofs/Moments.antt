@@ -1,52 +1,63 @@
--- The moments of a frame, one for each sample: a fact that each sample gives of its moment, from an invariant that each sample keeps, holds of the moment at each place. Assumes nothing.
-use mathlib.Core.Path.{_≡_, refl, ap, _∙_, subst}
+-- A frame by its samples: what one sample more leaves and gives out, an invariant along the samples, and the moment of each. Assumes nothing.
+use mathlib.Core.Path.{_≡_, refl, sym, ap, _∙_, subst}
+use mathlib.Core.List.{List, _++_, append-nil, append-assoc}
 use Prim.Native.Nat.{ℕ, zero, suc, _+_, _≤_, _<_}
-use native.Mathlib.Nat.{not-suc-le-zero}
+use native.Mathlib.Nat.{not-suc-le-zero, zero-add, le-of-lt}
 use native.Mathlib.Omega.{arith}
 use lib.ListN.{length, getD}
+use lib.Ieee.{Float}
 use Rattle.rules.specs.Leaves.{Leaves}
-use Rattle.rules.specs.Mix.{Moment, fed}
+use Rattle.rules.specs.Mix.{Moment}
 use Rattle.rules.specs.Samples.{Frame, State, updated, slotted, moment, sampled, framed}
-use Rattle.rules.specs.Claim.{silent}
-use Rattle.rules.proofs.Clock.{untouched}
+use Rattle.rules.specs.Sounds.{silent}
 
 module _ (L : Leaves) (f : Frame (L .Update)) where
   -- what sample t is heard with
   abbrev pub momentOf : ℕ → State L → Moment
   momentOf t r = moment L f t (slotted L (updated L t (f .updates) r) .meta)
 
-  abbrev pub momentIn : ℕ → ℕ → State L → ℕ → Moment
-  momentIn n t r k = getD (framed L f n t r .moments) k silent
-
   pub moments-count : (n t : ℕ) (r : State L) → length (framed L f n t r .moments) ≡ n
   moments-count zero t r = refl
   moments-count (suc n) t r = ap suc (moments-count n (suc t) (sampled L f t r .next))
 
-  pub rate-kept : (n t : ℕ) (r : State L) → framed L f n t r .next .rate ≡ r .rate
-  rate-kept zero t r = refl
-  rate-kept (suc n) t r = rate-kept n (suc t) (sampled L f t r .next) ∙ untouched L t (f .updates) r .rate
+  -- ---- the samples from t on, and one more
+  more-next : (k t : ℕ) (r : State L) → framed L f (suc k) t r .next ≡ sampled L f (t + k) (framed L f k t r .next) .next
+  more-next zero t r = ap (λ (u : ℕ). sampled L f u r .next) (let e : t ≡ t + 0 = omega arith in e)
+  more-next (suc k) t r =
+      let s = sampled L f t r .next in
+      more-next k (suc t) s ∙ ap (λ (u : ℕ). sampled L f u (framed L f k (suc t) s .next) .next) (let e : suc t + k ≡ t + suc k = omega arith in e)
 
-  -- what enters the filter is what it then remembers
-  pub enters : (n t k : ℕ) (r : State L) → k < n → framed L f (suc k) t r .next .filter .x1 ≡ fed (momentIn n t r k)
-  enters zero t k r h = absurd (not-suc-le-zero h)
-  enters (suc n) t zero r h = refl
-  enters (suc n) t (suc k) r h = enters n (suc t) k (sampled L f t r .next) (omega arith)
+  more-given : (k t : ℕ) (r : State L) (c : ℕ) → framed L f (suc k) t r .given c ≡ framed L f k t r .given c ++ sampled L f (t + k) (framed L f k t r .next) .given c
+  more-given zero t r c = append-nil (sampled L f t r .given c) ∙ ap (λ (u : ℕ). sampled L f u r .given c) (let e : t ≡ t + 0 = omega arith in e)
+  more-given (suc k) t r c =
+      let a = sampled L f t r in
+      let d = framed L f k (suc t) (a .next) in
+      ap (λ (xs : List Float). a .given c ++ xs)
+      (more-given k (suc t) (a .next) c ∙ ap (λ (u : ℕ). d .given c ++ sampled L f u (d .next) .given c) (let e : suc t + k ≡ t + suc k = omega arith in e))
+      ∙ sym (append-assoc (a .given c) (d .given c) (sampled L f (t + suc k) (d .next) .given c))
 
-  module _ (Inv : ℕ → State L → Type 0) (Q : ℕ → Moment → Type 0)
-      (keep : (t : ℕ) (r : State L) → t < f .samples → Inv t r → Inv (suc t) (sampled L f t r .next))
-      (here : (t : ℕ) (r : State L) → t < f .samples → Inv t r → Q t (momentOf t r)) where
-    pub each-moment : (n t k : ℕ) (r : State L) → t + n ≤ f .samples → k < n → Inv t r → Q (t + k) (momentIn n t r k)
-    each-moment zero t k r l h i = absurd (not-suc-le-zero h)
-    each-moment (suc n) t zero r l h i = subst (λ (u : ℕ). Q u (momentOf t r)) (let e : t ≡ t + 0 = omega arith in e) (here t r (omega arith) i)
-    each-moment (suc n) t (suc k) r l h i =
-        subst (λ (u : ℕ). Q u (momentIn n (suc t) (sampled L f t r .next) k)) (let e : suc t + k ≡ t + suc k = omega arith in e)
-        (each-moment n (suc t) k (sampled L f t r .next) (omega arith) (omega arith) (keep t r (omega arith) i))
+  moment-from : (n t k : ℕ) (r : State L) → k < n → getD (framed L f n t r .moments) k silent ≡ momentOf (t + k) (framed L f k t r .next)
+  moment-from zero t k r h = absurd (not-suc-le-zero h)
+  moment-from (suc n) t zero r h = ap (λ (u : ℕ). momentOf u r) (let e : t ≡ t + 0 = omega arith in e)
+  moment-from (suc n) t (suc k) r h =
+      let s = sampled L f t r .next in
+      moment-from n (suc t) k s (omega arith) ∙ ap (λ (u : ℕ). momentOf u (framed L f k (suc t) s .next)) (let e : suc t + k ≡ t + suc k = omega arith in e)
 
--- the same of two frames with as many samples, from two renderers
-module _ (L : Leaves) (f g : Frame (L .Update)) (R : State L → State L → Type 0) (Q : Moment → Moment → Type 0)
-    (keep : (t : ℕ) (r s : State L) → t < f .samples → R r s → R (sampled L f t r .next) (sampled L g t s .next))
-    (here : (t : ℕ) (r s : State L) → t < f .samples → R r s → Q (momentOf L f t r) (momentOf L g t s)) where
-  pub each-pair : (n t k : ℕ) (r s : State L) → t + n ≤ f .samples → k < n → R r s → Q (momentIn L f n t r k) (momentIn L g n t s k)
-  each-pair zero t k r s l h i = absurd (not-suc-le-zero h)
-  each-pair (suc n) t zero r s l h i = here t r s (omega arith) i
-  each-pair (suc n) t (suc k) r s l h i = each-pair n (suc t) k (sampled L f t r .next) (sampled L g t s .next) (omega arith) (omega arith) (keep t r s (omega arith) i)
+  -- ---- from the frame's start
+  module _ (r : State L) where
+    abbrev at : ℕ → State L
+    at t = framed L f t 0 r .next
+
+    pub next-at : (t : ℕ) → at (suc t) ≡ sampled L f t (at t) .next
+    next-at t = more-next t 0 r ∙ ap (λ (u : ℕ). sampled L f u (at t) .next) (zero-add t)
+
+    pub given-at : (t c : ℕ) → framed L f (suc t) 0 r .given c ≡ framed L f t 0 r .given c ++ sampled L f t (at t) .given c
+    given-at t c = more-given t 0 r c ∙ ap (λ (u : ℕ). framed L f t 0 r .given c ++ sampled L f u (at t) .given c) (zero-add t)
+
+    pub moment-at : (n t : ℕ) → t < n → getD (framed L f n 0 r .moments) t silent ≡ momentOf t (at t)
+    moment-at n t h = moment-from n 0 t r h ∙ ap (λ (u : ℕ). momentOf u (at t)) (zero-add t)
+
+    -- what each sample keeps
+    pub along : (n : ℕ) (Inv : ℕ → State L → Type 0) → ((t : ℕ) (s : State L) → t < n → Inv t s → Inv (suc t) (sampled L f t s .next)) → Inv 0 r → (t : ℕ) → t ≤ n → Inv t (at t)
+    along n Inv keep i zero h = i
+    along n Inv keep i (suc t) h = subst (Inv (suc t)) (sym (next-at t)) (keep t (at t) h (along n Inv keep i t (le-of-lt h)))

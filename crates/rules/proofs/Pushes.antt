@@ -1,34 +1,43 @@
--- The samples of an accepted push: what enters the low-pass, the squares, gain 0, silence. Assumes nothing beyond `Facts`.
+-- What an accepted push promises. Assumes nothing beyond `Facts`.
 use mathlib.Core.Path.{_≡_, refl, sym, ap, _∙_, subst}
 use mathlib.Core.Logic.{inl, inr}
 use mathlib.Core.Bool.{Bool, true, false, cond, _||_}
 use mathlib.Core.List.{List, []}
-use Prim.Native.Nat.{ℕ, _+_, _<_}
-use native.Mathlib.Nat.{le-trans, le-of-eq, zero-add}
+use Prim.Native.Nat.{ℕ, zero, suc, _+_, _*_, _/_, _%_, _<_}
+use native.Mathlib.Nat.{le-trans, le-of-eq, le-refl}
 use native.Mathlib.Omega.{arith}
 use borrow.Author.Tests.{eqb-true}
-use lib.Dec.{eqb, lit<}
+use lib.Dec.{eqb}
 use lib.ListN.{length, List·getD-eq-default}
 use Rattle.ieee.specs.Bounds.{All}
 use Rattle.words.specs.Words.{Bytes}
-use Rattle.roots.proofs.Closest.{le-or-lt}
-use Rattle.rules.specs.Leaves.{Leaves, started}
-use Rattle.rules.specs.Mix.{Moment, samplesAt, fed}
-use Rattle.rules.specs.Samples.{Frame, State, slotted, updated, sampled, opened, pushed}
-use Rattle.rules.specs.Refusals.{Args, clear, unless}
-use Rattle.rules.specs.Calls.{frameOf, found}
+use Rattle.ieee.proofs.Grid.{le-or-lt}
+use Rattle.rules.specs.Leaves.{Leaves, Source, started}
+use Rattle.rules.specs.Mix.{Moment, fed}
+use Rattle.rules.specs.Samples.{Frame, State, slotted, updated, sampled, framed, opened, pushed}
+use Rattle.rules.specs.Refusals.{Args, Found, clear, unless}
+use Rattle.rules.specs.Calls.{frameOf, found, asked}
+use Rattle.rules.specs.Sounds.{silent, before, met, momentAt, whole}
+use Rattle.rules.specs.Promises.{nobody, Replaced, withPcm, objectAt, begun, Matched, AtSample, PushHolds}
 use Rattle.rules.specs.Block.{Layout}
-use Rattle.rules.specs.Claim.{silent, nobody, Replaced, withPcm, momentAt, objectAt, PushHolds}
 use Rattle.rules.proofs.Lists.{all-at}
 use Rattle.rules.proofs.Facts.{InHall, Facts}
 use Rattle.rules.proofs.Judged.{Passed, is-passed, then-clear, unless-clear}
-use Rattle.rules.proofs.Kept.{Good, Rest, Admitted, Fine, before-good, opened-good, moment-hearable}
-use Rattle.rules.proofs.Frames.{admitted, sampled-fine, pushed-fine}
+use Rattle.rules.proofs.Kept.{Good, Rest, Admitted, Fine, opened-good}
+use Rattle.rules.proofs.Frames.{admitted, pushed-fine}
 use Rattle.rules.proofs.Clock.{Alike, alike-self, met-alike, passed-alike}
-use Rattle.rules.proofs.Moments.{momentOf, moments-count, rate-kept, enters, each-moment, each-pair}
-use Rattle.rules.proofs.Shapes.{objects-match}
+use Rattle.rules.proofs.Moments.{momentOf, moments-count, next-at, moment-at}
+use Rattle.rules.proofs.Order.{updated-in-order}
+use Rattle.rules.proofs.Sounding.{moment-is, hearable-at, line, sounds-at, enters-at}
+use Rattle.rules.proofs.Shapes.{started-at, objects-there, beds-there}
+use Rattle.rules.proofs.Quiet as silence
+use Rattle.rules.proofs.Quiet.{Hush}
 use Rattle.rules.proofs.Bass.{same-bass, row-before, still-clear}
 use Rattle.rules.proofs.Energy.{squared, stilled}
+
+-- whole blocks and the remainder
+halves : (blocks left all : ℕ) → 64 * blocks + left ≡ all → left < 64 → (blocks ≡ all / 64) × (left ≡ all % 64)
+halves blocks left all e h = omega arith
 
 module _ (L : Leaves) (B : Layout L) (F : Facts L B) (r : State L) (a : Args) (b : Bytes (a .pcm)) (m : Bytes (a .meta)) (rest : Rest L B F r) (e : found L r a ≡ clear) where
   abbrev f : Frame (L .Update)
@@ -37,53 +46,70 @@ module _ (L : Leaves) (B : Layout L) (F : Facts L B) (r : State L) (a : Args) (b
   abbrev start : State L
   start = opened L (a .rate) r
 
-  passes : Passed L r a
+  pub passes : Passed L r a
   passes = is-passed L r a e
 
-  k : Admitted L B F f
+  pub k : Admitted L B F f
   k = admitted L B F r a b m passes
 
-  good : Good L B F start
+  pub good : Good L B F start
   good = opened-good L B F (a .rate) r (k .rate) rest
 
   fine : Fine L B F (r .pending) (a .samples) (pushed L f r)
   fine = pushed-fine L B F r a b m passes rest
 
+  counts : (fine .blocks ≡ whole L r a) × (pushed L f r .next .pending ≡ (r .pending + a .samples) % 64)
+  counts = halves (fine .blocks) (pushed L f r .next .pending) (r .pending + a .samples) (fine .all) (fine .next .steady .few)
+
   count : length (pushed L f r .moments) ≡ a .samples
   unfolding pushed
   count = moments-count L f (a .samples) 0 start
 
-  at-rate : pushed L f r .next .rate ≡ a .rate
-  unfolding pushed
+  -- refusal 9
+  pub at-rate : start .rate ≡ a .rate
   at-rate =
       let x = eqb (r .rate) 0 || eqb (r .rate) (a .rate) in
-      rate-kept L f (a .samples) 0 start ∙ go (eqb (r .rate) 0) (unless-clear x 9 (r .rate) (a .rate) (then-clear (unless x 9 (r .rate) (a .rate)) _ (passes .later) .0))
+      go (eqb (r .rate) 0) (unless-clear x 9 (r .rate) (a .rate) (then-clear (unless x 9 (r .rate) (a .rate)) _ (passes .later) .0))
     where
       go : (first : Bool) → (first || eqb (r .rate) (a .rate)) ≡ true → cond first (a .rate) (r .rate) ≡ a .rate
       go true e = refl
       go false e = eqb-true (r .rate) (a .rate) e
 
-  -- ---- own samples
-  own : (t : ℕ) → t < a .samples → momentAt L r a t .own ≡ samplesAt (a .pcm) (a .samples) (a .objects) (length (a .codes)) t
-  unfolding pushed
-  own t h =
-      each-moment L f (λ t s. Unit {0}) (λ t x. x .own ≡ samplesAt (a .pcm) (a .samples) (a .objects) (length (a .codes)) t) (λ t s l i. tt) (λ t s l i. refl) (a .samples) 0 t start (omega arith) h tt
-      ∙ ap (samplesAt (a .pcm) (a .samples) (a .objects) (length (a .codes))) (zero-add t)
+  -- ---- sample t
+  module _ (hush : Hush L r) (t : ℕ) (h : t < a .samples) where
+    abbrev heard-at : momentAt L r a t ≡ momentOf L f t (before L r a t)
+    heard-at = moment-is L B F r a k good at-rate t h
+
+    begun-at : started L (met L r a t .meta) ≡ begun L r a t
+    begun-at = started-at L B F r a passes k good t h
+
+    objects-are : momentAt L r a t .objects ≡ cond (begun L r a t) (L .objects (met L r a t .meta)) []
+    objects-are = ap (λ (x : Moment). x .objects) heard-at ∙ ap (λ (b : Bool). cond b (L .objects (met L r a t .meta)) []) begun-at
+
+    beds-are : momentAt L r a t .beds ≡ cond (begun L r a t) (L .beds (met L r a t .meta)) []
+    beds-are = ap (λ (x : Moment). x .beds) heard-at ∙ ap (λ (b : Bool). cond b (L .beds (met L r a t .meta)) []) begun-at
+
+    at-sample : AtSample L r a t
+    at-sample =
+        record {
+          finds = ap (slotted L) (updated-in-order L t (L .updates (a .meta)) (before L r a t));
+          beds = beds-are;
+          objects = objects-are;
+          codes = ap (λ (x : Moment). x .codes) heard-at;
+          inputs = λ i. ap (λ (x : Moment). x .inputs i) heard-at;
+          own = ap (λ (x : Moment). x .own) heard-at;
+          matched = subst (All (Matched (a .codes))) (sym beds-are) (beds-there L B F r a passes k good t h);
+          count = ap (length {A = Source}) objects-are ∙ objects-there L B F r a passes k good t h;
+          enters = enters-at L B F r a k good at-rate t h;
+          sounds = sounds-at L B F r a k good at-rate t h;
+          quiet = silence.quiet L B F r a passes k good at-rate hush t h;
+        }
 
   -- ---- every object that is there is one of the hall
-  met-hall : (t : ℕ) (s : State L) → t < a .samples → Good L B F s → All InHall (momentOf L f t s .objects)
-  met-hall t s h g =
-      let i = before-good L B F t (f .updates) s (k .updates) g in
-      moment-hearable L B F f k t h (slotted L (updated L t (f .updates) s) .meta) (i .steady .meta) .sources .objects
-
-  hall-within : (t : ℕ) → t < a .samples → All InHall (momentAt L r a t .objects)
-  unfolding pushed
-  hall-within t h = each-moment L f (λ t s. Good L B F s) (λ t x. All InHall (x .objects)) (λ t s l g. sampled-fine L B F f k t l s g .next) met-hall (a .samples) 0 t start (omega arith) h good
-
   hall : (t : ℕ) → All InHall (momentAt L r a t .objects)
   hall t = elim (le-or-lt (a .samples) t) [
     | inl l ↦ subst (λ (x : Moment). All InHall (x .objects)) (sym (List·getD-eq-default (pushed L f r .moments) silent (le-trans (le-of-eq count) l))) tt
-    | inr h ↦ hall-within t h
+    | inr h ↦ hearable-at L B F r a k good at-rate t h .sources .objects
   ]
 
   in-hall : (t j : ℕ) → j < length (momentAt L r a t .objects) → InHall (objectAt L r a t j)
@@ -94,42 +120,54 @@ module _ (L : Leaves) (B : Layout L) (F : Facts L B) (r : State L) (a : Args) (b
     abbrev g : Frame (L .Update)
     g = frameOf L (withPcm qcm a)
 
-    abbrev R : State L → State L → Type 0
-    R s u = Good L B F s × Alike L s u
+    alike : (t : ℕ) → Alike L (framed L f t 0 start .next) (framed L g t 0 start .next)
+    alike zero = alike-self L start
+    alike (suc t) =
+        let s = framed L f t 0 start .next in
+        let u = framed L g t 0 start .next in
+        subst (λ (x : State L). Alike L x (framed L g (suc t) 0 start .next)) (sym (next-at L f start t))
+        (subst (Alike L (sampled L f t s .next)) (sym (next-at L g start t))
+        (passed-alike L (momentOf L f t s) (momentOf L g t u) (slotted L (updated L t (f .updates) s)) (slotted L (updated L t (f .updates) u)) (met-alike L t (f .updates) s u (alike t))))
 
-    keep : (t : ℕ) (s u : State L) → t < a .samples → R s u → R (sampled L f t s .next) (sampled L g t u .next)
-    keep t s u h i =
-        let v = slotted L (updated L t (f .updates) s) in
-        let w = slotted L (updated L t (f .updates) u) in
-        (sampled-fine L B F f k t h s (i .0) .next, passed-alike L (momentOf L f t s) (momentOf L g t u) v w (met-alike L t (f .updates) s u (i .1)))
-
-    here : (t : ℕ) (s u : State L) → t < a .samples → R s u → fed (momentOf L f t s) ≡ fed (momentOf L g t u)
-    here t s u h i =
-        let q = met-alike L t (f .updates) s u (i .1) .meta in
-        same-bass (momentOf L f t s) (momentOf L g t u)
+    fed-same : (t : ℕ) → t < a .samples → fed (momentAt L r (withPcm qcm a) t) ≡ fed (momentAt L r a t)
+    unfolding pushed
+    fed-same t h =
+        let s = framed L f t 0 start .next in
+        let u = framed L g t 0 start .next in
+        let q = met-alike L t (f .updates) s u (alike t) .meta in
+        let i = hearable-at L B F r a k good at-rate t h .sources .objects in
+        let here = moment-is L B F r a k good at-rate t h in
+        ap fed (moment-at L g start (a .samples) t h)
+        ∙ sym (same-bass (momentOf L f t s) (momentOf L g t u)
         (record {
           beds = λ z. cond (started L (q z)) (L .beds (q z)) [];
           objects = λ z. cond (started L (q z)) (L .objects (q z)) [];
           codes = refl;
           inputs = λ c l. sym (row-before (a .samples) (length (a .codes) + j) (a .pcm) qcm p c t (omega arith) h);
         })
-        (met-hall t s h (i .0))
+        (subst (λ (x : Moment). All InHall (x .objects)) here i))
+        ∙ ap fed (sym here)
 
-    fed-same : (t : ℕ) → t < a .samples → fed (momentAt L r (withPcm qcm a) t) ≡ fed (momentAt L r a t)
-    unfolding pushed
-    fed-same t h = sym (each-pair L f g R (λ x y. fed x ≡ fed y) keep here (a .samples) 0 t start start (omega arith) h (good, alike-self L start))
-
-  pub push-holds : PushHolds L r a
+  pub push-holds : Hush L r → PushHolds L r a
   unfolding pushed
-  push-holds = record {
-    ready = ap (λ (n : ℕ). n + pushed L f r .next .pending) (fine .length 0 (lit< tt)) ∙ fine .all;
-    waits = fine .next .steady .few;
-    moments = count;
-    rate = at-rate;
-    own = own;
-    objects = objects-match L B F r a passes k good;
-    enters = λ t h. enters L f (a .samples) 0 t start h;
-    bass = λ t j h l z qcm p. (still-clear L r a (length (a .codes) + j) qcm p e, fed-same j qcm p t h);
-    squares = λ t j h z. squared (objectAt L r a t j) (in-hall t j h) z;
-    still = λ t j h z. stilled (objectAt L r a t j) (in-hall t j h) z;
-  }
+  push-holds hush =
+      let i = line L B F r a k good at-rate (a .samples) (le-refl (a .samples)) in
+      record {
+        answer = ap (λ (v : Found). asked L v a r .answer) e;
+        next = ap (λ (v : Found). asked L v a r .next) e;
+        ready = λ c l. fine .length c l ∙ ap (λ (n : ℕ). 64 * n) (counts .0);
+        waits = counts .1;
+        position = i .position;
+        rate = i .rate;
+        gives = i .given;
+        gain = i .gain;
+        rest = i .waits;
+        moments = count;
+        samples = at-sample hush;
+        bass = λ t j h l z qcm p. (still-clear L r a (length (a .codes) + j) qcm p e, fed-same j qcm p t h);
+        squares = λ t j h z. squared (objectAt L r a t j) (in-hall t j h) z;
+        still = λ t j h z. stilled (objectAt L r a t j) (in-hall t j h) z;
+      }
+
+  pub hush-pushed : Hush L r → Hush L (pushed L f r .next)
+  hush-pushed hush = silence.hush-pushed L B F r a passes k good at-rate hush

@@ -20,7 +20,7 @@ use Rattle.rules.specs.Refusals.{Args, listed, lacking, countsAfter, lac
 use Rattle.rules.specs.Ranges.{Fits, FilterFits, Ranged}
 use Rattle.rules.specs.Calls.{frameOf}
 use Rattle.rules.specs.Block.{Layout}
-use Rattle.rules.proofs.Lists.{either, length-laid, zeros-long, few-left}
+use Rattle.rules.proofs.Lists.{either, neither, length-laid, zeros-long, few-left}
 use Rattle.rules.proofs.Facts.{Facts}
 use Rattle.rules.proofs.Fitting.{heard-fits, grown-fits, new-fits, laid-words, laid-none, same-words, row-fits}
 use Rattle.rules.proofs.Judged.{Passed}
@@ -114,10 +114,6 @@ module _ (L : Leaves) (B : Layout L) (F : Facts L B) where
       slot-kept false last e = let s = g .start in (g .phase, omega arith)
 
   -- ---- refusal 7 as the frame meets it: the counts are those of the walk
-  pub or-false : (a b : Bool) → (a || b) ≡ false → (a ≡ false) × (b ≡ false)
-  or-false true b e = absurd (subst T e tt)
-  or-false false b e = (refl, e)
-
   abbrev pub Met : L .Counts → State L → Type 0
   Met k s = R s × (L .counts (s .meta) ≡ k)
 
@@ -129,7 +125,7 @@ module _ (L : Leaves) (B : Layout L) (F : Facts L B) where
           → ((s : State L) (o : L .Counts) → lacking L t us o ≡ false → Met o s → Met (countsAfter L t us o) (updated L t us s))
           → Met (countsAfter L t us (cond b (L .nextCounts u k) k)) (updated L t us (cond b (applied L t u r) r))
       go true e rec =
-          let p = or-false (L .lacks u k) (lacking L t us (L .nextCounts u k)) e in
+          let p = neither (L .lacks u k) (lacking L t us (L .nextCounts u k)) e in
           rec (applied L t u r) (L .nextCounts u k) (p .1)
           (applied-ranged t u r (c .0) (ap (L .lacks u) (g .1) ∙ p .0) (g .0), F .counts-apply (r .position) u (r .meta) (c .0) (g .0 .meta) ∙ ap (L .nextCounts u) (g .1))
       go false e rec = rec r k e g
@@ -143,7 +139,7 @@ module _ (L : Leaves) (B : Layout L) (F : Facts L B) where
       → listed (r .rate) ≡ true → r .position + n ≤ 1099511627776 → Met m r → R (framed L f n t r .next)
   framed-ranged f k zero t r m e l h g = g .0
   framed-ranged f k (suc n) t r m e l h g =
-      let p = or-false (lacking L t (f .updates) m) (lackingFrom L n (suc t) (f .updates) (countsAfter L t (f .updates) m)) e in
+      let p = neither (lacking L t (f .updates) m) (lackingFrom L n (suc t) (f .updates) (countsAfter L t (f .updates) m)) e in
       let s = slotted L (updated L t (f .updates) r) in
       let i = slotted-met (countsAfter L t (f .updates) m) (updated L t (f .updates) r) (updated-ranged t (f .updates) r m k (p .0) g) in
       let u = untouched L t (f .updates) r in

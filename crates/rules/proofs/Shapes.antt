@@ -1,28 +1,36 @@
--- Refusal 11: at each sample of an accepted push the objects are as many as the push brings, or there are none before the first update. Assumes nothing beyond `Facts`.
+-- Refusals 11, 13 and 14: at each sample of an accepted push the objects are as many as the push brings, and each bed has its input; before the first update there are none. Assumes
+-- nothing beyond `Facts`.
 use mathlib.Core.Path.{_≡_, refl, sym, ap, _∙_, subst}
+use mathlib.Core.Logic.{_≢_}
 use mathlib.Core.Bool.{Bool, true, false, cond, not, _&&_, _||_}
-use mathlib.Core.List.{List, [], _∷_}
-use Prim.Native.Nat.{ℕ, zero, suc, _+_, _<_}
-use native.Mathlib.Nat.{not-suc-le-zero, zero-add}
+use mathlib.Core.List.{List, [], _∷_, map}
+use Prim.Native.Nat.{ℕ, zero, suc, _+_, _-_, _≤_, _<_}
+use native.Mathlib.Nat.{not-suc-le-zero, le-of-lt, sub-zero}
 use native.Mathlib.Omega.{arith}
-use borrow.Author.Tests.{eqb-true}
+use borrow.Author.Tests.{eqb-true, eqb-false, not-true}
 use lib.Dec.{T, eqb}
 use lib.ListN.{length}
+use lib.Ieee.{Float}
+use Rattle.beds.specs.declared.Found as matched
+use Rattle.beds.specs.declared.Found.the-variants.{At, Nothing}
+use Rattle.beds.specs.Matching.{matching, counted}
+use Rattle.beds.proofs.Matches as match
 use Rattle.ieee.specs.Bounds.{All}
-use Rattle.rules.specs.Leaves.{Leaves, Shape, started}
-use Rattle.rules.specs.Mix.{Moment}
-use Rattle.rules.specs.Samples.{Frame, State, applied, updated, slotted, sampled, opened, pushed}
-use Rattle.rules.specs.Refusals.{Args, Found, clear, _then_, unless, Sent, objectsMatch, countsAt, shapeAt, mixes, walk, later, none}
+use Rattle.rules.specs.Leaves.{Leaves, Shape, Bed, started}
+use Rattle.rules.specs.Mix.{fedBy}
+use Rattle.rules.specs.Samples.{Frame, State, applied, updated, slotted, sampled, opened}
+use Rattle.rules.specs.Refusals.{Args, Found, clear, unless, bedFound, bedsFound, Sent, objectsMatch, countsAt, shapeAt, mixes, walk, later, none}
 use Rattle.rules.specs.Calls.{sentOf, frameOf}
+use Rattle.rules.specs.Sounds as sounds
+use Rattle.rules.specs.Promises.{Matched, begun}
 use Rattle.rules.specs.Block.{Layout}
-use Rattle.rules.specs.Claim.{begun, momentAt}
 use Rattle.rules.proofs.Lists.{either}
 use Rattle.rules.proofs.Facts.{Facts}
 use Rattle.rules.proofs.Judged.{then-clear, unless-clear, Passed}
 use Rattle.rules.proofs.Kept.{Good, Admitted, updated-good, before-good}
 use Rattle.rules.proofs.Frames.{sampled-fine}
 use Rattle.rules.proofs.Begun.{at, before, begins, updated-started}
-use Rattle.rules.proofs.Moments.{momentOf, each-moment}
+use Rattle.rules.proofs.Moments.{along}
 
 module _ (all : List Sent) (objects : ℕ) (codes : List ℕ) where
   -- as many objects as the push brings, once an update was applied
@@ -57,9 +65,19 @@ module _ (all : List Sent) (objects : ℕ) (codes : List ℕ) where
       let p = then-clear (mixes all objects codes (after t s)) (walk all objects codes n (suc t) (after t s)) (then-clear (counts t) _ e .1) in
       ap counts (let q : t + suc k ≡ suc t + k = omega arith in q) ∙ walked n (suc t) k (after t s) (p .1) (omega arith)
 
+  -- one sample of the walk
+  pub walk-on : (n t : ℕ) (s : Shape) → t < n → walk all objects codes (n - t) t s ≡ clear
+      → (counts t ≡ clear) × (mixes all objects codes (after t s) ≡ clear) × (walk all objects codes (n - suc t) (suc t) (after t s) ≡ clear)
+  walk-on n t s h e =
+      let q : n - t ≡ suc (n - suc t) = omega arith in
+      let p = then-clear (counts t) _ (subst (λ (k : ℕ). walk all objects codes k t s ≡ clear) q e) in
+      let m = then-clear (mixes all objects codes (after t s)) _ (p .1) in
+      (p .0, m .0, m .1)
+
   pub record Judged (n : ℕ) (s : Shape) : Type 0 where
     pub first : Matches (after 0 s)
     pub then-all : (k : ℕ) → k < n → counts k ≡ clear
+    pub walks : walk all objects codes n 0 s ≡ clear
 
   pub judged : (n rate old : ℕ) (s : Shape) → later all objects codes n rate old s ≡ clear → Judged n s
   judged n rate old s e =
@@ -68,11 +86,33 @@ module _ (all : List Sent) (objects : ℕ) (codes : List ℕ) where
       let p3 = then-clear (counts 0) _ p2 .1 in
       let p4 = then-clear (unless (not (eqb n 0)) 12 0 0) _ p3 .1 in
       let p5 = then-clear (cond (after 0 s .started) (objectsMatch all objects codes (after 0 s)) clear) (walk all objects codes n 0 s) p4 in
-      record { first = go (after 0 s .started) refl (p5 .0); then-all = λ k h. ap counts (let q : k ≡ 0 + k = omega arith in q) ∙ walked n 0 k s (p5 .1) h }
+      record { first = go (after 0 s .started) refl (p5 .0); then-all = λ k h. ap counts (let q : k ≡ 0 + k = omega arith in q) ∙ walked n 0 k s (p5 .1) h; walks = p5 .1 }
     where
       go : (b : Bool) → after 0 s .started ≡ b → cond b (objectsMatch all objects codes (after 0 s)) clear ≡ clear → Matches (after 0 s)
       go true q e st = match-clear (after 0 s) e
       go false q e st = absurd (subst T (sym st ∙ q) tt)
+
+-- ---- 13 and 14
+bed-matched : (beds codes : List ℕ) (b : Bed) → bedFound beds codes (b .code) ≡ clear → Matched codes b
+bed-matched beds codes b e = go (matching (b .code) codes) refl (match.judged (b .code) codes)
+  where
+    clear-both : (unless (not (eqb (counted (b .code) codes) 0)) 13 (counted (b .code) beds) 0 ≡ clear) × (unless (not (eqb (b .code) 6)) 14 (b .code) 0 ≡ clear)
+    clear-both = then-clear (unless (not (eqb (counted (b .code) codes) 0)) 13 (counted (b .code) beds) 0) _ e
+
+    some : counted (b .code) codes ≢ 0
+    some = eqb-false (counted (b .code) codes) 0 (not-true _ (unless-clear _ 13 (counted (b .code) beds) 0 (clear-both .0)))
+
+    go : (f : matched.Found) → matching (b .code) codes ≡ f → match.Judged (b .code) codes f → Matched codes b
+    go (At i) q w = record { input = i; there = w .0; feeds = q; supported = eqb-false (b .code) 6 (not-true _ (unless-clear _ 14 (b .code) 0 (clear-both .1))) }
+    go Nothing q w = absurd (some w)
+
+all-matched : (beds codes : List ℕ) (bs : List Bed) → bedsFound beds codes (map (λ (b : Bed). b .code) bs) ≡ clear → All (Matched codes) bs
+all-matched beds codes [] e = tt
+all-matched beds codes (b ∷ bs) e = let p = then-clear (bedFound beds codes (b .code)) _ e in (bed-matched beds codes b (p .0), all-matched beds codes bs (p .1))
+
+-- a bed without an input, which 13 keeps out, adds nothing
+pub unmatched : (ks : List Float) (inputs : ℕ → Float) → fedBy ks Nothing inputs ≡ []
+unmatched ks inputs = refl
 
 module _ (L : Leaves) (B : Layout L) (F : Facts L B) where
   -- of timed states of which updates keep P, and to which they give their shape
@@ -110,9 +150,6 @@ module _ (L : Leaves) (B : Layout L) (F : Facts L B) where
     abbrev shaped : ℕ → Shape → Shape
     shaped t s = shapeAt sent (a .objects) (a .codes) t sent s
 
-    abbrev Inv : ℕ → State L → Type 0
-    Inv t s = Good L B F s × (started L (s .meta) ≡ before L r a t) × (t < a .samples → Fit (shaped t (L .shape (s .meta))))
-
     abbrev met : ℕ → State L → State L
     met t s = slotted L (updated L t (f .updates) s)
 
@@ -134,25 +171,62 @@ module _ (L : Leaves) (B : Layout L) (F : Facts L B) where
     j : Judged sent (a .objects) (a .codes) (a .samples) (L .shape (r .meta))
     j = judged sent (a .objects) (a .codes) (a .samples) (a .rate) (r .rate) (L .shape (r .meta)) (p .later)
 
+    -- before sample t
+    pub record Inv (t : ℕ) (s : State L) : Type 0 where
+      pub good : Good L B F s
+      pub begins : started L (s .meta) ≡ before L r a t
+      pub walks : walk sent (a .objects) (a .codes) (a .samples - t) t (L .shape (s .meta)) ≡ clear
+      pub fits : t < a .samples → Fit (shaped t (L .shape (s .meta)))
+
     keep : (t : ℕ) (s : State L) → t < a .samples → Inv t s → Inv (suc t) (sampled L f t s .next)
-    keep t s h i = (
-      sampled-fine L B F f k t h s (i .0) .next,
-      met-started t s (i .0) (i .1),
-      λ l.
-          matches-on sent (a .objects) (a .codes) (suc t) sent (L .shape (met t s .meta)) (j .then-all (suc t) l) (subst Fit (sym (met-shape t s (i .0))) (i .2 h)),
-    )
+    keep t s h i =
+        let is = sym (met-shape t s (i .good)) in
+        let w = subst (λ (x : Shape). walk sent (a .objects) (a .codes) (a .samples - suc t) (suc t) x ≡ clear) is
+        (walk-on sent (a .objects) (a .codes) (a .samples) t (L .shape (s .meta)) h (i .walks) .2) in
+        record {
+          good = sampled-fine L B F f k t h s (i .good) .next;
+          begins = met-started t s (i .good) (i .begins);
+          walks = w;
+          fits = λ l. matches-on sent (a .objects) (a .codes) (suc t) sent (L .shape (met t s .meta))
+              (walk-on sent (a .objects) (a .codes) (a .samples) (suc t) (L .shape (met t s .meta)) l w .0) (subst Fit is (i .fits h));
+        }
 
-    abbrev Q : ℕ → Moment → Type 0
-    Q t m = length (m .objects) ≡ cond (begun L r a t) (a .objects) 0
+    module _ (g : Good L B F (opened L (a .rate) r)) where
+      abbrev s : ℕ → State L
+      s t = sounds.before L r a t
 
-    here : (t : ℕ) (s : State L) → t < a .samples → Inv t s → Q t (momentOf L f t s)
-    here t s h i = go (started L (met t s .meta)) refl ∙ ap (λ (b : Bool). cond b (a .objects) 0) (met-started t s (i .0) (i .1))
-      where
-        go : (b : Bool) → started L (met t s .meta) ≡ b → length (cond b (L .objects (met t s .meta)) []) ≡ cond b (a .objects) 0
-        go true e = F .shape-objects (met t s .meta) (met-good t s (i .0) .steady .meta) e ∙ subst Fit (sym (met-shape t s (i .0))) (i .2 h) e
-        go false e = refl
+      pub inv : (t : ℕ) → t ≤ a .samples → Inv t (s t)
+      inv t h = along L f (opened L (a .rate) r) (a .samples) Inv keep (record { good = g; begins = refl; walks = rw sub-zero (j .walks); fits = λ l. j .first }) t h
 
-    pub objects-match : Good L B F (opened L (a .rate) r) → (t : ℕ) → t < a .samples → Q t (momentAt L r a t)
-    unfolding pushed
-    objects-match g t h =
-        subst (λ (u : ℕ). Q u (momentAt L r a t)) (zero-add t) (each-moment L f Inv Q keep here (a .samples) 0 t (opened L (a .rate) r) (omega arith) h (g, refl, λ l. j .first))
+      module _ (t : ℕ) (h : t < a .samples) where
+        abbrev m : L .Meta
+        m = sounds.met L r a t .meta
+
+        i : Inv t (s t)
+        i = inv t (le-of-lt h)
+
+        pub started-at : started L m ≡ begun L r a t
+        started-at = met-started t (s t) (i .good) (i .begins)
+
+        -- refusal 11
+        pub objects-there : length (cond (begun L r a t) (L .objects m) []) ≡ cond (begun L r a t) (a .objects) 0
+        objects-there = go (begun L r a t) started-at
+          where
+            go : (b : Bool) → started L m ≡ b → length (cond b (L .objects m) []) ≡ cond b (a .objects) 0
+            go true e = F .shape-objects m (met-good t (s t) (i .good) .steady .meta) e ∙ subst Fit (sym (met-shape t (s t) (i .good))) (i .fits h) e
+            go false e = refl
+
+        -- refusals 13 and 14
+        pub beds-there : All (Matched (a .codes)) (cond (begun L r a t) (L .beds m) [])
+        beds-there = go (begun L r a t) started-at
+          where
+            mixed : mixes sent (a .objects) (a .codes) (L .shape m) ≡ clear
+            mixed = subst (λ (x : Shape). mixes sent (a .objects) (a .codes) x ≡ clear) (sym (met-shape t (s t) (i .good)))
+                (walk-on sent (a .objects) (a .codes) (a .samples) t (L .shape (s t .meta)) h (i .walks) .1)
+
+            go : (b : Bool) → started L m ≡ b → All (Matched (a .codes)) (cond b (L .beds m) [])
+            go true e =
+                let found = subst (λ (b : Bool). cond b (bedsFound (L .shape m .beds) (a .codes) (L .shape m .beds)) clear ≡ clear) e mixed in
+                let codes = F .shape-beds m (met-good t (s t) (i .good) .steady .meta) e in
+                all-matched (L .shape m .beds) (a .codes) (L .beds m) (subst (λ (cs : List ℕ). bedsFound (L .shape m .beds) (a .codes) cs ≡ clear) (sym codes) found)
+            go false e = tt

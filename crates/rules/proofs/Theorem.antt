@@ -1,59 +1,111 @@
 -- Document 01, demand 3, for every list of calls. Assumes nothing beyond `Facts`, which the crates `timed`, `records` and `store` prove.
 use mathlib.Core.Path.{_≡_, refl, sym, ap, ap₂, _∙_, subst}
+use mathlib.Core.Logic.{inl}
+use mathlib.Core.Bool.{Bool, true, false}
 use mathlib.Core.List.{List, [], _∷_}
 use Prim.Native.Nat.{ℕ}
+use lib.Dec.{eqb}
+use lib.ListN.{length}
+use lib.Ieee.{Float}
 use Rattle.rules.specs.Leaves.{Leaves}
-use Rattle.rules.specs.Samples.{State, fresh}
-use Rattle.rules.specs.Calls.{Call, push, flush, reset, step, final}
+use Rattle.rules.specs.Samples.{State, fresh, flushed}
+use Rattle.rules.specs.Refusals.{Args, Found, clear, stop, room}
+use Rattle.rules.specs.Calls.{Call, push, flush, reset, found, asked, drained, step, final}
+use Rattle.rules.specs.Promises.{CallHolds, AllHold}
+use Rattle.rules.specs.Ringing.{fedSince, AllRing}
 use Rattle.rules.specs.Block.{Layout, outOf, strideOf, left, finalOn, Seen, seen, seenOn, told}
-use Rattle.rules.specs.Claim.{InRange, Lent, AllLent, CallHolds, AllHold, AllInRange, Demand3, EveryList}
+use Rattle.rules.specs.Claim.{GivenOut, Lent, AllLent, AllGivenOut, Demand3, EveryList}
 use Rattle.rules.proofs.Facts.{Facts, InRanges}
 use Rattle.rules.proofs.Kept.{Rest, fresh-rest}
 use Rattle.rules.proofs.Ranged.{fresh-ranged}
 use Rattle.rules.proofs.Called.{called}
 use Rattle.rules.proofs.Keeps.{step-ranged}
-use Rattle.rules.proofs.Pushes.{push-holds}
+use Rattle.rules.proofs.Quiet.{Hush}
+use Rattle.rules.proofs.Pushes.{push-holds, hush-pushed}
+use Rattle.rules.proofs.Ringing.{Fed, fresh-fed, call-rings, step-fed}
+use Rattle.rules.proofs.Flushes.{flush-holds}
 use Rattle.rules.proofs.Erased.{forgotten, same}
 use Rattle.rules.proofs.Blocks.{erased, erased-left, reset-block, made-is, made-state, same-seen}
 
 module _ (L : Leaves) (B : Layout L) (F : Facts L B) where
-  call-holds : (r : State L) (c : Call) → Rest L B F r → Lent c → CallHolds L r c
-  call-holds r (push a) g h = λ e. push-holds L B F r a (h .0) (h .1) g e
-  call-holds r (flush out stride) g h = tt
-  call-holds r reset g h = tt
+  -- what holds of a renderer between calls, xs having been fed to its low-pass
+  record Between (xs : List Float) (r : State L) : Type 0 where
+    rest : Rest L B F r
+    ranges : InRanges F r
+    hush : Hush L r
+    fed : Fed L xs r
+
+  between-fresh : Between [] (fresh L)
+  between-fresh = record { rest = fresh-rest L B F; ranges = fresh-ranged L B F; hush = λ e. inl refl; fed = fresh-fed L }
+
+  call-holds : {xs : List Float} (r : State L) (c : Call) → Between xs r → Lent c → CallHolds L r c
+  call-holds r (push a) g h = (
+    λ n x y e. record { answer = ap (λ (v : Found). asked L v a r .answer) e; next = ap (λ (v : Found). asked L v a r .next) e },
+    λ e. push-holds L B F r a (h .0) (h .1) (g .rest) e (g .hush),
+  )
+  call-holds r (flush out stride) g h = (
+    λ e. record {
+      answer = ap (λ (b : Bool). drained L b (eqb (r .pending) 0) r .answer) e;
+      next = ap (λ (b : Bool). drained L b (eqb (r .pending) 0) r .next) e;
+    },
+    flush-holds L B F r (g .rest) out stride,
+  )
+  call-holds r reset g h = record { answer = refl; next = refl }
+
+  asked-hush : {xs : List Float} (r : State L) (a : Args) → Between xs r → Lent (push a) → (v : Found) → found L r a ≡ v → Hush L (asked L v a r .next)
+  asked-hush r a g h (stop n x y) e = g .hush
+  asked-hush r a g h clear e = hush-pushed L B F r a (h .0) (h .1) (g .rest) e (g .hush)
+
+  drained-hush : (r : State L) (t e : Bool) → Hush L r → Hush L (drained L t e r .next)
+  unfolding flushed
+  drained-hush r false e g = g
+  drained-hush r true true g = g
+  drained-hush r true false g = g
+
+  step-hush : {xs : List Float} (r : State L) (c : Call) → Between xs r → Lent c → Hush L (step L r c .next)
+  step-hush r (push a) g h = asked-hush r a g h (found L r a) refl
+  step-hush r (flush out stride) g h = drained-hush r (room stride (length out)) (eqb (r .pending) 0) (g .hush)
+  step-hush r reset g h = λ e. inl refl
 
   -- what holds of the calls from a renderer, and from its block
-  record Run (r : State L) (cs : List Call) : Type 0 where
-    range : AllInRange L B (B .encode r) cs
+  record Run (xs : List Float) (r : State L) (cs : List Call) : Type 0 where
+    range : AllGivenOut L B (B .encode r) cs
     seen : seenOn L B (B .encode r) cs ≡ told L B r cs
     block : finalOn L B (B .encode r) cs ≡ B .encode (final L r cs)
-    pushes : AllHold L r cs
+    calls : AllHold L r cs
+    rings : AllRing L xs r cs
 
-  runs : (cs : List Call) (r : State L) → Rest L B F r → InRanges F r → AllLent cs → Run r cs
-  runs [] r g k h = record { range = tt; seen = refl; block = refl; pushes = tt }
-  runs (c ∷ cs) r g k h =
+  step-between : (xs : List Float) (r : State L) (c : Call) → Between xs r → Lent c → Between (fedSince L xs r c) (step L r c .next)
+  step-between xs r c g h =
+      record { rest = called L B F r (g .rest) c h .rest; ranges = step-ranged L B F r c h (g .ranges); hush = step-hush r c g h; fed = step-fed L B F xs r c h (g .rest) (g .fed) }
+
+  runs : (cs : List Call) (xs : List Float) (r : State L) → Between xs r → AllLent cs → Run xs r cs
+  runs [] xs r g h = record { range = tt; seen = refl; block = refl; calls = tt; rings = tt }
+  runs (c ∷ cs) xs r g h =
       let x = step L r c in
-      let d = called L B F r g c (h .0) in
-      let n = runs cs (x .next) (d .rest) (step-ranged L B F r c (h .0) k) (h .1) in
-      let is = made-is L B F c r k in
-      let at = made-state L B F c r k in
+      let d = called L B F r (g .rest) c (h .0) in
+      let n = runs cs (fedSince L xs r c) (x .next) (step-between xs r c g (h .0)) (h .1) in
+      let is = made-is L B F c r (g .ranges) in
+      let at = made-state L B F c r (g .ranges) in
       record {
-        range = (subst (InRange (strideOf c) (outOf c)) (sym is) (d .range (B .encode r)), subst (λ (b : List ℕ). AllInRange L B b cs) (sym at) (n .range));
+        range = (subst (GivenOut (strideOf c) (outOf c)) (sym is) (d .range (B .encode r)), subst (λ (b : List ℕ). AllGivenOut L B b cs) (sym at) (n .range));
         seen = ap₂ (λ (y : Seen L B) (ys : List (Seen L B)). y ∷ ys)
             (ap (seen L B) is ∙ same-seen L B F (x .answer) (x .next) (outOf c) (strideOf c) (B .encode r)) (ap (λ (b : List ℕ). seenOn L B b cs) at ∙ n .seen);
         block = ap (λ (b : List ℕ). finalOn L B b cs) at ∙ n .block;
-        pushes = (call-holds r c g (h .0), n .pushes);
+        calls = (call-holds r c g (h .0), n .calls);
+        rings = (call-rings L B F xs r c (h .0) (g .rest) (g .fed), n .rings);
       }
 
   from-fresh : (cs : List Call) → AllLent cs → Demand3 L B (B .encode (fresh L)) cs
   from-fresh cs h =
-      let n = runs cs (fresh L) (fresh-rest L B F) (fresh-ranged L B F) h in
+      let n = runs cs [] (fresh L) between-fresh h in
       record {
         start = refl;
         range = n .range;
         seen = n .seen;
         block = n .block;
-        pushes = n .pushes;
+        calls = n .calls;
+        rings = n .rings;
         erased = erased L B (B .encode (fresh L)) cs;
         left = erased-left L B (B .encode (fresh L)) cs;
         forgotten = forgotten L (fresh L) cs;

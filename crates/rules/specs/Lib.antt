@@ -5,5 +5,10 @@ pub mod Samples
 pub mod Refusals
 pub mod Ranges
 pub mod Calls
+pub mod Accepted
+pub mod Sounds
+pub mod Order
+pub mod Promises
+pub mod Ringing
 pub mod Block
 pub mod Claim

@@ -6,6 +6,7 @@ use lib.Dec.{eqb, leb}
 use lib.ListN.{length}
 use Rattle.mixing.specs.Samples.{allPass}
 use Rattle.beds.specs.Matching.{counted}
+pub use Rattle.rates.specs.Rates.{listed}
 use Rattle.rules.specs.Leaves.{Leaves, Shape, started}
 use Rattle.rules.specs.Samples.{State}
 
@@ -55,9 +56,6 @@ sized a =
     let channels = length (a .codes) + a .objects in
     leb (a .samples) (a .stride) && leb (length (a .codes)) 18 && leb (a .objects) 16 && every (λ c. leb c 17) (a .codes)
     && eqb (length (a .pcm)) (4 * (channels * a .samples)) && (eqb (a .samples) 0 || not (eqb channels 0))
-
-abbrev pub listed : ℕ → Bool
-listed rate = eqb rate 32000 || eqb rate 44100 || eqb rate 48000 || eqb rate 88200 || eqb rate 96000
 
 module _ (L : Leaves) where
   -- 7 along the updates whose offset is t, in the order sent; the counts after them

@@ -176,22 +176,25 @@ module _ (L : Leaves) where
   unfoldable pub pushed : Frame (L .Update) → State → After
   pushed f r = framed f (f .samples) 0 (opened (f .rate) r)
 
+  -- the samples that wait for a whole block
+  abbrev pub waiting : State → Channels
+  waiting r c = take (r .pending) (floats (r .places) c)
+
   -- "Flush treats the remainder as one shorter block."
   unfoldable pub flushed : State → After
   flushed r =
-      let waiting : Channels = λ c. take (r .pending) (floats (r .places) c) in
       record {
         next = record {
           rate = r .rate;
           position = r .position;
           phase = r .phase;
           start = r .start;
-          gain = gainAfter (r .pending) (r .rate) (r .gain) waiting;
+          gain = gainAfter (r .pending) (r .rate) (r .gain) (waiting r);
           filter = r .filter;
           meta = r .meta;
           pending = 0;
           places = r .places;
         };
-        given = limited (r .gain) waiting;
+        given = limited (r .gain) (waiting r);
         moments = [];
       }

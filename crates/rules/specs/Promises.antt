@@ -1,0 +1,158 @@
+-- What each call promises on the renderer that it finds: a push that was accepted, a flush, a reset. Assumes nothing.
+use Prim.Native.Nat.{ℕ, suc, _+_, _*_, _%_, _≤_, _<_}
+use mathlib.Core.Path.{_≡_}
+use mathlib.Core.Bool.{Bool, true, false, cond, _||_}
+use mathlib.Core.List.{List, [], _∷_}
+use lib.Dec.{T, leb}
+use lib.ListN.{length, getD, drop}
+use lib.Ieee.{binary32, eq, toBits}
+use Rattle.words.specs.Words.{Bytes}
+use Rattle.ieee.specs.Bounds.{All}
+use Rattle.mixing.specs.Samples.{allPass}
+use Rattle.lowpass.specs.Lowpass.{next}
+use Rattle.beds.specs.declared.Found.the-variants.{At}
+use Rattle.beds.specs.Matching.{matching}
+use Rattle.energy.specs.Facts.{squares, AddsUp, Each}
+use Rattle.panning.specs.Hall.{fullRange}
+use Rattle.panning.specs.Table.{between, 8·0}
+use Rattle.rules.specs.Parts.{0·0}
+use Rattle.rules.specs.Leaves.{Leaves, Source, Bed, started}
+use Rattle.rules.specs.Mix.{objectTerms, objectAdds, sampleAt, samplesAt, fed}
+use Rattle.rules.specs.Samples.{State, fresh, limited, gainAfter, slotted, pushed, waiting}
+use Rattle.rules.specs.Refusals.{Args, clear, stop, room}
+use Rattle.rules.specs.Calls.{Call, push, flush, reset, refused, rendered, nothing, cleared, given, frameOf, found, Result, step}
+use Rattle.rules.specs.Order.{at}
+use Rattle.rules.specs.Sounds.{gainAt, limitedBlocks, appliedAll, before, met, momentAt, soundAt, unlimited, whole}
+
+-- ---- an object
+
+abbrev pub nobody : Source
+nobody = record { gain = 0·0; size = 0·0; place = record { x = 0·0; y = 0·0; z = 0·0 } }
+
+-- "the exact squares of its eleven coefficients add up to its gain g within g × 2^-20 + 2^-140": its terms are all that it adds anywhere; each is finite and from 0 to 8, on one of the
+-- eleven channels that are not 3, and no two are on one channel
+pub record Squares (s : Source) : Type 0 where
+  pub channels : Each (λ t. (t .channel < 12) × (t .channel ≡ 3 → ⊥)) (objectTerms s)
+  pub each : Each (λ t. T (between 0·0 8·0 (t .coefficient))) (objectTerms s)
+  pub once : (c : ℕ) → length (objectAdds s c) ≤ 1
+  pub sum : AddsUp (squares fullRange (objectTerms s)) (s .gain)
+
+-- ---- a bed
+
+-- one that is mixed: the input that feeds it is there, and its code is not 6
+pub record Matched (codes : List ℕ) (b : Bed) : Type 0 where
+  pub input : ℕ
+  pub there : input < length codes
+  pub feeds : matching (b .code) codes ≡ At input
+  pub supported : b .code ≡ 6 → ⊥
+
+-- ---- a push that was accepted, on the renderer r that the rules worked out from the list's start
+
+-- pcm and qcm are as long, and alike but for row j of n words; that row of qcm is one that refusal 8 lets pass
+pub record Replaced (n j : ℕ) (pcm qcm : List ℕ) : Type 0 where
+  pub length : length qcm ≡ length pcm
+  pub bytes : Bytes qcm
+  pub before : (i : ℕ) → i < 4 * (j * n) → getD qcm i 0 ≡ getD pcm i 0
+  pub past : (i : ℕ) → 4 * (suc j * n) ≤ i → getD qcm i 0 ≡ getD pcm i 0
+  pub passes : T (allPass qcm (4 * (j * n)) n)
+
+abbrev pub withPcm : List ℕ → Args → Args
+withPcm qcm a = record { pcm = qcm; meta = a .meta; out = a .out; codes = a .codes; rate = a .rate; samples = a .samples; objects = a .objects; stride = a .stride }
+
+module _ (L : Leaves) where
+  -- object j at sample t
+  abbrev pub objectAt : State L → Args → ℕ → ℕ → Source
+  objectAt r a t j = getD (momentAt L r a t .objects) j nobody
+
+  -- an update was applied before the push, or one of its own at an offset up to t is
+  abbrev pub upTo : ℕ → List (L .Update) → Bool
+  upTo t [] = false
+  upTo t (u ∷ us) = leb (L .offset u) t || upTo t us
+
+  abbrev pub begun : State L → Args → ℕ → Bool
+  begun r a t = started L (r .meta) || upTo t (L .updates (a .meta))
+
+  -- ---- sample t
+  pub record AtSample (r : State L) (a : Args) (t : ℕ) : Type 0 where
+    -- it finds the updates at t applied in the order sent, and a slot begun where one begins
+    pub finds : met L r a t ≡ slotted L (appliedAll L t (at (L .offset) t (L .updates (a .meta))) (before L r a t))
+    -- it is heard with the beds and objects of the timed state, "silent samples pan no object", and with its own samples of the PCM
+    pub beds : momentAt L r a t .beds ≡ cond (begun r a t) (L .beds (met L r a t .meta)) []
+    pub objects : momentAt L r a t .objects ≡ cond (begun r a t) (L .objects (met L r a t .meta)) []
+    pub codes : momentAt L r a t .codes ≡ a .codes
+    pub inputs : (i : ℕ) → momentAt L r a t .inputs i ≡ sampleAt (a .pcm) (a .samples) i t
+    pub own : momentAt L r a t .own ≡ samplesAt (a .pcm) (a .samples) (a .objects) (length (a .codes)) t
+    -- no bed and no object is left out: each bed has its input, and the objects are as many as the push brings
+    pub matched : All (Matched (a .codes)) (momentAt L r a t .beds)
+    pub count : length (momentAt L r a t .objects) ≡ cond (begun r a t) (a .objects) 0
+    -- the sum of channel 3 enters the low-pass
+    pub enters : before L r a (suc t) .filter ≡ next (before L r a t .filter) (fed (momentAt L r a t))
+    -- what each channel sounds like is laid behind the samples that wait
+    pub sounds : (c : ℕ) → c < 12 → getD (before L r a (suc t) .places c) ((r .pending + t) % 64) 0 ≡ toBits binary32 (soundAt L r a c t)
+    -- "Samples before the first update are silent."
+    pub quiet : begun r a t ≡ false → (c : ℕ) → soundAt L r a c t ≡ 0·0
+
+  -- ---- a call that is refused: "State and lent memory stay as before the call"
+  pub record Refuses (r : State L) (n x y : ℕ) (s : Result L) : Type 0 where
+    pub answer : s .answer ≡ refused n x y
+    pub next : s .next ≡ r
+
+  -- ---- a push that is not
+  pub record PushHolds (r : State L) (a : Args) : Type 0 where
+    -- it answers with what it gives out
+    pub answer : step L r (push a) .answer ≡ rendered (pushed L (frameOf L a) r .given)
+    pub next : step L r (push a) .next ≡ pushed L (frameOf L a) r .next
+    -- whole blocks are ready on each channel and the remainder waits; the stream has moved by the push's samples, at the push's rate
+    pub ready : (c : ℕ) → c < 12 → length (pushed L (frameOf L a) r .given c) ≡ 64 * whole L r a
+    pub waits : pushed L (frameOf L a) r .next .pending ≡ (r .pending + a .samples) % 64
+    pub position : pushed L (frameOf L a) r .next .position ≡ r .position + a .samples
+    pub rate : pushed L (frameOf L a) r .next .rate ≡ a .rate
+    -- every block is limited by the gain that it meets, and what waits is what no whole block took
+    pub gives : (c : ℕ) → c < 12 → pushed L (frameOf L a) r .given c ≡ limitedBlocks (a .rate) (r .gain) (unlimited L r a) (whole L r a) c
+    pub gain : pushed L (frameOf L a) r .next .gain ≡ gainAt (a .rate) (r .gain) (unlimited L r a) (whole L r a)
+    pub rest : (c : ℕ) → c < 12 → waiting L (pushed L (frameOf L a) r .next) c ≡ drop (64 * whole L r a) (unlimited L r a c)
+    -- a moment for each sample
+    pub moments : length (pushed L (frameOf L a) r .moments) ≡ a .samples
+    pub samples : (t : ℕ) → t < a .samples → AtSample r a t
+    -- "each object of size zero puts nothing into the bass feed": with its row of the PCM replaced by any that refusal 8 lets pass, the push is accepted and the same number is fed
+    pub bass : (t j : ℕ) → t < a .samples → j < a .objects → T (eq (objectAt r a t j .size) 0·0) → (qcm : List ℕ) → Replaced (a .samples) (length (a .codes) + j) (a .pcm) qcm
+        → (found L r (withPcm qcm a) ≡ clear) × (fed (momentAt L r (withPcm qcm a) t) ≡ fed (momentAt L r a t))
+    -- objects that are there and of size zero: the squares; "at gain 0 the coefficients are zero", at any size
+    pub squares : (t j : ℕ) → j < length (momentAt L r a t .objects) → T (eq (objectAt r a t j .size) 0·0) → Squares (objectAt r a t j)
+    pub still : (t j : ℕ) → j < length (momentAt L r a t .objects) → T (eq (objectAt r a t j .gain) 0·0) → objectTerms (objectAt r a t j) ≡ []
+
+  -- ---- a flush with room for its samples, and a reset
+
+  -- s is r but for the limiter's gain and what is pending
+  pub record Drained (r s : State L) : Type 0 where
+    pub pending : s .pending ≡ 0
+    pub rate : s .rate ≡ r .rate
+    pub position : s .position ≡ r .position
+    pub phase : s .phase ≡ r .phase
+    pub start : s .start ≡ r .start
+    pub filter : s .filter ≡ r .filter
+    pub meta : s .meta ≡ r .meta
+    pub places : s .places ≡ r .places
+
+  -- "with nothing pending says none"; "Flush treats the remainder as one shorter block": as many samples as were pending on each channel, and nothing is pending after
+  pub record FlushHolds (r : State L) (x : Result L) : Type 0 where
+    pub none : r .pending ≡ 0 → (x .answer ≡ nothing) × (x .next ≡ r)
+    pub gives : 0 < r .pending → x .answer ≡ rendered (limited (r .gain) (waiting L r))
+    pub ready : 0 < r .pending → (c : ℕ) → c < 12 → length (given (x .answer) c) ≡ r .pending
+    pub gain : 0 < r .pending → x .next .gain ≡ gainAfter (r .pending) (r .rate) (r .gain) (waiting L r)
+    pub untouched : 0 < r .pending → Drained r (x .next)
+
+  pub record ResetHolds (x : Result L) : Type 0 where
+    pub answer : x .answer ≡ cleared
+    pub next : x .next ≡ fresh L
+
+  abbrev pub CallHolds : State L → Call → Type 0
+  CallHolds r (push a) = ((n x y : ℕ) → found L r a ≡ stop n x y → Refuses r n x y (step L r (push a))) × (found L r a ≡ clear → PushHolds r a)
+  CallHolds r (flush out stride) =
+      (room stride (length out) ≡ false → Refuses r 1 0 0 (step L r (flush out stride))) × (room stride (length out) ≡ true → FlushHolds r (step L r (flush out stride)))
+  CallHolds r reset = ResetHolds (step L r reset)
+
+  -- of each call of the list, each handed what the one before left
+  abbrev pub AllHold : State L → List Call → Type 0
+  AllHold r [] = Unit {0}
+  AllHold r (c ∷ cs) = CallHolds r c × AllHold (step L r c .next) cs
