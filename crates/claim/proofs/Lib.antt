@@ -13,3 +13,4 @@ pub mod Blank
 pub mod Blocks
 pub mod Theorem
 pub mod Heard
+pub mod Players

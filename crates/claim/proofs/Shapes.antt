@@ -2,7 +2,7 @@
 use Prim.Native.Nat.{ℕ, zero, suc, _+_, _-_, _≤_, _<_}
 use mathlib.Core.Path.{_≡_, refl, sym, ap, _∙_, subst}
 use mathlib.Core.Bool.{Bool, true, false}
-use mathlib.Core.List.{List, _∷_}
+use mathlib.Core.List.{List, _∷_, map}
 use lib.Dec.{ltb}
 use lib.ListN.{length, getD, length-set}
 use lib.Seq.{getD-set-other, getD-set-same}
@@ -15,6 +15,7 @@ use Rattle.timed.specs.State.{Timed, elementOf}
 use Rattle.updates.specs.Said.{Update}
 use Rattle.updates.specs.Applied.{codeGiven, codesGiven, applied}
 use Rattle.updates.proofs.Shapes.{shape-applied}
+use Rattle.rules.specs.Leaves.{Bed}
 use Rattle.rules.proofs.Facts.{Mixable}
 use Rattle.claim.specs.Hall.{Sent, bedOf, sourceOf, hall}
 use Rattle.claim.proofs.Sound.{Sound, Within}
@@ -39,6 +40,14 @@ mixable m h =
 
 pub shape-objects : (m : Timed) → length (hall .objects m) ≡ hall .shape m .objects
 shape-objects m = each-length (sourceOf (m .state)) (m .state .objects - m .state .isf)
+
+each-map : {A B : Type 0} (g : A → B) (f : ℕ → A) (n : ℕ) → map g (each f n) ≡ each (λ k. g (f k)) n
+unfolding each
+each-map g f zero = refl
+each-map {B} g f (suc n) = ap (λ (l : List B). g (f 0) ∷ l) (each-map g (λ k. f (suc k)) n)
+
+pub shape-beds : (m : Timed) → map (λ (b : Bed). b .code) (hall .beds m) ≡ hall .shape m .beds
+shape-beds m = each-map (λ (b : Bed). b .code) (bedOf (m .state)) (m .state .beds)
 
 -- ---- the codes that an update gives
 

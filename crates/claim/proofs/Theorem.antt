@@ -15,7 +15,7 @@ use Rattle.claim.specs.Hall.{hall, block}
 use Rattle.claim.proofs.Sound.{Sound, Within}
 use Rattle.claim.proofs.Checked.{Checked, checked}
 use Rattle.claim.proofs.Applied.{sound-apply, within-apply}
-use Rattle.claim.proofs.Shapes.{mixable, shape-apply, shape-slot, shape-objects, counts-apply, counts-slot}
+use Rattle.claim.proofs.Shapes.{mixable, shape-apply, shape-slot, shape-objects, shape-beds, counts-apply, counts-slot}
 use Rattle.claim.proofs.SlotSound.{sound-slot}
 use Rattle.claim.proofs.SlotWithin.{within-slot}
 use Rattle.claim.proofs.Blank.{sound-blank, within-blank, within-later}
@@ -36,6 +36,7 @@ facts =
       sent-started = λ u c. refl;
       shape-slot = λ n m h. shape-slot n m;
       shape-objects = λ m h e. shape-objects m;
+      shape-beds = λ m h e. shape-beds m;
       Within = Within;
       within-blank = within-blank;
       within-later = within-later;

@@ -4,7 +4,7 @@ use native.Mathlib.Omega.{arith}
 use mathlib.Core.Path.{_≡_, refl, ap, _∙_}
 use mathlib.Core.Bool.{Bool, true, false, cond}
 use mathlib.Core.List.{List, [], _∷_}
-use lib.Dec.{leb, eqb, lit<}
+use lib.Dec.{leb, lit<}
 use lib.ListN.{length, length-append}
 use lib.Ieee.{binary32, ofBits}
 use borrow.Author.Tests.{leb-true, leb-false}
@@ -13,7 +13,7 @@ use Rattle.lowpass.specs.declared.BiquadLowpassState.{BiquadLowpassState}
 use Rattle.rules.specs.Parts.{Places, floats, laid}
 use Rattle.rules.specs.Leaves.{Leaves, started}
 use Rattle.rules.specs.Mix.{Moment, fed}
-use Rattle.rules.specs.Samples.{Frame, State, After, row, moment, applied, updated, slotted, closing, sampled, framed}
+use Rattle.rules.specs.Samples.{Frame, State, After, row, moment, updated, slotted, closing, sampled, framed}
 use Rattle.rules.proofs.Lists.{length-map, length-laid}
 use Rattle.rules.proofs.Limited.{length-limited}
 use Rattle.rules.proofs.Clock.{untouched}
@@ -43,14 +43,6 @@ module _ (L : Leaves) where
           record { blocks = 1; length = λ c l. length-limited (r .gain) (floats places) c ∙ length-map (ofBits binary32) (places c) ∙ long c l; all = omega arith }
       go false q = record { blocks = 0; length = λ c l. refl; all = omega arith }
 
-  updated-places : (t : ℕ) (us : List (L .Update)) (r : State L) → updated L t us r .places ≡ r .places
-  updated-places t [] r = refl
-  updated-places t (u ∷ us) r = updated-places t us (cond (eqb (L .offset u) t) (applied L t u r) r) ∙ go (eqb (L .offset u) t)
-    where
-      go : (b : Bool) → cond b (applied L t u r) r .places ≡ r .places
-      go true = refl
-      go false = refl
-
   pub framed-counted : (f : Frame (L .Update)) (n t : ℕ) (r : State L) → Long (r .places) → r .pending < 64 → Counted (r .pending) n (framed L f n t r)
   framed-counted f zero t r long few = record { blocks = 0; length = λ c l. refl; all = omega arith }
   framed-counted f (suc n) t r long few =
@@ -73,7 +65,7 @@ module _ (L : Leaves) where
       same = untouched L t (f .updates) r .pending
 
       laid-long : Long (λ c. laid (s .pending) (row m (s .filter) c) (s .places c))
-      laid-long c l = length-laid (s .pending) (row m (s .filter) c) (s .places c) ∙ ap (λ (p : Places). length (p c)) (updated-places t (f .updates) r) ∙ long c l
+      laid-long c l = length-laid (s .pending) (row m (s .filter) c) (s .places c) ∙ ap (λ (p : Places). length (p c)) (untouched L t (f .updates) r .places) ∙ long c l
 
       a : Counted (s .pending) 1 (sampled L f t r)
       a =

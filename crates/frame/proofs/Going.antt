@@ -15,9 +15,10 @@ use Rattle.rules.specs.Refusals.{Args, listed, lacking, countsAfter, lackingFro
 use Rattle.rules.specs.Calls.{sentOf, frameOf}
 use Rattle.rules.specs.Block.{Layout, written}
 use Rattle.rules.proofs.Facts.{Facts}
+use Rattle.rules.proofs.Lists.{neither}
 use Rattle.rules.proofs.Judged.{Passed, is-roomy, samples-fit}
 use Rattle.rules.proofs.Clock.{untouched}
-use Rattle.rules.proofs.Ranged.{R, or-false, updated-ranged, slotted-met, framed-ranged, opened-ranged}
+use Rattle.rules.proofs.Ranged.{R, updated-ranged, slotted-met, framed-ranged, opened-ranged}
 use Rattle.rules.proofs.Shapes.{Matches, matches-on, judged, updated-shape, slotted-shape}
 use Rattle.frame.specs.Chunk.{chunk}
 use Rattle.frame.specs.Out.{behind}
@@ -110,7 +111,7 @@ module _ (L : Leaves) (B : Layout L) (F : Facts L B) where
       -- refusal 7 at t and at the samples after it
       lacks-here : (n : ℕ) → a .samples - t ≡ suc n → (lacking L t us (L .counts (r .meta)) ≡ false) × (lackingFrom L n (suc t) us (countsAfter L t us (L .counts (r .meta))) ≡ false)
       lacks-here n e =
-          or-false L B F (lacking L t us (L .counts (r .meta))) (lackingFrom L n (suc t) us (countsAfter L t us (L .counts (r .meta))))
+          neither (lacking L t us (L .counts (r .meta))) (lackingFrom L n (suc t) us (countsAfter L t us (L .counts (r .meta))))
           (ap (λ (i : ℕ). lackingFrom L i t us (L .counts (r .meta))) (sym e) ∙ g .enough)
 
       pub begun : Begun t r

@@ -6,7 +6,8 @@ use Prim.Native.Nat.{ℕ, zero, suc, _+_, _*_, _<_, _≤_}
 use native.Mathlib.Nat.{zero-add, add-zero}
 use native.Mathlib.Omega.{arith}
 use borrow.Author.Tests.{ltb-true, ltb-false}
-use lib.Dec.{T, eqb, ltb, eqb→eq, lit≤}
+use lib.Dec.{T, eqb, ltb, leb, eqb→eq, leb→le, lit≤}
+use lib.Ieee.Fits.{and-r}
 use lib.ListN.{length, getD, drop, length-append, take-append-drop}
 use lib.Seq.{drop-at, take-at, drop-drop}
 use Rattle.ieee.specs.Bounds.{All}
@@ -17,7 +18,7 @@ use Rattle.timed.specs.State as timed
 use Rattle.timed.specs.declared.state.ElementRendererState.{ElementRendererState}
 use Rattle.timed.specs.declared.state.MetadataRendererState.{MetadataRendererState}
 use Rattle.rules.specs.Parts.{Places}
-use Rattle.rules.specs.Refusals.{listed}
+use Rattle.rates.specs.Rates.{lowest, highest, listed}
 use Rattle.rules.specs.Samples.{Renderer}
 use Rattle.store.specs.Table.{bytesOf}
 use Rattle.store.specs.Fields.{smallWords, smallOf}
@@ -36,14 +37,8 @@ either : (a b : Bool) {n m : ℕ} → (T a → n ≤ m) → (T b → n ≤ m) �
 either true b p q h = p tt
 either false b p q h = q h
 
-rate-most : (n : ℕ) → T (eqb n 0 || listed n) → n ≤ 96000
-rate-most n =
-    let one : (k : ℕ) → k ≤ 96000 → T (eqb n k) → n ≤ 96000 = λ k l h. let e = eqb→eq n k h in omega arith in
-    either (eqb n 0) (listed n) (one 0 (lit≤ tt))
-    (either (eqb n 32000 || eqb n 44100 || eqb n 48000 || eqb n 88200) (eqb n 96000)
-    (either (eqb n 32000 || eqb n 44100 || eqb n 48000) (eqb n 88200)
-    (either (eqb n 32000 || eqb n 44100) (eqb n 48000) (either (eqb n 32000) (eqb n 44100) (one 32000 (lit≤ tt)) (one 44100 (lit≤ tt))) (one 48000 (lit≤ tt))) (one 88200 (lit≤ tt)))
-    (one 96000 (lit≤ tt)))
+rate-most : (n : ℕ) → T (eqb n 0 || listed n) → n ≤ highest
+rate-most n = either (eqb n 0) (listed n) (λ h. let e = eqb→eq n 0 h in omega arith) (λ h. leb→le n highest (and-r (leb lowest n) (leb n highest) h))
 
 pub element-full : (position least : ℕ) (e : ElementRendererState) → InRange position e → ElementRanged least e → ElementFull e
 element-full position least e r h =

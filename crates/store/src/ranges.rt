@@ -56,10 +56,10 @@ fn heads_valid(infos: &[u8]) -> bool
 pub fn listed(rate: u32) -> bool
     ensures { λ r. ⌜ r ≡ refusals.listed rate ⌝ }
 {
-    match rate {
-        32000 | 44100 | 48000 | 88200 | 96000 => true,
-        _ => false,
+    if rate < 8000 {
+        return false;
     }
+    rate <= 192000
 }
 
 fn rate_valid(rate: u32) -> bool
