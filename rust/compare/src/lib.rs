@@ -9,6 +9,7 @@ mod generator;
 pub mod model;
 pub mod probe;
 pub mod reading;
+pub mod rows;
 pub mod streams;
 
 pub use frames::Frames;

@@ -1,0 +1,4 @@
+pub mod Opened
+pub mod Quick
+pub mod Same
+pub mod Table

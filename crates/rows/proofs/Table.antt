@@ -1,0 +1,62 @@
+-- Every row holds, by computation. Assumes nothing.
+use mathlib.Core.Path.{_≡_, refl, sym, _∙_}
+use mathlib.Core.List.{List, [], _∷_, map}
+use Rattle.ieee.specs.Bounds.{All}
+use Rattle.rules.proofs.Lists.{all-append}
+use Rattle.rows.specs.Rows.{Said, Row, Holds, says, seen}
+use Rattle.rows.specs.Notation.{joined}
+use Rattle.rows.specs.Lists.{refusals, outputs, blocks, beds, objects, updates, slots, groups, rows}
+use Rattle.rows.proofs.Opened.{everything}
+use Rattle.rows.proofs.Quick.{plainly, quickly}
+use Rattle.rows.proofs.Same.{plainly-is, quickly-is}
+
+-- rows for which a way to compute them gives what they say
+held : (way : Row → List Said) → ((r : Row) → way r ≡ seen r) → (rs : List Row) → map way rs ≡ map says rs → All Holds rs
+held way is [] e = tt
+held way is (r ∷ rs) e =
+    let here : way r ≡ says r = cc in
+    let rest : map way rs ≡ map says rs = cc in
+    (sym (is r) ∙ here, held way is rs rest)
+
+-- ---- by the rules as they stand
+
+refusals-hold : All Holds refusals
+unfolding everything
+refusals-hold = held seen (λ r. refl) refusals refl
+
+outputs-hold : All Holds outputs
+unfolding everything
+outputs-hold = held seen (λ r. refl) outputs refl
+
+-- ---- with the places worked out once a sample
+
+blocks-hold : All Holds blocks
+unfolding plainly
+blocks-hold = held plainly plainly-is blocks refl
+
+-- ---- with the coefficients worked out once a slot too
+
+beds-hold : All Holds beds
+unfolding quickly
+beds-hold = held quickly quickly-is beds refl
+
+objects-hold : All Holds objects
+unfolding quickly
+objects-hold = held quickly quickly-is objects refl
+
+updates-hold : All Holds updates
+unfolding quickly
+updates-hold = held quickly quickly-is updates refl
+
+slots-hold : All Holds slots
+unfolding quickly
+slots-hold = held quickly quickly-is slots refl
+
+-- ---- all rows
+
+all-joined : (gs : List (List Row)) → All (All Holds) gs → All Holds (joined gs)
+all-joined [] h = tt
+all-joined (g ∷ gs) h = all-append Holds g (joined gs) (h .0) (all-joined gs (h .1))
+
+pub table : All Holds rows
+table = all-joined groups (refusals-hold, (outputs-hold, (blocks-hold, (beds-hold, (objects-hold, (updates-hold, (slots-hold, tt)))))))
