@@ -71,7 +71,7 @@ impl Calls {
 /// Changes one thing, mostly to what a check refuses; what a frame of `hallrender` can hold.
 fn spoil(inputs: &mut Generator, call: &mut Call) {
     match inputs.below(12) {
-        0 => call.rate = inputs.pick(&[0, 1, 47_999, 48_001, 192_000, u32::MAX]),
+        0 => call.rate = inputs.pick(&[0, 7_999, 192_001, u32::MAX]),
         1 => {
             if let Some(code) = call.codes.last_mut() {
                 *code = 18 + inputs.below(238) as u8;

@@ -2,7 +2,6 @@
 //! and the oracle for everything else.
 
 use crate::calls::Call;
-use crate::frames::RATES;
 use crate::reading;
 use oracle::frame::{Anchor, Block, Element, Frame, Object, Update};
 use oracle::state::Metadata;
@@ -77,7 +76,7 @@ impl Model {
         {
             return Err(2);
         }
-        if !RATES.contains(&call.rate) {
+        if !(8_000..=192_000).contains(&call.rate) {
             return Err(3);
         }
         let state = self.oracle.state();

@@ -1,8 +1,9 @@
-//! The low-pass coefficients at the five rates, against the Rust's own over the nearest sine and
-//! cosine, and against the bits that crates/angles/specs/Filter.antt states.
+//! At every whole rate from 8,000 to 192,000: the cosine and sine of w0 against the nearest f32, as
+//! sums of ten terms and f64 give them, and the low-pass coefficients against the Rust's own over
+//! these; and at document 01's five rates the coefficients against stated bits.
 
 use compare::probe::angles;
-use oracle::leaf;
+use oracle::{exact, leaf};
 
 /// a1 a2 b0 b1 b2
 const STATED: [(u32, [u32; 5]); 5] = [
@@ -40,9 +41,20 @@ fn coefficients_are_the_stated_ones() {
 }
 
 #[test]
+fn angles_are_the_nearest() {
+    for rate in 8_000..=192_000 {
+        let w0 = std::f32::consts::TAU * 120.0 / rate as f32;
+        let wide = f64::from(w0);
+        let found = angles::angle(rate);
+        assert_eq!(found, [exact::cos(w0), exact::sin(w0)], "{rate}");
+        assert_eq!(found, [wide.cos() as f32, wide.sin() as f32], "{rate}");
+    }
+}
+
+#[test]
 #[cfg_attr(no_sources, ignore = "Rust sources not at hand")]
 fn coefficients_are_the_rust_ones() {
-    for (rate, _) in STATED {
+    for rate in 8_000..=192_000 {
         let expected = leaf::lowpass_new(rate);
         let found = angles::coefficients(rate).map(f32::to_bits);
         assert_eq!(found.as_slice(), &expected.map(f32::to_bits)[..5], "{rate}");

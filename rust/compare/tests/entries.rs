@@ -222,7 +222,8 @@ fn bed_frame(samples: usize) -> Call {
 #[test]
 fn a_hundred_samples() {
     let mut host = Host::new(1_536);
-    let mut ready = |call: &dyn Fn(&mut [u8], &mut [u8], u32) -> Answer| {
+    type Entry<'a> = &'a dyn Fn(&mut [u8], &mut [u8], u32) -> Answer;
+    let mut ready = |call: Entry| {
         let answer = call(&mut host.state, &mut host.out, 1_536);
         (answer.kind, answer.number, answer.ready)
     };
@@ -237,6 +238,24 @@ fn a_hundred_samples() {
     );
     let larger = bed_frame(1_537);
     assert_eq!(ready(&|s, o, n| entry::push(s, &larger, o, n)), (1, 2, 0));
+}
+
+/// The rates at both ends are accepted, their neighbours outside are not; and so in a block.
+#[test]
+fn the_ends_of_the_rates() {
+    for (rate, number) in [(7_999, 3), (8_000, 0), (192_000, 0), (192_001, 3)] {
+        let mut host = Host::new(64);
+        let call = Call {
+            rate,
+            ..bed_frame(64)
+        };
+        let answer = entry::push(&mut host.state, &call, &mut host.out, 64);
+        assert_eq!(answer.number, number, "{rate}");
+        let mut host = Host::new(64);
+        host.state[..4].copy_from_slice(&rate.to_le_bytes());
+        let answer = entry::flush(&mut host.state, &mut host.out, 64);
+        assert_eq!(answer.number, u32::from(number != 0), "{rate} in a block");
+    }
 }
 
 /// Gain 8 is accepted, the next f32 is not.
@@ -330,6 +349,8 @@ fn used_block(seed: u64) -> Vec<u8> {
 fn limits() -> Vec<(usize, u64, usize)> {
     let mut limits = vec![
         (0, 1, 4),
+        (0, 7_999, 4),
+        (0, 192_001, 4),
         (4, 64, 4),
         (8, STREAM_END + 1, 8),
         (16, STREAM_END + 1, 8),
@@ -458,7 +479,7 @@ fn any_bytes() {
             state.resize(BLOCK, 0);
         }
         let call = Call {
-            rate: inputs.pick(&[48_000, 0, 44_100, 7]),
+            rate: inputs.pick(&[48_000, 0, 44_100, 7_999, 192_001]),
             samples: inputs.pick(&[0, 1, 10, 64, 1_536, u32::MAX]),
             codes,
             objects: inputs.pick(&[0, 1, 16, 17, u32::MAX]),

@@ -1,5 +1,5 @@
-//! The program `hallrender` on 10,000 streams: its standard output is, byte for byte, what the
-//! oracle has it print.
+//! The program `hallrender` on 10,000 streams at rates drawn from all that are accepted: its standard
+//! output is, byte for byte, what the oracle has it print.
 
 use compare::calls::{Call, Step};
 use compare::streams;
@@ -60,6 +60,14 @@ fn answers(text: &str) -> impl Iterator<Item = &str> {
     })
 }
 
+/// The accepted rates in the headers of a stream.
+fn frame_rates(stream: &[u8]) -> impl Iterator<Item = u32> {
+    let headers = stream.chunks_exact(40).filter(|record| record[0] == 5);
+    headers
+        .map(|record| u32::from_le_bytes(record[4..8].try_into().unwrap()))
+        .filter(|rate| (8_000..=192_000).contains(rate))
+}
+
 #[test]
 #[cfg_attr(no_sources, ignore = "Rust sources not at hand")]
 fn prints_what_the_oracle_has_it_print() {
@@ -68,9 +76,10 @@ fn prints_what_the_oracle_has_it_print() {
         "run `rt check hallrender` first"
     );
     let compared = |part: u64| {
-        let mut counts = BTreeMap::new();
+        let (mut counts, mut rates) = (BTreeMap::new(), BTreeSet::new());
         for seed in (part..STREAMS).step_by(2) {
             let stream = streams::stream(seed);
+            rates.extend(frame_rates(&stream));
             let expected = streams::played(&stream);
             let found = run(&stream);
             assert!(
@@ -82,14 +91,16 @@ fn prints_what_the_oracle_has_it_print() {
                 *counts.entry(answer.to_string()).or_insert(0u64) += 1;
             }
         }
-        counts
+        (counts, rates)
     };
     let halves = thread::scope(|scope| {
         let other = scope.spawn(|| compared(1));
         [compared(0), other.join().unwrap()]
     });
-    let kinds: BTreeSet<&String> = halves.iter().flat_map(|half| half.keys()).collect();
-    println!("{halves:?}");
+    let kinds: BTreeSet<&String> = halves.iter().flat_map(|half| half.0.keys()).collect();
+    let rates: BTreeSet<&u32> = halves.iter().flat_map(|half| &half.1).collect();
+    println!("{:?} {:?}, {} rates", halves[0].0, halves[1].0, rates.len());
+    assert!(rates.len() > 8_000, "{} rates", rates.len());
     // ready, none, reset, bad record, and 2 to 14 but 4, which no stream is long enough for
     assert_eq!(kinds.len(), 4 + 12, "{kinds:?}");
 }

@@ -1,12 +1,12 @@
 //! The limiter against the Rust's own, bit for bit: runs of 2,000 blocks of drawn, extreme and
-//! constant samples at the five rates, whole blocks and shorter last ones, as floats and from bytes to
+//! constant samples at seven rates, the ends with them, whole blocks and shorter last ones, as floats and from bytes to
 //! bytes; the peak at every length up to 200; scaling.
 
 use compare::probe::limiter;
 use compare::{Generator, all_same, same};
 use oracle::leaf;
 
-const RATES: [u32; 5] = [32_000, 44_100, 48_000, 88_200, 96_000];
+const RATES: [u32; 7] = [8_000, 32_000, 44_100, 48_000, 88_200, 96_000, 192_000];
 const BLOCKS: usize = 2_000;
 
 /// One block's samples, channel after channel, 64 places each.

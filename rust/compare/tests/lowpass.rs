@@ -1,11 +1,11 @@
-//! The low-pass: its coefficients at the five rates; runs of 1,000,000 samples of each kind at each
-//! rate, in pieces of uneven length, every sample and the whole memory after every piece; and 1,000
-//! filters and runs of any floats.
+//! The low-pass: its coefficients at seven rates, the ends with them; runs of 1,000,000 samples of
+//! each kind at each rate, in pieces of uneven length, every sample and the whole memory after
+//! every piece; and 1,000 filters and runs of any floats.
 
 use compare::{Generator, all_same, probe::lowpass};
 use oracle::leaf;
 
-const RATES: [u32; 5] = [32_000, 44_100, 48_000, 88_200, 96_000];
+const RATES: [u32; 7] = [8_000, 32_000, 44_100, 48_000, 88_200, 96_000, 192_000];
 const SAMPLES: usize = 1_000_000;
 
 /// Both filters, from new, over the same samples. Gives the largest sizes in and out.
@@ -29,7 +29,7 @@ fn run(rate: u32, seed: u64, mut sample: impl FnMut(usize, &mut Generator) -> f3
     (most_in, most_out)
 }
 
-/// The same at all rates, with the bound of `lowpass-bounded`.
+/// The same at all rates, with the bound of `lowpass-twice`.
 fn bounded(seed: u64, mut sample: impl FnMut(usize, &mut Generator) -> f32) {
     for rate in RATES {
         let (most_in, most_out) = run(rate, seed + u64::from(rate), &mut sample);

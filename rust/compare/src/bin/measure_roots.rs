@@ -10,6 +10,8 @@ use std::time::Instant;
 const CALLS: u32 = 50_000;
 const RUNS: u32 = 400;
 
+type Function = fn(f32) -> f32;
+
 #[inline(never)]
 fn identity(x: f32) -> f32 {
     x
@@ -69,8 +71,8 @@ fn main() {
         .map(|_| f32::from_bits(0x3c00_0000 + drawn.below(0x0400_0000) as u32))
         .collect();
     let loops = [chain(identity), independent(identity, &inputs)];
-    let times = |f: fn(f32) -> f32| [chain(f) - loops[0], independent(f, &inputs) - loops[1]];
-    let functions: [(&str, fn(f32) -> f32, fn(f32) -> f32); 3] = [
+    let times = |f: Function| [chain(f) - loops[0], independent(f, &inputs) - loops[1]];
+    let functions: [(&str, Function, Function); 3] = [
         ("sqrt / hardware", roots::sqrt, hardware),
         (
             "fourth_root / hardware twice",

@@ -254,7 +254,9 @@ fn checks(list: &mut List) {
         call.objects = 0;
         call.pcm.clear();
     });
-    list.spoilt(&frame, vec![], |call| call.rate = 47_999);
+    for rate in [7_999, 192_001] {
+        list.spoilt(&frame, vec![], |call| call.rate = rate);
+    }
     list.spoilt(&frame, vec![], |call| call.meta = vec![5; 40]);
     // Record 3 is an object: an anchor, an absent distance, a depth factor, a size; record 2 a block.
     for (at, byte) in [
@@ -274,6 +276,21 @@ fn checks(list: &mut List) {
         });
     }
     list.flush();
+}
+
+/// The bass feed at both ends of the rates, and at one where std's sine is not the nearest f32.
+fn rates(list: &mut List) {
+    for rate in [8_000, 8_025, 192_000] {
+        list.reset();
+        let frame = Frame {
+            rate,
+            ..list.frame(64, &[3], 0, 0.9)
+        };
+        list.push(
+            &frame,
+            vec![update(0, &[3], 0, &[], |_, _| Object::default())],
+        );
+    }
 }
 
 /// Short lists from the generator.
@@ -299,6 +316,7 @@ fn main() {
     objects(&mut list);
     updates(&mut list);
     checks(&mut list);
+    rates(&mut list);
     drawn(&mut list);
     // A cut record ends the list.
     list.stream.extend([7; 39]);

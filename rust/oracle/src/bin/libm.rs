@@ -54,5 +54,5 @@ fn angles(name: &str, std: fn(f32) -> f32, nearest: fn(f32) -> f32) {
             std(std::hint::black_box(w0)) != nearest(w0)
         })
         .collect();
-    println!("{name}: {} rates, first {:?}", rates.len(), rates.first());
+    println!("{name}: {} rates: {rates:?}", rates.len());
 }
