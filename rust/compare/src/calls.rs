@@ -36,6 +36,20 @@ pub enum Step {
     Reset,
 }
 
+/// A bed of code 2 with an update that names it at offset 0.
+pub fn bed_frame(samples: usize) -> Call {
+    let mut meta = vec![0; 40];
+    meta[..9].copy_from_slice(&[1, 0, 0, 0, 1, 1, 1, 0, 2]);
+    Call {
+        rate: 48_000,
+        samples: samples as u32,
+        codes: vec![2],
+        objects: 0,
+        meta,
+        pcm: (0..samples).flat_map(|_| 0.5f32.to_le_bytes()).collect(),
+    }
+}
+
 /// A seeded list of calls: frames, one in six of them spoilt, flushes and resets.
 pub struct Calls {
     inputs: Generator,

@@ -6,6 +6,7 @@ pub mod calls;
 pub mod entry;
 mod frames;
 mod generator;
+pub mod host;
 pub mod model;
 pub mod probe;
 pub mod reading;

@@ -1,0 +1,171 @@
+//! The exported entries `push`, `flush` and `reset` against the model: answers, ready samples bit
+//! for bit, every byte of the state block and the output that a call must leave alone, and the
+//! renderer that the block holds.
+
+use compare::block;
+use compare::calls::{Call, Calls, Step};
+use compare::entry::{self, BLOCK};
+use compare::host::{Host, expected_answer};
+use compare::model::{Model, Outcome, STREAM_END};
+use compare::{Frames, Generator};
+use std::collections::BTreeMap;
+
+const RUNS: u64 = 12_000;
+const CALLS: usize = 16;
+
+/// Refusal 1, whatever else is wrong.
+fn wrongly_lent(host: &mut Host, inputs: &mut Generator, call: &Call, name: &str) {
+    let one = Outcome::Refused([1, 0, 0]);
+    let stride = inputs.pick(&[0, 1, 63, 65, 96, 1_535, 1_537, 1_600, u32::MAX]);
+    host.calls(&one, |s, o, _| entry::push(s, call, o, stride), name);
+    host.calls(&one, |s, o, _| entry::flush(s, o, stride), name);
+    let short = inputs.below(48 * host.stride as u64) as usize;
+    for short in [short, 48 * host.stride - 1] {
+        host.calls(
+            &one,
+            |s, o, n| entry::push(s, call, &mut o[..short], n),
+            name,
+        );
+        host.calls(&one, |s, o, n| entry::flush(s, &mut o[..short], n), name);
+    }
+    let short = inputs.below(BLOCK as u64) as usize;
+    for short in [short, BLOCK - 1] {
+        host.calls(
+            &one,
+            |s, o, n| entry::push(&mut s[..short], call, o, n),
+            name,
+        );
+        host.calls(&one, |s, o, n| entry::flush(&mut s[..short], o, n), name);
+        host.calls(&one, |s, _, _| entry::reset(&mut s[..short]), name);
+    }
+    host.state.push(0);
+    host.calls(&one, |s, o, n| entry::push(s, call, o, n), name);
+    host.calls(&one, entry::flush, name);
+    host.calls(&one, |s, _, _| entry::reset(s), name);
+    host.state.pop();
+}
+
+/// What a frame of `hallrender` cannot hold: lengths and counts past every limit.
+fn stretch(inputs: &mut Generator, call: &mut Call, stride: usize) {
+    let any = inputs.below(5) as usize;
+    match inputs.below(10) {
+        0 => call.pcm.extend(vec![0; 1 + any]),
+        1 => call.pcm.truncate(call.pcm.len().saturating_sub(1 + any)),
+        2 => {
+            call.samples = (stride + 1 + any) as u32;
+            let channels = call.codes.len() + call.objects as usize;
+            call.pcm = vec![0; 4 * channels * call.samples as usize];
+        }
+        3 => call.samples = inputs.pick(&[u32::MAX, 1 << 30, 1 << 31]),
+        4 => call.objects = inputs.pick(&[17, 256, 1 << 30, u32::MAX]),
+        5 => {
+            call.codes = vec![2; 19 + 50 * any];
+            call.pcm =
+                vec![0; 4 * (call.codes.len() + call.objects as usize) * call.samples as usize];
+        }
+        6 => call.meta.truncate(call.meta.len().saturating_sub(1 + any)),
+        7 => call.meta.extend(vec![0; 1 + any]),
+        8 => call.meta.extend((0..20 * any).map(|_| inputs.bits() as u8)),
+        _ => call.pcm = (0..call.pcm.len()).map(|_| inputs.bits() as u8).collect(),
+    }
+}
+
+#[test]
+#[cfg_attr(no_sources, ignore = "Rust sources not at hand")]
+fn entries_answer_as_the_model() {
+    let mut answers = BTreeMap::new();
+    for seed in 0..RUNS {
+        let mut inputs = Generator::new(seed ^ 0x7777_0000);
+        let stride = 64 * (1 + inputs.below(24)) as usize;
+        let mut host = Host::new(stride);
+        let mut calls = Calls::new(seed + 1_000_000, stride as u64);
+        let mut model = Model::new();
+        for k in 0..CALLS {
+            let name = &format!("run {seed}, stride {stride}, call {k}");
+            let outcome = match calls.next_step() {
+                Step::Push(mut call) => {
+                    if inputs.chance(20) {
+                        stretch(&mut inputs, &mut call, stride);
+                    }
+                    if inputs.chance(40) {
+                        wrongly_lent(&mut host, &mut inputs, &call, name);
+                    }
+                    host.push(&mut model, &call, name)
+                }
+                Step::Flush => {
+                    let outcome = host.flush(&mut model, name);
+                    assert_eq!(host.flush(&mut model, name), Outcome::Nothing);
+                    outcome
+                }
+                Step::Reset => {
+                    host.reset(&mut model, name);
+                    Outcome::Reset
+                }
+            };
+            if k % 4 == 3 {
+                let differs = block::difference(&host.state, &model.oracle.state());
+                assert_eq!(differs, None, "{name}");
+            }
+            let answer = expected_answer(&outcome);
+            *answers.entry((answer.kind, answer.number)).or_insert(0u64) += 1;
+        }
+    }
+    println!("{answers:?}");
+    // rendered, nothing, reset, and 2 to 14 but 4
+    assert_eq!(answers.len(), 3 + 12, "{answers:?}");
+}
+
+fn long_at(block: &mut [u8], at: usize) -> &mut [u8; 8] {
+    (&mut block[at..at + 8]).try_into().unwrap()
+}
+
+/// Positions are told apart by their distances alone: a run that begins `before` samples later
+/// gives the same samples, up to 2^40 exactly, where 4 refuses.
+#[test]
+#[cfg_attr(no_sources, ignore = "Rust sources not at hand")]
+fn the_end_of_the_stream() {
+    let mut ends = 0;
+    for seed in 0..200 {
+        let mut host = Host::new(256);
+        let mut frames = Frames::new(seed, 256);
+        let mut model = Model::new();
+        for k in 0..4 {
+            host.push(
+                &mut model,
+                &Call::from(&frames.next_frame()),
+                &format!("{seed} {k}"),
+            );
+        }
+        let room = 200 + 3 * seed;
+        let position = model.oracle.state().stream_sample_offset as u64;
+        model.before = STREAM_END - room - position;
+        // Position, slot start, payload position.
+        for at in [8, 16, 72] {
+            let number = long_at(&mut host.state, at);
+            *number = (u64::from_le_bytes(*number) + model.before).to_le_bytes();
+        }
+        for k in 4..20 {
+            let name = format!("{seed} {k}");
+            let outcome = host.push(&mut model, &Call::from(&frames.next_frame()), &name);
+            ends += u32::from(outcome == Outcome::Refused([4, 0, 0]));
+        }
+        // One sample more than are left; then exactly as many.
+        let left = STREAM_END - model.before - model.oracle.state().stream_sample_offset as u64;
+        if left < 255 {
+            let mut frame = frames.next_frame();
+            frame.updates.clear();
+            let mut exactly = |samples: u64| {
+                frame.samples = samples as usize;
+                frame.pcm = vec![0.25; (frame.beds.len() + frame.objects) * frame.samples];
+                host.push(
+                    &mut model,
+                    &Call::from(&frame),
+                    &format!("{seed}, {samples} samples"),
+                )
+            };
+            assert_eq!(exactly(left + 1), Outcome::Refused([4, 0, 0]));
+            exactly(left);
+        }
+    }
+    assert!(ends > 100, "{ends}");
+}

@@ -1,0 +1,4 @@
+//! Demand 3: claims about whole lists of calls.
+
+mod rows;
+mod streams;
