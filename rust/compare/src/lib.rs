@@ -11,10 +11,12 @@ pub mod model;
 pub mod probe;
 pub mod reading;
 pub mod rows;
+pub mod seeds;
 pub mod streams;
 
 pub use frames::Frames;
 pub use generator::Generator;
+pub use seeds::Drawn;
 
 /// Equal bit for bit, all NaNs being equal.
 pub fn same(a: f32, b: f32) -> bool {

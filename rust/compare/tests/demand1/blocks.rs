@@ -4,6 +4,7 @@ use compare::calls::bed_frame;
 use compare::entry;
 use compare::host::{Host, used_block};
 use compare::model::{Outcome, STREAM_END};
+use compare::seeds;
 
 /// docs/STATE-BLOCK.md: byte, and the least number of 32 or 64 bits that is out of range there
 /// whatever the other fields are.
@@ -58,7 +59,7 @@ fn limits() -> Vec<(usize, u64, usize)> {
 fn damaged_blocks() {
     let call = bed_frame(10);
     let one = Outcome::Refused([1, 0, 0]);
-    for seed in 0..6 {
+    for seed in seeds!(0..6) {
         let block = used_block(seed);
         let refused = |damage: &dyn Fn(&mut [u8]), name: &str| {
             let mut host = Host::new(64);

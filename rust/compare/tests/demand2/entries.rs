@@ -7,7 +7,7 @@ use compare::calls::{Call, Calls, Step};
 use compare::entry::{self, BLOCK};
 use compare::host::{Host, expected_answer};
 use compare::model::{Model, Outcome, STREAM_END};
-use compare::{Frames, Generator};
+use compare::{Frames, Generator, seeds};
 use std::collections::BTreeMap;
 
 const RUNS: u64 = 12_000;
@@ -74,7 +74,7 @@ fn stretch(inputs: &mut Generator, call: &mut Call, stride: usize) {
 #[cfg_attr(no_sources, ignore = "Rust sources not at hand")]
 fn entries_answer_as_the_model() {
     let mut answers = BTreeMap::new();
-    for seed in 0..RUNS {
+    for seed in seeds!(0..RUNS) {
         let mut inputs = Generator::new(seed ^ 0x7777_0000);
         let stride = 64 * (1 + inputs.below(24)) as usize;
         let mut host = Host::new(stride);
@@ -112,7 +112,7 @@ fn entries_answer_as_the_model() {
     }
     println!("{answers:?}");
     // rendered, nothing, reset, and 2 to 14 but 4
-    assert_eq!(answers.len(), 3 + 12, "{answers:?}");
+    assert!(!seeds::all() || answers.len() == 3 + 12, "{answers:?}");
 }
 
 fn long_at(block: &mut [u8], at: usize) -> &mut [u8; 8] {
@@ -125,7 +125,7 @@ fn long_at(block: &mut [u8], at: usize) -> &mut [u8; 8] {
 #[cfg_attr(no_sources, ignore = "Rust sources not at hand")]
 fn the_end_of_the_stream() {
     let mut ends = 0;
-    for seed in 0..200 {
+    for seed in seeds!(0..200) {
         let mut host = Host::new(256);
         let mut frames = Frames::new(seed, 256);
         let mut model = Model::new();
@@ -167,5 +167,5 @@ fn the_end_of_the_stream() {
             exactly(left);
         }
     }
-    assert!(ends > 100, "{ends}");
+    assert!(!seeds::all() || ends > 100, "{ends}");
 }

@@ -2,7 +2,8 @@
 //! output is, byte for byte, what the oracle has it print.
 
 use compare::calls::{Call, Step};
-use compare::streams;
+use compare::seeds::Seeds;
+use compare::{seeds, streams};
 use std::collections::{BTreeMap, BTreeSet};
 use std::io::Write;
 use std::path::Path;
@@ -68,6 +69,25 @@ fn frame_rates(stream: &[u8]) -> impl Iterator<Item = u32> {
         .filter(|rate| (8_000..=192_000).contains(rate))
 }
 
+/// How often each answer arises.
+type Counts = BTreeMap<String, u64>;
+
+/// Compares the streams of these seeds; gives their answers and rates.
+fn compared(seeds: Seeds) -> (Counts, BTreeSet<u32>) {
+    let (mut counts, mut rates) = (Counts::new(), BTreeSet::new());
+    for seed in seeds {
+        let stream = streams::stream(seed);
+        rates.extend(frame_rates(&stream));
+        let expected = streams::played(&stream);
+        let found = run(&stream);
+        assert!(found == expected, "{}", difference(&found, &expected));
+        for answer in answers(&expected) {
+            *counts.entry(answer.to_string()).or_insert(0) += 1;
+        }
+    }
+    (counts, rates)
+}
+
 #[test]
 #[cfg_attr(no_sources, ignore = "Rust sources not at hand")]
 fn prints_what_the_oracle_has_it_print() {
@@ -75,34 +95,19 @@ fn prints_what_the_oracle_has_it_print() {
         Path::new(PROGRAM).exists(),
         "run `rt check hallrender` first"
     );
-    let compared = |part: u64| {
-        let (mut counts, mut rates) = (BTreeMap::new(), BTreeSet::new());
-        for seed in (part..STREAMS).step_by(2) {
-            let stream = streams::stream(seed);
-            rates.extend(frame_rates(&stream));
-            let expected = streams::played(&stream);
-            let found = run(&stream);
-            assert!(
-                found == expected,
-                "stream {seed}: {}",
-                difference(&found, &expected)
-            );
-            for answer in answers(&expected) {
-                *counts.entry(answer.to_string()).or_insert(0u64) += 1;
-            }
-        }
-        (counts, rates)
-    };
+    let [even, odd] = seeds!(0..STREAMS).halves();
     let halves = thread::scope(|scope| {
-        let other = scope.spawn(|| compared(1));
-        [compared(0), other.join().unwrap()]
+        let other = scope.spawn(|| compared(odd));
+        [compared(even), other.join().unwrap()]
     });
     let kinds: BTreeSet<&String> = halves.iter().flat_map(|half| half.0.keys()).collect();
     let rates: BTreeSet<&u32> = halves.iter().flat_map(|half| &half.1).collect();
     println!("{:?} {:?}, {} rates", halves[0].0, halves[1].0, rates.len());
-    assert!(rates.len() > 8_000, "{} rates", rates.len());
-    // ready, none, reset, bad record, and 2 to 14 but 4, which no stream is long enough for
-    assert_eq!(kinds.len(), 4 + 12, "{kinds:?}");
+    if seeds::all() {
+        assert!(rates.len() > 8_000, "{} rates", rates.len());
+        // ready, none, reset, bad record, and 2 to 14 but 4, which no stream is long enough for
+        assert_eq!(kinds.len(), 4 + 12, "{kinds:?}");
+    }
 }
 
 /// Document 01's example.

@@ -3,7 +3,7 @@
 //! Which speakers are chosen depends on how a position compares with the speakers' coordinates:
 //! the special positions have every outcome.
 
-use compare::{Generator, all_same, probe::panning};
+use compare::{all_same, drawn, probe::panning};
 use oracle::leaf::render_object_timeslot_to_714;
 use oracle::state::Source;
 
@@ -85,7 +85,7 @@ fn special_positions() {
 #[cfg_attr(no_sources, ignore = "Rust sources not at hand")]
 #[test]
 fn random_positions() {
-    let mut inputs = Generator::new(4);
+    let mut inputs = drawn!(4);
     let values = special();
     let mut mix = Mix::new();
     for round in 0..9_000_000 {
