@@ -10,6 +10,7 @@ pub mod host;
 pub mod model;
 pub mod probe;
 pub mod reading;
+pub mod recorded;
 pub mod rows;
 pub mod seeds;
 pub mod streams;

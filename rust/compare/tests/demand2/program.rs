@@ -3,8 +3,9 @@
 
 use compare::calls::{Call, Step};
 use compare::seeds::Seeds;
-use compare::{seeds, streams};
+use compare::{recorded, seeds, streams};
 use std::collections::{BTreeMap, BTreeSet};
+use std::fs;
 use std::io::Write;
 use std::path::Path;
 use std::process::{Command, Stdio};
@@ -150,4 +151,19 @@ fn limits_of_a_frame() {
         assert_eq!(found, streams::played(&stream));
         assert_eq!(found == "bad record\n", past, "{found}");
     }
+}
+
+/// The recorded list is what the program `record` writes now, and the compiled program prints it.
+#[test]
+#[cfg_attr(no_sources, ignore = "Rust sources not at hand")]
+fn the_recorded_list_is_the_oracles() {
+    let stdin = recorded::stdin();
+    let stdout = recorded::stdout(&stdin);
+    let written = |name: &str| fs::read(recorded::folder().join(name)).unwrap();
+    assert!(
+        written("stdin") == stdin && written("stdout") == stdout.as_bytes(),
+        "run `cargo run --release --bin record`"
+    );
+    let found = run(&stdin);
+    assert!(found == stdout, "{}", difference(&found, &stdout));
 }
