@@ -16,7 +16,7 @@ pub mod seeds;
 pub mod streams;
 
 pub use frames::Frames;
-pub use generator::Generator;
+pub use generator::{EDGES, Generator};
 pub use seeds::Drawn;
 
 /// Equal bit for bit, all NaNs being equal.
