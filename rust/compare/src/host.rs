@@ -8,7 +8,7 @@ use crate::{Frames, same};
 /// What reset makes of any block.
 pub fn fresh() -> Vec<u8> {
     let mut state = vec![0xa5; BLOCK];
-    assert_eq!(entry::reset(&mut state), expected_answer(&Outcome::Reset));
+    assert_eq!(entry::reset(&mut state), Outcome::Reset.answer());
     state
 }
 
@@ -21,22 +21,6 @@ pub fn used_block(seed: u64) -> Vec<u8> {
         entry::push(&mut host.state, &call, &mut host.out, 256);
     }
     host.state
-}
-
-pub fn expected_answer(outcome: &Outcome) -> Answer {
-    let (kind, [number, first, second], ready) = match outcome {
-        Outcome::Ready(channels) => (0, [0; 3], channels[0].len()),
-        Outcome::Refused(refusal) => (1, *refusal, 0),
-        Outcome::Nothing => (2, [0; 3], 0),
-        Outcome::Reset => (3, [0; 3], 0),
-    };
-    Answer {
-        kind,
-        number,
-        first,
-        second,
-        ready,
-    }
 }
 
 /// `found` is `before` with the ready samples written into it; all NaNs are equal.
@@ -89,7 +73,7 @@ impl Host {
     ) {
         let (state, out) = (self.state.clone(), self.out.clone());
         let answer = call(&mut self.state, &mut self.out, self.stride as u32);
-        assert_eq!(answer, expected_answer(outcome), "{name}");
+        assert_eq!(answer, outcome.answer(), "{name}");
         assert!(
             only_ready_is_written(&self.out, &out, outcome, self.stride),
             "{name}: {answer:?}: the output"

@@ -2,6 +2,7 @@
 //! and the oracle for everything else.
 
 use crate::calls::Call;
+use crate::entry::Answer;
 use crate::reading;
 use oracle::frame::{Anchor, Block, Element, Frame, Object, Update};
 use oracle::state::Metadata;
@@ -15,6 +16,25 @@ pub enum Outcome {
     Refused([u32; 3]),
     Nothing,
     Reset,
+}
+
+impl Outcome {
+    /// What the entries answer.
+    pub fn answer(&self) -> Answer {
+        let (kind, [number, first, second], ready) = match self {
+            Outcome::Ready(channels) => (0, [0; 3], channels[0].len()),
+            Outcome::Refused(refusal) => (1, *refusal, 0),
+            Outcome::Nothing => (2, [0; 3], 0),
+            Outcome::Reset => (3, [0; 3], 0),
+        };
+        Answer {
+            kind,
+            number,
+            first,
+            second,
+            ready,
+        }
+    }
 }
 
 /// The stream's last sample.

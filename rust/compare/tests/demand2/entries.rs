@@ -5,7 +5,7 @@
 use compare::block;
 use compare::calls::{Call, Calls, Step};
 use compare::entry::{self, BLOCK};
-use compare::host::{Host, expected_answer};
+use compare::host::Host;
 use compare::model::{Model, Outcome, STREAM_END};
 use compare::{Frames, Generator, seeds};
 use std::collections::BTreeMap;
@@ -106,7 +106,7 @@ fn entries_answer_as_the_model() {
                 let differs = block::difference(&host.state, &model.oracle.state());
                 assert_eq!(differs, None, "{name}");
             }
-            let answer = expected_answer(&outcome);
+            let answer = outcome.answer();
             *answers.entry((answer.kind, answer.number)).or_insert(0u64) += 1;
         }
     }

@@ -111,7 +111,7 @@ fn prints_what_the_oracle_has_it_print() {
     }
 }
 
-/// Document 01's example.
+/// Document 01's example, as the document has it and as the oracle has it.
 #[test]
 fn a_frame_without_metadata_then_flush() {
     let mut stream = vec![0; 120];
@@ -120,6 +120,9 @@ fn a_frame_without_metadata_then_flush() {
     stream[44..48].copy_from_slice(&1f32.to_le_bytes());
     stream[80] = 7;
     assert_eq!(run(&stream), "refused 10 0 0\nnone\n");
+    if !cfg!(no_sources) {
+        assert_eq!(streams::played(&stream), run(&stream));
+    }
 }
 
 /// Each count of a header at its limit, and one past it.
@@ -130,6 +133,7 @@ fn limits_of_a_frame() {
         (256, 1, 0, 0),
         (257, 1, 0, 0),
         (4, 18, 0, 0),
+        (4, 19, 0, 0),
         (4, 0, 16, 0),
         (4, 0, 17, 0),
         (0, 0, 0, 1_200),
@@ -146,7 +150,7 @@ fn limits_of_a_frame() {
         let mut stream = Vec::new();
         streams::append(&mut stream, &Step::Push(call));
         streams::append(&mut stream, &Step::Flush);
-        let past = samples > 256 || objects > 16 || records > 1_200;
+        let past = samples > 256 || beds > 18 || objects > 16 || records > 1_200;
         let found = run(&stream);
         assert_eq!(found, streams::played(&stream));
         assert_eq!(found == "bad record\n", past, "{found}");
