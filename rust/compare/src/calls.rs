@@ -64,6 +64,19 @@ impl Calls {
         }
     }
 
+    /// Calls of the entries, with as many metadata records as document 01 allows.
+    pub fn for_entries(seed: u64, most_samples: u64) -> Self {
+        Calls {
+            inputs: Generator::new(!seed),
+            frames: Frames::for_entries(seed, most_samples),
+        }
+    }
+
+    /// The frames that follow have up to so many samples.
+    pub fn set_most_samples(&mut self, most_samples: u64) {
+        self.frames.set_most_samples(most_samples);
+    }
+
     pub fn next_step(&mut self) -> Step {
         match self.inputs.below(24) {
             0 => {
@@ -83,7 +96,7 @@ impl Calls {
 }
 
 /// Changes one thing, mostly to what a check refuses; what a frame of `hallrender` can hold.
-fn spoil(inputs: &mut Generator, call: &mut Call) {
+pub fn spoil(inputs: &mut Generator, call: &mut Call) {
     match inputs.below(12) {
         0 => call.rate = inputs.pick(&[0, 7_999, 192_001, u32::MAX]),
         1 => {

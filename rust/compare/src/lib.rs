@@ -9,13 +9,14 @@ mod generator;
 pub mod host;
 pub mod model;
 pub mod probe;
+pub mod ranges;
 pub mod reading;
 pub mod recorded;
 pub mod rows;
 pub mod seeds;
 pub mod streams;
 
-pub use frames::Frames;
+pub use frames::{Frames, largest_frame};
 pub use generator::{EDGES, Generator};
 pub use seeds::Drawn;
 

@@ -7,7 +7,7 @@ use compare::calls::{Call, Calls, Step};
 use compare::entry::{self, BLOCK};
 use compare::host::Host;
 use compare::model::{Model, Outcome, STREAM_END};
-use compare::{Frames, Generator, seeds};
+use compare::{Frames, Generator, largest_frame, ranges, seeds};
 use std::collections::BTreeMap;
 
 const RUNS: u64 = 12_000;
@@ -70,49 +70,138 @@ fn stretch(inputs: &mut Generator, call: &mut Call, stride: usize) {
     }
 }
 
+/// One run: its calls, the host's memory, and the model beside it.
+struct Run {
+    inputs: Generator,
+    calls: Calls,
+    host: Host,
+    model: Model,
+}
+
+/// What the runs come to.
+#[derive(Debug, Default)]
+struct Tally {
+    /// Kinds and numbers of answers.
+    answers: BTreeMap<(u32, u32), u64>,
+    /// Accepted pushes of more than 1,200 metadata records.
+    long_lists: u64,
+    /// Accepted pushes at another stride than the call before.
+    other_strides: u64,
+    /// Accepted pushes into more than 12 x stride places.
+    long_outputs: u64,
+}
+
+fn any_stride(inputs: &mut Generator) -> usize {
+    64 * (1 + inputs.below(24)) as usize
+}
+
+impl Run {
+    fn new(seed: u64) -> Self {
+        let mut inputs = Generator::new(seed ^ 0x7777_0000);
+        let stride = any_stride(&mut inputs);
+        Run {
+            inputs,
+            calls: Calls::for_entries(seed + 1_000_000, stride as u64),
+            host: Host::new(stride),
+            model: Model::new(),
+        }
+    }
+
+    /// Lends another output, one time in two of another stride. Frames mostly fit it.
+    fn lend(&mut self) {
+        let inputs = &mut self.inputs;
+        if inputs.chance(2) {
+            self.host.stride = any_stride(inputs);
+        }
+        let more = inputs.pick(&[0, 1, 37, 4 * 64, 48 * 64]);
+        self.host.out = vec![0x5a; 48 * self.host.stride + more];
+        if !inputs.chance(8) {
+            self.calls.set_most_samples(self.host.stride as u64);
+        }
+    }
+
+    fn push(&mut self, mut call: Call, name: &str, tally: &mut Tally) -> Outcome {
+        let Run { inputs, host, .. } = self;
+        if inputs.chance(20) {
+            stretch(inputs, &mut call, host.stride);
+        }
+        if inputs.chance(40) {
+            wrongly_lent(host, inputs, &call, name);
+        }
+        let stride = host.stride;
+        if inputs.chance(4) {
+            self.lend();
+        }
+        let outcome = self.host.push(&mut self.model, &call, name);
+        let accepted = matches!(outcome, Outcome::Ready(_));
+        let room = self.host.out.len() - 48 * self.host.stride;
+        tally.long_lists += u64::from(accepted && call.meta.len() > 40 * 1_200);
+        tally.other_strides += u64::from(accepted && self.host.stride != stride);
+        tally.long_outputs += u64::from(accepted && room > 0);
+        outcome
+    }
+
+    fn call(&mut self, name: &str, tally: &mut Tally) {
+        let outcome = match self.calls.next_step() {
+            Step::Push(call) => self.push(call, name, tally),
+            Step::Flush => {
+                let outcome = self.host.flush(&mut self.model, name);
+                assert_eq!(self.host.flush(&mut self.model, name), Outcome::Nothing);
+                outcome
+            }
+            Step::Reset => self.host.reset(&mut self.model, name),
+        };
+        let answer = outcome.answer();
+        *tally
+            .answers
+            .entry((answer.kind, answer.number))
+            .or_insert(0) += 1;
+    }
+}
+
+/// The block and the output are compared at each call, the renderer in the block at one in four.
 #[test]
 #[cfg_attr(no_sources, ignore = "Rust sources not at hand")]
 fn entries_answer_as_the_model() {
-    let mut answers = BTreeMap::new();
+    let mut tally = Tally::default();
     for seed in seeds!(0..RUNS) {
-        let mut inputs = Generator::new(seed ^ 0x7777_0000);
-        let stride = 64 * (1 + inputs.below(24)) as usize;
-        let mut host = Host::new(stride);
-        let mut calls = Calls::new(seed + 1_000_000, stride as u64);
-        let mut model = Model::new();
+        let mut run = Run::new(seed);
         for k in 0..CALLS {
-            let name = &format!("run {seed}, stride {stride}, call {k}");
-            let outcome = match calls.next_step() {
-                Step::Push(mut call) => {
-                    if inputs.chance(20) {
-                        stretch(&mut inputs, &mut call, stride);
-                    }
-                    if inputs.chance(40) {
-                        wrongly_lent(&mut host, &mut inputs, &call, name);
-                    }
-                    host.push(&mut model, &call, name)
-                }
-                Step::Flush => {
-                    let outcome = host.flush(&mut model, name);
-                    assert_eq!(host.flush(&mut model, name), Outcome::Nothing);
-                    outcome
-                }
-                Step::Reset => {
-                    host.reset(&mut model, name);
-                    Outcome::Reset
-                }
-            };
+            let name = &format!("call {k}, stride {}", run.host.stride);
+            run.call(name, &mut tally);
+            assert!(ranges::hold(&run.host.state), "{name}");
             if k % 4 == 3 {
-                let differs = block::difference(&host.state, &model.oracle.state());
+                let differs = block::difference(&run.host.state, &run.model.oracle.state());
                 assert_eq!(differs, None, "{name}");
             }
-            let answer = outcome.answer();
-            *answers.entry((answer.kind, answer.number)).or_insert(0u64) += 1;
         }
     }
-    println!("{answers:?}");
-    // rendered, nothing, reset, and 2 to 14 but 4
-    assert!(!seeds::all() || answers.len() == 3 + 12, "{answers:?}");
+    println!("{tally:?}");
+    if seeds::all() {
+        // rendered, nothing, reset, and 2 to 14 but 4
+        assert_eq!(tally.answers.len(), 3 + 12);
+        let least = [tally.long_lists, tally.other_strides, tally.long_outputs];
+        assert!(least.iter().all(|&count| count > 300), "{tally:?}");
+    }
+}
+
+/// 16 updates of 531 records each; one record more is a 17th update.
+#[test]
+#[cfg_attr(no_sources, ignore = "Rust sources not at hand")]
+fn the_longest_metadata() {
+    for seed in seeds!(0..20) {
+        let (mut host, mut model) = (Host::new(1_536), Model::new());
+        let mut call = Call::from(&largest_frame(seed));
+        assert_eq!(call.meta.len(), 40 * 8_496);
+        let outcome = host.push(&mut model, &call, "the most");
+        assert!(matches!(outcome, Outcome::Ready(_)), "{outcome:?}");
+        let differs = block::difference(&host.state, &model.oracle.state());
+        assert_eq!(differs, None);
+        call.meta.extend([1; 1]);
+        call.meta.extend([0; 39]);
+        let outcome = host.push(&mut model, &call, "one more");
+        assert_eq!(outcome, Outcome::Refused([5, 0, 0]));
+    }
 }
 
 fn long_at(block: &mut [u8], at: usize) -> &mut [u8; 8] {
