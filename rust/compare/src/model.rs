@@ -1,4 +1,4 @@
-//! What document 01 has a call answer: its refusals 2 to 8, read here apart from the Rattle code,
+//! What document 01 has a call answer: its refusals 1 to 8, read here apart from the Rattle code,
 //! and the oracle for everything else.
 
 use crate::calls::Call;

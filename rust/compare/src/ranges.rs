@@ -172,9 +172,18 @@ fn end(inputs: &mut Generator, field: &Field) -> u64 {
     }
 }
 
-/// A block in range: floats of any bits, each number at an end of its range or between.
+/// A block in range: each number at an end of its range or between; floats of any bits, in every
+/// second block mostly small ones, so that not all that follows is NaN.
 pub fn drawn(inputs: &mut Generator) -> Vec<u8> {
-    let words = (0..BLOCK / 4).map(|_| inputs.float().to_bits().to_le_bytes());
+    let tame = inputs.chance(2);
+    let mut float = || {
+        if tame {
+            inputs.near(-2.0, 2.0)
+        } else {
+            inputs.float()
+        }
+    };
+    let words = (0..BLOCK / 4).map(|_| float().to_bits().to_le_bytes());
     let mut block = words.collect::<Vec<_>>().concat();
     for field in fields() {
         let number = end(inputs, field);
