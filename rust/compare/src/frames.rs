@@ -182,13 +182,7 @@ impl Frames {
             if !many && inputs.chance(2) {
                 break;
             }
-            let offset = match inputs.below(12) {
-                0..4 => 0,
-                4 => samples,
-                5 => 65_535,
-                6 => 64 * inputs.below(5),
-                _ => inputs.below(samples + 8),
-            };
+            let offset = offset(inputs, samples);
             let layout = if inputs.chance(30) {
                 &changed(inputs, &self.layout)
             } else {
@@ -198,6 +192,17 @@ impl Frames {
         }
         self.started |= !updates.is_empty();
         (samples as usize, updates)
+    }
+}
+
+/// An update's, in a frame of so many samples.
+fn offset(inputs: &mut Generator, samples: u64) -> u64 {
+    match inputs.below(12) {
+        0..4 => 0,
+        4 => samples,
+        5 => 65_535,
+        6 => 64 * inputs.below(5),
+        _ => inputs.below(samples + 8),
     }
 }
 

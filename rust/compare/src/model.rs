@@ -100,17 +100,21 @@ pub fn rightly_lent(block: &[u8], room: usize, stride: u32) -> bool {
         && ranges::hold(block)
 }
 
-/// The frame, or the least of 2 to 8 that refuses it.
-pub fn judged(state: &State, before: u64, call: &Call, stride: usize) -> Result<Frame, u32> {
+/// Document 01's 2: no more than allowed, and as much PCM as there are samples.
+fn counts_fit(call: &Call, stride: usize) -> bool {
     let samples = call.samples as usize;
     let channels = call.codes.len() + call.objects as usize;
-    if samples > stride
-        || call.codes.len() > 18
-        || call.objects > 16
-        || call.codes.iter().any(|&code| code > 17)
-        || call.pcm.len() != 4 * channels * samples
-        || samples > 0 && channels == 0
-    {
+    samples <= stride
+        && call.codes.len() <= 18
+        && call.objects <= 16
+        && call.codes.iter().all(|&code| code <= 17)
+        && call.pcm.len() == 4 * channels * samples
+        && (samples == 0 || channels > 0)
+}
+
+/// The frame, or the least of 2 to 8 that refuses it.
+pub fn judged(state: &State, before: u64, call: &Call, stride: usize) -> Result<Frame, u32> {
+    if !counts_fit(call, stride) {
         return Err(2);
     }
     if !(8_000..=192_000).contains(&call.rate) {
@@ -129,7 +133,7 @@ pub fn judged(state: &State, before: u64, call: &Call, stride: usize) -> Result<
     let words = call.pcm.as_chunks().0;
     let frame = Frame {
         rate: call.rate,
-        samples,
+        samples: call.samples as usize,
         beds: call.codes.clone(),
         objects: call.objects as usize,
         pcm: words.iter().map(|&word| f32::from_le_bytes(word)).collect(),

@@ -111,45 +111,35 @@ fn remaining(element: usize) -> Field {
     field(element + 8, 8, least, MIDDLE + (1 << 20))
 }
 
-/// What depends on another field is told by the fields that it depends on.
+impl Field {
+    fn at_least(self, least: u64) -> Self {
+        Field { least, ..self }
+    }
+
+    fn at_most(self, most: u64) -> Self {
+        Field { most, ..self }
+    }
+}
+
+/// The fields whose range depends on others, with the range that these leave them.
 fn related(block: &[u8]) -> Vec<Field> {
     let [rate, phase, position, start, pending, ..] = clock();
     let [objects, isf, beds, elements] = counts();
     let number = |field: Field| field.number(block);
-    let objects = number(objects);
-    let dynamic = objects.saturating_sub(number(isf));
     let position = number(position);
+    let dynamic = number(objects).saturating_sub(number(isf));
     let mut related = vec![
-        Field {
-            most: position.saturating_sub(number(phase)),
-            ..start
-        },
-        Field {
-            most: position.min(63),
-            ..phase
-        },
-        Field {
-            most: if number(rate) == 0 { 0 } else { 63 },
-            ..pending
-        },
-        Field {
-            least: objects.saturating_sub(16),
-            ..isf
-        },
-        Field {
-            most: objects.min(18),
-            ..beds
-        },
+        phase.at_most(position.min(63)),
+        start.at_most(position.saturating_sub(number(phase))),
+        pending.at_most(if number(rate) == 0 { 0 } else { 63 }),
+        isf.at_least(number(objects).saturating_sub(16)),
+        beds.at_most(number(objects).min(18)),
     ];
     for (index, element) in [(0, 624), (1, 992)] {
-        related.push(Field {
-            least: if index < number(elements) { dynamic } else { 0 },
-            ..flags(element)
-        });
-        related.push(Field {
-            least: MIDDLE - LONGEST - 64 * position.min(STREAM_END),
-            ..remaining(element)
-        });
+        let used = index < number(elements);
+        related.push(flags(element).at_least(if used { dynamic } else { 0 }));
+        let least = MIDDLE - LONGEST - 64 * position.min(STREAM_END);
+        related.push(remaining(element).at_least(least));
     }
     related
 }

@@ -204,8 +204,15 @@ fn the_longest_metadata() {
     }
 }
 
-fn long_at(block: &mut [u8], at: usize) -> &mut [u8; 8] {
-    (&mut block[at..at + 8]).try_into().unwrap()
+/// Moves a renderer to so many samples before the stream's end.
+fn move_on(host: &mut Host, model: &mut Model, room: u64) {
+    let position = model.oracle.state().stream_sample_offset as u64;
+    model.before = STREAM_END - room - position;
+    // Position, slot start, payload position.
+    for at in [8, 16, 72] {
+        let number: &mut [u8; 8] = (&mut host.state[at..at + 8]).try_into().unwrap();
+        *number = (u64::from_le_bytes(*number) + model.before).to_le_bytes();
+    }
 }
 
 /// Positions are told apart by their distances alone: a run that begins `before` samples later
@@ -225,14 +232,7 @@ fn the_end_of_the_stream() {
                 &format!("{seed} {k}"),
             );
         }
-        let room = 200 + 3 * seed;
-        let position = model.oracle.state().stream_sample_offset as u64;
-        model.before = STREAM_END - room - position;
-        // Position, slot start, payload position.
-        for at in [8, 16, 72] {
-            let number = long_at(&mut host.state, at);
-            *number = (u64::from_le_bytes(*number) + model.before).to_le_bytes();
-        }
+        move_on(&mut host, &mut model, 200 + 3 * (seed % 1_000));
         for k in 4..20 {
             let name = format!("{seed} {k}");
             let outcome = host.push(&mut model, &Call::from(&frames.next_frame()), &name);
