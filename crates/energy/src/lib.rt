@@ -1,4 +1,1 @@
-// The theorem on panning: the proofs are in proofs/. A function so that the crate has one.
-pub fn energy_same(x: f32) -> f32 {
-    x
-}
+// The theorem on panning: specs/Facts says it, proofs/ has it. No code stands here.
