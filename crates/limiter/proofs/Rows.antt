@@ -14,13 +14,13 @@ use Rattle.limiter.specs.Limiter.{peak, scaled, blockPeak, scaledBlock, 
 use Rattle.limiter.proofs.Levels.{Level, level-abs}
 use Rattle.limiter.specs.Places.{floatsAt, withFloats, channelsAt, withChannels}
 use Rattle.limiter.proofs.Laws.{length-scaled}
-use Rattle.limiter.proofs.Runs.{length-floats}
+use Rattle.limiter.proofs.Runs.{length-floats, floats-back}
 
 whole : (a n : ℕ) → a + n - a ≡ n
 whole a n = omega arith
 
 -- the part that is lent
-pub part-length : (n at : ℕ) (xs : List Float) → at + n ≤ length xs → length (take (at + n - at) (drop at xs)) ≡ n
+pub part-length : {A : Type 0} (n at : ℕ) (xs : List A) → at + n ≤ length xs → length (take (at + n - at) (drop at xs)) ≡ n
 part-length n at xs h = ap (λ (j : ℕ). length (take j (drop at xs))) (whole at n) ∙ length-take-le n (drop at xs) (omega (arith, length-drop at xs))
 
 -- the first of k channels, and the others
@@ -106,27 +106,6 @@ module _ (n at : ℕ) (xs z : List Float) (e : length z ≡ n) (h : n ≤ 64) (f
   pub row-length : length (putMid at (at + n - at) xs z) ≡ length xs
   row-length = same-len-mid at (at + n - at) xs z (e ∙ sym (ap (λ (j : ℕ). length (take j (drop at xs))) (whole at n) ∙ length-take-le n (drop at xs) (omega (arith, length-drop at xs))))
 
--- ---- scaling in place
-pub laid-next : (g : Float) (k n at : ℕ) (xs z : List Float) → 0 < k → n ≤ 64 → at + 64 * k ≡ length xs → z ≡ scaled g (take (at + n - at) (drop at xs)) → let ys = putMid at (at + n - at) xs z in
-    (length ys ≡ length xs) × (take (at + 64) ys ++ laid (scaledBlock g (channels (k - 1) n (drop (at + 64) ys))) (drop (at + 64) ys) ≡ take at xs ++ laid (scaledBlock g (channels k n (drop at xs))) (drop at xs))
-laid-next g k n at xs z h i f e =
-    let t = drop at xs in
-    let w : z ≡ scaled g (take n t) = e ∙ ap (λ (j : ℕ). scaled g (take j t)) (whole at n) in
-    let l : length z ≡ n = ap length w ∙ length-scaled g (take n t) ∙ length-take-le n t (omega (arith, length-drop at xs)) in
-    let m : at + 64 ≤ length xs = omega arith in
-    let ys = putMid at (at + n - at) xs z in (
-      row-length n at xs z l i m,
-      row-laid n at xs z l i m (scaledBlock g (channels (k - 1) n (drop (at + 64) ys)))
-          ∙ ap (λ (l : List Float). take at xs ++ laid (z ∷ scaledBlock g (channels (k - 1) n l)) t) (row-rest n at xs z l i m)
-          ∙ ap (λ (u : List Float). take at xs ++ laid (u ∷ scaledBlock g (channels (k - 1) n (drop (at + 64) xs))) t) w
-          ∙ sym (ap (λ (cs : List (List Float)). take at xs ++ laid cs t) (scaled-next-channel g k n at xs h)),
-    )
-
-pub laid-end : (g : Float) (k n at : ℕ) (xs : List Float) → k ≤ 0 → xs ≡ take at xs ++ laid (scaledBlock g (channels k n (drop at xs))) (drop at xs)
-unfolding laid scaledBlock channels
-laid-end g zero n at xs h = sym (take-append-drop at xs)
-laid-end g (suc k) n at xs h = absurd (native.Mathlib.Nat.not-suc-le-zero h)
-
 -- ---- from bytes
 pub load-next : (s : List ℕ) (k n at : ℕ) (xs z : List Float) → 0 < k → n ≤ 64 → at + 64 * k ≡ length xs → z ≡ floatsAt s (4 * at) n → let ys = putMid at (at + n - at) xs z in
     (length ys ≡ length xs) × (take (at + 64) ys ++ laid (channelsAt (k - 1) n s (4 * (at + 64))) (drop (at + 64) ys) ≡ take at xs ++ laid (channelsAt k n s (4 * at)) (drop at xs))
@@ -145,6 +124,15 @@ load-end s zero n at xs h = sym (take-append-drop at xs)
 load-end s (suc k) n at xs h = absurd (native.Mathlib.Nat.not-suc-le-zero h)
 
 -- ---- to bytes
+pub store-part : (g : Float) (n at from : ℕ) (xs : List Float) (s z : List ℕ) → at + n ≤ length xs → from + 4 * n ≤ length s
+    → z ≡ withFloats (take (from + 4 * n - from) (drop from s)) 0 (scaled g (take (at + n - at) (drop at xs)))
+    → putMid from (from + 4 * n - from) s z ≡ withFloats s from (scaled g (take (at + n - at) (drop at xs)))
+store-part g n at from xs s z h l e =
+    let ys = scaled g (take (at + n - at) (drop at xs)) in
+    let m : length ys ≡ n = length-scaled g (take (at + n - at) (drop at xs)) ∙ part-length n at xs h in
+    let w = whole from (4 * n) in
+    ap (λ (k : ℕ). putMid from k s z) w ∙ floats-back s z from (4 * n) ys l (omega arith) (e ∙ ap (λ (k : ℕ). withFloats (take k (drop from s)) 0 ys) w)
+
 pub store-next : (g : Float) (k n at base step to : ℕ) (xs : List Float) (s t : List ℕ) → 0 < k → t ≡ withFloats s (base + to) (scaled g (take (at + n - at) (drop at xs)))
     → withChannels (scaledBlock g (channels (k - 1) n (drop (at + 64) xs))) step (base + step + to) t ≡ withChannels (scaledBlock g (channels k n (drop at xs))) step (base + to) s
 unfolding withChannels
