@@ -2,3 +2,16 @@ pub mod Rows
 pub mod Arms
 pub mod Corners714
 pub mod Mixed
+pub mod Lists
+pub mod Axis
+pub mod Tables
+pub mod Beside
+pub mod Corners
+pub mod Sum
+pub mod Weighing
+pub mod Once
+pub mod Audible
+pub mod Roots
+pub mod Facts
+pub mod Hall
+pub mod Shared

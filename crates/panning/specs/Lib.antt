@@ -4,3 +4,5 @@ pub mod Table
 pub mod Hall
 pub mod Corners714
 pub mod Found
+pub mod Facts
+pub mod Shares

@@ -8,6 +8,7 @@ ghost use Rattle.panning.specs.Terms.{ratio, innerGain, extra, coefficie
 ghost use Rattle.panning.specs.Hall.{hall714, 12·0, PannedIs};
 ghost use Rattle.panning.specs.Corners714.{pairEnds, narrowEnds, wideEnds, frontEnds, floorEnds, ceilingEnds, cube714};
 ghost use Rattle.panning.specs.Found.{chosen, Inside, weighted};
+ghost use Rattle.panning.specs.Shares.{SharesOf};
 use roots::sqrt;
 use vectors::Vec3;
 
@@ -208,34 +209,54 @@ fn side(w: f32, part: f32) -> f32
     if w != 0.0 { sqrt(w * part) } else { 0.0 }
 }
 
-// The coefficients at the corners c, for the gain g that they share.
-fn coefficients(c: Cube, place: Vec3, g: f32) -> [f32; 8]
-    requires { ⌜ Inside c ⌝ }
-    ensures { λ r. ⌜ r ≡ map (coefficient hall714 (chosen c) place g) corners ⌝ }
+// The shares of the chosen speakers: of the upper layer, of each layer's front row, of each row's right side.
+struct Shares {
+    up: f32,
+    bottom: f32,
+    top: f32,
+    bf: f32,
+    br: f32,
+    tf: f32,
+    tr: f32,
+}
+
+fn shares_at(c: Cube, place: Vec3) -> Shares
+    requires { ⌜ Inside c × (c ≡ cube714 place) ⌝ }
+    ensures { λ r. ⌜ SharesOf c place r ⌝ }
 {
     let bottom = c.bottom;
     let top = c.top;
-    let up = ratio(y_of(bottom.front.low), y_of(top.front.low), place.y);
-    let down = 1.0 - up;
-    let front_bottom = ratio(z_of(bottom.rear.low), z_of(bottom.front.low), place.z);
-    let front_top = ratio(z_of(top.rear.low), z_of(top.front.low), place.z);
-    let bf = front_bottom * down * g;
-    let br = (1.0 - front_bottom) * down * g;
-    let tf = front_top * up * g;
-    let tr = (1.0 - front_top) * up * g;
-    let bf_right = blend(bottom.front, place.x);
-    let br_right = blend(bottom.rear, place.x);
-    let tf_right = blend(top.front, place.x);
-    let tr_right = blend(top.rear, place.x);
+    Shares {
+        up: ratio(y_of(bottom.front.low), y_of(top.front.low), place.y),
+        bottom: ratio(z_of(bottom.rear.low), z_of(bottom.front.low), place.z),
+        top: ratio(z_of(top.rear.low), z_of(top.front.low), place.z),
+        bf: blend(bottom.front, place.x),
+        br: blend(bottom.rear, place.x),
+        tf: blend(top.front, place.x),
+        tr: blend(top.rear, place.x),
+    }
+}
+
+// The coefficients at the corners c, for the gain g that they share.
+fn coefficients(c: Cube, place: Vec3, g: f32) -> [f32; 8]
+    requires { ⌜ Inside c × (c ≡ cube714 place) ⌝ }
+    ensures { λ r. ⌜ r ≡ map (coefficient hall714 (chosen c) place g) corners ⌝ }
+{
+    let s = shares_at(c, place);
+    let down = 1.0 - s.up;
+    let bf = s.bottom * down * g;
+    let br = (1.0 - s.bottom) * down * g;
+    let tf = s.top * s.up * g;
+    let tr = (1.0 - s.top) * s.up * g;
     [
-        side(bf, 1.0 - bf_right),
-        side(bf, bf_right),
-        side(br, 1.0 - br_right),
-        side(br, br_right),
-        side(tf, 1.0 - tf_right),
-        side(tf, tf_right),
-        side(tr, 1.0 - tr_right),
-        side(tr, tr_right),
+        side(bf, 1.0 - s.bf),
+        side(bf, s.bf),
+        side(br, 1.0 - s.br),
+        side(br, s.br),
+        side(tf, 1.0 - s.tf),
+        side(tf, s.tf),
+        side(tr, 1.0 - s.tr),
+        side(tr, s.tr),
     ]
 }
 

@@ -10,8 +10,8 @@ use lib.Ieee.Fits.{and-l, and-r}
 use Rattle.panning.specs.Choice.{every}
 use Rattle.panning.specs.Terms.{Term, onChannel}
 use Rattle.panning.specs.Hall.{fullRange}
-use Rattle.energy.proofs.Lists.{every→}
-use Rattle.energy.proofs.Hall.{pans714}
+use Rattle.panning.proofs.Lists.{every→}
+use Rattle.panning.proofs.Hall.{pans714}
 use Rattle.rules.specs.Parts.{0·0}
 use Rattle.rules.specs.Leaves.{Source}
 use Rattle.rules.specs.Mix.{objectTerms}

@@ -26,7 +26,7 @@ inner-gain-requires : tie.Need-inner-gain-requires
 inner-gain-requires c κs = search needs
 
 coefficients-requires : tie.Need-coefficients-requires
-coefficients-requires c κs = let s = c .before .before .before in subst⁻¹ Inside (c .before .cube-714 .ensures) (inside (s .args .place))
+coefficients-requires c κs = let e = c .before .cube-714 .ensures in (subst⁻¹ Inside e (inside (c .before .before .before .args .place)), e)
 
 channels-requires : tie.Need-channels-requires
 channels-requires c κs = search needs

@@ -14,9 +14,9 @@ use Rattle.ieee.proofs.Compare.{le→}
 use Rattle.ieee.proofs.Signed.{one-sided}
 use Rattle.ieee.proofs.Constants.{zero-f32, one-f32, eight-f32, zero-mag, one-P, eight-P}
 use Rattle.vectors.specs.declared.Vec3.{Vec3}
 use Rattle.panning.specs.Choice.{every, 0·0, 1·0}
 use Rattle.panning.specs.Table.{minus-one, 8·0, between, placed, distinct, alike}
-use Rattle.energy.proofs.Lists.{In, Each, every→}
+use Rattle.panning.proofs.Lists.{In, Each, every→}
 
 -- ---- what lies between two finite values is finite
 finite-between : (lo hi x : Float) → T (finite lo) → T (finite hi) → T (le lo x) → T (le x hi) → T (finite x)

@@ -9,13 +9,13 @@ use lib.Ieee.{Float, le, eq, unlike}
 use Rattle.ieee.proofs.Constants.{zero-mag}
 use Rattle.ieee.specs.Units.{F32, P}
 use Rattle.vectors.specs.declared.Vec3.{Vec3}
 use Rattle.panning.specs.Choice.{Corner, differ, first, layer, row, side, corner}
 use Rattle.panning.specs.Terms.{ratio, at, up, ahead, across}
 use Rattle.panning.specs.Table.{Table, Position}
-use Rattle.energy.proofs.Tables.{Tame3, Gain8, all-tame}
-use Rattle.energy.proofs.Shares.{eq-self, ratio-zero}
-use Rattle.energy.proofs.Corners.{layers, rows, corner-in-row, corner-in-layer, corner-in}
-use Rattle.energy.proofs.Weighing.{weight, no-up, no-ahead, no-across}
+use Rattle.panning.proofs.Tables.{Tame3, Gain8, all-tame}
+use Rattle.panning.proofs.Beside.{eq-self, ratio-zero}
+use Rattle.panning.proofs.Corners.{layers, rows, corner-in-row, corner-in-layer, corner-in}
+use Rattle.panning.proofs.Weighing.{weight, no-up, no-ahead, no-across}
 
 ratio-none : (a b v : Float) → F32 a → a ≡ b → P (ratio a b v) ≡ 0
 ratio-none a b v f e = ap (λ (x : Float). P x) (ratio-zero a b v (subst (λ (x : Float). T (eq a x)) e (eq-self a f))) ∙ zero-mag

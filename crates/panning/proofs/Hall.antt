@@ -7,14 +7,14 @@ use mathlib.Core.Path.{_≡_}
 use lib.Ieee.{Float, fits, lt, le, eq}
 use lib.Ieee.Fits.{and-i, and-l, and-r}
 use Rattle.vectors.specs.declared.Vec3.{Vec3}
 use Rattle.panning.specs.Choice.{keep, every}
 use Rattle.panning.specs.Table.{Table, Position, between, placed, alike, distinct, occupied}
 use Rattle.panning.specs.Hall.{positions714, hall714, fullRange, 12·0, terms714}
 use Rattle.panning.specs.Terms.{onChannel}
-use Rattle.energy.specs.Facts.{Pans}
-use Rattle.energy.proofs.Lists.{keep→, every→, →every}
-use Rattle.energy.proofs.Facts.{pans}
-use Rattle.energy.proofs.Audible.{absent-none, absent-of}
+use Rattle.panning.specs.Facts.{Pans}
+use Rattle.panning.proofs.Lists.{keep→, every→, →every}
+use Rattle.panning.proofs.Facts.{pans}
+use Rattle.panning.proofs.Audible.{absent-none, absent-of}
 
 pub hall714-table : Table hall714 fullRange
 unfolding positions714 hall714 every distinct between fits lt le eq

@@ -8,13 +8,13 @@ use lib.Dec.{T}
 use lib.Ieee.{Float, binary32, fits, eq}
 use Rattle.ieee.specs.Units.{F32}
 use Rattle.vectors.specs.declared.Vec3.{Vec3}
 use Rattle.panning.specs.Choice.{keep, first, orElse, level, end, flank, layer, row, side, corner}
 use Rattle.panning.specs.Terms.{at, up, ahead, across}
 use Rattle.panning.specs.Table.{Table, Position}
-use Rattle.energy.proofs.Lists.{In, Some, Each, keep→, first-in, orElse→, orElse-some, some-of}
-use Rattle.energy.proofs.Axis.{end→, Ends, ends, level-with}
-use Rattle.energy.proofs.Tables.{Tame3, all-tame}
-use Rattle.energy.proofs.Shares.{Beside, Part, eq-self, ratio-part}
+use Rattle.panning.proofs.Lists.{In, Some, Each, keep→, first-in, orElse→, orElse-some, some-of}
+use Rattle.panning.proofs.Axis.{end→, Ends, ends, level-with}
+use Rattle.panning.proofs.Tables.{Tame3, all-tame}
+use Rattle.panning.proofs.Beside.{Beside, Part, eq-self, ratio-part}
 
 -- ---- left and right of a row
 module _ (X : ℕ → Float) (v : Float) (g : T (fits binary32 v)) (l : List ℕ) (f : Each (λ k. F32 (X k)) l) (s : Some l) where

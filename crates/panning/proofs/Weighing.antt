@@ -14,12 +14,12 @@ use Rattle.ieee.proofs.Ops.{small, mul-rounds}
 use Rattle.ieee.proofs.Signed.{not-negative, at-most}
 use Rattle.ieee.proofs.Constants.{one-less, whole-grid, whole-less}
 use Rattle.vectors.specs.declared.Vec3.{Vec3}
 use Rattle.panning.specs.Choice.{corner}
 use Rattle.panning.specs.Terms.{up, ahead, across, part, rowWeight}
 use Rattle.panning.specs.Table.{Table, Position}
-use Rattle.energy.proofs.Tables.{Gain8}
-use Rattle.energy.proofs.Shares.{Part}
-use Rattle.energy.proofs.Corners.{up-part, ahead-part, across-part}
+use Rattle.panning.proofs.Tables.{Gain8}
+use Rattle.panning.proofs.Beside.{Part}
+use Rattle.panning.proofs.Corners.{up-part, ahead-part, across-part}
 
 -- ---- products of values that are not negative
 pub record Plus (x : Float) (w : ℕ) : Type 0 where

@@ -17,19 +17,19 @@ use Rattle.ieee.proofs.Signed.{mag-is}
 use Rattle.roots.specs.Root.{root}
 use Rattle.roots.proofs.Laws.{root-nearest}
 use Rattle.vectors.specs.declared.Vec3.{Vec3}
 use Rattle.panning.specs.declared.Panned.{Panned}
 use Rattle.panning.specs.Choice.{Corner, corner, corners, 0·0, 1·0}
 use Rattle.panning.specs.Terms.{up, ahead, across, part, rowWeight, coefficient, innerGain, extra, nothing, panned, Term, term, audible, paired, spread, cornerTerms, terms}
 use Rattle.panning.specs.Table.{Table, Position, 8·0, between}
-use Rattle.energy.specs.Facts.{Each, squares, AddsUp, Pans}
-use Rattle.energy.proofs.Tables.{Gain8, gain8, size1}
-use Rattle.energy.proofs.Shares.{Part}
-use Rattle.energy.proofs.Corners.{corner-in, up-part, ahead-part, across-part}
-use Rattle.energy.proofs.Weighing.{Plus, weight, weights, part-plus}
-use Rattle.energy.proofs.Once.{once}
-use Rattle.energy.proofs.Sum.{root-zero, Eight, eight, add-up}
-use Rattle.energy.proofs.Audible.{audible→, audible-none, map-in, allSquares, square-audible, by-channel, apart, apart-once, Differ, differs, apart-audible}
-use Rattle.energy.proofs.Coefficients.{corner-rooted, corner-plus, extra-plus, inner-gain8}
+use Rattle.panning.specs.Facts.{Each, squares, AddsUp, Pans}
+use Rattle.panning.proofs.Tables.{Gain8, gain8, size1}
+use Rattle.panning.proofs.Beside.{Part}
+use Rattle.panning.proofs.Corners.{corner-in, up-part, ahead-part, across-part}
+use Rattle.panning.proofs.Weighing.{Plus, weight, weights, part-plus}
+use Rattle.panning.proofs.Once.{once}
+use Rattle.panning.proofs.Sum.{root-zero, Eight, eight, add-up}
+use Rattle.panning.proofs.Audible.{audible→, audible-none, map-in, allSquares, square-audible, by-channel, apart, apart-once, Differ, differs, apart-audible}
+use Rattle.panning.proofs.Roots.{corner-rooted, corner-plus, extra-plus, inner-gain8}
 
 part-between : (s : Float) → Part s → T (between 0·0 1·0 s)
 unfolding between
