@@ -14,13 +14,13 @@ use Rattle.limiter.specs.Limiter.{peak, scaled, blockPeak, scaledBlock, 
 use Rattle.limiter.proofs.Levels.{Level, level-abs}
 use Rattle.limiter.specs.Places.{floatsAt, withFloats, channelsAt, withChannels}
 use Rattle.limiter.proofs.Laws.{length-scaled}
-use Rattle.limiter.proofs.Runs.{length-floats}
+use Rattle.limiter.proofs.Runs.{length-floats, floats-back}
 
 whole : (a n : ℕ) → a + n - a ≡ n
 whole a n = omega arith
 
 -- the part that is lent
-pub part-length : (n at : ℕ) (xs : List Float) → at + n ≤ length xs → length (take (at + n - at) (drop at xs)) ≡ n
+pub part-length : {A : Type 0} (n at : ℕ) (xs : List A) → at + n ≤ length xs → length (take (at + n - at) (drop at xs)) ≡ n
 part-length n at xs h = ap (λ (j : ℕ). length (take j (drop at xs))) (whole at n) ∙ length-take-le n (drop at xs) (omega (arith, length-drop at xs))
 
 -- the first of k channels, and the others
@@ -145,6 +145,15 @@ load-end s zero n at xs h = sym (take-append-drop at xs)
 load-end s (suc k) n at xs h = absurd (native.Mathlib.Nat.not-suc-le-zero h)
 
 -- ---- to bytes
+pub store-part : (g : Float) (n at from : ℕ) (xs : List Float) (s z : List ℕ) → at + n ≤ length xs → from + 4 * n ≤ length s
+    → z ≡ withFloats (take (from + 4 * n - from) (drop from s)) 0 (scaled g (take (at + n - at) (drop at xs)))
+    → putMid from (from + 4 * n - from) s z ≡ withFloats s from (scaled g (take (at + n - at) (drop at xs)))
+store-part g n at from xs s z h l e =
+    let ys = scaled g (take (at + n - at) (drop at xs)) in
+    let m : length ys ≡ n = length-scaled g (take (at + n - at) (drop at xs)) ∙ part-length n at xs h in
+    let w = whole from (4 * n) in
+    ap (λ (k : ℕ). putMid from k s z) w ∙ floats-back s z from (4 * n) ys l (omega arith) (e ∙ ap (λ (k : ℕ). withFloats (take k (drop from s)) 0 ys) w)
+
 pub store-next : (g : Float) (k n at base step to : ℕ) (xs : List Float) (s t : List ℕ) → 0 < k → t ≡ withFloats s (base + to) (scaled g (take (at + n - at) (drop at xs)))
     → withChannels (scaledBlock g (channels (k - 1) n (drop (at + 64) xs))) step (base + step + to) t ≡ withChannels (scaledBlock g (channels k n (drop at xs))) step (base + to) s
 unfolding withChannels

@@ -17,14 +17,14 @@ pub fn load_samples(places: &[u8], at: usize, samples: &mut [f32])
     }
 }
 
-// The samples times the gain, written from `at` on.
-pub fn store_scaled(samples: &[f32], gain: f32, out: &mut [u8], at: usize)
-    requires { ⌜ at + 4 * length (now samples) ≤ length (now out) ⌝ }
-    ensures { λ _. ⌜ now (out .exit) ≡ withFloats (now (out .entry)) at (scaled gain (now (samples .entry))) ⌝ }
+// The samples times the gain, into a part of the output.
+pub fn scale_into(samples: &[f32], gain: f32, out: &mut [u8])
+    requires { ⌜ length (now out) ≡ 4 * length (now samples) ⌝ }
+    ensures { λ _. ⌜ now (out .exit) ≡ withFloats (now (out .entry)) 0 (scaled gain (now (samples .entry))) ⌝ }
 {
     let mut i: usize = 0;
     while i < samples.len() {
-        words::put_f32(out, at + 4 * i, samples[i] * gain);
+        words::put_f32(out, 4 * i, samples[i] * gain);
         i += 1;
     }
 }
@@ -54,7 +54,9 @@ pub fn store_block(block: &[f32], samples: usize, gain: f32, out: &mut [u8], ste
     let mut left: usize = 12;
     while left > 0 {
         let end = at + samples;
-        store_scaled(&block[at..end], gain, out, base + to);
+        let from = base + to;
+        let until = from + 4 * samples;
+        scale_into(&block[at..end], gain, &mut out[from..until]);
         at += 64;
         base += step;
         left -= 1;

@@ -1,12 +1,12 @@
 -- `limiter::places::store_block` meets its contract. Assumes nothing.
 use borrow.Author.Needs.{needs}
 use native.Mathlib.Omega.{arith}
-use mathlib.Core.Path.{_≡_, refl, ap, _∙_}
+use mathlib.Core.Path.{_≡_, refl, sym, ap, _∙_}
 use Prim.Native.Nat.{ℕ, _+_, _*_, _≤_}
 use lib.ListN.{length, drop}
 use Rattle.limiter.specs.Limiter.{scaledBlock, channels}
 use Rattle.limiter.specs.Places.{withChannels}
-use Rattle.limiter.proofs.Rows.{part-length, store-next, store-end, room-next}
+use Rattle.limiter.proofs.Rows.{part-length, store-part, store-next, store-end, room-next}
 use Rattle.limiter.proofs.places.store_block.Statement.{statement}
 use Rattle.limiter.proofs.places.store_block.Tie as tie
 
@@ -22,53 +22,34 @@ loop-holds c =
     let e : 0 + a .to ≡ a .to = omega arith in
     (refl, omega arith, refl, ap (λ (j : ℕ). withChannels (scaledBlock (a .gain) (channels 12 (a .samples) (a .block .now))) (a .step) j (a .out .now)) e)
 
-add-end : tie.Need-add-end Inv-loop μ-loop
-add-end c = search needs
+add-from : tie.Need-add-from Inv-loop μ-loop
+add-from c = let l = c .before .loop in search (needs, room-next (l .left) (c .before .before .before .before .args .step) (omega arith))
 
-mul-store-scaled : tie.Need-mul-store-scaled Inv-loop μ-loop
-mul-store-scaled c = search needs
+add-until : tie.Need-add-until Inv-loop μ-loop
+add-until c = let l = c .before .loop in search (needs, room-next (l .left) (c .before .before .before .before .args .step) (omega arith))
 
-sub-store-scaled : tie.Need-sub-store-scaled Inv-loop μ-loop
-sub-store-scaled c = search needs
+part-end-2 : tie.Need-part-scale-into-end-2 Inv-loop μ-loop
+part-end-2 c = let l = c .before .before .loop in search (needs, room-next (l .left) (c .before .before .before .before .before .args .step) (omega arith))
 
-part-store-scaled-start : tie.Need-part-store-scaled-start Inv-loop μ-loop
-part-store-scaled-start c = search needs
-
-part-store-scaled-end : tie.Need-part-store-scaled-end Inv-loop μ-loop
-part-store-scaled-end c = search needs
-
-add-store-scaled : tie.Need-add-store-scaled Inv-loop μ-loop
-add-store-scaled c = search needs
-
-store-scaled-requires : tie.Need-store-scaled-requires Inv-loop μ-loop
-store-scaled-requires c κs =
+scale-into-requires : tie.Need-scale-into-requires Inv-loop μ-loop
+scale-into-requires c κs =
     let l = c .before .before .before .loop in
     let a = c .before .before .before .before .before .before .args in
-    let h : l .at + a .samples ≤ length (a .block .now) = omega arith in
-    omega (arith, part-length (a .samples) (l .at) (a .block .now) h, room-next (l .left) (a .step) (omega arith))
-
-add-at : tie.Need-add-at Inv-loop μ-loop
-add-at c = search needs
-
-add-base : tie.Need-add-base Inv-loop μ-loop
-add-base c = search needs
-
-sub-left : tie.Need-sub-left Inv-loop μ-loop
-sub-left c = search needs
-
-loop-less : tie.Need-loop-less Inv-loop μ-loop
-loop-less c = search needs
+    let r = room-next (l .left) (a .step) (omega arith) in
+    part-length (4 * a .samples) (l .base + a .to) (l .out) (omega arith) ∙ ap (λ (n : ℕ). 4 * n) (sym (part-length (a .samples) (l .at) (a .block .now) (omega arith)))
 
 loop-again : tie.Need-loop-again Inv-loop μ-loop
 loop-again c =
     let l = c .before .before .before .before .before .before .loop in
     let a = c .before .before .before .before .before .before .before .before .before .args in
-    let z = c .before .before .store-scaled in
+    let z = c .before .before .scale-into in
     let r = room-next (l .left) (a .step) (omega arith) in
-    (omega arith, omega arith, search needs, store-next (a .gain) (l .left) (a .samples) (l .at) (l .base) (a .step) (a .to) (a .block .now) (l .out) (z .last .1 .1 .0) (omega arith) (z .ensures) ∙ l .inv .3)
-
-same-length : tie.Need-same-length Inv-loop μ-loop
-same-length c = search needs
+    let part = store-part (a .gain) (a .samples) (l .at) (l .base + a .to) (a .block .now) (l .out) (z .last .1 .1 .0) (omega arith) (omega arith) (z .ensures) in (
+      omega arith,
+      omega arith,
+      search needs,
+      store-next (a .gain) (l .left) (a .samples) (l .at) (l .base) (a .step) (a .to) (a .block .now) (l .out) _ (omega arith) part ∙ l .inv .3,
+    )
 
 returns : tie.Need-returns Inv-loop μ-loop
 returns c =
@@ -83,17 +64,22 @@ store-block-spec =
     Inv-loop
     μ-loop
     loop-holds
-    add-end
-    mul-store-scaled
-    sub-store-scaled
-    part-store-scaled-start
-    part-store-scaled-end
-    add-store-scaled
-    store-scaled-requires
-    add-at
-    add-base
-    sub-left
-    loop-less
+    (λ c. search needs)
+    add-from
+    (λ c. search needs)
+    add-until
+    (λ c. search needs)
+    (λ c. search needs)
+    (λ c. search needs)
+    (λ c. search needs)
+    (λ c. search needs)
+    (λ c. search needs)
+    part-end-2
+    scale-into-requires
+    (λ c. search needs)
+    (λ c. search needs)
+    (λ c. search needs)
+    (λ c. search needs)
     loop-again
-    same-length
+    (λ c. search needs)
     returns)

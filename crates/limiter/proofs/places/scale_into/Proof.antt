@@ -1,4 +1,4 @@
--- `limiter::places::store_scaled` meets its contract. Assumes nothing.
+-- `limiter::places::scale_into` meets its contract. Assumes nothing.
 use borrow.Author.Needs.{needs}
 use native.Mathlib.Omega.{arith}
 use mathlib.Core.Path.{_≡_, refl, ap, _∙_}
@@ -7,26 +7,21 @@ use lib.ListN.{length, drop}
 use Rattle.limiter.specs.Limiter.{scaled}
 use Rattle.limiter.specs.Places.{withFloats}
 use Rattle.limiter.proofs.Runs.{write-more, write-end}
-use Rattle.limiter.proofs.places.store_scaled.Statement.{statement}
-use Rattle.limiter.proofs.places.store_scaled.Tie as tie
+use Rattle.limiter.proofs.places.scale_into.Statement.{statement}
+use Rattle.limiter.proofs.places.scale_into.Tie as tie
 
 abbrev Inv-loop : tie.InvT-loop
-Inv-loop samples gain out₀ at i₀ out i = (i ≤ length samples) × (length out ≡ length out₀) × (withFloats out (at + 4 * i) (scaled gain (drop i samples)) ≡ withFloats out₀ at (scaled gain samples))
+Inv-loop samples gain out₀ i₀ out i = (i ≤ length samples) × (length out ≡ length out₀) × (withFloats out (4 * i) (scaled gain (drop i samples)) ≡ withFloats out₀ 0 (scaled gain samples))
 
 abbrev μ-loop : tie.MeasureT-loop
-μ-loop samples gain out₀ at i₀ out i = length samples - i
+μ-loop samples gain out₀ i₀ out i = length samples - i
 
 loop-holds : tie.Need-loop-holds Inv-loop μ-loop
 loop-holds c =
-    let a = c .before .before .args in
-    let e : a .at + 4 * 0 ≡ a .at = omega arith in
-    (omega arith, refl, ap (λ (j : ℕ). withFloats (a .out .now) j (scaled (a .gain) (a .samples .now))) e)
+    (omega arith, refl, refl)
 
 mul-put-f32 : tie.Need-mul-put-f32 Inv-loop μ-loop
 mul-put-f32 c = search needs
-
-add-put-f32 : tie.Need-add-put-f32 Inv-loop μ-loop
-add-put-f32 c = search needs
 
 mul-put-f32-2 : tie.Need-mul-put-f32-2 Inv-loop μ-loop
 mul-put-f32-2 c = search needs
@@ -48,7 +43,7 @@ loop-again c =
     let l = c .before .before .before .before .before .before in
     let a = l .before .before .before .args in
     let p = c .before .before .put-f32 in
-    (omega arith, search needs, write-more (a .gain) (l .loop .out) (p .last .0) (a .at) (l .loop .i) (a .samples .now) (omega arith) (p .ensures) ∙ l .loop .inv .2)
+    (omega arith, search needs, write-more (a .gain) (l .loop .out) (p .last .0) (l .loop .i) (a .samples .now) (omega arith) (p .ensures) ∙ l .loop .inv .2)
 
 same-length : tie.Need-same-length Inv-loop μ-loop
 same-length c = search needs
@@ -57,17 +52,16 @@ returns : tie.Need-returns Inv-loop μ-loop
 returns c =
     let l = c .before in
     let a = l .before .before .before .args in
-    write-end (a .gain) (l .loop .out) (a .at + 4 * l .loop .i) (l .loop .i) (a .samples .now) (omega arith) ∙ l .loop .inv .2
+    write-end (a .gain) (l .loop .out) (4 * l .loop .i) (l .loop .i) (a .samples .now) (omega arith) ∙ l .loop .inv .2
 
-pub store-scaled-spec : {M : Type 1} → statement M
-store-scaled-spec =
+pub scale-into-spec : {M : Type 1} → statement M
+scale-into-spec =
     tie.close
     (tie.spec
     Inv-loop
     μ-loop
     loop-holds
     mul-put-f32
-    add-put-f32
     mul-put-f32-2
     shared-slice-read-put-f32
     put-f32-requires
