@@ -1,9 +1,11 @@
--- A probe answers by the test of its lengths. Assumes nothing.
+-- A probe answers by the test of its arguments. Assumes nothing.
 use mathlib.Core.Path.{_≡_, sym}
 use mathlib.Core.Bool.{Bool, true, false, cond, _&&_}
 use Prim.Native.Nat.{ℕ, _≤_, _<_}
+use native.Mathlib.Omega.{arith}
 use lib.Dec.{leb}
 use borrow.Author.Tests.{le-leb, lt-leb}
+use Rattle.rates.specs.Rates.{lowest, highest, listed}
 
 module _ {A : Type 0} where
   pub fits : {a b : ℕ} {r x : A} (y : A) → a ≤ b → r ≡ x → r ≡ cond (leb a b) x y
@@ -23,3 +25,14 @@ fits-and {a} {b} h e = rw (le-leb a b h) e
 
 pub unfit-and : {a b : ℕ} (t : Bool) → b < a → false ≡ (leb a b && t)
 unfit-and {a} {b} t h = rw (lt-leb a b h)
+
+-- ---- rates
+module _ (rate : ℕ) where
+  pub listed-within : lowest ≤ rate → rate ≤ highest → listed rate ≡ true
+  listed-within l h = simp (le-leb lowest rate l, le-leb rate highest h)
+
+  pub unlisted-below : rate < lowest → listed rate ≡ false
+  unlisted-below h = simp (lt-leb lowest rate h)
+
+  pub unlisted-above : highest < rate → listed rate ≡ false
+  unlisted-above h = let l : lowest ≤ rate = omega arith in simp (le-leb lowest rate l, lt-leb rate highest h)

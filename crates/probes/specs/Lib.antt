@@ -1,2 +1,4 @@
+pub mod Taken
+pub mod Timed
 pub mod Codes
 pub mod Beds

@@ -1,13 +1,16 @@
 use angles::Turn;
 use angles::filter::Coefficients;
 ghost use mathlib.Core.Path.{_≡_};
-ghost use Rattle.angles.specs.Angle.{cosine, sine, w0, Meant, Listed};
+ghost use mathlib.Core.Bool.{cond};
+ghost use Rattle.rates.specs.Rates.{listed};
+ghost use Rattle.angles.specs.Angle.{cosine, sine, w0, Meant};
 ghost use Rattle.angles.specs.Filter.{coefficientsOf};
+ghost use Rattle.probes.specs.Taken.{zeroCoefficients, zeroTurn};
 
 // At a rate that is not listed, zeros.
 #[no_mangle]
 pub extern "C" fn probe_coefficients(rate: u32) -> Coefficients
-    ensures { λ r. ⌜ (Listed rate → r ≡ coefficientsOf (cosine (w0 rate)) (sine (w0 rate))) ⌝ }
+    ensures { λ r. ⌜ r ≡ cond (listed rate) (coefficientsOf (cosine (w0 rate)) (sine (w0 rate))) zeroCoefficients ⌝ }
 {
     match rate {
         8000..=192000 => angles::coefficients(rate),
@@ -24,7 +27,7 @@ pub extern "C" fn probe_coefficients(rate: u32) -> Coefficients
 // At a rate that is not listed, zeros.
 #[no_mangle]
 pub extern "C" fn probe_angle(rate: u32) -> Turn
-    ensures { λ r. ⌜ (Listed rate → Meant 0 (w0 rate) (r .cos) × Meant 1 (w0 rate) (r .sin)) ⌝ }
+    ensures { λ r. ⌜ cond (listed rate) (Meant 0 (w0 rate) (r .cos) × Meant 1 (w0 rate) (r .sin)) (r ≡ zeroTurn) ⌝ }
 {
     match rate {
         8000..=192000 => angles::angle(rate),

@@ -1,9 +1,9 @@
 use limiter::Limiter;
 ghost use mathlib.Core.Path.{_≡_};
-ghost use Prim.Native.Nat.{_≤_};
-ghost use lib.ListN.{length};
+ghost use mathlib.Core.Bool.{cond};
 ghost use Rattle.limiter.specs.Limiter.{peak, scaled, Limited};
-ghost use Rattle.limiter.specs.Places.{Room, Given};
+ghost use Rattle.limiter.specs.Places.{Given};
+ghost use Rattle.probes.specs.Taken.{hasBlock, hasRoom};
 
 #[no_mangle]
 pub extern "C" fn probe_max_abs_slice(samples: &[f32]) -> f32
@@ -19,7 +19,7 @@ pub extern "C" fn probe_scale_slice_in_place(samples: &mut [f32], gain: f32)
     limiter::scale_slice_in_place(samples, gain);
 }
 
-// The next gain.
+// The next gain; where the block does not fit, this gain and nothing done.
 #[no_mangle]
 pub extern "C" fn probe_apply_output_limiter_block(
     gain: f32,
@@ -27,7 +27,7 @@ pub extern "C" fn probe_apply_output_limiter_block(
     samples: usize,
     rate: u32,
 ) -> f32
-    ensures { λ r. ⌜ (length (now (block .entry)) ≡ 768 → samples ≤ 64 → rate ≤ 16777216 → Limited gain samples rate (now (block .entry)) r (now (block .exit))) ⌝ }
+    ensures { λ r. ⌜ cond (hasBlock (now (block .entry)) samples rate) (Limited gain samples rate (now (block .entry)) r (now (block .exit))) ((r ≡ gain) × (now (block .exit) ≡ now (block .entry))) ⌝ }
 {
     if block.len() != 768 {
         return gain;
@@ -42,6 +42,7 @@ pub extern "C" fn probe_apply_output_limiter_block(
     next.gain
 }
 
+// The same from bytes to bytes.
 #[no_mangle]
 pub extern "C" fn probe_limit_into(
     gain: f32,
@@ -52,7 +53,7 @@ pub extern "C" fn probe_limit_into(
     step: usize,
     to: usize,
 ) -> f32
-    ensures { λ r. ⌜ (Room (now (places .entry)) samples rate (now (out .entry)) step to → Given gain samples rate (now (places .entry)) step to (now (out .entry)) r (now (out .exit))) ⌝ }
+    ensures { λ r. ⌜ cond (hasRoom (now (places .entry)) samples rate (now (out .entry)) step to) (Given gain samples rate (now (places .entry)) step to (now (out .entry)) r (now (out .exit))) ((r ≡ gain) × (now (out .exit) ≡ now (out .entry))) ⌝ }
 {
     if places.len() != 3072 {
         return gain;

@@ -1,12 +1,14 @@
 use lowpass::BiquadLowpassState;
 ghost use mathlib.Core.Path.{_≡_};
-ghost use Rattle.lowpass.specs.Lowpass.{new, filtered, afterAll};
-ghost use Rattle.angles.specs.Angle.{Listed};
+ghost use mathlib.Core.Bool.{cond};
+ghost use Rattle.rates.specs.Rates.{listed};
+ghost use Rattle.lowpass.specs.Lowpass.{fresh, new, filtered, afterAll};
+ghost use Rattle.probes.specs.Taken.{zeroCoefficients};
 
-// At a rate that is not listed: nothing but zeros.
+// At a rate that is not listed, zeros.
 #[no_mangle]
 pub extern "C" fn probe_lowpass_new(rate: u32) -> BiquadLowpassState
-    ensures { λ r. ⌜ (Listed rate → r ≡ new rate) ⌝ }
+    ensures { λ r. ⌜ r ≡ cond (listed rate) (new rate) (fresh zeroCoefficients) ⌝ }
 {
     match rate {
         8000..=192000 => BiquadLowpassState::new(rate),

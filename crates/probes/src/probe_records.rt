@@ -1,15 +1,18 @@
+// A record, update or place that is not there is answered by zeros.
 use fields::block::Block;
 use fields::object::Info;
 use fields::update::Header;
 ghost use mathlib.Core.Path.{_≡_};
-ghost use Prim.Native.Nat.{ℕ, _+_, _*_, _/_, _<_, _≤_};
-ghost use lib.ListN.{length};
+ghost use mathlib.Core.Bool.{cond, _&&_};
+ghost use Prim.Native.Nat.{_+_, _*_};
+ghost use lib.Dec.{leb, ltb};
 ghost use Rattle.fields.specs.Update.{offset, headerOf, code};
 ghost use Rattle.fields.specs.Block.{blocks, blockOf};
 ghost use Rattle.fields.specs.Object.{infoOf};
 ghost use Rattle.records.specs.Laid.{updateAt, count, elementEnd, objectAt};
 ghost use Rattle.records.specs.Ranges.{refusal};
 ghost use Rattle.records.specs.Order.{next, FirstAt};
+ghost use Rattle.probes.specs.Taken.{hasRecord, zeroHeader, zeroBlock, zeroInfo};
 
 #[no_mangle]
 pub extern "C" fn probe_refusal(meta: &[u8]) -> u32
@@ -29,7 +32,7 @@ pub extern "C" fn probe_updates(meta: &[u8]) -> usize
 // The record of update i.
 #[no_mangle]
 pub extern "C" fn probe_update_place(meta: &[u8], i: usize) -> usize
-    ensures { λ r. ⌜ (i < count (now (meta .entry)) → r ≡ updateAt (now (meta .entry)) i) ⌝ }
+    ensures { λ r. ⌜ r ≡ cond (ltb i (count (now (meta .entry)))) (updateAt (now (meta .entry)) i) 0 ⌝ }
 {
     let l = records::layout::layout_of(meta);
     let first = l.first;
@@ -41,7 +44,7 @@ pub extern "C" fn probe_update_place(meta: &[u8], i: usize) -> usize
 
 #[no_mangle]
 pub extern "C" fn probe_header(meta: &[u8], u: usize) -> Header
-    ensures { λ r. ⌜ (u < length (now (meta .entry)) / 40 → r ≡ headerOf (now (meta .entry)) u) ⌝ }
+    ensures { λ r. ⌜ r ≡ cond (hasRecord (now (meta .entry)) u) (headerOf (now (meta .entry)) u) zeroHeader ⌝ }
 {
     if u >= meta.len() / 40 {
         return Header {
@@ -57,7 +60,7 @@ pub extern "C" fn probe_header(meta: &[u8], u: usize) -> Header
 
 #[no_mangle]
 pub extern "C" fn probe_code(meta: &[u8], u: usize, k: usize) -> usize
-    ensures { λ r. ⌜ (u < length (now (meta .entry)) / 40 → k < 18 → r ≡ code (now (meta .entry)) u k) ⌝ }
+    ensures { λ r. ⌜ r ≡ cond (hasRecord (now (meta .entry)) u && ltb k 18) (code (now (meta .entry)) u k) 0 ⌝ }
 {
     if u >= meta.len() / 40 {
         return 0;
@@ -70,7 +73,7 @@ pub extern "C" fn probe_code(meta: &[u8], u: usize, k: usize) -> usize
 
 #[no_mangle]
 pub extern "C" fn probe_blocks(meta: &[u8], e: usize) -> usize
-    ensures { λ r. ⌜ (e < length (now (meta .entry)) / 40 → r ≡ blocks (now (meta .entry)) e) ⌝ }
+    ensures { λ r. ⌜ r ≡ cond (hasRecord (now (meta .entry)) e) (blocks (now (meta .entry)) e) 0 ⌝ }
 {
     if e >= meta.len() / 40 {
         return 0;
@@ -81,7 +84,7 @@ pub extern "C" fn probe_blocks(meta: &[u8], e: usize) -> usize
 // The record after the element at e.
 #[no_mangle]
 pub extern "C" fn probe_element_after(meta: &[u8], objects: usize, e: usize) -> usize
-    ensures { λ r. ⌜ (e < length (now (meta .entry)) / 40 → objects ≤ 32 → blocks (now (meta .entry)) e ≤ 8 → r ≡ elementEnd (now (meta .entry)) objects e) ⌝ }
+    ensures { λ r. ⌜ r ≡ cond (hasRecord (now (meta .entry)) e && leb objects 32 && leb (blocks (now (meta .entry)) e) 8) (elementEnd (now (meta .entry)) objects e) 0 ⌝ }
 {
     if e >= meta.len() / 40 {
         return 0;
@@ -97,7 +100,7 @@ pub extern "C" fn probe_element_after(meta: &[u8], objects: usize, e: usize) -> 
 
 #[no_mangle]
 pub extern "C" fn probe_object_place(meta: &[u8], e: usize, o: usize, b: usize) -> usize
-    ensures { λ r. ⌜ (e < length (now (meta .entry)) / 40 → o < 32 → b < 8 → blocks (now (meta .entry)) e ≤ 8 → r ≡ objectAt (now (meta .entry)) e (o * blocks (now (meta .entry)) e + b)) ⌝ }
+    ensures { λ r. ⌜ r ≡ cond (hasRecord (now (meta .entry)) e && ltb o 32 && ltb b 8 && leb (blocks (now (meta .entry)) e) 8) (objectAt (now (meta .entry)) e (o * blocks (now (meta .entry)) e + b)) 0 ⌝ }
 {
     if e >= meta.len() / 40 {
         return 0;
@@ -116,7 +119,7 @@ pub extern "C" fn probe_object_place(meta: &[u8], e: usize, o: usize, b: usize) 
 
 #[no_mangle]
 pub extern "C" fn probe_block(meta: &[u8], r: usize) -> Block
-    ensures { λ b. ⌜ (r < length (now (meta .entry)) / 40 → b ≡ blockOf (now (meta .entry)) r) ⌝ }
+    ensures { λ b. ⌜ b ≡ cond (hasRecord (now (meta .entry)) r) (blockOf (now (meta .entry)) r) zeroBlock ⌝ }
 {
     if r >= meta.len() / 40 {
         return Block { offset: 0, ramp: 0 };
@@ -126,7 +129,7 @@ pub extern "C" fn probe_block(meta: &[u8], r: usize) -> Block
 
 #[no_mangle]
 pub extern "C" fn probe_info(meta: &[u8], r: usize) -> Info
-    ensures { λ i. ⌜ (r < length (now (meta .entry)) / 40 → i ≡ infoOf (now (meta .entry)) r) ⌝ }
+    ensures { λ i. ⌜ i ≡ cond (hasRecord (now (meta .entry)) r) (infoOf (now (meta .entry)) r) zeroInfo ⌝ }
 {
     if r >= meta.len() / 40 {
         return Info {
@@ -152,7 +155,7 @@ pub extern "C" fn probe_next_offset(meta: &[u8], t: usize, end: usize) -> usize
 
 #[no_mangle]
 pub extern "C" fn probe_sent_at(meta: &[u8], t: usize, from: usize) -> usize
-    ensures { λ r. ⌜ (from ≤ count (now (meta .entry)) → FirstAt (λ i. offset (now (meta .entry)) (updateAt (now (meta .entry)) i)) (count (now (meta .entry))) t from r) ⌝ }
+    ensures { λ r. ⌜ cond (leb from (count (now (meta .entry)))) (FirstAt (λ i. offset (now (meta .entry)) (updateAt (now (meta .entry)) i)) (count (now (meta .entry))) t from r) (r ≡ 0) ⌝ }
 {
     let l = records::layout::layout_of(meta);
     if from > l.count {

@@ -1,14 +1,8 @@
 // The timed state crosses by value, the infos as bytes. Where the state is not within its ranges, the infos are not 22,528 bytes or the metadata is refused, nothing is done.
 ghost use mathlib.Core.Path.{_≡_};
-ghost use mathlib.Core.Bool.{true};
-ghost use mathlib.Core.Logic.{_⊎_};
-ghost use Prim.Native.Nat.{ℕ, _-_, _≤_, _<_};
-ghost use lib.ListN.{getD};
-ghost use Rattle.timed.specs.Slot.{InRange, noBlock};
-ghost use Rattle.timed.specs.State.{Within, IsTimed, slotAt};
-ghost use Rattle.records.specs.Laid.{updateAt};
-ghost use Rattle.updates.specs.Said.{updateOf};
-ghost use Rattle.updates.specs.Applied.{applied};
+ghost use Prim.Native.Nat.{_≤_};
+ghost use Rattle.timed.specs.State.{IsTimed};
+ghost use Rattle.probes.specs.Timed.{scheduleFits, elementFits, countsFit, stateFits, slotIf, updateIf};
 use timed::clock::StreamSample;
 use timed::state;
 use timed::state::BlockState;
@@ -16,7 +10,7 @@ use timed::state::ElementRendererState;
 use timed::state::MetadataRendererState;
 
 fn schedule_fits(schedule: [BlockState; 8]) -> bool
-    ensures { λ r. ⌜ (r ≡ true → (b : ℕ) → b < 8 → (getD schedule b noBlock .offset ≤ 2097152) × (getD schedule b noBlock .ramp ≤ 2097152)) ⌝ }
+    ensures { λ r. ⌜ r ≡ scheduleFits schedule ⌝ }
 {
     let mut b = 0usize;
     while b < 8 {
@@ -34,7 +28,7 @@ fn schedule_fits(schedule: [BlockState; 8]) -> bool
 
 fn element_fits(e: ElementRendererState, position: u64) -> bool
     requires { ⌜ position ≤ 1099511627776 ⌝ }
-    ensures { λ r. ⌜ (r ≡ true → InRange position e) ⌝ }
+    ensures { λ r. ⌜ r ≡ elementFits position e ⌝ }
 {
     if e.blocks > 8 {
         return false;
@@ -51,7 +45,7 @@ fn element_fits(e: ElementRendererState, position: u64) -> bool
 }
 
 fn counts_fit(s: MetadataRendererState) -> bool
-    ensures { λ r. ⌜ (r ≡ true → (s .objects ≤ 32) × (s .isf ≤ 255) × (s .objects - s .isf ≤ 16) × (s .beds ≤ 18) × (s .beds ≤ s .objects) × (s .elements ≤ 2)) ⌝ }
+    ensures { λ r. ⌜ r ≡ countsFit s ⌝ }
 {
     if s.objects > 32 {
         return false;
@@ -73,7 +67,7 @@ fn counts_fit(s: MetadataRendererState) -> bool
 
 fn state_fits(s: MetadataRendererState, position: u64) -> bool
     requires { ⌜ position ≤ 1099511627776 ⌝ }
-    ensures { λ r. ⌜ (r ≡ true → Within position s) ⌝ }
+    ensures { λ r. ⌜ r ≡ stateFits position s ⌝ }
 {
     if !counts_fit(s) {
         return false;
@@ -97,7 +91,7 @@ pub extern "C" fn probe_update_timeslot(
     infos: &mut [u8],
     start: u64,
 ) -> MetadataRendererState
-    ensures { λ r. ⌜ IsTimed (slotAt start (record { state = s; infos = now (infos .entry) })) r (now (infos .exit)) ⊎ IsTimed (record { state = s; infos = now (infos .entry) }) r (now (infos .exit)) ⌝ }
+    ensures { λ r. ⌜ IsTimed (slotIf start (record { state = s; infos = now (infos .entry) })) r (now (infos .exit)) ⌝ }
 {
     if infos.len() != 22528 {
         return s;
@@ -119,7 +113,7 @@ pub extern "C" fn probe_apply_update(
     i: usize,
     at: u64,
 ) -> MetadataRendererState
-    ensures { λ r. ⌜ IsTimed (applied at (updateOf (now (meta .entry)) (updateAt (now (meta .entry)) i)) (record { state = s; infos = now (infos .entry) })) r (now (infos .exit)) ⊎ IsTimed (record { state = s; infos = now (infos .entry) }) r (now (infos .exit)) ⌝ }
+    ensures { λ r. ⌜ IsTimed (updateIf (now (meta .entry)) i at (record { state = s; infos = now (infos .entry) })) r (now (infos .exit)) ⌝ }
 {
     if infos.len() != 22528 {
         return s;

@@ -1,8 +1,9 @@
 ghost use mathlib.Core.Path.{_≡_};
-ghost use Prim.Native.Nat.{_+_, _≤_};
-ghost use lib.ListN.{length};
+ghost use mathlib.Core.Bool.{cond};
+ghost use lib.IntN.{pos};
 ghost use lib.Ieee.{binary32, ofBits, toBits};
-ghost use Rattle.words.specs.Words.{half, word, signedAt, withWord, withSigned};
+ghost use Rattle.words.specs.Words.{signedAt, withSigned};
+ghost use Rattle.probes.specs.Taken.{hasLong};
 
 #[no_mangle]
 pub extern "C" fn probe_bits_of(x: f32) -> u32
@@ -21,7 +22,7 @@ pub extern "C" fn probe_f32_of(n: u32) -> f32
 // The signed number at byte `at`; 0 where it is not there.
 #[no_mangle]
 pub extern "C" fn probe_i64_at(s: &[u8], at: usize) -> i64
-    ensures { λ r. ⌜ (at + 8 ≤ length (now (s .entry)) → r ≡ signedAt (now (s .entry)) at) ⌝ }
+    ensures { λ r. ⌜ r ≡ cond (hasLong (now (s .entry)) at) (signedAt (now (s .entry)) at) (pos 0) ⌝ }
 {
     if s.len() < 8 {
         return 0;
@@ -32,10 +33,10 @@ pub extern "C" fn probe_i64_at(s: &[u8], at: usize) -> i64
     words::i64_at(s, at)
 }
 
-// Writes a signed number at byte `at`, where there is room.
+// Writes a signed number at byte `at`; nothing where it has no room.
 #[no_mangle]
 pub extern "C" fn probe_put_i64(s: &mut [u8], at: usize, z: i64)
-    ensures { λ _. ⌜ (at + 8 ≤ length (now (s .entry)) → now (s .exit) ≡ withSigned (now (s .entry)) at z) ⌝ }
+    ensures { λ _. ⌜ now (s .exit) ≡ cond (hasLong (now (s .entry)) at) (withSigned (now (s .entry)) at z) (now (s .entry)) ⌝ }
 {
     if s.len() < 8 {
         return;

@@ -1,29 +1,44 @@
--- `probes::probe_limit_into` meets its contract. Assumes nothing.
+-- The block, where it and its room fit. Assumes nothing.
+use Prim.Native.Nat.{_+_, _*_, _≤_, _<_}
+use mathlib.Core.Path.{refl}
 use native.Mathlib.Omega.{arith}
+use lib.ListN.{length}
+use borrow.Author.Tests.{eq-eqb, ne-eqb, le-leb, lt-leb}
 use borrow.Author.Needs.{needs}
 use Rattle.probes.proofs.probe_limiter.probe_limit_into.Statement.{statement}
 use Rattle.probes.proofs.probe_limiter.probe_limit_into.Tie as tie
 
 returns : tie.Need-returns
-returns c = λ r. absurd (c .if1 .taken (r .block))
+returns c = simp (ne-eqb _ _ (c .if1 .taken)) (refl, refl)
 
 returns-2 : tie.Need-returns-2
-returns-2 c = λ r. absurd (omega arith)
+returns-2 c = simp (eq-eqb _ _ (c .before .if1 .left), lt-leb _ _ (c .if2 .taken)) (refl, refl)
 
 returns-3 : tie.Need-returns-3
-returns-3 c = λ r. absurd (omega arith)
+returns-3 c = simp (eq-eqb _ _ (c .before .before .if1 .left), le-leb _ _ (c .before .if2 .left), lt-leb _ _ (c .if3 .taken)) (refl, refl)
 
 returns-4 : tie.Need-returns-4
-returns-4 c = λ r. absurd (omega arith)
+returns-4 c =
+    let a = c .before .before .before .before .before .before .args in
+    let h : length (a .out .now) < 12 * a .step = omega arith in
+    simp (eq-eqb _ _ (c .before .before .before .if1 .left), le-leb _ _ (c .before .before .if2 .left), le-leb _ _ (c .before .if3 .left), lt-leb _ _ h) (refl, refl)
 
 returns-5 : tie.Need-returns-5
-returns-5 c = λ r. absurd (omega arith)
+returns-5 c =
+    let a = c .before .before .before .before .before .before .before .args in
+    let h : 12 * a .step ≤ length (a .out .now) = omega arith in
+    let k : a .step < a .to + 4 * a .samples = omega arith in
+    simp (eq-eqb _ _ (c .before .before .before .before .if1 .left), le-leb _ _ (c .before .before .before .if2 .left), le-leb _ _ (c .before .before .if3 .left), le-leb _ _ h, lt-leb _ _ k) (refl, refl)
 
 mul-if6 : tie.Need-mul-if6
 mul-if6 c = search needs
 
 returns-6 : tie.Need-returns-6
-returns-6 c = λ r. absurd (omega arith)
+returns-6 c =
+    let a = c .before .before .before .before .before .before .before .before .args in
+    let h : 12 * a .step ≤ length (a .out .now) = omega arith in
+    let k : a .step < a .to + 4 * a .samples = omega arith in
+    simp (eq-eqb _ _ (c .before .before .before .before .before .if1 .left), le-leb _ _ (c .before .before .before .before .if2 .left), le-leb _ _ (c .before .before .before .if3 .left), le-leb _ _ h, lt-leb _ _ k) (refl, refl)
 
 limit-into-requires : tie.Need-limit-into-requires
 limit-into-requires c κs = search needs
@@ -32,19 +47,11 @@ same-length : tie.Need-same-length
 same-length c = search needs
 
 returns-7 : tie.Need-returns-7
-returns-7 c = search needs
+returns-7 c =
+    let a = c .before .before .before .before .before .before .before .before .before .before .before .before .args in
+    let h : 12 * a .step ≤ length (a .out .now) = omega arith in
+    let k : a .to + 4 * a .samples ≤ a .step = omega arith in
+    simp (eq-eqb _ _ (c .before .before .before .before .before .before .before .before .before .if1 .left), le-leb _ _ (c .before .before .before .before .before .before .before .before .if2 .left), le-leb _ _ (c .before .before .before .before .before .before .before .if3 .left), le-leb _ _ h, le-leb _ _ k) (c .before .before .limit-into .ensures)
 
 pub probe-limit-into-spec : {M : Type 1} → statement M
-probe-limit-into-spec =
-    tie.close
-    (tie.spec
-    returns
-    returns-2
-    returns-3
-    returns-4
-    returns-5
-    mul-if6
-    returns-6
-    limit-into-requires
-    same-length
-    returns-7)
+probe-limit-into-spec = tie.close (tie.spec returns returns-2 returns-3 returns-4 returns-5 mul-if6 returns-6 limit-into-requires same-length returns-7)

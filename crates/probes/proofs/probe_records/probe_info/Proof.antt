@@ -1,17 +1,17 @@
--- Where the record is not there nothing is said. Assumes nothing.
-use native.Mathlib.Omega.{arith}
+-- The record, where it is there. Assumes nothing.
+use borrow.Author.Tests.{lt-ltb, le-ltb}
 use borrow.Author.Needs.{needs}
 use Rattle.probes.proofs.probe_records.probe_info.Statement.{statement}
 use Rattle.probes.proofs.probe_records.probe_info.Tie as tie
 
 returns : tie.Need-returns
-returns c = λ h. absurd (omega arith)
+returns c = simp (le-ltb _ _ (c .if1 .taken))
 
 info-at-requires : tie.Need-info-at-requires
 info-at-requires c κs = search needs
 
 returns-2 : tie.Need-returns-2
-returns-2 c = search needs
+returns-2 c = simp (lt-ltb _ _ (c .before .if1 .left)) (c .info-at .ensures)
 
 pub probe-info-spec : {M : Type 1} → statement M
 probe-info-spec = tie.close (tie.spec returns info-at-requires returns-2)

@@ -1,12 +1,13 @@
 -- The layout has the offsets of the updates. Assumes nothing.
-use mathlib.Core.Path.{subst}
+use mathlib.Core.Path.{refl, subst}
 use Prim.Native.Nat.{ℕ}
 use lib.ListN.{getD}
+use borrow.Author.Tests.{le-leb, lt-leb}
+use borrow.Author.Needs.{needs}
 use Rattle.fields.specs.Update.{offset}
 use Rattle.records.specs.Laid.{updateAt, count}
 use Rattle.records.specs.Order.{FirstAt}
 use Rattle.records.proofs.Times.{first-same}
-use borrow.Author.Needs.{needs}
 use Rattle.probes.proofs.probe_records.probe_sent_at.Statement.{statement}
 use Rattle.probes.proofs.probe_records.probe_sent_at.Tie as tie
 
@@ -14,7 +15,7 @@ layout-of-requires : tie.Need-layout-of-requires
 layout-of-requires c κs = search needs
 
 returns : tie.Need-returns
-returns c = search needs
+returns c = simp (lt-leb _ _ (rw (c .before .before .layout-of .ensures .counted) at (c .if1 .taken))) refl
 
 sent-at-requires : tie.Need-sent-at-requires
 sent-at-requires c κs = search needs
@@ -24,9 +25,9 @@ returns-2 c =
     let a = c .before .before .before .before .before .args in
     let m = a .meta .now in
     let l = c .before .before .before .layout-of in
-    λ h.
-    first-same (λ i. getD (l .result .offset) i 0) (λ i. offset m (updateAt m i)) (count m) (a .t) (a .from) (c .sent-at .result) (l .ensures .offsets)
-    (subst (λ (n : ℕ). FirstAt (λ i. getD (l .result .offset) i 0) n (a .t) (a .from) (c .sent-at .result)) (l .ensures .counted) (c .sent-at .ensures))
+    simp (le-leb _ _ (rw (l .ensures .counted) at (c .before .if1 .left)))
+    (first-same (λ i. getD (l .result .offset) i 0) (λ i. offset m (updateAt m i)) (count m) (a .t) (a .from) (c .sent-at .result) (l .ensures .offsets)
+    (subst (λ (n : ℕ). FirstAt (λ i. getD (l .result .offset) i 0) n (a .t) (a .from) (c .sent-at .result)) (l .ensures .counted) (c .sent-at .ensures)))
 
 pub probe-sent-at-spec : {M : Type 1} → statement M
 probe-sent-at-spec = tie.close (tie.spec layout-of-requires returns sent-at-requires returns-2)

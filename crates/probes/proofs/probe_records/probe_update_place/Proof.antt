@@ -1,4 +1,5 @@
 -- Update i, of the layout. Assumes nothing.
+use borrow.Author.Tests.{lt-ltb, le-ltb}
 use borrow.Author.Needs.{needs}
 use Rattle.probes.proofs.probe_records.probe_update_place.Statement.{statement}
 use Rattle.probes.proofs.probe_records.probe_update_place.Tie as tie
@@ -7,7 +8,7 @@ layout-of-requires : tie.Need-layout-of-requires
 layout-of-requires c κs = search needs
 
 returns : tie.Need-returns
-returns c = search needs
+returns c = simp (le-ltb _ _ (rw (c .before .before .before .layout-of .ensures .counted) at (c .if1 .taken)))
 
 mul-result : tie.Need-mul-result
 mul-result c = search needs
@@ -16,8 +17,10 @@ array-read-result : tie.Need-array-read-result
 array-read-result c = search needs
 
 returns-2 : tie.Need-returns-2
-returns-2 c = c .before .before .before .layout-of .ensures .firsts (c .before .before .before .before .before .args .i)
+returns-2 c =
+    let l = c .before .before .before .layout-of .ensures in
+    let h = rw (l .counted) at (c .if1 .left) in
+    simp (lt-ltb _ _ h) (l .firsts (c .before .before .before .before .before .args .i) h)
 
 pub probe-update-place-spec : {M : Type 1} → statement M
-probe-update-place-spec =
-    tie.close (tie.spec layout-of-requires returns mul-result array-read-result returns-2)
+probe-update-place-spec = tie.close (tie.spec layout-of-requires returns mul-result array-read-result returns-2)

@@ -1,42 +1,37 @@
--- `probes::probe_timed::probe_update_timeslot`: the slot, or nothing. Assumes nothing.
-use mathlib.Core.Path.{refl}
-use mathlib.Core.Logic.{inl, inr}
+-- `probes::probe_timed::probe_update_timeslot`: the slot of a state within its ranges. Assumes nothing.
+use Prim.Native.Nat.{_<_}
+use mathlib.Core.Path.{refl, sym, _∙_}
 use native.Mathlib.Omega.{arith}
-use borrow.Author.Tests.{not-false}
+use borrow.Author.Tests.{not-true, not-false, eq-eqb, ne-eqb, le-leb, lt-leb}
 use borrow.Author.Needs.{needs}
 use Rattle.timed.proofs.Kept.{within-later}
+use Rattle.probes.specs.Timed.{longest}
+use Rattle.probes.proofs.Timed.{fits-within}
 use Rattle.probes.proofs.probe_timed.probe_update_timeslot.Statement.{statement}
 use Rattle.probes.proofs.probe_timed.probe_update_timeslot.Tie as tie
 
 returns : tie.Need-returns
-returns c = inr (record { state = refl; infos = refl })
+returns c = simp (ne-eqb _ _ (c .if1 .taken)) (record { state = refl; infos = refl })
 
 returns-2 : tie.Need-returns-2
-returns-2 c = inr (record { state = refl; infos = refl })
+returns-2 c =
+    let h : longest < c .before .before .before .args .start = omega arith in
+    simp (eq-eqb _ _ (c .before .if1 .left), lt-leb _ _ h) (record { state = refl; infos = refl })
 
 state-fits-requires : tie.Need-state-fits-requires
 state-fits-requires c κs = search needs
 
 returns-3 : tie.Need-returns-3
-returns-3 c = inr (record { state = refl; infos = refl })
+returns-3 c = simp (eq-eqb _ _ (c .before .before .before .if1 .left), le-leb _ _ (c .before .before .if2 .left), sym (c .before .state-fits .ensures) ∙ not-true _ (c .if3 .taken)) (record { state = refl; infos = refl })
 
 update-timeslot-requires : tie.Need-update-timeslot-requires
-update-timeslot-requires c κs = (omega arith, omega arith, within-later (c .before .before .before .before .before .before .args .start) 1099511627776 _ (omega arith) (c .before .before .state-fits .ensures (not-false (c .before .before .state-fits .result) (c .before .if3 .left))))
+update-timeslot-requires c κs = (omega arith, omega arith, within-later (c .before .before .before .before .before .before .args .start) 1099511627776 _ (omega arith) (fits-within _ _ (sym (c .before .before .state-fits .ensures) ∙ not-false _ (c .before .if3 .left))))
 
 same-length : tie.Need-same-length
 same-length c = search needs
 
 returns-4 : tie.Need-returns-4
-returns-4 c = inl (c .before .before .update-timeslot .ensures)
+returns-4 c = simp (eq-eqb _ _ (c .before .before .before .before .before .before .before .if1 .left), le-leb _ _ (c .before .before .before .before .before .before .if2 .left), sym (c .before .before .before .before .before .state-fits .ensures) ∙ not-false _ (c .before .before .before .before .if3 .left)) (c .before .before .update-timeslot .ensures)
 
 pub probe-update-timeslot-spec : {M : Type 1} → statement M
-probe-update-timeslot-spec =
-    tie.close
-    (tie.spec
-    returns
-    returns-2
-    state-fits-requires
-    returns-3
-    update-timeslot-requires
-    same-length
-    returns-4)
+probe-update-timeslot-spec = tie.close (tie.spec returns returns-2 state-fits-requires returns-3 update-timeslot-requires same-length returns-4)

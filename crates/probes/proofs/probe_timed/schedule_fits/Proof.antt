@@ -1,22 +1,26 @@
--- `probes::probe_timed::schedule_fits`: each block passed is within its ranges. Assumes nothing.
-use Prim.Native.Nat.{ℕ, _≤_, _<_, _-_}
+-- Each block in turn. Assumes nothing.
+use Prim.Native.Nat.{_-_, _≤_}
+use mathlib.Core.Path.{_≡_, sym}
+use mathlib.Core.Bool.{true}
 use native.Mathlib.Omega.{arith}
 use lib.ListN.{getD}
+use borrow.Author.Tests.{le-leb, lt-leb}
 use borrow.Author.Needs.{needs}
-use borrow.Author.Count.{below-more}
-use Rattle.probes.proofs.Timed.{never}
+use Rattle.fields.specs.Bytes.{all}
+use Rattle.fields.proofs.All.{all-none, all-more, all-fails, all-passed}
 use Rattle.timed.specs.Slot.{noBlock}
+use Rattle.probes.specs.Timed.{blockFits, scheduleFits}
 use Rattle.probes.proofs.probe_timed.schedule_fits.Statement.{statement}
 use Rattle.probes.proofs.probe_timed.schedule_fits.Tie as tie
 
 abbrev Inv-loop : tie.InvT-loop
-Inv-loop schedule b₀ b = (b ≤ 8) × ((k : ℕ) → k < b → (getD schedule k noBlock .offset ≤ 2097152) × (getD schedule k noBlock .ramp ≤ 2097152))
+Inv-loop schedule b₀ b = (b ≤ 8) × (all (λ k. blockFits (getD schedule k noBlock)) b ≡ true)
 
 abbrev μ-loop : tie.MeasureT-loop
 μ-loop schedule b₀ b = 8 - b
 
 loop-holds : tie.Need-loop-holds Inv-loop μ-loop
-loop-holds c = (search needs, λ k l. (omega arith, omega arith))
+loop-holds c = (search needs, all-none _)
 
 mul-block : tie.Need-mul-block Inv-loop μ-loop
 mul-block c = search needs
@@ -25,10 +29,18 @@ array-copy-out-block : tie.Need-array-copy-out-block Inv-loop μ-loop
 array-copy-out-block c = search needs
 
 returns : tie.Need-returns Inv-loop μ-loop
-returns c = never
+unfolding scheduleFits
+returns c =
+    let b = c .before .before .before .before .loop .b in
+    let x = getD (c .before .before .before .before .before .args .t1) b noBlock in
+    sym (all-fails _ 8 b (omega arith) (simp (lt-leb (x .offset) 2097152 (c .if1 .taken))))
 
 returns-2 : tie.Need-returns-2 Inv-loop μ-loop
-returns-2 c = never
+unfolding scheduleFits
+returns-2 c =
+    let b = c .before .before .before .before .before .before .loop .b in
+    let x = getD (c .before .before .before .before .before .before .before .args .t1) b noBlock in
+    sym (all-fails _ 8 b (omega arith) (simp (le-leb (x .offset) 2097152 (c .before .before .if1 .left), lt-leb (x .ramp) 2097152 (c .if2 .taken))))
 
 add-b : tie.Need-add-b Inv-loop μ-loop
 add-b c = search needs
@@ -38,25 +50,13 @@ loop-less c = search needs
 
 loop-again : tie.Need-loop-again Inv-loop μ-loop
 loop-again c =
-    let s = c .before .before .before .before .before .before .before .args .t1 in
-    let l = c .before .before .before .before .before .before .loop in
-    (search needs, below-more (λ (k : ℕ). (getD s k noBlock .offset ≤ 2097152) × (getD s k noBlock .ramp ≤ 2097152)) (l .b) (l .inv .1) (search needs, search needs))
+    let b = c .before .before .before .before .before .before .loop .b in
+    let x = getD (c .before .before .before .before .before .before .before .args .t1) b noBlock in
+    (search needs, all-more _ b (c .before .before .before .before .before .before .loop .inv .1) (simp (le-leb (x .offset) 2097152 (c .before .before .if1 .left), le-leb (x .ramp) 2097152 (c .if2 .left))))
 
 returns-3 : tie.Need-returns-3 Inv-loop μ-loop
-returns-3 c = λ _ k l. c .before .loop .inv .1 k (omega arith)
+unfolding scheduleFits
+returns-3 c = sym (all-passed _ 8 _ (omega arith) (omega arith) (c .before .loop .inv .1))
 
 pub schedule-fits-spec : {M : Type 1} → statement M
-schedule-fits-spec =
-    tie.close
-    (tie.spec
-    Inv-loop
-    μ-loop
-    loop-holds
-    mul-block
-    array-copy-out-block
-    returns
-    returns-2
-    add-b
-    loop-less
-    loop-again
-    returns-3)
+schedule-fits-spec = tie.close (tie.spec Inv-loop μ-loop loop-holds mul-block array-copy-out-block returns returns-2 add-b loop-less loop-again returns-3)
