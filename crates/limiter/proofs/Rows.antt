@@ -106,27 +106,6 @@ module _ (n at : ℕ) (xs z : List Float) (e : length z ≡ n) (h : n ≤ 64) (f
   pub row-length : length (putMid at (at + n - at) xs z) ≡ length xs
   row-length = same-len-mid at (at + n - at) xs z (e ∙ sym (ap (λ (j : ℕ). length (take j (drop at xs))) (whole at n) ∙ length-take-le n (drop at xs) (omega (arith, length-drop at xs))))
 
--- ---- scaling in place
-pub laid-next : (g : Float) (k n at : ℕ) (xs z : List Float) → 0 < k → n ≤ 64 → at + 64 * k ≡ length xs → z ≡ scaled g (take (at + n - at) (drop at xs)) → let ys = putMid at (at + n - at) xs z in
-    (length ys ≡ length xs) × (take (at + 64) ys ++ laid (scaledBlock g (channels (k - 1) n (drop (at + 64) ys))) (drop (at + 64) ys) ≡ take at xs ++ laid (scaledBlock g (channels k n (drop at xs))) (drop at xs))
-laid-next g k n at xs z h i f e =
-    let t = drop at xs in
-    let w : z ≡ scaled g (take n t) = e ∙ ap (λ (j : ℕ). scaled g (take j t)) (whole at n) in
-    let l : length z ≡ n = ap length w ∙ length-scaled g (take n t) ∙ length-take-le n t (omega (arith, length-drop at xs)) in
-    let m : at + 64 ≤ length xs = omega arith in
-    let ys = putMid at (at + n - at) xs z in (
-      row-length n at xs z l i m,
-      row-laid n at xs z l i m (scaledBlock g (channels (k - 1) n (drop (at + 64) ys)))
-          ∙ ap (λ (l : List Float). take at xs ++ laid (z ∷ scaledBlock g (channels (k - 1) n l)) t) (row-rest n at xs z l i m)
-          ∙ ap (λ (u : List Float). take at xs ++ laid (u ∷ scaledBlock g (channels (k - 1) n (drop (at + 64) xs))) t) w
-          ∙ sym (ap (λ (cs : List (List Float)). take at xs ++ laid cs t) (scaled-next-channel g k n at xs h)),
-    )
-
-pub laid-end : (g : Float) (k n at : ℕ) (xs : List Float) → k ≤ 0 → xs ≡ take at xs ++ laid (scaledBlock g (channels k n (drop at xs))) (drop at xs)
-unfolding laid scaledBlock channels
-laid-end g zero n at xs h = sym (take-append-drop at xs)
-laid-end g (suc k) n at xs h = absurd (native.Mathlib.Nat.not-suc-le-zero h)
-
 -- ---- from bytes
 pub load-next : (s : List ℕ) (k n at : ℕ) (xs z : List Float) → 0 < k → n ≤ 64 → at + 64 * k ≡ length xs → z ≡ floatsAt s (4 * at) n → let ys = putMid at (at + n - at) xs z in
     (length ys ≡ length xs) × (take (at + 64) ys ++ laid (channelsAt (k - 1) n s (4 * (at + 64))) (drop (at + 64) ys) ≡ take at xs ++ laid (channelsAt k n s (4 * at)) (drop at xs))

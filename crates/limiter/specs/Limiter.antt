@@ -1,7 +1,6 @@
 -- The output limiter, for any floats. Document 01, item 6: "A block of 64 with peak p and gain g: if p × g > 1, g becomes 0.9 / p; scale; then g grows by length / rate, at most 1. Flush treats the
 -- remainder as one shorter block." Assumes nothing.
 use Prim.Native.Nat.{ℕ, zero, suc, _-_}
-use mathlib.Core.Path.{_≡_}
 use mathlib.Core.Bool.{false, cond}
 use mathlib.Core.List.{List, [], _∷_, _++_}
 use lib.IntN.{pos, negsuc}
@@ -63,8 +62,3 @@ channels (suc k) n xs = take n xs ∷ channels k n (drop 64 xs)
 unfoldable pub laid : List (List Float) → List Float → List Float
 laid [] xs = xs
 laid (c ∷ cs) xs = c ++ (take (64 - length c) (drop (length c) xs) ++ laid cs (drop 64 xs))
-
--- one block of n samples at a rate: from the gain g and the places xs to the gain h and the places ys
-pub record Limited (g : Float) (n rate : ℕ) (xs : List Float) (h : Float) (ys : List Float) : Type 0 where
-  pub gain : h ≡ grown n rate (blockGain g (channels 12 n xs))
-  pub places : ys ≡ laid (scaledBlock (blockGain g (channels 12 n xs)) (channels 12 n xs)) xs

@@ -6,8 +6,8 @@ ghost use Prim.Native.Nat.{_+_, _*_, _≤_};
 ghost use lib.ListN.{length};
 ghost use Rattle.ieee.specs.Small.{absolute, larger};
 ghost use Rattle.limiter.specs.Level.{Level};
-ghost use Rattle.limiter.specs.Limiter.{0·0, 1·0, peakFrom, peak, scaled, lowered, grown};
-ghost use Rattle.limiter.specs.Limiter.{blockPeak, blockGain, scaledBlock, channels, laid, Limited};
+ghost use Rattle.limiter.specs.Limiter.{0·0, 1·0, peakFrom, peak, lowered, grown};
+ghost use Rattle.limiter.specs.Limiter.{blockPeak, channels};
 ghost use Rattle.limiter.specs.Places.{Room, Given};
 
 pub struct Limiter {
@@ -57,17 +57,6 @@ pub fn max_abs_slice(samples: &[f32]) -> f32
     max_abs_from(m, &samples[i..])
 }
 
-// The Rust passes over a gain of 1.0, which changes no float.
-pub fn scale_slice_in_place(samples: &mut [f32], gain: f32)
-    ensures { λ _. ⌜ now (samples .exit) ≡ scaled gain (now (samples .entry)) ⌝ }
-{
-    let mut i: usize = 0;
-    while i < samples.len() {
-        samples[i] = samples[i] * gain;
-        i += 1;
-    }
-}
-
 // The peak of a block: twelve channels of 64 places, `samples` of each in use.
 fn block_peak(block: &[f32], samples: usize) -> f32
     requires { ⌜ (length (now block) ≡ 768) × (samples ≤ 64) ⌝ }
@@ -83,20 +72,6 @@ fn block_peak(block: &[f32], samples: usize) -> f32
         left -= 1;
     }
     max
-}
-
-fn scale_block(block: &mut [f32], samples: usize, gain: f32)
-    requires { ⌜ (length (now block) ≡ 768) × (samples ≤ 64) ⌝ }
-    ensures { λ _. ⌜ now (block .exit) ≡ laid (scaledBlock gain (channels 12 samples (now (block .entry)))) (now (block .entry)) ⌝ }
-{
-    let mut at: usize = 0;
-    let mut unscaled: usize = 12;
-    while unscaled > 0 {
-        let end = at + samples;
-        scale_slice_in_place(&mut block[at..end], gain);
-        at += 64;
-        unscaled -= 1;
-    }
 }
 
 impl Limiter {
@@ -129,18 +104,8 @@ impl Limiter {
         Limiter { gain }
     }
 
-    // One block: channel after channel, 64 places each, `samples` of each in use.
-    pub fn apply_output_limiter_block(self, block: &mut [f32], samples: usize, rate: u32) -> Self
-        requires { ⌜ (length (now block) ≡ 768) × (samples ≤ 64) × (rate ≤ 16777216) ⌝ }
-        ensures { λ r. ⌜ Limited (self .gain) samples rate (now (block .entry)) (r .gain) (now (block .exit)) ⌝ }
-    {
-        let scaling = self.lower(block_peak(block, samples));
-        scale_block(block, samples, scaling.gain);
-        scaling.grow(samples as u32, rate)
-    }
-
     // One block from the places of a state block to the output, channel c at `to` + c x `step`.
-    pub fn limit_into(
+    pub fn apply_output_limiter_block(
         self,
         places: &[u8],
         samples: usize,

@@ -17,8 +17,8 @@ pub fn load_samples(places: &[u8], at: usize, samples: &mut [f32])
     }
 }
 
-// The samples times the gain, into a part of the output.
-pub fn scale_into(samples: &[f32], gain: f32, out: &mut [u8])
+// The samples times the gain, into a part of the output. The Rust passes over a gain of 1.0, which changes no float.
+pub fn scale_slice_into(samples: &[f32], gain: f32, out: &mut [u8])
     requires { ⌜ length (now out) ≡ 4 * length (now samples) ⌝ }
     ensures { λ _. ⌜ now (out .exit) ≡ withFloats (now (out .entry)) 0 (scaled gain (now (samples .entry))) ⌝ }
 {
@@ -51,14 +51,14 @@ pub fn store_block(block: &[f32], samples: usize, gain: f32, out: &mut [u8], ste
 {
     let mut at: usize = 0;
     let mut base: usize = 0;
-    let mut left: usize = 12;
-    while left > 0 {
+    let mut unscaled: usize = 12;
+    while unscaled > 0 {
         let end = at + samples;
         let from = base + to;
         let until = from + 4 * samples;
-        scale_into(&block[at..end], gain, &mut out[from..until]);
+        scale_slice_into(&block[at..end], gain, &mut out[from..until]);
         at += 64;
         base += step;
-        left -= 1;
+        unscaled -= 1;
     }
 }

@@ -21,11 +21,7 @@ hasLong s at = leb (at + 8) (length s)
 abbrev pub hasRecord : List ℕ → ℕ → Bool
 hasRecord m r = ltb r (length m / 40)
 
--- a block of twelve channels of 64 places, n of each in use, and a rate that f32 has exactly
-abbrev pub hasBlock : List Float → ℕ → ℕ → Bool
-hasBlock block n rate = eqb (length block) 768 && leb n 64 && leb rate 16777216
-
--- the same in bytes, and room for it in the output: `Room` of the limiter
+-- a block of twelve channels of 64 places, n of each in use, at a rate that f32 has exactly, and room for it in the output: `Room` of the limiter
 abbrev pub hasRoom : List ℕ → ℕ → ℕ → List ℕ → ℕ → ℕ → Bool
 hasRoom places n rate out step to =
     eqb (length places) 3072 && leb n 64 && leb rate 16777216 && leb (12 * step) (length out) && leb (to + 4 * n) step

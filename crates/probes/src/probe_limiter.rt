@@ -1,9 +1,12 @@
 use limiter::Limiter;
 ghost use mathlib.Core.Path.{_≡_};
 ghost use mathlib.Core.Bool.{cond};
-ghost use Rattle.limiter.specs.Limiter.{peak, scaled, Limited};
-ghost use Rattle.limiter.specs.Places.{Given};
-ghost use Rattle.probes.specs.Taken.{hasBlock, hasRoom};
+ghost use Prim.Native.Nat.{_*_};
+ghost use lib.Dec.{eqb};
+ghost use lib.ListN.{length};
+ghost use Rattle.limiter.specs.Limiter.{peak, scaled};
+ghost use Rattle.limiter.specs.Places.{withFloats, Given};
+ghost use Rattle.probes.specs.Taken.{hasRoom};
 
 #[no_mangle]
 pub extern "C" fn probe_max_abs_slice(samples: &[f32]) -> f32
@@ -12,39 +15,21 @@ pub extern "C" fn probe_max_abs_slice(samples: &[f32]) -> f32
     limiter::max_abs_slice(samples)
 }
 
+// Where the output is no place for just these samples, nothing is done.
 #[no_mangle]
-pub extern "C" fn probe_scale_slice_in_place(samples: &mut [f32], gain: f32)
-    ensures { λ _. ⌜ now (samples .exit) ≡ scaled gain (now (samples .entry)) ⌝ }
+pub extern "C" fn probe_scale_slice_into(samples: &[f32], gain: f32, out: &mut [u8])
+    ensures { λ _. ⌜ now (out .exit) ≡ cond (eqb (length (now (out .entry))) (4 * length (now (samples .entry)))) (withFloats (now (out .entry)) 0 (scaled gain (now (samples .entry)))) (now (out .entry)) ⌝ }
 {
-    limiter::scale_slice_in_place(samples, gain);
+    if samples.len() <= out.len() / 4 {
+        if out.len() == 4 * samples.len() {
+            limiter::places::scale_slice_into(samples, gain, out);
+        }
+    }
 }
 
-// The next gain; where the block does not fit, this gain and nothing done.
+// The next gain; where the block or its room does not fit, this gain and nothing done.
 #[no_mangle]
 pub extern "C" fn probe_apply_output_limiter_block(
-    gain: f32,
-    block: &mut [f32],
-    samples: usize,
-    rate: u32,
-) -> f32
-    ensures { λ r. ⌜ cond (hasBlock (now (block .entry)) samples rate) (Limited gain samples rate (now (block .entry)) r (now (block .exit))) ((r ≡ gain) × (now (block .exit) ≡ now (block .entry))) ⌝ }
-{
-    if block.len() != 768 {
-        return gain;
-    }
-    if samples > 64 {
-        return gain;
-    }
-    if rate > 16777216 {
-        return gain;
-    }
-    let next = Limiter { gain }.apply_output_limiter_block(block, samples, rate);
-    next.gain
-}
-
-// The same from bytes to bytes.
-#[no_mangle]
-pub extern "C" fn probe_limit_into(
     gain: f32,
     places: &[u8],
     samples: usize,
@@ -73,6 +58,6 @@ pub extern "C" fn probe_limit_into(
     if 4 * samples > step - to {
         return gain;
     }
-    let next = Limiter { gain }.limit_into(places, samples, rate, out, step, to);
+    let next = Limiter { gain }.apply_output_limiter_block(places, samples, rate, out, step, to);
     next.gain
 }

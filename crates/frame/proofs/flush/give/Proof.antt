@@ -7,23 +7,23 @@ use Rattle.frame.proofs.flush.give.Tie as tie
 cast-pending : tie.Need-cast-pending
 cast-pending c = search needs
 
-sub-limit-into : tie.Need-sub-limit-into
-sub-limit-into c = search needs
+sub-apply-output-limiter-block : tie.Need-sub-apply-output-limiter-block
+sub-apply-output-limiter-block c = search needs
 
-part-limit-into-start : tie.Need-part-limit-into-start
-part-limit-into-start c = search needs
+part-apply-output-limiter-block-start : tie.Need-part-apply-output-limiter-block-start
+part-apply-output-limiter-block-start c = search needs
 
-part-limit-into-end : tie.Need-part-limit-into-end
-part-limit-into-end c = search needs
+part-apply-output-limiter-block-end : tie.Need-part-apply-output-limiter-block-end
+part-apply-output-limiter-block-end c = search needs
 
-mul-limit-into : tie.Need-mul-limit-into
-mul-limit-into c = search needs
+mul-apply-output-limiter-block : tie.Need-mul-apply-output-limiter-block
+mul-apply-output-limiter-block c = search needs
 
-mul-limit-into-2 : tie.Need-mul-limit-into-2
-mul-limit-into-2 c = search needs
+mul-apply-output-limiter-block-2 : tie.Need-mul-apply-output-limiter-block-2
+mul-apply-output-limiter-block-2 c = search needs
 
-limit-into-requires : tie.Need-limit-into-requires
-limit-into-requires c κs = search needs
+apply-output-limiter-block-requires : tie.Need-apply-output-limiter-block-requires
+apply-output-limiter-block-requires c κs = search needs
 
 empty-requires : tie.Need-empty-requires
 empty-requires c κs = search needs
@@ -35,19 +35,19 @@ returns : tie.Need-returns
 returns c =
     let s = c .before .before .before .before .before .before .before .before .before in
     let a = s .args in
-    gave (a .s) (a .state .now) (a .out .now) (a .stride) (a .ready) (s .pre .block) (s .pre .pending) (c .empty .ensures) (c .before .before .before .limit-into .ensures)
+    gave (a .s) (a .state .now) (a .out .now) (a .stride) (a .ready) (s .pre .block) (s .pre .pending) (c .empty .ensures) (c .before .before .before .apply-output-limiter-block .ensures)
 
 pub give-spec : {M : Type 1} → statement M
 give-spec =
     tie.close
     (tie.spec
     cast-pending
-    sub-limit-into
-    part-limit-into-start
-    part-limit-into-end
-    mul-limit-into
-    mul-limit-into-2
-    limit-into-requires
+    sub-apply-output-limiter-block
+    part-apply-output-limiter-block-start
+    part-apply-output-limiter-block-end
+    mul-apply-output-limiter-block
+    mul-apply-output-limiter-block-2
+    apply-output-limiter-block-requires
     empty-requires
     same-length
     returns)

@@ -1,10 +1,23 @@
 -- `limiter::Limiter::apply_output_limiter_block` meets its contract. Assumes nothing.
-use borrow.Author.Needs.{needs}
 use mathlib.Core.Path.{_≡_, ap, _∙_}
+use mathlib.Core.List.{List}
+use lib.Dec.{lit≤}
 use lib.Ieee.{Float}
-use Rattle.limiter.specs.Limiter.{lowered, grown, blockGain, scaledBlock, channels, laid}
+use Rattle.limiter.specs.Limiter.{0·0, lowered, grown, blockPeak, blockGain, scaledBlock, channels}
+use Rattle.limiter.specs.Places.{channelsAt, withChannels}
+use Rattle.limiter.proofs.Rows.{channels-laid, channels-at-lengths}
+use borrow.Author.Needs.{needs}
 use Rattle.limiter.proofs.Limiter.apply_output_limiter_block.Statement.{statement}
 use Rattle.limiter.proofs.Limiter.apply_output_limiter_block.Tie as tie
+
+slice-aggregate-load-block : tie.Need-slice-aggregate-load-block
+slice-aggregate-load-block c = search needs
+
+load-block-requires : tie.Need-load-block-requires
+load-block-requires c κs = search needs
+
+slice-aggregate-block-peak : tie.Need-slice-aggregate-block-peak
+slice-aggregate-block-peak c = search needs
 
 block-peak-requires : tie.Need-block-peak-requires
 block-peak-requires c κs = search needs
@@ -12,8 +25,11 @@ block-peak-requires c κs = search needs
 lower-requires : tie.Need-lower-requires
 lower-requires c κs = search needs
 
-scale-block-requires : tie.Need-scale-block-requires
-scale-block-requires c κs = search needs
+slice-aggregate-store-block : tie.Need-slice-aggregate-store-block
+slice-aggregate-store-block c = search needs
+
+store-block-requires : tie.Need-store-block-requires
+store-block-requires c κs = search needs
 
 cast-grow : tie.Need-cast-grow
 cast-grow c = search needs
@@ -26,24 +42,34 @@ same-length c = search needs
 
 returns : tie.Need-returns
 returns c =
-    let a = c .before .before .before .before .before .before .before .before .before .args in
-    let xs = a .block .now in
-    let low = c .before .before .before .before .before .lower in
-    let top = c .before .before .before .before .before .before .block-peak in
+    let b = c .before .before .before in
+    let start = b .before .before .before .before .before .before .before .before .before .before .before in
+    let a = start .args in
+    let low = b .before .before .before .lower in
+    let top = b .before .before .before .before .block-peak in
+    let load = b .before .before .before .before .before .before .before .load-block in
     let n = a .samples in
-    let e : low .result .gain ≡ blockGain (a .self .gain) (channels 12 n xs) = low .ensures ∙ ap (λ (p : Float). lowered p (a .self .gain)) (top .ensures) in
+    let s = a .places .now in
+    let cs = channelsAt 12 n s 0 in
+    let ls = channels-at-lengths 12 n s 0 in
+    let e : channels 12 n (load .last .1 .1 .0) ≡ cs = ap (channels 12 n) (load .ensures) ∙ channels-laid 12 n cs _ (ls .0) (ls .1) (start .pre .samples) (lit≤ tt) in
+    let f : low .result .gain ≡ blockGain (a .self .gain) cs = low .ensures ∙ ap (λ (p : Float). lowered p (a .self .gain)) (top .ensures ∙ ap (blockPeak 0·0) e) in
     record {
-      gain = c .grow .ensures ∙ ap (grown n (a .rate)) e;
-      places = c .before .before .before .scale-block .ensures ∙ ap (λ (g : Float). laid (scaledBlock g (channels 12 n xs)) xs) e;
+      gain = c .grow .ensures ∙ ap (grown n (a .rate)) f;
+      samples = b .store-block .ensures ∙ ap (λ (ds : List (List Float)). withChannels (scaledBlock (low .result .gain) ds) (a .step) (a .to) (a .out .now)) e ∙ ap (λ (g : Float). withChannels (scaledBlock g cs) (a .step) (a .to) (a .out .now)) f;
     }
 
 pub apply-output-limiter-block-spec : {M : Type 1} → statement M
 apply-output-limiter-block-spec =
     tie.close
     (tie.spec
+    slice-aggregate-load-block
+    load-block-requires
+    slice-aggregate-block-peak
     block-peak-requires
     lower-requires
-    scale-block-requires
+    slice-aggregate-store-block
+    store-block-requires
     cast-grow
     grow-requires
     same-length

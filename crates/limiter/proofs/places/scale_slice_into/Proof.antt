@@ -1,4 +1,4 @@
--- `limiter::places::scale_into` meets its contract. Assumes nothing.
+-- `limiter::places::scale_slice_into` meets its contract. Assumes nothing.
 use borrow.Author.Needs.{needs}
 use native.Mathlib.Omega.{arith}
 use mathlib.Core.Path.{_≡_, refl, ap, _∙_}
@@ -7,8 +7,8 @@ use lib.ListN.{length, drop}
 use Rattle.limiter.specs.Limiter.{scaled}
 use Rattle.limiter.specs.Places.{withFloats}
 use Rattle.limiter.proofs.Runs.{write-more, write-end}
-use Rattle.limiter.proofs.places.scale_into.Statement.{statement}
-use Rattle.limiter.proofs.places.scale_into.Tie as tie
+use Rattle.limiter.proofs.places.scale_slice_into.Statement.{statement}
+use Rattle.limiter.proofs.places.scale_slice_into.Tie as tie
 
 abbrev Inv-loop : tie.InvT-loop
 Inv-loop samples gain out₀ i₀ out i = (i ≤ length samples) × (length out ≡ length out₀) × (withFloats out (4 * i) (scaled gain (drop i samples)) ≡ withFloats out₀ 0 (scaled gain samples))
@@ -54,8 +54,8 @@ returns c =
     let a = l .before .before .before .args in
     write-end (a .gain) (l .loop .out) (4 * l .loop .i) (l .loop .i) (a .samples .now) (omega arith) ∙ l .loop .inv .2
 
-pub scale-into-spec : {M : Type 1} → statement M
-scale-into-spec =
+pub scale-slice-into-spec : {M : Type 1} → statement M
+scale-slice-into-spec =
     tie.close
     (tie.spec
     Inv-loop
