@@ -34,7 +34,14 @@ pub fn give(s: Small, state: &[u8], out: &mut [u8], stride: usize, ready: usize)
     let limiter = Limiter { gain: s.gain };
     let pending = s.pending as usize;
     let start = store::PLACES;
-    let after = limiter.apply_output_limiter_block(&state[start..], pending, s.rate, out, 4 * stride, 4 * ready);
+    let after = limiter.apply_output_limiter_block(
+        &state[start..],
+        pending,
+        s.rate,
+        out,
+        4 * stride,
+        4 * ready,
+    );
     empty(s, after.gain)
 }
 
