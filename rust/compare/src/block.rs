@@ -2,7 +2,7 @@
 
 use crate::same;
 use oracle::frame::Anchor;
-use oracle::state::{Element, Info, Source, State};
+use oracle::state::{Element, Info, Metadata, Source, State};
 
 struct Block<'a>(&'a [u8]);
 
@@ -137,4 +137,104 @@ pub fn difference(block: &[u8], state: &State) -> Option<&'static str> {
         ),
     ];
     parts.iter().find(|(_, same)| !same).map(|(name, _)| *name)
+}
+
+/// The state of the Rust that a block in range holds.
+pub fn state(block: &[u8]) -> State {
+    let block = Block(block);
+    let rate = block.word(0);
+    let pending = block.count(64);
+    State {
+        sample_rate: (rate != 0).then_some(rate),
+        limiter_gain: block.float(24),
+        stream_sample_offset: block.long(8),
+        metadata_timeslot_phase: block.count(4),
+        metadata_timeslot_stream_sample: block.long(16),
+        lfe_lowpass: (rate != 0).then(|| block.floats(28)),
+        metadata: block.metadata(),
+        limiter_pending: (0..12)
+            .map(|c| {
+                (0..pending)
+                    .map(|i| block.float(23_888 + 256 * c + 4 * i))
+                    .collect()
+            })
+            .collect(),
+    }
+}
+
+impl Block<'_> {
+    fn float(&self, at: usize) -> f32 {
+        f32::from_bits(self.word(at))
+    }
+
+    fn floats<const N: usize>(&self, at: usize) -> [f32; N] {
+        std::array::from_fn(|i| self.float(at + 4 * i))
+    }
+
+    fn metadata(&self) -> Metadata {
+        let (objects, isf, beds) = (self.count(80), self.count(84), self.count(88));
+        Metadata {
+            initialized: self.flag(68),
+            payload_stream_sample: self.long(72),
+            object_count: objects,
+            bed_or_isf_objects: isf,
+            bed_channels: (0..beds).map(|i| self.word(96 + 4 * i) as u8).collect(),
+            bed_sources: (0..beds).map(|i| self.float(168 + 4 * i)).collect(),
+            elements: (0..self.count(92))
+                .map(|e| self.element(e, objects))
+                .collect(),
+            dynamic_sources: (0..objects.saturating_sub(isf))
+                .map(|i| self.source(240 + 24 * i))
+                .collect(),
+        }
+    }
+
+    fn source(&self, at: usize) -> Source {
+        Source {
+            gain: self.float(at),
+            size: self.float(at + 4),
+            cubical_position: self.floats(at + 8),
+            position_valid: self.flag(at + 20),
+        }
+    }
+
+    /// The flags of the slot before are written before they are read.
+    fn element(&self, index: usize, objects: usize) -> Element {
+        let at = 624 + 368 * index;
+        let (blocks, flags) = (self.count(at), self.count(at + 4));
+        let raised = |at: usize| i64::from(self.word(at)) - (1 << 20);
+        let offsets: Vec<i64> = (0..blocks).map(|b| raised(at + 16 + 12 * b)).collect();
+        let info = |o: usize, b: usize| self.info(1_360 + 44 * (256 * index + 8 * o + b));
+        Element {
+            min_offset: offsets.first().copied().unwrap_or(-1),
+            block_used: (0..blocks).map(|b| self.flag(at + 24 + 12 * b)).collect(),
+            update_last: vec![false; flags],
+            update_now: (0..flags).map(|t| self.flag(at + 112 + 16 * t)).collect(),
+            block_offsets: offsets,
+            ramp_duration: (0..blocks).map(|b| raised(at + 20 + 12 * b)).collect(),
+            info_blocks: (0..objects)
+                .map(|o| (0..blocks).map(|b| info(o, b)).collect())
+                .collect(),
+            future: (0..flags).map(|t| self.floats(at + 116 + 16 * t)).collect(),
+            future_distance: self.long(at + 8) - (1 << 47),
+        }
+    }
+
+    fn info(&self, at: usize) -> Info {
+        let [flags, anchor, depth, _] = self.word(at).to_le_bytes();
+        let present = |bit: u8, at: usize| (flags & bit != 0).then(|| self.float(at));
+        Info {
+            valid_position: flags & 1 != 0,
+            differential_position: flags & 2 != 0,
+            gain: present(4, at + 4),
+            // An infinite distance stands in the block as it was sent.
+            distance: present(16, at + 12).map(|x| if x.is_infinite() { 100.0 } else { x }),
+            size: present(32, at + 8),
+            screen_factor: self.float(at + 16),
+            depth_factor: [0.25, 0.5, 1.0, 2.0][usize::from(depth)],
+            anchor: [Anchor::Room, Anchor::Screen, Anchor::Speaker][usize::from(anchor)],
+            position: self.floats(at + 20),
+            last_precise: self.floats(at + 32),
+        }
+    }
 }

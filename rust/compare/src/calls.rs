@@ -36,6 +36,20 @@ pub enum Step {
     Reset,
 }
 
+/// A bed of code 2 with an update that names it at offset 0.
+pub fn bed_frame(samples: usize) -> Call {
+    let mut meta = vec![0; 40];
+    meta[..9].copy_from_slice(&[1, 0, 0, 0, 1, 1, 1, 0, 2]);
+    Call {
+        rate: 48_000,
+        samples: samples as u32,
+        codes: vec![2],
+        objects: 0,
+        meta,
+        pcm: (0..samples).flat_map(|_| 0.5f32.to_le_bytes()).collect(),
+    }
+}
+
 /// A seeded list of calls: frames, one in six of them spoilt, flushes and resets.
 pub struct Calls {
     inputs: Generator,
@@ -48,6 +62,19 @@ impl Calls {
             inputs: Generator::new(!seed),
             frames: Frames::new(seed, most_samples),
         }
+    }
+
+    /// Calls of the entries, with as many metadata records as document 01 allows.
+    pub fn for_entries(seed: u64, most_samples: u64) -> Self {
+        Calls {
+            inputs: Generator::new(!seed),
+            frames: Frames::for_entries(seed, most_samples),
+        }
+    }
+
+    /// The frames that follow have up to so many samples.
+    pub fn set_most_samples(&mut self, most_samples: u64) {
+        self.frames.set_most_samples(most_samples);
     }
 
     pub fn next_step(&mut self) -> Step {
@@ -69,7 +96,7 @@ impl Calls {
 }
 
 /// Changes one thing, mostly to what a check refuses; what a frame of `hallrender` can hold.
-fn spoil(inputs: &mut Generator, call: &mut Call) {
+pub fn spoil(inputs: &mut Generator, call: &mut Call) {
     match inputs.below(12) {
         0 => call.rate = inputs.pick(&[0, 7_999, 192_001, u32::MAX]),
         1 => {

@@ -1,11 +1,13 @@
 use crate::Generator;
 use oracle::frame::{Anchor, Block, Element, Frame, Object, Update};
+use oracle::state::State;
 
 /// A seeded stream of frames that document 01's checks 1 to 6 and 8 let pass: mostly accepted,
 /// now and then refused by 7 or 9 to 14.
 pub struct Frames {
     inputs: Generator,
     most_samples: u64,
+    most_records: u64,
     rate: u32,
     layout: Layout,
     /// An update was sent.
@@ -48,8 +50,10 @@ const UNLIKE: [u32; 64] = [
 ];
 const DEPTHS: [f32; 4] = [0.25, 0.5, 1.0, 2.0];
 const ANCHORS: [Anchor; 3] = [Anchor::Room, Anchor::Screen, Anchor::Speaker];
-/// A frame of `hallrender` has no more.
-const MOST_RECORDS: u64 = 1_200;
+/// Metadata records that a frame of `hallrender` has at most.
+const PROGRAM_RECORDS: u64 = 1_200;
+/// Those of document 01's largest frame: 16 updates of 32 objects, 2 elements, 8 blocks.
+const ENTRY_RECORDS: u64 = 16 * (1 + 2 * (1 + 8 + 8 * 32));
 
 /// A rate that is accepted: mostly any, else one of the five, one at an end, or one at which std's
 /// sine or cosine is not the nearest f32.
@@ -71,10 +75,44 @@ impl Frames {
         Frames {
             inputs,
             most_samples,
+            most_records: PROGRAM_RECORDS,
             rate,
             layout,
             started: false,
         }
+    }
+
+    /// Frames for the entries, with as many metadata records as document 01 allows.
+    pub fn for_entries(seed: u64, most_samples: u64) -> Self {
+        let mut frames = Frames {
+            most_records: ENTRY_RECORDS,
+            ..Frames::new(seed, most_samples)
+        };
+        if frames.inputs.chance(4) {
+            frames.layout = layout_up_to(&mut frames.inputs, [18, 16, 8]);
+        }
+        frames
+    }
+
+    /// Frames for a renderer in that state: its rate, its counts, its elements' blocks.
+    pub fn after(state: &State, seed: u64, most_samples: u64) -> Self {
+        let mut frames = Frames::for_entries(seed, most_samples);
+        let metadata = &state.metadata;
+        let blocks = metadata.elements.iter().map(|e| e.block_used.len() as u64);
+        frames.layout = Layout {
+            beds: metadata.bed_channels.clone(),
+            objects: metadata.object_count as u8,
+            bed_or_isf_objects: metadata.bed_or_isf_objects as u8,
+            blocks: blocks.collect(),
+        };
+        frames.rate = state.sample_rate.unwrap_or(frames.rate);
+        frames.started = metadata.initialized;
+        frames
+    }
+
+    /// The frames that follow have up to so many samples.
+    pub fn set_most_samples(&mut self, most_samples: u64) {
+        self.most_samples = most_samples;
     }
 
     /// After a reset: another rate, and often another layout.
@@ -122,7 +160,7 @@ impl Frames {
         let mut records = 0;
         let mut add = |inputs: &mut Generator, layout: &Layout, offset: u64| {
             records += layout.records();
-            if records <= MOST_RECORDS {
+            if records <= self.most_records {
                 updates.push(update(inputs, layout, offset as u16));
             }
         };
@@ -138,17 +176,13 @@ impl Frames {
             };
             add(inputs, &self.layout, offset);
         }
+        // At the entries now and then as many as there can be.
+        let many = self.most_records == ENTRY_RECORDS && inputs.chance(20);
         for _ in 0..15 {
-            if inputs.chance(2) {
+            if !many && inputs.chance(2) {
                 break;
             }
-            let offset = match inputs.below(12) {
-                0..4 => 0,
-                4 => samples,
-                5 => 65_535,
-                6 => 64 * inputs.below(5),
-                _ => inputs.below(samples + 8),
-            };
+            let offset = offset(inputs, samples);
             let layout = if inputs.chance(30) {
                 &changed(inputs, &self.layout)
             } else {
@@ -158,6 +192,39 @@ impl Frames {
         }
         self.started |= !updates.is_empty();
         (samples as usize, updates)
+    }
+}
+
+/// An update's, in a frame of so many samples.
+fn offset(inputs: &mut Generator, samples: u64) -> u64 {
+    match inputs.below(12) {
+        0..4 => 0,
+        4 => samples,
+        5 => 65_535,
+        6 => 64 * inputs.below(5),
+        _ => inputs.below(samples + 8),
+    }
+}
+
+/// Document 01's largest: 18 bed channels, 14 dynamic objects, 16 updates, 8,496 records.
+pub fn largest_frame(seed: u64) -> Frame {
+    let mut inputs = Generator::new(seed);
+    let layout = Layout {
+        beds: (0..18).map(|i| if i == 6 { 2 } else { i }).collect(),
+        objects: 32,
+        bed_or_isf_objects: 18,
+        blocks: vec![8, 8],
+    };
+    let samples = 1_536;
+    Frame {
+        rate: rate(&mut inputs),
+        samples,
+        beds: layout.beds.clone(),
+        objects: layout.dynamic(),
+        pcm: pcm(&mut inputs, (18 + layout.dynamic()) * samples),
+        updates: (0..16)
+            .map(|i| update(&mut inputs, &layout, 90 * i))
+            .collect(),
     }
 }
 
@@ -174,7 +241,14 @@ fn samples(inputs: &mut Generator, most: u64) -> u64 {
 /// Mostly small, one time in twelve up to the limits.
 fn layout(inputs: &mut Generator) -> Layout {
     let large = inputs.chance(12);
-    let [most_beds, most_dynamic, most_blocks] = if large { [18, 16, 8] } else { [4, 3, 3] };
+    layout_up_to(inputs, if large { [18, 16, 8] } else { [4, 3, 3] })
+}
+
+/// Up to so many beds, dynamic objects and blocks.
+fn layout_up_to(
+    inputs: &mut Generator,
+    [most_beds, most_dynamic, most_blocks]: [u64; 3],
+) -> Layout {
     let beds: Vec<u8> = (0..inputs.below(most_beds + 1))
         .map(|_| match inputs.below(18) as u8 {
             6 if !inputs.chance(8) => 2,

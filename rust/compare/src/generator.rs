@@ -1,6 +1,6 @@
 /// Floats at which an operation changes its ways: zeros, subnormals, infinities, extremes, NaN
-/// patterns, and values around 1.
-const EDGES: [u32; 24] = [
+/// patterns, values around 1, and the speakers' coordinates.
+pub const EDGES: [u32; 24] = [
     0x0000_0000,
     0x8000_0000,
     0x0000_0001,
@@ -24,7 +24,7 @@ const EDGES: [u32; 24] = [
     0x3f00_0000,
     0x4000_0000,
     0x3f35_04f3,
-    0xbef7_a629,
+    0xbef7_a627,
 ];
 
 /// A seeded generator of inputs (splitmix64).

@@ -6,14 +6,19 @@ pub mod calls;
 pub mod entry;
 mod frames;
 mod generator;
+pub mod host;
 pub mod model;
 pub mod probe;
+pub mod ranges;
 pub mod reading;
+pub mod recorded;
 pub mod rows;
+pub mod seeds;
 pub mod streams;
 
-pub use frames::Frames;
-pub use generator::Generator;
+pub use frames::{Frames, largest_frame};
+pub use generator::{EDGES, Generator};
+pub use seeds::Drawn;
 
 /// Equal bit for bit, all NaNs being equal.
 pub fn same(a: f32, b: f32) -> bool {

@@ -1,10 +1,11 @@
-//! What document 01 has a call answer: its refusals 2 to 8, read here apart from the Rattle code,
+//! What document 01 has a call answer: its refusals 1 to 8, read here apart from the Rattle code,
 //! and the oracle for everything else.
 
 use crate::calls::Call;
-use crate::reading;
+use crate::entry::Answer;
+use crate::{block, ranges, reading};
 use oracle::frame::{Anchor, Block, Element, Frame, Object, Update};
-use oracle::state::Metadata;
+use oracle::state::{Metadata, State};
 use oracle::{Oracle, Pushed};
 
 #[derive(Clone, Debug, PartialEq)]
@@ -15,6 +16,25 @@ pub enum Outcome {
     Refused([u32; 3]),
     Nothing,
     Reset,
+}
+
+impl Outcome {
+    /// What the entries answer.
+    pub fn answer(&self) -> Answer {
+        let (kind, [number, first, second], ready) = match self {
+            Outcome::Ready(channels) => (0, [0; 3], channels[0].len()),
+            Outcome::Refused(refusal) => (1, *refusal, 0),
+            Outcome::Nothing => (2, [0; 3], 0),
+            Outcome::Reset => (3, [0; 3], 0),
+        };
+        Answer {
+            kind,
+            number,
+            first,
+            second,
+            ready,
+        }
+    }
 }
 
 /// The stream's last sample.
@@ -35,8 +55,16 @@ impl Model {
         }
     }
 
+    /// What a block in range holds.
+    pub fn of_block(bytes: &[u8]) -> Self {
+        Model {
+            oracle: Oracle::in_state(&block::state(bytes)),
+            before: 0,
+        }
+    }
+
     pub fn push(&mut self, call: &Call, stride: usize) -> Outcome {
-        let frame = match self.judged(call, stride) {
+        let frame = match judged(&self.oracle.state(), self.before, call, stride) {
             Ok(frame) => frame,
             Err(number) => return Outcome::Refused([number, 0, 0]),
         };
@@ -62,51 +90,62 @@ impl Model {
         self.before = 0;
         Outcome::Reset
     }
+}
 
-    /// The frame, or the least of 2 to 8 that refuses it.
-    fn judged(&self, call: &Call, stride: usize) -> Result<Frame, u32> {
-        let samples = call.samples as usize;
-        let channels = call.codes.len() + call.objects as usize;
-        if samples > stride
-            || call.codes.len() > 18
-            || call.objects > 16
-            || call.codes.iter().any(|&code| code > 17)
-            || call.pcm.len() != 4 * channels * samples
-            || samples > 0 && channels == 0
-        {
-            return Err(2);
-        }
-        if !(8_000..=192_000).contains(&call.rate) {
-            return Err(3);
-        }
-        let state = self.oracle.state();
-        let position = self.before + state.stream_sample_offset as u64;
-        if position + u64::from(call.samples) > STREAM_END {
-            return Err(4);
-        }
-        let Ok((updates, outside)) = reading::read(&call.meta) else {
-            return Err(5);
-        };
-        if outside != 0 {
-            return Err(outside);
-        }
-        let words = call.pcm.as_chunks().0;
-        let frame = Frame {
-            rate: call.rate,
-            samples,
-            beds: call.codes.clone(),
-            objects: call.objects as usize,
-            pcm: words.iter().map(|&word| f32::from_le_bytes(word)).collect(),
-            updates: updates.iter().map(update).collect(),
-        };
-        if keeps_too_few_flags(&state.metadata, &frame) {
-            return Err(7);
-        }
-        if !frame.pcm.iter().all(|x| x.abs() <= 16.0) {
-            return Err(8);
-        }
-        Ok(frame)
+/// What document 01's 1 asks of the memory that push and flush are lent.
+pub fn rightly_lent(block: &[u8], room: usize, stride: u32) -> bool {
+    stride.is_multiple_of(64)
+        && (64..=1_536).contains(&stride)
+        && room >= 48 * stride as usize
+        && ranges::hold(block)
+}
+
+/// Document 01's 2: no more than allowed, and as much PCM as there are samples.
+fn counts_fit(call: &Call, stride: usize) -> bool {
+    let samples = call.samples as usize;
+    let channels = call.codes.len() + call.objects as usize;
+    samples <= stride
+        && call.codes.len() <= 18
+        && call.objects <= 16
+        && call.codes.iter().all(|&code| code <= 17)
+        && call.pcm.len() == 4 * channels * samples
+        && (samples == 0 || channels > 0)
+}
+
+/// The frame, or the least of 2 to 8 that refuses it.
+pub fn judged(state: &State, before: u64, call: &Call, stride: usize) -> Result<Frame, u32> {
+    if !counts_fit(call, stride) {
+        return Err(2);
     }
+    if !(8_000..=192_000).contains(&call.rate) {
+        return Err(3);
+    }
+    let position = before + state.stream_sample_offset as u64;
+    if position + u64::from(call.samples) > STREAM_END {
+        return Err(4);
+    }
+    let Ok((updates, outside)) = reading::read(&call.meta) else {
+        return Err(5);
+    };
+    if outside != 0 {
+        return Err(outside);
+    }
+    let words = call.pcm.as_chunks().0;
+    let frame = Frame {
+        rate: call.rate,
+        samples: call.samples as usize,
+        beds: call.codes.clone(),
+        objects: call.objects as usize,
+        pcm: words.iter().map(|&word| f32::from_le_bytes(word)).collect(),
+        updates: updates.iter().map(update).collect(),
+    };
+    if keeps_too_few_flags(&state.metadata, &frame) {
+        return Err(7);
+    }
+    if !frame.pcm.iter().all(|x| x.abs() <= 16.0) {
+        return Err(8);
+    }
+    Ok(frame)
 }
 
 /// Document 01's 7: an update that would be applied keeps an element that has flags for fewer

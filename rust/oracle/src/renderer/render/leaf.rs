@@ -30,6 +30,11 @@ over_sources! {
         super::vec_length(vec3(v))
     }
 
+    /// The positions of the twelve channels' speakers.
+    pub fn speakers() -> [Vector; 12] {
+        super::RENDER_714_CHANNEL_POSITIONS.map(vector)
+    }
+
     pub fn ratio(a: f32, b: f32, x: f32) -> f32 {
         super::ratio(a, b, x)
     }

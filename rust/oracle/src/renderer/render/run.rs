@@ -75,6 +75,11 @@ impl Oracle {
             Oracle { renderer: Renderer714::new() }
         }
 
+        /// A renderer in that state, with no rows in store.
+        pub fn in_state(state: &State) -> Self {
+            Oracle { renderer: super::state::read::renderer(state) }
+        }
+
         pub fn reset(&mut self) {
             self.renderer.reset();
         }

@@ -73,10 +73,10 @@ pub struct Source {
 
 #[cfg(not(no_sources))]
 pub(super) mod read {
-    use super::super::convert::{anchor, bed_code, object_anchor, vec3, vector};
+    use super::super::convert::{anchor, bed_channel, bed_code, object_anchor, vec3, vector};
     use super::super::{
-        BiquadLowpassState, DynamicSourceState, ElementRendererState, MetadataRendererState,
-        ObjectInfoBlockState, Renderer714,
+        BedSourceState, BiquadLowpassState, DynamicSourceState, ElementRendererState,
+        MetadataRendererState, ObjectInfoBlockState, Renderer714,
     };
     use super::{Element, Info, Metadata, Source, State};
 
@@ -90,6 +90,60 @@ pub(super) mod read {
             lfe_lowpass: renderer.lfe_lowpass.as_ref().map(lowpass),
             metadata: metadata(&renderer.metadata),
             limiter_pending: renderer.limiter_pending.clone(),
+        }
+    }
+
+    pub fn renderer(state: &State) -> Renderer714 {
+        Renderer714 {
+            sample_rate: state.sample_rate,
+            limiter_gain: state.limiter_gain,
+            stream_sample_offset: state.stream_sample_offset,
+            metadata_timeslot_phase: state.metadata_timeslot_phase,
+            metadata_timeslot_stream_sample: state.metadata_timeslot_stream_sample,
+            lfe_lowpass: state.lfe_lowpass.map(lowpass_state),
+            metadata: metadata_state(&state.metadata),
+            limiter_pending: state.limiter_pending.clone(),
+            pending_timeslot_debug: Vec::new(),
+        }
+    }
+
+    fn metadata_state(state: &Metadata) -> MetadataRendererState {
+        MetadataRendererState {
+            initialized: state.initialized,
+            payload_stream_sample: state.payload_stream_sample,
+            object_count: state.object_count,
+            bed_or_isf_objects: state.bed_or_isf_objects,
+            bed_channels: state
+                .bed_channels
+                .iter()
+                .copied()
+                .map(bed_channel)
+                .collect(),
+            bed_sources: state
+                .bed_sources
+                .iter()
+                .map(|&gain| BedSourceState { gain })
+                .collect(),
+            elements: state.elements.iter().map(element_state).collect(),
+            dynamic_sources: state.dynamic_sources.iter().map(source_state).collect(),
+        }
+    }
+
+    fn element_state(element: &Element) -> ElementRendererState {
+        ElementRendererState {
+            min_offset: element.min_offset,
+            block_used: element.block_used.clone(),
+            update_last: element.update_last.clone(),
+            update_now: element.update_now.clone(),
+            block_offsets: element.block_offsets.clone(),
+            ramp_duration: element.ramp_duration.clone(),
+            info_blocks: element
+                .info_blocks
+                .iter()
+                .map(|blocks| blocks.iter().map(info_state).collect())
+                .collect(),
+            future: element.future.iter().copied().map(vec3).collect(),
+            future_distance: element.future_distance,
         }
     }
 

@@ -2,7 +2,7 @@
 //! special values (with further arguments drawn), and on drawn inputs up to 10,000,000 in all.
 
 use compare::probe::vectors::{self, BlockPosition, DEPTHS, Placed};
-use compare::{Generator, all_same, same};
+use compare::{Drawn, all_same, drawn, same};
 use oracle::Vector;
 use oracle::frame::{Anchor, Object};
 use oracle::leaf;
@@ -45,16 +45,13 @@ const SPECIAL: [f32; 30] = [
 ];
 
 struct Inputs {
-    drawn: Generator,
+    drawn: Drawn,
     given: usize,
 }
 
 impl Inputs {
-    fn new(seed: u64) -> Self {
-        Inputs {
-            drawn: Generator::new(seed),
-            given: 0,
-        }
+    fn new(drawn: Drawn) -> Self {
+        Inputs { drawn, given: 0 }
     }
 
     fn special(&mut self) -> f32 {
@@ -101,7 +98,7 @@ fn componentwise(a: Vector, b: Vector, op: impl Fn(f32, f32) -> f32) -> Vector {
 
 #[test]
 fn operations_by_component() {
-    let mut inputs = Inputs::new(21);
+    let mut inputs = Inputs::new(drawn!(21));
     for _ in 0..INPUTS {
         let (a, b) = (inputs.next(), inputs.vector());
         let sum = vectors::vec_add(a, b);
@@ -127,7 +124,7 @@ fn operations_by_component() {
 #[test]
 #[cfg_attr(no_sources, ignore = "Rust sources not at hand")]
 fn length() {
-    let mut inputs = Inputs::new(22);
+    let mut inputs = Inputs::new(drawn!(22));
     for _ in 0..INPUTS {
         let v = inputs.next();
         assert!(same(vectors::vec_length(v), leaf::vec_length(v)), "{v:?}");
@@ -137,7 +134,7 @@ fn length() {
 #[test]
 #[cfg_attr(no_sources, ignore = "Rust sources not at hand")]
 fn cube() {
-    let mut inputs = Inputs::new(23);
+    let mut inputs = Inputs::new(drawn!(23));
     for _ in 0..INPUTS {
         let v = inputs.next();
         assert!(
@@ -150,7 +147,7 @@ fn cube() {
 #[test]
 #[cfg_attr(no_sources, ignore = "Rust sources not at hand")]
 fn lerp() {
-    let mut inputs = Inputs::new(24);
+    let mut inputs = Inputs::new(drawn!(24));
     for _ in 0..INPUTS {
         // All triples of from, to and t stand in the first component.
         let [from, to, t] = inputs.next();
@@ -164,7 +161,7 @@ fn lerp() {
 #[test]
 #[cfg_attr(no_sources, ignore = "Rust sources not at hand")]
 fn room() {
-    let mut inputs = Inputs::new(25);
+    let mut inputs = Inputs::new(drawn!(25));
     for _ in 0..INPUTS {
         let (p, distance) = (inputs.next(), inputs.maybe());
         let ours = vectors::room_anchored_position(p, distance);
@@ -176,7 +173,7 @@ fn room() {
 #[test]
 #[cfg_attr(no_sources, ignore = "Rust sources not at hand")]
 fn screen() {
-    let mut inputs = Inputs::new(26);
+    let mut inputs = Inputs::new(drawn!(26));
     for _ in 0..INPUTS {
         let (p, factor, depth) = (inputs.next(), inputs.float(), inputs.depth());
         let ours = vectors::screen_anchored_position(p, factor, depth);
@@ -239,7 +236,7 @@ fn same_placed(ours: &Placed, target: Vector, info: &Info) -> bool {
 #[test]
 #[cfg_attr(no_sources, ignore = "Rust sources not at hand")]
 fn target() {
-    let mut inputs = Inputs::new(27);
+    let mut inputs = Inputs::new(drawn!(27));
     for _ in 0..INPUTS {
         let (block, here) = (drawn_block(&mut inputs), inputs.vector());
         let ours = vectors::update_source_position(&block, here);

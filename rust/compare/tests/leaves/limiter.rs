@@ -3,7 +3,7 @@
 //! bytes; the peak at every length up to 200; scaling.
 
 use compare::probe::limiter;
-use compare::{Generator, all_same, same};
+use compare::{all_same, drawn, same};
 use oracle::leaf;
 
 const RATES: [u32; 7] = [8_000, 32_000, 44_100, 48_000, 88_200, 96_000, 192_000];
@@ -45,8 +45,8 @@ fn run(rate: u32, mut next: impl FnMut(usize) -> (Block, usize)) {
 #[test]
 #[cfg_attr(no_sources, ignore = "Rust sources not at hand")]
 fn drawn_samples() {
+    let mut inputs = drawn!(3);
     for rate in RATES {
-        let mut inputs = Generator::new(u64::from(rate));
         run(rate, |_| {
             // Mostly quiet, with bursts, so that the gain falls and grows again.
             let size = if inputs.chance(20) {
@@ -68,8 +68,8 @@ fn drawn_samples() {
 #[test]
 #[cfg_attr(no_sources, ignore = "Rust sources not at hand")]
 fn extreme_samples() {
+    let mut inputs = drawn!(4);
     for rate in RATES {
-        let mut inputs = Generator::new(u64::from(rate) + 1);
         run(rate, |_| {
             let block = [(); 768].map(|()| {
                 if inputs.chance(3) {
@@ -111,7 +111,7 @@ fn constant_samples() {
 #[test]
 #[cfg_attr(no_sources, ignore = "Rust sources not at hand")]
 fn peaks_and_scaling() {
-    let mut inputs = Generator::new(5);
+    let mut inputs = drawn!(5);
     for length in 0..=200 {
         for turn in 0..100 {
             let samples: Vec<f32> = (0..length)
@@ -143,7 +143,7 @@ fn peaks_and_scaling() {
 #[test]
 #[cfg_attr(no_sources, ignore = "Rust sources not at hand")]
 fn from_places_to_output() {
-    let mut inputs = Generator::new(9);
+    let mut inputs = drawn!(9);
     for rate in RATES {
         let (mut ours, mut theirs) = (1.0f32, 1.0f32);
         for index in 0..BLOCKS {

@@ -1,6 +1,6 @@
 //! Mixing: 300,000 rows of up to 70 samples, any floats. Samples out of bytes: 300,000 rows.
 
-use compare::{Generator, all_same, probe::mixing};
+use compare::{Generator, all_same, drawn, probe::mixing};
 use oracle::leaf;
 
 fn floats(random: &mut Generator, count: usize) -> Vec<f32> {
@@ -10,7 +10,7 @@ fn floats(random: &mut Generator, count: usize) -> Vec<f32> {
 #[test]
 #[cfg_attr(no_sources, ignore = "Rust sources not at hand")]
 fn rows_are_mixed_as_the_source_does() {
-    let mut random = Generator::new(4);
+    let mut random = drawn!(4);
     for turn in 0..300_000 {
         let count = random.below(71) as usize;
         let offset = random.below(10) as usize;
@@ -51,7 +51,7 @@ fn rows_that_do_not_fit_stay() {
 
 #[test]
 fn samples_pass_and_are_read_where_all_are_finite_and_within_16() {
-    let mut random = Generator::new(5);
+    let mut random = drawn!(5);
     let mut passed = 0;
     for _ in 0..300_000 {
         let count = random.below(71) as usize;

@@ -2,7 +2,7 @@
 //! what they mix or refuse.
 
 use compare::probe::{beds, beds::Route, mixing};
-use compare::{Generator, all_same};
+use compare::{all_same, drawn};
 use oracle::state::Source;
 use oracle::{Refusal, leaf};
 
@@ -114,7 +114,7 @@ fn mixed(
 #[test]
 #[cfg_attr(no_sources, ignore = "Rust sources not at hand")]
 fn lists_of_beds_mix_or_are_refused_as_in_the_source() {
-    let mut random = Generator::new(3);
+    let mut random = drawn!(3);
     let mut refusals = [0, 0];
     for _ in 0..200_000 {
         // Half of the inputs are the update's beds in another order, so that many streams mix.

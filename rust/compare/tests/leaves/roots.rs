@@ -3,7 +3,7 @@
 //! also on every 24-digit number at two neighbouring exponents and on every subnormal: 25,165,823.
 
 use compare::probe::roots;
-use compare::{Generator, same};
+use compare::{Drawn, drawn, same};
 use oracle::exact;
 
 const INPUTS: usize = 10_000_000;
@@ -30,11 +30,10 @@ const EDGES: [u32; 16] = [
 ];
 
 /// Around the edges, then any bits, positive ones, and values from 0 to 1 in turn.
-fn inputs(seed: u64) -> impl Iterator<Item = f32> {
+fn inputs(mut drawn: Drawn) -> impl Iterator<Item = f32> {
     let near = EDGES
         .into_iter()
         .flat_map(|edge| (0..2_001).map(move |i| edge.wrapping_add(i).wrapping_sub(1_000)));
-    let mut drawn = Generator::new(seed);
     let drawn = (0..).map(move |i| match i % 3 {
         0 => drawn.bits() as u32,
         1 => drawn.bits() as u32 & 0x7fff_ffff,
@@ -43,8 +42,8 @@ fn inputs(seed: u64) -> impl Iterator<Item = f32> {
     near.chain(drawn).take(INPUTS).map(f32::from_bits)
 }
 
-fn hold(seed: u64, rattle: fn(f32) -> f32, reference: fn(f32) -> f32) {
-    for x in inputs(seed) {
+fn hold(drawn: Drawn, rattle: fn(f32) -> f32, reference: fn(f32) -> f32) {
+    for x in inputs(drawn) {
         let (found, expected) = (rattle(x), reference(x));
         assert!(
             same(found, expected),
@@ -65,23 +64,23 @@ fn half(y: f32) -> f32 {
 
 #[test]
 fn square_root() {
-    hold(31, roots::sqrt, f32::sqrt);
+    hold(drawn!(31), roots::sqrt, f32::sqrt);
 }
 
 #[test]
 fn fourth_root() {
-    hold(32, roots::fourth_root, |y| exact::root(4, y));
+    hold(drawn!(32), roots::fourth_root, |y| exact::root(4, y));
 }
 
 #[test]
 fn half_power() {
-    hold(33, roots::half_power, half);
+    hold(drawn!(33), roots::half_power, half);
 }
 
 #[test]
 fn first_and_second_power() {
-    hold(34, roots::first_power, |y| y);
-    hold(35, roots::second_power, |y| y * y);
+    hold(drawn!(34), roots::first_power, |y| y);
+    hold(drawn!(35), roots::second_power, |y| y * y);
 }
 
 #[test]
@@ -96,7 +95,7 @@ fn square_root_of_all_digits() {
 /// The exact references agree with each other.
 #[test]
 fn exact_square_root_is_std() {
-    for x in inputs(36).take(1_000_000) {
+    for x in inputs(drawn!(36)).take(1_000_000) {
         assert!(same(exact::root(2, x), half(x)), "at {:08x}", x.to_bits());
     }
 }

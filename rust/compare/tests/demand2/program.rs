@@ -2,8 +2,10 @@
 //! output is, byte for byte, what the oracle has it print.
 
 use compare::calls::{Call, Step};
-use compare::streams;
+use compare::seeds::Seeds;
+use compare::{recorded, seeds, streams};
 use std::collections::{BTreeMap, BTreeSet};
+use std::fs;
 use std::io::Write;
 use std::path::Path;
 use std::process::{Command, Stdio};
@@ -68,6 +70,25 @@ fn frame_rates(stream: &[u8]) -> impl Iterator<Item = u32> {
         .filter(|rate| (8_000..=192_000).contains(rate))
 }
 
+/// How often each answer arises.
+type Counts = BTreeMap<String, u64>;
+
+/// Compares the streams of these seeds; gives their answers and rates.
+fn compared(seeds: Seeds) -> (Counts, BTreeSet<u32>) {
+    let (mut counts, mut rates) = (Counts::new(), BTreeSet::new());
+    for seed in seeds {
+        let stream = streams::stream(seed);
+        rates.extend(frame_rates(&stream));
+        let expected = streams::played(&stream);
+        let found = run(&stream);
+        assert!(found == expected, "{}", difference(&found, &expected));
+        for answer in answers(&expected) {
+            *counts.entry(answer.to_string()).or_insert(0) += 1;
+        }
+    }
+    (counts, rates)
+}
+
 #[test]
 #[cfg_attr(no_sources, ignore = "Rust sources not at hand")]
 fn prints_what_the_oracle_has_it_print() {
@@ -75,37 +96,22 @@ fn prints_what_the_oracle_has_it_print() {
         Path::new(PROGRAM).exists(),
         "run `rt check hallrender` first"
     );
-    let compared = |part: u64| {
-        let (mut counts, mut rates) = (BTreeMap::new(), BTreeSet::new());
-        for seed in (part..STREAMS).step_by(2) {
-            let stream = streams::stream(seed);
-            rates.extend(frame_rates(&stream));
-            let expected = streams::played(&stream);
-            let found = run(&stream);
-            assert!(
-                found == expected,
-                "stream {seed}: {}",
-                difference(&found, &expected)
-            );
-            for answer in answers(&expected) {
-                *counts.entry(answer.to_string()).or_insert(0u64) += 1;
-            }
-        }
-        (counts, rates)
-    };
+    let [even, odd] = seeds!(0..STREAMS).halves();
     let halves = thread::scope(|scope| {
-        let other = scope.spawn(|| compared(1));
-        [compared(0), other.join().unwrap()]
+        let other = scope.spawn(|| compared(odd));
+        [compared(even), other.join().unwrap()]
     });
     let kinds: BTreeSet<&String> = halves.iter().flat_map(|half| half.0.keys()).collect();
     let rates: BTreeSet<&u32> = halves.iter().flat_map(|half| &half.1).collect();
     println!("{:?} {:?}, {} rates", halves[0].0, halves[1].0, rates.len());
-    assert!(rates.len() > 8_000, "{} rates", rates.len());
-    // ready, none, reset, bad record, and 2 to 14 but 4, which no stream is long enough for
-    assert_eq!(kinds.len(), 4 + 12, "{kinds:?}");
+    if seeds::all() {
+        assert!(rates.len() > 8_000, "{} rates", rates.len());
+        // ready, none, reset, bad record, and 2 to 14 but 4, which no stream is long enough for
+        assert_eq!(kinds.len(), 4 + 12, "{kinds:?}");
+    }
 }
 
-/// Document 01's example.
+/// Document 01's example, as the document has it and as the oracle has it.
 #[test]
 fn a_frame_without_metadata_then_flush() {
     let mut stream = vec![0; 120];
@@ -114,6 +120,9 @@ fn a_frame_without_metadata_then_flush() {
     stream[44..48].copy_from_slice(&1f32.to_le_bytes());
     stream[80] = 7;
     assert_eq!(run(&stream), "refused 10 0 0\nnone\n");
+    if !cfg!(no_sources) {
+        assert_eq!(streams::played(&stream), run(&stream));
+    }
 }
 
 /// Each count of a header at its limit, and one past it.
@@ -124,6 +133,7 @@ fn limits_of_a_frame() {
         (256, 1, 0, 0),
         (257, 1, 0, 0),
         (4, 18, 0, 0),
+        (4, 19, 0, 0),
         (4, 0, 16, 0),
         (4, 0, 17, 0),
         (0, 0, 0, 1_200),
@@ -140,9 +150,24 @@ fn limits_of_a_frame() {
         let mut stream = Vec::new();
         streams::append(&mut stream, &Step::Push(call));
         streams::append(&mut stream, &Step::Flush);
-        let past = samples > 256 || objects > 16 || records > 1_200;
+        let past = samples > 256 || beds > 18 || objects > 16 || records > 1_200;
         let found = run(&stream);
         assert_eq!(found, streams::played(&stream));
         assert_eq!(found == "bad record\n", past, "{found}");
     }
+}
+
+/// The recorded list is what the program `record` writes now, and the compiled program prints it.
+#[test]
+#[cfg_attr(no_sources, ignore = "Rust sources not at hand")]
+fn the_recorded_list_is_the_oracles() {
+    let stdin = recorded::stdin();
+    let stdout = recorded::stdout(&stdin);
+    let written = |name: &str| fs::read(recorded::folder().join(name)).unwrap();
+    assert!(
+        written("stdin") == stdin && written("stdout") == stdout.as_bytes(),
+        "run `cargo run --release --bin record`"
+    );
+    let found = run(&stdin);
+    assert!(found == stdout, "{}", difference(&found, &stdout));
 }

@@ -1,7 +1,7 @@
 //! The oracle over whole streams: 400 of 25 frames in each test.
 
 use compare::model::keeps_too_few_flags;
-use compare::{Frames, all_same};
+use compare::{Frames, all_same, seeds};
 use oracle::{Oracle, Pushed};
 use std::collections::BTreeMap;
 
@@ -10,7 +10,7 @@ use std::collections::BTreeMap;
 #[cfg_attr(no_sources, ignore = "Rust sources not at hand")]
 fn refused_frames_leave_no_trace() {
     let mut outcomes = BTreeMap::new();
-    for seed in 0..400 {
+    for seed in seeds!(0..400) {
         let mut frames = Frames::new(seed, 200);
         let (mut all, mut accepted) = (Oracle::new(), Oracle::new());
         let (mut of_all, mut of_accepted) = (Vec::new(), Vec::new());
@@ -38,7 +38,7 @@ fn refused_frames_leave_no_trace() {
             "seed {seed}"
         );
     }
-    assert_eq!(outcomes.len(), 8, "every outcome arises: {outcomes:?}");
+    assert!(!seeds::all() || outcomes.len() == 8, "{outcomes:?}");
 }
 
 /// With rows in store, and without the frames that document 01's 7 refuses, the Rust never panics.
@@ -46,7 +46,7 @@ fn refused_frames_leave_no_trace() {
 #[cfg_attr(no_sources, ignore = "Rust sources not at hand")]
 fn the_rust_panics_only_where_document_01_says() {
     let mut refused = 0;
-    for seed in 0..400 {
+    for seed in seeds!(0..400) {
         let mut frames = Frames::new(seed, 200);
         let mut oracle = Oracle::new();
         for _ in 0..25 {
@@ -59,5 +59,5 @@ fn the_rust_panics_only_where_document_01_says() {
             assert_ne!(oracle.push(&frame), Pushed::Panicked, "seed {seed}");
         }
     }
-    assert!(refused > 0);
+    assert!(!seeds::all() || refused > 0);
 }

@@ -3,9 +3,9 @@
 //! record dropped, doubled or swapped, or the end cut off. The refusal of each is compared; of one
 //! in four that are laid out also every field of every record, and the order of the updates.
 
-use compare::Generator;
 use compare::probe::records;
 use compare::reading::{Update, read};
+use compare::{Generator, drawn};
 
 const LISTS: usize = 2_000_000;
 
@@ -195,7 +195,7 @@ fn same_order(list: &[u8], updates: &[Update], samples: usize) {
 
 #[test]
 fn records_as_an_independent_reading_has_them() {
-    let mut inputs = Generator::new(6);
+    let mut inputs = drawn!(6);
     let mut answers = [0u64; 7];
     for _ in 0..LISTS {
         let list = draw(&mut inputs);

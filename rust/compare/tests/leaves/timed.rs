@@ -2,7 +2,7 @@
 //! 01's refusal 7 stops are left out.
 
 use compare::probe::timed::{self, MIDDLE, Timed, ZERO};
-use compare::{Generator, same};
+use compare::{Drawn, Generator, drawn, same};
 use oracle::frame::{Anchor, Block, Element, Object, Update};
 use oracle::leaf;
 
@@ -215,8 +215,7 @@ fn assert_same_info(ours: &Timed, k: usize, theirs: &oracle::state::Info, step: 
 }
 
 /// Sequences of updates and slots, up to `most` of everything.
-fn compare_slots(seed: u64, most: u64, slots: usize) {
-    let mut inputs = Generator::new(seed);
+fn compare_slots(mut inputs: Drawn, most: u64, slots: usize) {
     let mut done = 0;
     while done < slots {
         let (mut ours, mut theirs) = (Timed::new(), leaf::Timed::new());
@@ -262,11 +261,11 @@ fn compare_slots(seed: u64, most: u64, slots: usize) {
 #[test]
 #[cfg_attr(no_sources, ignore = "Rust sources not at hand")]
 fn slots_of_few_objects() {
-    compare_slots(31, 3, 1_000_000);
+    compare_slots(drawn!(31), 3, 1_000_000);
 }
 
 #[test]
 #[cfg_attr(no_sources, ignore = "Rust sources not at hand")]
 fn slots_up_to_the_limits() {
-    compare_slots(32, 16, 200_000);
+    compare_slots(drawn!(32), 16, 200_000);
 }

@@ -3,8 +3,8 @@
 //! Which speakers are chosen depends on how a position compares with the speakers' coordinates:
 //! the special positions have every outcome.
 
-use compare::{Generator, all_same, probe::panning};
-use oracle::leaf::render_object_timeslot_to_714;
+use compare::{EDGES, all_same, drawn, probe::panning};
+use oracle::leaf::{render_object_timeslot_to_714, speakers};
 use oracle::state::Source;
 
 /// The speakers' coordinates, above 0.
@@ -63,6 +63,18 @@ fn special() -> Vec<f32> {
     values
 }
 
+/// The positions drawn here and the generator's edges have the very coordinates of the speakers.
+#[cfg_attr(no_sources, ignore = "Rust sources not at hand")]
+#[test]
+fn coordinates_are_the_speakers() {
+    for x in speakers().as_flattened() {
+        let size = x.abs();
+        assert!(size == 0.0 || COORDINATES.contains(&size), "{x}");
+        let is_size = |&edge: &u32| f32::from_bits(edge).abs() == size;
+        assert!(EDGES.iter().any(is_size), "{x}");
+    }
+}
+
 #[cfg_attr(no_sources, ignore = "Rust sources not at hand")]
 #[test]
 fn special_positions() {
@@ -85,7 +97,7 @@ fn special_positions() {
 #[cfg_attr(no_sources, ignore = "Rust sources not at hand")]
 #[test]
 fn random_positions() {
-    let mut inputs = Generator::new(4);
+    let mut inputs = drawn!(4);
     let values = special();
     let mut mix = Mix::new();
     for round in 0..9_000_000 {

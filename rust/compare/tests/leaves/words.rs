@@ -1,11 +1,11 @@
 //! Words and bits. 1,000,000 floats and patterns; 1,000,000 signed numbers at places of a slice,
 //! each as two words of four halves.
 
-use compare::{Generator, probe::words};
+use compare::{drawn, probe::words};
 
 #[test]
 fn bits_of_is_to_bits_with_one_nan() {
-    let mut inputs = Generator::new(1);
+    let mut inputs = drawn!(1);
     for _ in 0..1_000_000 {
         let x = inputs.float();
         let expected = if x.is_nan() { 0x7fc0_0000 } else { x.to_bits() };
@@ -15,7 +15,7 @@ fn bits_of_is_to_bits_with_one_nan() {
 
 #[test]
 fn f32_of_is_from_bits() {
-    let mut inputs = Generator::new(2);
+    let mut inputs = drawn!(2);
     for _ in 0..1_000_000 {
         let expected = inputs.float();
         let x = words::f32_of(expected.to_bits());
@@ -25,7 +25,7 @@ fn f32_of_is_from_bits() {
 
 #[test]
 fn numbers_are_little_endian() {
-    let mut inputs = Generator::new(3);
+    let mut inputs = drawn!(3);
     for _ in 0..1_000_000 {
         let mut bytes: [u8; 20] = std::array::from_fn(|_| inputs.bits() as u8);
         let mut expected = bytes;

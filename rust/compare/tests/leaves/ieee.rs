@@ -2,7 +2,7 @@
 //! pairs. The sign of a zero that `max` or `min` gives is the compiled Rust's.
 
 use compare::probe::ieee;
-use compare::{Generator, same};
+use compare::{drawn, same};
 use std::hint::black_box;
 
 const DRAWN: usize = 4_000_000;
@@ -69,7 +69,7 @@ fn as_rust() {
             check(a, b);
         }
     }
-    let mut inputs = Generator::new(11);
+    let mut inputs = drawn!(11);
     for _ in 0..DRAWN {
         let (a, b) = (inputs.float(), inputs.float());
         check(a, b);

@@ -1,0 +1,5 @@
+//! Demand 3: claims about whole lists of calls.
+
+mod erased;
+mod rows;
+mod streams;
