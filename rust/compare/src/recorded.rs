@@ -302,24 +302,12 @@ fn drawn(list: &mut List) {
         let mut calls = Calls::new(seed, 80);
         list.reset();
         for _ in 0..6 {
-            let step = as_recorded(calls.next_step());
+            let step = calls.next_step();
             if !matches!(&step, Step::Push(call) if call.meta.len() + call.pcm.len() > 12_000) {
                 list.step(&step);
             }
         }
     }
-}
-
-/// The list was recorded while one edge of the generator stood two units beside the speakers' z.
-fn as_recorded(mut step: Step) -> Step {
-    if let Step::Push(call) = &mut step {
-        for word in call.meta.as_chunks_mut().0 {
-            if *word == 0xbef7_a627u32.to_le_bytes() {
-                *word = 0xbef7_a629u32.to_le_bytes();
-            }
-        }
-    }
-    step
 }
 
 /// The calls: the program's standard input.

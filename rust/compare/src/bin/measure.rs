@@ -148,31 +148,17 @@ const BLOCKS: usize = 10_000;
 fn limiter(name: &str, inputs: &mut Generator, size: f32) {
     let block = [(); 768].map(|()| inputs.between(-size, size));
     let channels: Vec<Vec<f32>> = block.chunks(64).map(<[f32]>::to_vec).collect();
-    let mut bytes = [0u8; 3072];
-    for (to, x) in bytes.chunks_mut(4).zip(block) {
-        to.copy_from_slice(&x.to_bits().to_le_bytes());
-    }
+    let bytes = probe::limiter::bytes(&block);
     let mut out = [0u8; 3072];
     compare_times(
         &format!("{name}, {BLOCKS} blocks from bytes to bytes"),
         || {
             let mut gain = 1.0;
             for _ in 0..BLOCKS {
-                gain = probe::limiter::limit_into(gain, &bytes, 64, 48_000, &mut out, 256, 0);
+                gain = probe::limiter::apply_output_limiter_block(
+                    gain, &bytes, 64, 48_000, &mut out, 256, 0,
+                );
                 black_box(&out);
-            }
-            black_box(gain);
-        },
-        || rust_limiter(&channels),
-    );
-    compare_times(
-        &format!("{name}, {BLOCKS} blocks in place"),
-        || {
-            let (mut gain, mut places) = (1.0, block);
-            for _ in 0..BLOCKS {
-                places.copy_from_slice(&block);
-                gain = probe::limiter::apply_output_limiter_block(gain, &mut places, 64, 48_000);
-                black_box(&places);
             }
             black_box(gain);
         },

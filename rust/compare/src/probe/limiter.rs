@@ -1,14 +1,13 @@
 unsafe extern "C" {
     fn probe_max_abs_slice(samples: *const f32, length: usize) -> f32;
-    fn probe_scale_slice_in_place(samples: *mut f32, length: usize, gain: f32);
-    fn probe_apply_output_limiter_block(
-        gain: f32,
-        block: *mut f32,
+    fn probe_scale_slice_into(
+        samples: *const f32,
         length: usize,
-        samples: usize,
-        rate: u32,
-    ) -> f32;
-    fn probe_limit_into(
+        gain: f32,
+        out: *mut u8,
+        out_length: usize,
+    );
+    fn probe_apply_output_limiter_block(
         gain: f32,
         places: *const u8,
         places_length: usize,
@@ -26,27 +25,25 @@ pub fn max_abs_slice(samples: &[f32]) -> f32 {
     unsafe { probe_max_abs_slice(samples.as_ptr(), samples.len()) }
 }
 
-pub fn scale_slice_in_place(samples: &mut [f32], gain: f32) {
-    // SAFETY: as above.
-    unsafe { probe_scale_slice_in_place(samples.as_mut_ptr(), samples.len(), gain) }
-}
-
-/// Twelve channels of 64 places, `samples` of each in use; gives the next gain.
-pub fn apply_output_limiter_block(
-    gain: f32,
-    block: &mut [f32; 768],
-    samples: usize,
-    rate: u32,
-) -> f32 {
+/// The samples times the gain, by way of the output's bytes.
+pub fn scale_slice_into(samples: &[f32], gain: f32) -> Vec<f32> {
+    let mut out = vec![0; 4 * samples.len()];
     // SAFETY: as above.
     unsafe {
-        probe_apply_output_limiter_block(gain, block.as_mut_ptr(), block.len(), samples, rate)
+        probe_scale_slice_into(
+            samples.as_ptr(),
+            samples.len(),
+            gain,
+            out.as_mut_ptr(),
+            out.len(),
+        )
     }
+    floats(&out)
 }
 
 /// From the bytes of twelve channels of 64 places to the output, channel c at `to` + c x `step`;
 /// gives the next gain.
-pub fn limit_into(
+pub fn apply_output_limiter_block(
     gain: f32,
     places: &[u8; 3072],
     samples: usize,
@@ -57,7 +54,7 @@ pub fn limit_into(
 ) -> f32 {
     // SAFETY: as above.
     unsafe {
-        probe_limit_into(
+        probe_apply_output_limiter_block(
             gain,
             places.as_ptr(),
             places.len(),
@@ -69,4 +66,27 @@ pub fn limit_into(
             to,
         )
     }
+}
+
+/// A block of floats, laid over itself: the next gain, and the block with the first `samples`
+/// places of each channel limited.
+pub fn limited(gain: f32, block: &[f32; 768], samples: usize, rate: u32) -> (f32, Vec<f32>) {
+    let places = bytes(block);
+    let mut out = places;
+    let next = apply_output_limiter_block(gain, &places, samples, rate, &mut out, 256, 0);
+    (next, floats(&out))
+}
+
+/// The bytes of a block's places.
+pub fn bytes(block: &[f32; 768]) -> [u8; 3072] {
+    let mut places = [0; 3072];
+    for (to, x) in places.chunks_mut(4).zip(block) {
+        to.copy_from_slice(&x.to_bits().to_le_bytes());
+    }
+    places
+}
+
+fn floats(bytes: &[u8]) -> Vec<f32> {
+    let words = bytes.chunks(4).map(|b| [b[0], b[1], b[2], b[3]]);
+    words.map(f32::from_le_bytes).collect()
 }

@@ -1,6 +1,6 @@
 //! The limiter against the Rust's own, bit for bit: runs of 2,000 blocks of drawn, extreme and
-//! constant samples at seven rates, the ends with them, whole blocks and shorter last ones, as floats and from bytes to
-//! bytes; the peak at every length up to 200; scaling.
+//! constant samples at seven rates, the ends with them, whole blocks and shorter last ones, at any
+//! place of the output; the peak at every length up to 200; scaling.
 
 use compare::probe::limiter;
 use compare::{all_same, drawn, same};
@@ -19,8 +19,8 @@ fn run(rate: u32, mut next: impl FnMut(usize) -> (Block, usize)) {
         let (block, samples) = next(index);
         let mut channels: Vec<Vec<f32>> = block.chunks(64).map(|c| c[..samples].to_vec()).collect();
         leaf::apply_output_limiter_block(&mut channels, &mut theirs, rate, 0, samples);
-        let mut places = block;
-        ours = limiter::apply_output_limiter_block(ours, &mut places, samples, rate);
+        let (next, places) = limiter::limited(ours, &block, samples, rate);
+        ours = next;
         assert!(
             same(ours, theirs),
             "gain of block {index} at {rate}: {ours:?} {theirs:?}"
@@ -131,8 +131,8 @@ fn peaks_and_scaling() {
                 "{samples:?}"
             );
             let gain = inputs.float();
-            let (mut ours, mut theirs) = (samples.clone(), samples);
-            limiter::scale_slice_in_place(&mut ours, gain);
+            let ours = limiter::scale_slice_into(&samples, gain);
+            let mut theirs = samples;
             leaf::scale_slice_in_place(&mut theirs, gain);
             assert!(all_same(&ours, &theirs), "scaling by {gain:?}");
         }
@@ -154,10 +154,7 @@ fn from_places_to_output() {
                     inputs.between(-2.0, 2.0)
                 }
             });
-            let mut places = [0u8; 3072];
-            for (bytes, word) in places.chunks_mut(4).zip(words) {
-                bytes.copy_from_slice(&word.to_bits().to_le_bytes());
-            }
+            let places = limiter::bytes(&words);
             let stride = 64 * (1 + inputs.below(4) as usize);
             let samples = if inputs.chance(4) {
                 inputs.below(65) as usize
@@ -177,7 +174,7 @@ fn from_places_to_output() {
                         .copy_from_slice(&bits.to_le_bytes());
                 }
             }
-            ours = limiter::limit_into(
+            ours = limiter::apply_output_limiter_block(
                 ours,
                 &places,
                 samples,
