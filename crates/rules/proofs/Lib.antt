@@ -24,6 +24,7 @@ pub mod Bass
 pub mod Energy
 pub mod Pushes
 pub mod Ringing
+pub mod Clean
 pub mod Called
 pub mod Flushes
 pub mod Keeps

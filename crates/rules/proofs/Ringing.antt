@@ -21,7 +21,7 @@ use Rattle.lowpass.specs.declared.BiquadLowpassState.{BiquadLowpassState}
 use Rattle.lowpass.proofs.Rates.{fed-more, lowpass-twice}
 use Rattle.rules.specs.Leaves.{Leaves}
 use Rattle.rules.specs.Mix.{Moment, fed}
-use Rattle.rules.specs.Samples.{State, fresh, opened, pushed, flushed}
+use Rattle.rules.specs.Samples.{State, idle, fresh, opened, pushed, flushed}
 use Rattle.rules.specs.Refusals.{Args, Found, clear, stop, room}
 use Rattle.rules.specs.Calls.{Call, push, flush, reset, frameOf, found, asked, drained, step}
 use Rattle.rules.specs.Sounds.{silent, before, momentAt}
@@ -39,14 +39,14 @@ use Rattle.rules.proofs.Pushes as pushes
 module _ (L : Leaves) where
   -- between calls: nothing was fed yet, or the filter is a new one that was fed xs
   abbrev Since : List Float → State L → Type 0
-  Since xs r = ((r .rate ≡ 0) × (xs ≡ [])) ⊎ (Listed (r .rate) × (r .filter ≡ afterAll (new (r .rate)) xs))
+  Since xs r = ((r .rate ≡ 0) × (xs ≡ []) × (r .filter ≡ idle)) ⊎ (Listed (r .rate) × (r .filter ≡ afterAll (new (r .rate)) xs))
 
   pub record Fed (xs : List Float) (r : State L) : Type 0 where
     pub finite : All F32 xs
     pub since : Since xs r
 
   pub fresh-fed : Fed [] (fresh L)
-  fresh-fed = record { finite = tt; since = inl (refl, refl) }
+  fresh-fed = record { finite = tt; since = inl (refl, refl, refl) }
 
   module _ (B : Layout L) (F : Facts L B) (xs : List Float) (r : State L) where
     -- ---- a push that is accepted

@@ -14,7 +14,7 @@ use Rattle.rules.specs.Calls.{Call, push, flush, reset, found, asked, dr
 use Rattle.rules.specs.Promises.{CallHolds, AllHold}
 use Rattle.rules.specs.Ringing.{fedSince, AllRing}
 use Rattle.rules.specs.Block.{Layout, outOf, strideOf, left, finalOn, Seen, seen, seenOn, told}
-use Rattle.rules.specs.Claim.{GivenOut, Lent, AllLent, AllGivenOut, Demand3, EveryList}
+use Rattle.rules.specs.Claim.{GivenOut, AllClean, Lent, AllLent, AllGivenOut, Demand3, EveryList}
 use Rattle.rules.proofs.Facts.{Facts, InRanges}
 use Rattle.rules.proofs.Kept.{Rest, fresh-rest}
 use Rattle.rules.proofs.Ranged.{fresh-ranged}
@@ -23,6 +23,7 @@ use Rattle.rules.proofs.Keeps.{step-ranged}
 use Rattle.rules.proofs.Quiet.{Hush}
 use Rattle.rules.proofs.Pushes.{push-holds, hush-pushed}
 use Rattle.rules.proofs.Ringing.{Fed, fresh-fed, call-rings, step-fed}
+use Rattle.rules.proofs.Clean as kept
 use Rattle.rules.proofs.Flushes.{flush-holds}
 use Rattle.rules.proofs.Erased.{forgotten, same}
 use Rattle.rules.proofs.Blocks.{erased, erased-left, reset-block, made-is, made-state, same-seen}
@@ -72,6 +73,7 @@ module _ (L : Leaves) (B : Layout L) (F : Facts L B) where
     range : AllGivenOut L B (B .encode r) cs
     seen : seenOn L B (B .encode r) cs ≡ told L B r cs
     block : finalOn L B (B .encode r) cs ≡ B .encode (final L r cs)
+    clean : AllClean L r cs
     calls : AllHold L r cs
     rings : AllRing L xs r cs
 
@@ -80,7 +82,7 @@ module _ (L : Leaves) (B : Layout L) (F : Facts L B) where
       record { rest = called L B F r (g .rest) c h .rest; ranges = step-ranged L B F r c h (g .ranges); hush = step-hush r c g h; fed = step-fed L B F xs r c h (g .rest) (g .fed) }
 
   runs : (cs : List Call) (xs : List Float) (r : State L) → Between xs r → AllLent cs → Run xs r cs
-  runs [] xs r g h = record { range = tt; seen = refl; block = refl; calls = tt; rings = tt }
+  runs [] xs r g h = record { range = tt; seen = refl; block = refl; clean = kept.clean L B F r (g .rest) (g .fed); calls = tt; rings = tt }
   runs (c ∷ cs) xs r g h =
       let x = step L r c in
       let d = called L B F r (g .rest) c (h .0) in
@@ -92,6 +94,7 @@ module _ (L : Leaves) (B : Layout L) (F : Facts L B) where
         seen = ap₂ (λ (y : Seen L B) (ys : List (Seen L B)). y ∷ ys)
             (ap (seen L B) is ∙ same-seen L B F (x .answer) (x .next) (outOf c) (strideOf c) (B .encode r)) (ap (λ (b : List ℕ). seenOn L B b cs) at ∙ n .seen);
         block = ap (λ (b : List ℕ). finalOn L B b cs) at ∙ n .block;
+        clean = (kept.clean L B F r (g .rest) (g .fed), n .clean);
         calls = (call-holds r c g (h .0), n .calls);
         rings = (call-rings L B F xs r c (h .0) (g .rest) (g .fed), n .rings);
       }
@@ -104,6 +107,7 @@ module _ (L : Leaves) (B : Layout L) (F : Facts L B) where
         range = n .range;
         seen = n .seen;
         block = n .block;
+        clean = n .clean;
         calls = n .calls;
         rings = n .rings;
         erased = erased L B (B .encode (fresh L)) cs;

@@ -4,12 +4,15 @@ use mathlib.Core.Path.{_≡_}
 use mathlib.Core.Bool.{true, false}
 use mathlib.Core.List.{List, [], _∷_}
 use lib.ListN.{length, getD}
-use lib.Ieee.{binary32, toBits}
+use lib.Ieee.{Float, binary32, toBits}
 use Rattle.words.specs.Words.{Bytes, word, floatAt}
-use Rattle.rules.specs.Parts.{0·0, Tame}
+use Rattle.ieee.specs.Units.{F32, Gain}
+use Rattle.ieee.specs.Bounds.{All}
+use Rattle.lowpass.specs.declared.BiquadLowpassState.{BiquadLowpassState}
+use Rattle.rules.specs.Parts.{0·0, Tame, floats}
 use Rattle.rules.specs.Leaves.{Leaves}
-use Rattle.rules.specs.Samples.{fresh}
-use Rattle.rules.specs.Calls.{Call, push, flush, reset, Answer, refused, rendered, nothing, cleared, isRefused, given, run, final, kept, accepted}
+use Rattle.rules.specs.Samples.{State, fresh}
+use Rattle.rules.specs.Calls.{Call, push, flush, reset, Answer, refused, rendered, nothing, cleared, isRefused, given, step, run, final, kept, accepted}
 use Rattle.rules.specs.Promises.{AllHold}
 use Rattle.rules.specs.Ringing.{AllRing}
 use Rattle.rules.specs.Block.{Layout, Outcome, strideOf, outOf, made, runOn, finalOn, keptOn, acceptedOn, seenOn, told}
@@ -33,6 +36,16 @@ pub record GivenOut (stride : ℕ) (lent : List ℕ) (o : Outcome) : Type 0 wher
   -- "all samples given out are finite and from -1 to 1", read from the output's bytes
   pub tame : (c i : ℕ) → c < 12 → i < ready (o .answer) → Tame (floatAt (o .out) (4 * (c * stride + i)))
 
+-- the nine numbers of the low-pass: its coefficients and its memory
+abbrev pub nine : BiquadLowpassState → List Float
+nine f = f .a1 ∷ f .a2 ∷ f .b0 ∷ f .b1 ∷ f .b2 ∷ f .x1 ∷ f .x2 ∷ f .y1 ∷ f .y2 ∷ []
+
+-- No bad number stays inside: the limiter's gain is finite, above 0 and at most 1; the low-pass's numbers are finite, and so is each sample in a place.
+pub record Clean (L : Leaves) (r : State L) : Type 0 where
+  pub gain : Gain (r .gain)
+  pub filter : All F32 (nine (r .filter))
+  pub places : (c : ℕ) → c < 12 → All F32 (floats (r .places) c)
+
 -- the bytes that a call lends are bytes
 abbrev pub Lent : Call → Type 0
 Lent (push a) = Bytes (a .pcm) × Bytes (a .meta) × Bytes (a .out) × Bytes (a .codes)
@@ -42,6 +55,11 @@ Lent reset = Unit {0}
 abbrev pub AllLent : List Call → Type 0
 AllLent [] = Unit {0}
 AllLent (c ∷ cs) = Lent c × AllLent cs
+
+-- before each call of the list, and after the last
+abbrev pub AllClean : (L : Leaves) → State L → List Call → Type 0
+AllClean L r [] = Clean L r
+AllClean L r (c ∷ cs) = Clean L r × AllClean L (step L r c .next) cs
 
 module _ (L : Leaves) (B : Layout L) where
   abbrev pub AllGivenOut : List ℕ → List Call → Type 0
@@ -58,6 +76,8 @@ module _ (L : Leaves) (B : Layout L) where
     pub seen : seenOn L B b cs ≡ told L B (fresh L) cs
     -- the block at the end is that of the renderer that the rules work out
     pub block : finalOn L B b cs ≡ B .encode (final L (fresh L) cs)
+    -- nothing but finite numbers stays in the limiter, the low-pass and the samples that wait
+    pub clean : AllClean L (fresh L) cs
     -- what accepted pushes sound like and what they owe their objects; flushes; resets
     pub calls : AllHold L (fresh L) cs
     -- what the low-pass gives is at most twice the largest that it has been fed since the start or a reset
