@@ -1,3 +1,6 @@
+// SPDX-License-Identifier: Apache-2.0
+// Translated from libstarmine_ad render.rs; changed.
+
 // The coefficients of the source's `BiquadLowpassState`.
 #[repr(C)]
 pub struct Coefficients {

@@ -1,3 +1,6 @@
+// SPDX-License-Identifier: Apache-2.0
+// Translated from libstarmine_ad render.rs; changed.
+
 // Bed channels: how each is put out, where it stands, and which input feeds it. A bed is named by its code, 0 to 17 in the order of `BedChannel`.
 ghost use mathlib.Core.Path.{_≡_};
 ghost use Prim.Native.Nat.{_≤_};

@@ -1,3 +1,6 @@
+// SPDX-License-Identifier: Apache-2.0
+// Translated from libstarmine_ad render.rs; changed.
+
 // The samples that wait, through the limiter into the output: a whole block of a frame, or the remainder.
 ghost use mathlib.Core.Path.{_≡_};
 ghost use Rattle.claim.specs.Hall.{hall};

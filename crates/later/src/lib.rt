@@ -1,3 +1,6 @@
+// SPDX-License-Identifier: Apache-2.0
+// Translated from libstarmine_ad render.rs; changed.
+
 // Refusals 9 to 14 of a push whose 1 to 8 found nothing: a pass over its samples that changes nothing. Document 01: "After 8: 9, 10, 11 for updates at offset 0, 12, 11 for the present
 // state, then 11, 13, 14 as they arise in time."
 mod checks;

@@ -1,3 +1,6 @@
+// SPDX-License-Identifier: Apache-2.0
+// Translated from libstarmine_ad render.rs; changed.
+
 // The output limiter: the peak of a block, the gain that it leaves, scaling, and the gain's growth.
 pub mod places;
 

@@ -1,3 +1,6 @@
+// SPDX-License-Identifier: Apache-2.0
+// Translated from libstarmine_ad render.rs; changed.
+
 // The limiter over bytes: from the places of a state block to the output.
 ghost use mathlib.Core.Path.{_≡_};
 ghost use Prim.Native.Nat.{_+_, _*_, _≤_};

@@ -1,3 +1,6 @@
+// SPDX-License-Identifier: Apache-2.0
+// Translated from libstarmine_ad render.rs; changed.
+
 // The low-pass of the bass feed, document 01 item 6: five coefficients beside four past values, one sample at a time.
 ghost use mathlib.Core.Path.{_≡_};
 ghost use Rattle.angles.specs.Angle.{Listed};

@@ -1,3 +1,6 @@
+// SPDX-License-Identifier: Apache-2.0
+// Translated from libstarmine_ad render.rs; changed.
+
 // The refusals of a push, and none. `foundOf` gives document 01's number and counts for each.
 pub enum Refusal {
     Clear,

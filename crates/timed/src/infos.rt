@@ -1,3 +1,6 @@
+// SPDX-License-Identifier: Apache-2.0
+// Translated from libstarmine_ad render.rs; changed.
+
 // The object infos: 512 records of 44 bytes, info `element x 256 + object x 8 + block`. What an object in a block says, and what it keeps from update to update.
 ghost use mathlib.Core.Path.{_≡_};
 ghost use Prim.Native.Nat.{_+_, _*_, _<_, _≤_};

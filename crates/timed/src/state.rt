@@ -1,3 +1,6 @@
+// SPDX-License-Identifier: Apache-2.0
+// Translated from libstarmine_ad render.rs; changed.
+
 // What is kept from slot to slot: `MetadataRendererState` and its parts. Tables have their full length, with counts beside them. The object infos stay in lent bytes.
 ghost use mathlib.Core.Path.{_≡_};
 ghost use Prim.Native.Nat.{_-_};

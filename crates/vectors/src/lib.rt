@@ -1,3 +1,6 @@
+// SPDX-License-Identifier: Apache-2.0
+// Translated from libstarmine_ad render.rs; changed.
+
 // Vectors and anchors of the renderer: `Vec3` of types.rs, the vector functions of render.rs, and the target of a block for an object.
 ghost use mathlib.Core.Path.{_≡_};
 ghost use lib.Ieee.{binary32};

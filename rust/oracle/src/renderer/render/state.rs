@@ -1,3 +1,6 @@
+// SPDX-License-Identifier: Apache-2.0
+// Translated from libstarmine_ad render.rs; changed.
+
 //! The renderer's state as plain values, under the source's names.
 
 use crate::Vector;
