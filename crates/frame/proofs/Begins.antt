@@ -6,7 +6,7 @@ use mathlib.Core.List.{List, [], _∷_}
 use native.Mathlib.Omega.{arith}
 use native.Mathlib.Numerals.{add-one}
 use borrow.Author.Tests.{eq-eqb, ne-eqb}
-use lib.Dec.{eqb}
+use lib.Dec.{T, eqb}
 use lib.ListN.{length, getD}
 use Rattle.timed.specs.State.{Timed, IsTimed, slotAt}
 use Rattle.timed.specs.declared.state.MetadataRendererState.{MetadataRendererState}
@@ -176,6 +176,11 @@ past {f} {n} {t} {from} {i} h l =
     let w = h .within in
     let e : i ≡ n = omega arith in
     subst (λ (j : ℕ). FirstAt f n t from j) e h
+
+-- where none is sent a slot may start
+pub slot-begins : (l : records.Layout) (t phase : ℕ) (b : Bool) → eqb phase 0 ≡ b → FirstAt (λ k. getD (l .offset) k 0) (l .count) t 0 (l .count) → cond b (Rests l t true phase → ⊥) (Rests l t true phase)
+slot-begins l t phase true e n = λ h. subst T (sym e ∙ h .slot) tt
+slot-begins l t phase false e n = record { none = n; slot = e }
 
 -- nothing begins
 pub rests : (m : List ℕ) (l : records.Layout) → IsLayout m l → (t : ℕ) (s : Small) (b : List ℕ) → length b ≡ size → Rests l t (s .state .initialized) (s .phase) → IsHeld (slotted hall (updated hall t (sentOf m) (held s b))) s b

@@ -4,7 +4,7 @@
 // A frame that no refusal turned away, in chunks: each turn takes the updates at its first sample and the slot that starts there, then the samples up to the next
 // update, the end of the slot, of the limiter's block or of the frame.
 ghost use mathlib.Core.Path.{_≡_};
-ghost use mathlib.Core.Bool.{false};
+ghost use mathlib.Core.Bool.{cond};
 ghost use mathlib.Core.List.{List};
 ghost use Prim.Native.Nat.{ℕ, _<_, _≤_};
 ghost use Rattle.angles.specs.Angle.{Listed};
@@ -48,10 +48,10 @@ fn run_length(started: bool, phase: u32, pending: u32, left: usize) -> usize
     room
 }
 
-// False only where no update is sent for sample offset t and no slot starts there.
+// Whether an update is sent for sample offset t, or a slot starts there.
 fn begins(started: bool, phase: u32, l: Layout, t: usize) -> bool
     requires { ⌜ l .count ≤ 16 ⌝ }
-    ensures { λ r. ⌜ (r ≡ false → Rests l t started phase) ⌝ }
+    ensures { λ r. ⌜ cond r (Rests l t started phase → ⊥) (Rests l t started phase) ⌝ }
 {
     if sent_at(l, t, 0) < l.count {
         return true;

@@ -7,6 +7,7 @@ use lib.Dec.{eqb}
 use lib.ListN.{getD}
 use Rattle.fields.specs.Update.{objects, bedOrIsf, beds, code}
 use Rattle.records.specs.Runs.{each}
+use Rattle.timed.specs.declared.state.MetadataRendererState.{MetadataRendererState}
 use Rattle.rules.specs.Leaves.{Shape}
 use Rattle.rules.specs.Refusals.{Found, clear, stop, Sent, unless, countsAt, shapeAt}
 use Rattle.rules.specs.Calls.{sentOf}
@@ -25,6 +26,10 @@ saidShape m u = record { started = true; objects = objects m u - bedOrIsf m u; b
 
 abbrev pub presentShape : Present → Shape
 presentShape p = record { started = p .started; objects = p .objects; beds = each (λ k. getD (p .codes) k 0) (p .beds) }
+
+-- the state's
+abbrev pub presentOf : MetadataRendererState → Present
+presentOf s = record { started = s .initialized; objects = s .objects - s .isf; beds = s .beds; codes = s .codes }
 
 -- r is p after the updates at t, whatever objects and inputs the push has
 pub record IsAfter (m : List ℕ) (t : ℕ) (p r : Present) : Type 0 where

@@ -4,8 +4,7 @@ ghost use mathlib.Core.Bool.{cond};
 ghost use Prim.Native.Nat.{_≤_};
 ghost use Rattle.updates.specs.Whole.{WholeUpdate, WholeUpdates};
 ghost use Rattle.records.specs.Answers.{IsLayout};
-ghost use Rattle.claim.specs.Hall.{shapeOf};
-ghost use Rattle.later.specs.Told.{saidShape, presentShape, IsAfter};
+ghost use Rattle.later.specs.Told.{saidShape, presentShape, presentOf, IsAfter};
 use fields::update::header_at;
 use records::layout::Layout;
 use timed::state::MetadataRendererState;
@@ -23,7 +22,7 @@ pub struct Present {
 // The state's.
 pub fn present_of(state: MetadataRendererState) -> Present
     requires { ⌜ state .objects ≤ 32 ⌝ }
-    ensures { λ r. ⌜ (presentShape r ≡ shapeOf state) × (r .beds ≡ state .beds) ⌝ }
+    ensures { λ r. ⌜ r ≡ presentOf state ⌝ }
 {
     let codes = state.codes;
     Present {

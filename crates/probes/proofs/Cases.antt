@@ -6,6 +6,7 @@ use native.Mathlib.Omega.{arith}
 use lib.Dec.{leb}
 use borrow.Author.Tests.{le-leb, lt-leb}
 use Rattle.rates.specs.Rates.{lowest, highest, listed}
+use Rattle.records.specs.Order.{FirstAt}
 
 module _ {A : Type 0} where
   pub fits : {a b : ℕ} {r x : A} (y : A) → a ≤ b → r ≡ x → r ≡ cond (leb a b) x y
@@ -36,3 +37,13 @@ module _ (rate : ℕ) where
 
   pub unlisted-above : highest < rate → listed rate ≡ false
   unlisted-above h = let l : lowest ≤ rate = omega arith in simp (le-leb lowest rate l, lt-leb rate highest h)
+
+-- ---- the first update at a time: there is one number only
+first-before : {f : ℕ → ℕ} {n t from i j : ℕ} → FirstAt f n t from i → FirstAt f n t from j → i < j → ⊥
+first-before {i = i} a b l = b .none i (a .after) l (a .here (omega arith))
+
+pub first-only : {f : ℕ → ℕ} {n t from i j : ℕ} → FirstAt f n t from i → FirstAt f n t from j → i ≡ j
+first-only {i = i} {j} a b =
+    let l : i < j → ⊥ = first-before a b in
+    let r : j < i → ⊥ = first-before b a in
+    omega arith

@@ -1,6 +1,5 @@
 // Where updates and elements stand, and whether all records are as laid out: refusal 5.
 ghost use mathlib.Core.Path.{_≡_};
-ghost use mathlib.Core.Bool.{false};
 ghost use Prim.Native.Nat.{_+_, _*_, _/_, _%_, _<_, _≤_};
 ghost use lib.ListN.{length};
 ghost use Rattle.fields.specs.Bytes.{all};
@@ -8,7 +7,7 @@ ghost use Rattle.fields.specs.Update.{objects};
 ghost use Rattle.fields.specs.Block.{blocks, isBlock};
 ghost use Rattle.fields.specs.Object.{isObject};
 ghost use Rattle.records.specs.Laid.{blockAt, objectAt, isWholeElement, isWholeUpdate, elementEnd, elementAt, updateEnd};
-ghost use Rattle.records.specs.Answers.{endIf, IsLayout};
+ghost use Rattle.records.specs.Answers.{endIf, noLayout, IsLayout};
 use fields::block::blocks_at;
 use fields::block::is_block;
 use fields::block::is_element;
@@ -122,7 +121,7 @@ pub struct Layout {
 }
 
 fn broken() -> Layout
-    ensures { λ l. ⌜ (l .laid ≡ false) × (l .count ≡ 0) ⌝ }
+    ensures { λ l. ⌜ l ≡ noLayout ⌝ }
 {
     let none = [0usize; 16];
     Layout {

@@ -1,8 +1,10 @@
 -- `later::refusal`: part by part. Assumes nothing.
-use mathlib.Core.Path.{sym, _∙_}
+use mathlib.Core.Path.{sym, ap, _∙_}
 use borrow.Author.Tests.{not-true, not-false}
 use denote.Ref.{now}
 use Rattle.claim.specs.Hall.{shapeOf}
+use Rattle.later.specs.Told.{presentShape}
+use Rattle.later.specs.declared.present.Present.{Present}
 use Rattle.later.proofs.Chain.{start-stops, counts-stops, zero-stops, objects-stop, walk-is}
 use borrow.Author.Needs.{needs}
 use Rattle.later.proofs.refusal.Statement.{statement}
@@ -45,7 +47,7 @@ present-of-requires : tie.Need-present-of-requires
 present-of-requires c κs = search needs
 
 present-after-requires : tie.Need-present-after-requires
-present-after-requires c κs = search needs
+present-after-requires c κs = let beds = ap (λ (p : Present). p .beds) (c .present-of .ensures) in search needs
 
 objects-refusal-requires : tie.Need-objects-refusal-requires
 objects-refusal-requires c κs = search needs
@@ -59,11 +61,11 @@ returns-4 c =
     objects-stop (now (s .args .meta)) (s .args .l) (s .pre .0) (s .args .objects) (now (s .args .codes)) (s .args .samples) (s .args .rate) (s .args .rate-before) (shapeOf (s .args .state))
     (c .before .before .before .before .before .before .before .before .before .before .before .start-refusal .result) (c .before .before .before .before .before .before .before .before .before .before .before .start-refusal .ensures) (sym (c .before .before .before .before .before .before .before .before .before .before .is-clear .ensures) ∙ not-false _ (c .before .before .before .before .before .before .before .before .before .if1 .left))
     (c .before .before .before .before .before .before .before .before .counts-refusal .result) (c .before .before .before .before .before .before .before .before .counts-refusal .ensures) (sym (c .before .before .before .before .before .before .before .is-clear2 .ensures) ∙ not-false _ (c .before .before .before .before .before .before .if2 .left))
-    (c .before .before .before .before .before .if3 .left) (c .before .before .before .before .present-of .result) (c .before .before .before .present-after .result) (c .before .before .before .before .present-of .ensures .0) (c .before .before .before .present-after .ensures)
+    (c .before .before .before .before .before .if3 .left) (c .before .before .before .before .present-of .result) (c .before .before .before .present-after .result) (ap presentShape (c .before .before .before .before .present-of .ensures)) (c .before .before .before .present-after .ensures)
     (c .before .before .objects-refusal .result) (c .before .before .objects-refusal .ensures) (sym (c .before .is-clear3 .ensures) ∙ not-true _ (c .if4 .taken))
 
 walk-refusal-requires : tie.Need-walk-refusal-requires
-walk-refusal-requires c κs = search needs
+walk-refusal-requires c κs = let beds = ap (λ (p : Present). p .beds) (c .before .before .before .before .present-of .ensures) in search needs
 
 returns-5 : tie.Need-returns-5
 returns-5 c =
@@ -71,7 +73,7 @@ returns-5 c =
     walk-is (now (s .args .meta)) (s .args .l) (s .pre .0) (s .args .objects) (now (s .args .codes)) (s .args .samples) (s .args .rate) (s .args .rate-before) (shapeOf (s .args .state))
     (c .before .before .before .before .before .before .before .before .before .before .before .before .start-refusal .result) (c .before .before .before .before .before .before .before .before .before .before .before .before .start-refusal .ensures) (sym (c .before .before .before .before .before .before .before .before .before .before .before .is-clear .ensures) ∙ not-false _ (c .before .before .before .before .before .before .before .before .before .before .if1 .left))
     (c .before .before .before .before .before .before .before .before .before .counts-refusal .result) (c .before .before .before .before .before .before .before .before .before .counts-refusal .ensures) (sym (c .before .before .before .before .before .before .before .before .is-clear2 .ensures) ∙ not-false _ (c .before .before .before .before .before .before .before .if2 .left))
-    (c .before .before .before .before .before .before .if3 .left) (c .before .before .before .before .before .present-of .result) (c .before .before .before .before .present-after .result) (c .before .before .before .before .before .present-of .ensures .0) (c .before .before .before .before .present-after .ensures)
+    (c .before .before .before .before .before .before .if3 .left) (c .before .before .before .before .before .present-of .result) (c .before .before .before .before .present-after .result) (ap presentShape (c .before .before .before .before .before .present-of .ensures)) (c .before .before .before .before .present-after .ensures)
     (c .before .before .before .objects-refusal .result) (c .before .before .before .objects-refusal .ensures) (sym (c .before .before .is-clear3 .ensures) ∙ not-false _ (c .before .if4 .left))
     (c .walk-refusal .result) (c .walk-refusal .ensures)
 

@@ -78,7 +78,7 @@ begun : (c : lts.Joined1 (open-reads.Asked, open-reads.Learnt, at-reads.Asked, a
 begun c =
     let s = c .before .before .before .before .before .before .before .before .before .before .before .args in
     let x = c .before .before .before .before .loop in
-    ⊎-elim (λ w. rw (w .5, w .6) (w .2 .ensures)) (λ w. rw (w .1, w .2) (rests (now (s .meta)) (s .l) (taken (c .before .before .before .before .before .before) .layout) (x .t) (x .small) (x .state) (x .inv .long) (c .before .begins .ensures (w .0 .left)))) (c .if1 .came)
+    ⊎-elim (λ w. rw (w .5, w .6) (w .2 .ensures)) (λ w. rw (w .1, w .2) (rests (now (s .meta)) (s .l) (taken (c .before .before .before .before .before .before) .layout) (x .t) (x .small) (x .state) (x .inv .long) (rw (w .0 .left) at (c .before .begins .ensures)))) (c .if1 .came)
 
 next-offset-requires : tie.Need-next-offset-requires Inv-loop μ-loop
 next-offset-requires c κs = taken (c .before .before .before .before .before .before) .whole .few

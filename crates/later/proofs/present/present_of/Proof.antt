@@ -1,5 +1,4 @@
 -- `later::present::present_of`. Assumes nothing.
-use mathlib.Core.Path.{refl}
 use borrow.Author.Needs.{needs}
 use Rattle.later.proofs.present.present_of.Statement.{statement}
 use Rattle.later.proofs.present.present_of.Tie as tie
@@ -11,7 +10,7 @@ cast-t4 : tie.Need-cast-t4
 cast-t4 c = search needs
 
 returns : tie.Need-returns
-returns c = (rw (c .dynamic .ensures), refl)
+returns c = rw (c .dynamic .ensures)
 
 pub present-of-spec : {M : Type 1} → statement M
 present-of-spec = tie.close (tie.spec dynamic-requires cast-t4 returns)
