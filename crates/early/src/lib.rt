@@ -118,7 +118,7 @@ pub fn refusal(
     if !sized(pcm, codes, samples, objects, stride) {
         return Refusal::Sizes;
     }
-    if !store::ranges::listed(rate) {
+    if !angles::listed(rate) {
         return Refusal::Rate;
     }
     if !stays(s.position, samples) {

@@ -53,22 +53,13 @@ fn heads_valid(infos: &[u8]) -> bool
     anchors < 1024
 }
 
-pub fn listed(rate: u32) -> bool
-    ensures { λ r. ⌜ r ≡ refusals.listed rate ⌝ }
-{
-    if rate < 8000 {
-        return false;
-    }
-    rate <= 192000
-}
-
 fn rate_valid(rate: u32) -> bool
     ensures { λ r. ⌜ r ≡ (eqb rate 0 || refusals.listed rate) ⌝ }
 {
     if rate == 0 {
         return true;
     }
-    listed(rate)
+    angles::listed(rate)
 }
 
 // Nothing pending without a rate.
