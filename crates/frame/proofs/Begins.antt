@@ -25,9 +25,9 @@ use Rattle.store.specs.declared.Small.{Small}
 use Rattle.store.specs.Layout.{size, joined, infosOf, placesOf}
 use Rattle.claim.specs.Hall.{Sent, hall, sentAt, sentOf}
 use Rattle.claim.proofs.Sound.{Within}
-use Rattle.frame.specs.Held.{held, IsHeld}
+use Rattle.frame.specs.Held.{held, smallBytes, IsHeld, IsNext}
 use Rattle.frame.specs.Begin.{withState, atSlot, CanStart, Rests}
-use Rattle.frame.proofs.Changed.{changed, changed-long, changed-held}
+use Rattle.frame.proofs.Changed.{changed, changed-long, changed-small, changed-held}
 
 -- ---- one update
 
@@ -48,9 +48,12 @@ module _ (t : ℕ) (u : Update) (s : Small) (b : List ℕ) where
 
   pub one-applied :
       (new : Bool) (at : ℕ) (m : MetadataRendererState) (is : List ℕ) (r : Small) → length b ≡ size → length is ≡ 22528 → (not (s .state .initialized) || eqb t 0) ≡ new → at ≡ s .position →
-      IsTimed (updates.applied at u before) m is → r ≡ after new s m → IsHeld (applied hall t (sent t u) (held s b)) r (changed b is)
+      IsTimed (updates.applied at u before) m is → r ≡ after new s m → IsNext (applied hall t (sent t u) (held s b)) b r (changed b is)
   one-applied new at m is r whole long e here h q =
-      record { is = changed-held b is whole long r ∙ rw (q, h .state, h .infos, here) (by-start new _ e refl); long = changed-long b is whole long }
+      record {
+        holds = record { is = changed-held b is whole long r ∙ rw (q, h .state, h .infos, here) (by-start new _ e refl); long = changed-long b is whole long };
+        small = changed-small b is whole long;
+      }
 
 -- ---- the slot
 
@@ -60,16 +63,19 @@ module _ (s : Small) (b : List ℕ) where
   by-slot false m e f = rw (e, f)
 
   -- no slot starts
-  pub slot-rests : length b ≡ size → (s .state .initialized && eqb (s .phase) 0) ≡ false → IsHeld (slotted hall (held s b)) s b
-  slot-rests whole e = record { is = by-slot false _ e refl; long = whole }
+  pub slot-rests : length b ≡ size → (s .state .initialized && eqb (s .phase) 0) ≡ false → IsNext (slotted hall (held s b)) b s b
+  slot-rests whole e = record { holds = record { is = by-slot false _ e refl; long = whole }; small = refl }
 
   pub slot-starts :
       (m : MetadataRendererState) (is : List ℕ) (r : Small) → length b ≡ size → length is ≡ 22528 → s .state .initialized ≡ true → s .phase ≡ 0 →
-      IsTimed (slotAt (s .start) (record { state = s .state; infos = infosOf b })) m is → r ≡ withState s m → IsHeld (slotted hall (held s b)) r (changed b is)
+      IsTimed (slotAt (s .start) (record { state = s .state; infos = infosOf b })) m is → r ≡ withState s m → IsNext (slotted hall (held s b)) b r (changed b is)
   slot-starts m is r whole long e z h q =
       record {
-        is = changed-held b is whole long r ∙ rw (q, h .state, h .infos) (by-slot true _ (rw (e, eq-eqb (s .phase) 0 z)) refl);
-        long = changed-long b is whole long;
+        holds = record {
+          is = changed-held b is whole long r ∙ rw (q, h .state, h .infos) (by-slot true _ (rw (e, eq-eqb (s .phase) 0 z)) refl);
+          long = changed-long b is whole long;
+        };
+        small = changed-small b is whole long;
       }
 
 -- ---- those sent for one time
@@ -116,40 +122,41 @@ module _ (t : ℕ) (g : ℕ → Sent) (n : ℕ) where
 
 -- ---- along the layout
 
-module _ (m : List ℕ) (l : records.Layout) (t at : ℕ) (all : Renderer Timed) where
-  -- where the walk stands: the updates from i on lead to `all`
+module _ (m : List ℕ) (l : records.Layout) (t at : ℕ) (all : Renderer Timed) (b₀ : List ℕ) where
+  -- where the walk stands, from the block b₀: the updates from i on lead to `all`
   pub record Standing (i : ℕ) (s : Small) (b : List ℕ) : Type 0 where
     pub within : i ≤ l .count
     pub time : i < l .count → getD (l .offset) i 0 ≡ t
     pub long : length b ≡ size
+    pub small : smallBytes b ≡ smallBytes b₀
     pub here : at ≡ s .position
     pub left : rest t (sentAt m) (l .count) i (held s b) ≡ all
 
   module _ (g : IsLayout m l) where
     pub standing :
-        (from i : ℕ) (s : Small) (b : List ℕ) → FirstAt (λ k. getD (l .offset) k 0) (l .count) t from i → length b ≡ size → at ≡ s .position →
+        (from i : ℕ) (s : Small) (b : List ℕ) → FirstAt (λ k. getD (l .offset) k 0) (l .count) t from i → length b ≡ size → smallBytes b ≡ smallBytes b₀ → at ≡ s .position →
         rest t (sentAt m) (l .count) from (held s b) ≡ all → Standing i s b
-    standing from i s b h long here left =
+    standing from i s b h long small here left =
         let a = h .after in
         let w = h .within in
         let e : from + (i - from) ≡ i = omega arith in
         let z = skip t (sentAt m) (l .count) (i - from) from (held s b) (omega arith) (λ k p q o. h .none k p (omega arith) (g .offsets k (omega (arith, g .counted)) ∙ o)) in
-        record { within = w; time = h .here; long = long; here = here; left = sym (rw e at z) ∙ left }
+        record { within = w; time = h .here; long = long; small = small; here = here; left = sym (rw e at z) ∙ left }
 
     -- an update more
     pub goes-on :
-        (i j : ℕ) (s r : Small) (b c : List ℕ) → i < l .count → Standing i s b → IsHeld (applied hall t (sent t (updateOf m (getD (l .first) i 0))) (held s b)) r c →
+        (i j : ℕ) (s r : Small) (b c : List ℕ) → i < l .count → Standing i s b → IsNext (applied hall t (sent t (updateOf m (getD (l .first) i 0))) (held s b)) b r c →
         FirstAt (λ k. getD (l .offset) k 0) (l .count) t (i + 1) j → Standing j r c
     goes-on i j s r b c low h next first =
         let k : i < count m = omega (arith, g .counted) in
         let o : sentAt m i .offset ≡ t = sym (g .offsets i k) ∙ h .time low in
         let u : updateOf m (getD (l .first) i 0) ≡ updateOf m (updateAt m i) = ap (updateOf m) (g .firsts i k) in
-        let one : held r c ≡ applied hall t (sentAt m i) (held s b) = next .is ∙ rw u in
-        standing (i + 1) j r c first (next .long) (h .here ∙ sym (ap (λ (x : Renderer Timed). x .position) (next .is)))
+        let one : held r c ≡ applied hall t (sentAt m i) (held s b) = next .holds .is ∙ rw u in
+        standing (i + 1) j r c first (next .holds .long) (next .small ∙ h .small) (h .here ∙ sym (ap (λ (x : Renderer Timed). x .position) (next .holds .is)))
         (rw (add-one, one) (sym (rest-here t (sentAt m) (l .count) i (held s b) low o) ∙ h .left))
 
-    pub ends : (i : ℕ) (s : Small) (b : List ℕ) → l .count ≤ i → Standing i s b → IsHeld all s b
-    ends i s b low h = record { is = sym (rest-none t (sentAt m) (l .count) i (held s b) low) ∙ h .left; long = h .long }
+    pub ends : (i : ℕ) (s : Small) (b : List ℕ) → l .count ≤ i → Standing i s b → IsNext all b₀ s b
+    ends i s b low h = record { holds = record { is = sym (rest-none t (sentAt m) (l .count) i (held s b) low) ∙ h .left; long = h .long }; small = h .small }
 
 -- all of them
 pub from-first : (m : List ℕ) (l : records.Layout) → IsLayout m l → (t : ℕ) (r : Renderer Timed) → rest t (sentAt m) (l .count) 0 r ≡ updated hall t (sentOf m) r
@@ -163,8 +170,8 @@ from-first m l g t r =
 pub can-start : {x : Renderer Timed} {s : Small} {b : List ℕ} → IsHeld x s b → CanStart x → CanStart (held s b)
 can-start h c = rw (h .is) c
 
-pub slotted-after : {x : Renderer Timed} {s r : Small} {b c : List ℕ} → IsHeld x s b → IsHeld (slotted hall (held s b)) r c → IsHeld (slotted hall x) r c
-slotted-after h g = record { is = g .is ∙ ap (slotted hall) (h .is); long = g .long }
+pub slotted-after : {x : Renderer Timed} {s r : Small} {b₀ b c : List ℕ} → IsNext x b₀ s b → IsNext (slotted hall (held s b)) b r c → IsNext (slotted hall x) b₀ r c
+slotted-after h g = record { holds = record { is = g .holds .is ∙ ap (slotted hall) (h .holds .is); long = g .holds .long }; small = g .small ∙ h .small }
 
 -- a renderer within document 01's ranges
 pub ranged-starts : (r : Renderer Timed) → Ranged hall Within r → CanStart r
@@ -183,8 +190,8 @@ slot-begins l t phase true e n = λ h. subst T (sym e ∙ h .slot) tt
 slot-begins l t phase false e n = record { none = n; slot = e }
 
 -- nothing begins
-pub rests : (m : List ℕ) (l : records.Layout) → IsLayout m l → (t : ℕ) (s : Small) (b : List ℕ) → length b ≡ size → Rests l t (s .state .initialized) (s .phase) → IsHeld (slotted hall (updated hall t (sentOf m) (held s b))) s b
+pub rests : (m : List ℕ) (l : records.Layout) → IsLayout m l → (t : ℕ) (s : Small) (b : List ℕ) → length b ≡ size → Rests l t (s .state .initialized) (s .phase) → IsNext (slotted hall (updated hall t (sentOf m) (held s b))) b s b
 rests m l g t s b long h =
     let all = updated hall t (sentOf m) (held s b) in
-    let e = ends m l t (s .position) all g (l .count) s b (omega arith) (standing m l t (s .position) all g 0 (l .count) s b (h .none) long refl (from-first m l g t (held s b))) in
+    let e = ends m l t (s .position) all b g (l .count) s b (omega arith) (standing m l t (s .position) all b g 0 (l .count) s b (h .none) long refl refl (from-first m l g t (held s b))) in
     slotted-after e (slot-rests s b long (h .slot))

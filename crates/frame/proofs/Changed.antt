@@ -1,4 +1,4 @@
--- The infos of a block, lent and changed: the places stay. Assumes nothing.
+-- The infos of a block, lent and changed: the small part's bytes and the places stay. Assumes nothing.
 use Prim.Native.Nat.{ℕ, _+_, _*_}
 use mathlib.Core.Path.{_≡_, sym, ap, _∙_}
 use mathlib.Core.Bool.{cond}
@@ -7,11 +7,12 @@ use native.Mathlib.Omega.{arith}
 use lib.Dec.{ltb}
 use lib.ListN.{length, take, drop, length-append, length-drop}
 use lib.Seq.{length-take-le, take-at, drop-at, drop-drop}
+use borrow.Rule.Slice.PartMut.{take-put}
 use Rattle.words.specs.Words.{wordsAt}
 use Rattle.store.specs.declared.Small.{Small}
 use Rattle.store.specs.Layout.{size, joined, infosOf, placesOf}
 use Rattle.store.proofs.Bytes.{words-drop}
-use Rattle.frame.specs.Held.{held}
+use Rattle.frame.specs.Held.{held, smallBytes}
 
 -- a block with other infos
 abbrev pub changed : List ℕ → List ℕ → List ℕ
@@ -28,6 +29,9 @@ module _ (b is : List ℕ) (whole : length b ≡ size) (long : length is ≡ 225
   changed-long =
       let f = front in
       rw (length-append, length-append, length-drop, length-drop) (omega arith)
+
+  pub changed-small : smallBytes (changed b is) ≡ smallBytes b
+  changed-small = take-put 1360 22528 b is (omega arith)
 
   changed-infos : infosOf (changed b is) ≡ is
   changed-infos = rw rest (take-at is (drop 22528 (drop 1360 b)) 22528 long)

@@ -1,4 +1,4 @@
--- Rows laid into the places of a state block: the infos stay, and each channel's 64 places are `laid`. Assumes nothing.
+-- Rows laid into the places of a state block: the small part's bytes and the infos stay, and each channel's 64 places are `laid`. Assumes nothing.
 use mathlib.Core.Path.{_≡_, refl, sym, ap, fun-ext, _∙_}
 use mathlib.Core.Bool.{Bool, true, false, cond}
 use mathlib.Core.List.{List, [], _∷_, _++_, append-nil}
@@ -17,6 +17,7 @@ use Rattle.rules.specs.Parts.{laid}
 use Rattle.store.specs.Layout.{size, infosOf}
 use Rattle.store.proofs.Bytes.{words-drop}
 use Rattle.render.proofs.Behind.{Fit, append-laid, length-channels}
+use Rattle.frame.specs.Held.{smallBytes}
 use Rattle.frame.specs.Pass.{Laid}
 
 -- ---- laid
@@ -76,6 +77,12 @@ module _ (rows : List Float) (pending k : ℕ) (short : pending + k ≤ 64) (b n
       let e = length-channels (channels 12 k rows) (4 * pending) (drop 23888 b) in
       length-append (take 23888 b) (withChannels (channels 12 k rows) 256 (4 * pending) (drop 23888 b)) ∙ omega arith
 
+  put-small : smallBytes (front ++ back) ≡ smallBytes b
+  unfolding front
+  put-small =
+      let f = front-long in
+      take-append-le 1360 front back (omega arith) ∙ sym (take-append-le 1360 front (drop 23888 b) (omega arith)) ∙ ap smallBytes (take-append-drop 23888 b)
+
   put-infos : infosOf (front ++ back) ≡ infosOf b
   unfolding front
   put-infos = infos-front front back front-long ∙ sym (infos-front front (drop 23888 b) front-long) ∙ ap infosOf (take-append-drop 23888 b)
@@ -90,4 +97,4 @@ module _ (rows : List Float) (pending k : ℕ) (short : pending + k ≤ 64) (b n
   put-place c false e = sym (laid-nil pending (take k (drop (64 * c) rows)))
 
   pub lay-laid : Laid rows pending k b (putMid 23888 (length b - 23888) b new)
-  lay-laid = rw put (record { long = put-long; infos = put-infos; places = fun-ext (λ c. put-place c (ltb c 12) refl) })
+  lay-laid = rw put (record { long = put-long; small = put-small; infos = put-infos; places = fun-ext (λ c. put-place c (ltb c 12) refl) })

@@ -22,14 +22,14 @@ use Rattle.rules.specs.Samples.{Frame, Renderer, moment, flushed, gainAfter}
 use Rattle.timed.specs.State.{Timed}
 use Rattle.claim.specs.Hall.{Sent, hall}
 use Rattle.store.specs.declared.Small.{Small}
-use Rattle.store.specs.Layout.{size, joined, infosOf, placesOf}
+use Rattle.store.specs.Layout.{joined, infosOf, placesOf}
 use Rattle.store.proofs.Decoded.{words-long}
 use Rattle.render.specs.Sources.{Framed, bed, bedsOf, sourceOf, sourcesOf}
 use Rattle.render.specs.Run.{momentAt, filterAfter, rowRun, Passed}
 use Rattle.render.proofs.Channels.{fewer}
 use Rattle.render.proofs.Tables.{beds-each, sources-each}
 use Rattle.render.proofs.Steps.{filter-as, run-as}
-use Rattle.frame.specs.Held.{held, IsHeld}
+use Rattle.frame.specs.Held.{held, IsNext}
 use Rattle.frame.specs.Chunk.{chunk}
 use Rattle.frame.specs.Out.{behind}
 use Rattle.frame.specs.Give.{CanGive, emptied, Gave}
@@ -145,20 +145,20 @@ module _ (f : Frame Sent) (t k : ℕ) (s : Small) (b : List ℕ) where
         ∙ ap (λ (f : BiquadLowpassState). held (passedClock s f k) b') (p .filter ∙ filter-as m at same (s .filter) t k)
         ∙ ap₂ (joined (passedClock s (filterAfter at (s .filter) t k) k)) (l .infos) (l .places ∙ fun-ext (λ c. rows-laid c (ltb c 12) refl))
 
-  module _ (stride ready : ℕ) (out : List ℕ) {r : Small} {b' : List ℕ} (h : held r b' ≡ settled) (l : length b' ≡ size) where
+  module _ (stride ready : ℕ) (out : List ℕ) {r : Small} {b' : List ℕ} (n : IsNext settled b r b') where
     pub passes-waiting : s .pending + k < 64 → Passes f t k stride ready s b out r b' out
     passes-waiting w =
         let e = lt-leb 64 (s .pending + k) w in
         record {
-          next = record { is = h ∙ sym (chunk-waits e); long = l };
+          next = record { holds = record { is = n .holds .is ∙ sym (chunk-waits e); long = n .holds .long }; small = n .small };
           given = sym (none-behind ready stride out) ∙ ap (λ (g : Channels). behind ready g stride out) (sym (chunk-none e));
         }
 
     pub passes-whole : {r' : Small} {out' : List ℕ} → s .pending + k ≡ 64 → Gave r b' stride ready out r' out' → Passes f t k stride ready s b out r' b' out'
     passes-whole e g =
         record {
-          next = record { is = g .next ∙ ap (λ (x : Renderer Timed). flushed hall x .next) h ∙ sym (chunk-whole e); long = l };
-          given = g .given ∙ ap (λ (x : Renderer Timed). behind ready (flushed hall x .given) stride out) h ∙ ap (λ (g : Channels). behind ready g stride out) (sym (chunk-given e));
+          next = record { holds = record { is = g .next ∙ ap (λ (x : Renderer Timed). flushed hall x .next) (n .holds .is) ∙ sym (chunk-whole e); long = n .holds .long }; small = n .small };
+          given = g .given ∙ ap (λ (x : Renderer Timed). behind ready (flushed hall x .given) stride out) (n .holds .is) ∙ ap (λ (g : Channels). behind ready g stride out) (sym (chunk-given e));
         }
 
 -- the moments that `mix` hears
@@ -173,23 +173,23 @@ pub record Passable (s : Small) (b pcm out codes : List ℕ) (objects n t k stri
   pub room : s .pending + k ≡ 64 → ready + 64 ≤ stride
   pub output : 48 * stride ≤ length out
 
-module _ (f : Frame Sent) {s r : Small} {b b' pcm out codes : List ℕ} {objects n t k stride ready : ℕ} (h : Passable s b pcm out codes objects n t k stride ready) (e : IsHeld (pass.settled f t k s b) r b') where
+module _ (f : Frame Sent) {s r : Small} {b b' pcm out codes : List ℕ} {objects n t k stride ready : ℕ} (h : Passable s b pcm out codes objects n t k stride ready) (e : IsNext (pass.settled f t k s b) b r b') where
   pending-after : r .pending ≡ s .pending + k
-  pending-after = ap (λ (x : Renderer Timed). x .pending) (e .is)
+  pending-after = ap (λ (x : Renderer Timed). x .pending) (e .holds .is)
 
   -- a whole block can be given out
   pub can-give : r .pending ≡ 64 → CanGive r b' out stride ready
   can-give w =
       let p = pending-after in
       let q = h .room (sym p ∙ w) in
-      record { block = e .long; pending = omega arith; rate = rw (ap (λ (x : Renderer Timed). x .rate) (e .is)) (h .rate); room = omega arith; output = h .output }
+      record { block = e .holds .long; pending = omega arith; rate = rw (ap (λ (x : Renderer Timed). x .rate) (e .holds .is)) (h .rate); room = omega arith; output = h .output }
 
   pub passes-on : (r .pending ≡ 64 → ⊥) → Passes f t k stride ready s b out r b' out
   passes-on w =
       let p = pending-after in
       let q = h .passes .pending in
       let n : s .pending + k ≡ 64 → ⊥ = λ z. w (p ∙ z) in
-      passes-waiting f t k s b stride ready out (e .is) (e .long) (omega arith)
+      passes-waiting f t k s b stride ready out e (omega arith)
 
   pub passes-given : {r' : Small} {out' : List ℕ} → r .pending ≡ 64 → Gave r b' stride ready out r' out' → Passes f t k stride ready s b out r' b' out'
-  passes-given w g = passes-whole f t k s b stride ready out (e .is) (e .long) (sym pending-after ∙ w) g
+  passes-given w g = passes-whole f t k s b stride ready out e (sym pending-after ∙ w) g

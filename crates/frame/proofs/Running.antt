@@ -35,7 +35,7 @@ use Rattle.claim.proofs.Checked.{each-all}
 use Rattle.claim.proofs.Applied.{codes-long}
 use Rattle.claim.proofs.Shapes.{shape-apply, shape-slot}
 use Rattle.claim.proofs.Theorem.{facts}
-use Rattle.frame.specs.Held.{held, IsHeld}
+use Rattle.frame.specs.Held.{held, smallBytes, IsNext}
 use Rattle.frame.specs.Chunk.{chunk}
 use Rattle.frame.specs.Out.{behind}
 use Rattle.frame.specs.Begin.{CanBegin}
@@ -100,6 +100,7 @@ is-rate b a l k = is-listed (a .rate) (k .passed .early .listed)
 -- before sample t
 pub record Running (b : List ℕ) (a : Args) (t : ℕ) (s : Small) (state : List ℕ) (ready : ℕ) (out : List ℕ) : Type 0 where
   pub long : length state ≡ size
+  pub small : smallBytes state ≡ smallBytes b
   pub going : Going hall block facts (decode b) a t (held s state) ready out
 
 pub opens : (s r : Small) (b : List ℕ) (a : Args) (l : Layout) → Accepted s b l a → Taken b a l → held r b ≡ opened hall (a .rate) (held s b) → Running b a 0 r b 0 (a .out)
@@ -107,6 +108,7 @@ unfolding decode
 opens s r b a l h k e =
     record {
       long = k .long;
+      small = refl;
       going = subst (λ (x : State hall). Going hall block facts (decode b) a 0 x 0 (a .out)) (sym (e ∙ ap (λ (s : Small). opened hall (a .rate) (held s b)) (h .small)))
           (starts hall block facts (decode b) a (k .ranged) (k .passed));
     }
@@ -151,9 +153,9 @@ module _ (b : List ℕ) (a : Args) (l : Layout) (k : Taken b a l) (t : ℕ) (s :
             omega arith
 
     -- with the small part s′ and the block state′ after them
-    module _ (s′ : Small) (state′ : List ℕ) (e : IsHeld met s′ state′) where
+    module _ (s′ : Small) (state′ : List ℕ) (e : IsNext met state s′ state′) where
       now-ranged : R hall block facts (held s′ state′)
-      now-ranged = subst (R hall block facts) (sym (e .is)) (here .ranged)
+      now-ranged = subst (R hall block facts) (sym (e .holds .is)) (here .ranged)
 
       pub few : (s′ .phase < 64) × (s′ .pending < 64)
       few = (now-ranged .phase, now-ranged .pending)
@@ -178,19 +180,19 @@ module _ (b : List ℕ) (a : Args) (l : Layout) (k : Taken b a l) (t : ℕ) (s :
             let y = g .long in
             record {
               passes = record {
-                block = e .long;
+                block = e .holds .long;
                 framed = record { room = omega arith; plain = pass-plain (a .pcm) 0 ((length (a .codes) + a .objects) * a .samples) (p .early .pass); span = turn-fits; short = let x = len .room in omega arith };
                 inputs = z .codes;
                 few = z .objects;
                 beds = r .meta .state .within .beds;
-                dynamic = subst (λ (x : State hall). started hall (x .meta) ≡ true → hall .shape (x .meta) .objects ≡ a .objects) (sym (e .is)) (here .fits);
+                dynamic = subst (λ (x : State hall). started hall (x .meta) ≡ true → hall .shape (x .meta) .objects ≡ a .objects) (sym (e .holds .is)) (here .fits);
                 pending = len .room;
                 phase = le-of-lt (r .phase);
                 position = r .position;
                 start = omega arith;
               };
-              rate = le-of-lt (rate-high (is-listed (s′ .rate) (ap (λ (x : State hall). listed (x .rate)) (e .is) ∙ here .listed)));
-              room = λ x. roomy (g .whole) (w .whole) (k .ranged .pending) (z .samples) turn-fits (g .pending) (ap (λ (x : State hall). x .pending) (e .is) ∙ here .pending) x;
+              rate = le-of-lt (rate-high (is-listed (s′ .rate) (ap (λ (x : State hall). listed (x .rate)) (e .holds .is) ∙ here .listed)));
+              room = λ x. roomy (g .whole) (w .whole) (k .ranged .pending) (z .samples) turn-fits (g .pending) (ap (λ (x : State hall). x .pending) (e .holds .is) ∙ here .pending) x;
               output = omega arith;
             }
           where
@@ -203,8 +205,8 @@ module _ (b : List ℕ) (a : Args) (l : Layout) (k : Taken b a l) (t : ℕ) (s :
             let o = len .room in
             record {
               quiet = λ j x y. none-before j x (omega arith);
-              slot = subst (λ (x : State hall). started hall (x .meta) ≡ true → x .phase + suc i ≤ 64) (e .is) (subst (λ (m : ℕ). s′ .state .initialized ≡ true → s′ .phase + m ≤ 64) q (len .slot));
-              room = subst (λ (x : State hall). x .pending + suc i ≤ 64) (e .is) (omega arith);
+              slot = subst (λ (x : State hall). started hall (x .meta) ≡ true → x .phase + suc i ≤ 64) (e .holds .is) (subst (λ (m : ℕ). s′ .state .initialized ≡ true → s′ .phase + m ≤ 64) q (len .slot));
+              room = subst (λ (x : State hall). x .pending + suc i ≤ 64) (e .holds .is) (omega arith);
             }
 
         -- what the turn leaves
@@ -217,9 +219,9 @@ module _ (b : List ℕ) (a : Args) (l : Layout) (k : Taken b a l) (t : ℕ) (s :
                 let f = frameOf hall a in
                 let fit = turn-fits in
                 let d = step hall block facts (decode b) a shapes (k .passed) (k .checked) t (held s state) ready out (h .going) more (k .ranged .pending) i (omega arith) (turn-of i q) in
-                let d′ = subst (λ (x : State hall). Going hall block facts (decode b) a (t + suc i) (chunk hall f (suc i) t x .next) (readyAfter ready (chunk hall f (suc i) t x .next .pending)) (behind ready (chunk hall f (suc i) t x .given) (a .stride) out)) (sym (e .is)) d in
-                let d″ = subst (λ (x : State hall). Going hall block facts (decode b) a (t + suc i) x (readyAfter ready (x .pending)) (behind ready (chunk hall f (suc i) t (held s′ state′) .given) (a .stride) out)) (sym (p .next .is)) d′ in
-                record { long = p .next .long; going = subst (λ (x : List ℕ). Going hall block facts (decode b) a (t + suc i) (held r c) (readyAfter ready (r .pending)) x) (sym (p .given)) d″ }
+                let d′ = subst (λ (x : State hall). Going hall block facts (decode b) a (t + suc i) (chunk hall f (suc i) t x .next) (readyAfter ready (chunk hall f (suc i) t x .next .pending)) (behind ready (chunk hall f (suc i) t x .given) (a .stride) out)) (sym (e .holds .is)) d in
+                let d″ = subst (λ (x : State hall). Going hall block facts (decode b) a (t + suc i) x (readyAfter ready (x .pending)) (behind ready (chunk hall f (suc i) t (held s′ state′) .given) (a .stride) out)) (sym (p .next .holds .is)) d′ in
+                record { long = p .next .holds .long; small = p .next .small ∙ e .small ∙ h .small; going = subst (λ (x : List ℕ). Going hall block facts (decode b) a (t + suc i) (held r c) (readyAfter ready (r .pending)) x) (sym (p .given)) d″ }
 
 -- a turn under way: the updates and the slot at t left s′ and state′, and n samples follow
 pub record Turning (b : List ℕ) (a : Args) (l : Layout) (t : ℕ) (s : Small) (state : List ℕ) (ready : ℕ) (out : List ℕ) (end : ℕ) (s′ : Small) (state′ : List ℕ) (n : ℕ) : Type 0 where
@@ -227,7 +229,7 @@ pub record Turning (b : List ℕ) (a : Args) (l : Layout) (t : ℕ) (s : Small) 
   pub running : Running b a t s state ready out
   pub more : t < a .samples
   pub ends : end ≡ next (λ i. getD (l .offset) i 0) (l .count) t (a .samples)
-  pub begun : IsHeld (slotted hall (updated hall t (sentOf (a .meta)) (held s state))) s′ state′
+  pub begun : IsNext (slotted hall (updated hall t (sentOf (a .meta)) (held s state))) state s′ state′
   pub count : n ≡ runLength (s′ .state .initialized) (s′ .phase) (s′ .pending) (end - t)
 
 module _ {b : List ℕ} {a : Args} {l : Layout} {t : ℕ} {s : Small} {state : List ℕ} {ready : ℕ} {out : List ℕ} {end : ℕ} {s′ : Small} {state′ : List ℕ} {n : ℕ} (u : Turning b a l t s state ready out end s′ state′ n) where
@@ -260,7 +262,7 @@ ready-few b a l k t s state ready out h =
     omega arith
 
 pub rendered : (b : List ℕ) (a : Args) (t : ℕ) (s : Small) (state : List ℕ) (ready : ℕ) (out : List ℕ) → Running b a t s state ready out → a .samples ≤ t
-    → IsRendered (pushed hall (frameOf hall a) (decode b)) (a .stride) (a .out) (record { small = s; ready = ready }) state out
+    → IsRendered (pushed hall (frameOf hall a) (decode b)) (a .stride) b (a .out) (record { small = s; ready = ready }) state out
 rendered b a t s state ready out h last =
     let e = ends hall block facts (decode b) a t (held s state) ready out (h .going) last in
-    record { next = record { is = e .0; long = h .long }; given = e .1; ready = e .2 }
+    record { next = record { holds = record { is = e .0; long = h .long }; small = h .small }; given = e .1; ready = e .2 }

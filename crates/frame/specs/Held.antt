@@ -2,7 +2,7 @@
 use Prim.Native.Nat.{ℕ}
 use mathlib.Core.Path.{_≡_}
 use mathlib.Core.List.{List}
-use lib.ListN.{length}
+use lib.ListN.{length, take}
 use Rattle.timed.specs.State.{Timed}
 use Rattle.rules.specs.Samples.{Renderer}
 use Rattle.store.specs.declared.Small.{Small}
@@ -16,3 +16,12 @@ held s b = joined s (infosOf b) (placesOf b)
 pub record IsHeld (r : Renderer Timed) (s : Small) (b : List ℕ) : Type 0 where
   pub is : held s b ≡ r
   pub long : length b ≡ size
+
+-- the first 1,360 bytes of a block, where its small part stands between calls
+abbrev pub smallBytes : List ℕ → List ℕ
+smallBytes b = take 1360 b
+
+-- the block b₀ became b: s and b hold r, and the small part's bytes are as they were. With r's infos and places that is all of b
+pub record IsNext (r : Renderer Timed) (b₀ : List ℕ) (s : Small) (b : List ℕ) : Type 0 where
+  pub holds : IsHeld r s b
+  pub small : smallBytes b ≡ smallBytes b₀

@@ -16,7 +16,7 @@ use Rattle.store.specs.declared.Small.{Small}
 use Rattle.store.specs.Layout.{size, joined, infosOf, placesOf}
 use Rattle.render.specs.Sources.{Framed}
 use Rattle.render.specs.Run.{filterAfter, rowRun}
-use Rattle.frame.specs.Held.{held, IsHeld}
+use Rattle.frame.specs.Held.{held, smallBytes, IsNext}
 use Rattle.frame.specs.Chunk.{chunk}
 use Rattle.frame.specs.Out.{behind}
 
@@ -33,9 +33,10 @@ pub record CanPass (s : Small) (state pcm codes : List ℕ) (objects n t k : ℕ
   pub position : s .position ≤ 1099511627776
   pub start : s .start ≤ 1099511627776
 
--- the first k places of each row behind the pending samples of its channel; the infos stay
+-- the first k places of each row behind the pending samples of its channel; the small part's bytes and the infos stay
 pub record Laid (rows : List Float) (pending k : ℕ) (state state' : List ℕ) : Type 0 where
   pub long : length state' ≡ size
+  pub small : smallBytes state' ≡ smallBytes state
   pub infos : infosOf state' ≡ infosOf state
   pub places : placesOf state' ≡ (λ c. laid pending (take k (drop (64 * c) rows)) (placesOf state c))
 
@@ -70,5 +71,5 @@ module _ (f : Frame Sent) (t k : ℕ) (s : Small) (b : List ℕ) where
 
 -- the rules' chunk: what is held after it, and what is given out behind `ready` samples of each channel
 pub record Passes (f : Frame Sent) (t k stride ready : ℕ) (s : Small) (state out : List ℕ) (r : Small) (state' out' : List ℕ) : Type 0 where
-  pub next : IsHeld (chunk hall f k t (held s state) .next) r state'
+  pub next : IsNext (chunk hall f k t (held s state) .next) state r state'
   pub given : out' ≡ behind ready (chunk hall f k t (held s state) .given) stride out

@@ -18,7 +18,7 @@ use Rattle.store.specs.Layout.{decode}
 use Rattle.store.specs.Ranges.{valid}
 use Rattle.claim.specs.Hall.{hall}
 use Rattle.frame.specs.declared.push.Rendered.{Rendered}
-use Rattle.frame.specs.Held.{IsHeld}
+use Rattle.frame.specs.Held.{IsNext}
 
 -- ---- the samples of a turn
 
@@ -42,8 +42,8 @@ pub record Accepted (s : Small) (b : List ℕ) (l : Layout) (a : Args) : Type 0 
   pub clear : found hall (decode b) a ≡ clear
   pub layout : IsLayout (a .meta) l
 
--- r is answered, with the block b and the output o′ at exit, where o was the output: p is what the rules say that the push leaves and gives out
-pub record IsRendered (p : After hall) (stride : ℕ) (o : List ℕ) (r : Rendered) (b o′ : List ℕ) : Type 0 where
-  pub next : IsHeld (p .next) (r .small) b
+-- r is answered, with the block b and the output o′ at exit, where b₀ was the block and o the output: p is what the rules say that the push leaves and gives out
+pub record IsRendered (p : After hall) (stride : ℕ) (b₀ o : List ℕ) (r : Rendered) (b o′ : List ℕ) : Type 0 where
+  pub next : IsNext (p .next) b₀ (r .small) b
   pub given : o′ ≡ written (p .given) stride o
   pub ready : r .ready ≡ length (p .given 0)

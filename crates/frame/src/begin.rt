@@ -12,7 +12,7 @@ ghost use Rattle.updates.specs.Said.{updateOf};
 ghost use Rattle.rules.specs.Samples.{applied, updated, slotted};
 ghost use Rattle.store.specs.Layout.{size};
 ghost use Rattle.claim.specs.Hall.{hall, sentOf};
-ghost use Rattle.frame.specs.Held.{held, IsHeld};
+ghost use Rattle.frame.specs.Held.{held, IsNext};
 ghost use Rattle.frame.specs.Begin.{withState, atSlot, CanStart, CanBegin};
 use records::layout::Layout;
 use records::order::sent_at;
@@ -69,7 +69,7 @@ fn starts_slot(started: bool, t: usize) -> bool
 // The update at record u, whose sample offset is t.
 fn apply_one(s: Small, state: &mut [u8], meta: &[u8], u: usize, t: usize, at: StreamSample) -> Small
     requires { ⌜ (length (now state) ≡ size) × (at .0 ≡ s .position) × WholeUpdate (now meta) u ⌝ }
-    ensures { λ r. ⌜ IsHeld (applied hall t (record { offset = t; said = updateOf (now (meta .entry)) u }) (held s (now (state .entry)))) r (now (state .exit)) ⌝ }
+    ensures { λ r. ⌜ IsNext (applied hall t (record { offset = t; said = updateOf (now (meta .entry)) u }) (held s (now (state .entry)))) (now (state .entry)) r (now (state .exit)) ⌝ }
 {
     let before = s.state;
     let new = starts_slot(before.initialized, t);
@@ -93,7 +93,7 @@ fn apply_sent(
     at: StreamSample,
 ) -> Small
     requires { ⌜ (length (now state) ≡ size) × (at .0 ≡ s .position) × IsLayout (now meta) l × WholeUpdates (now meta) (l .first) (l .count) ⌝ }
-    ensures { λ r. ⌜ IsHeld (updated hall t (sentOf (now (meta .entry))) (held s (now (state .entry)))) r (now (state .exit)) ⌝ }
+    ensures { λ r. ⌜ IsNext (updated hall t (sentOf (now (meta .entry))) (held s (now (state .entry)))) (now (state .entry)) r (now (state .exit)) ⌝ }
 {
     let first = l.first;
     let count = l.count;
@@ -109,7 +109,7 @@ fn apply_sent(
 // The slot, where one starts.
 fn start_slot(s: Small, state: &mut [u8]) -> Small
     requires { ⌜ (length (now state) ≡ size) × CanStart (held s (now state)) ⌝ }
-    ensures { λ r. ⌜ IsHeld (slotted hall (held s (now (state .entry)))) r (now (state .exit)) ⌝ }
+    ensures { λ r. ⌜ IsNext (slotted hall (held s (now (state .entry)))) (now (state .entry)) r (now (state .exit)) ⌝ }
 {
     let before = s.state;
     if !before.initialized {
@@ -135,7 +135,7 @@ pub fn begin(
     at: StreamSample,
 ) -> Small
     requires { ⌜ CanBegin s (now state) (now meta) l t (at .0) ⌝ }
-    ensures { λ r. ⌜ IsHeld (slotted hall (updated hall t (sentOf (now (meta .entry))) (held s (now (state .entry))))) r (now (state .exit)) ⌝ }
+    ensures { λ r. ⌜ IsNext (slotted hall (updated hall t (sentOf (now (meta .entry))) (held s (now (state .entry))))) (now (state .entry)) r (now (state .exit)) ⌝ }
 {
     let next = apply_sent(s, state, meta, l, t, at);
     start_slot(next, state)

@@ -12,7 +12,7 @@ ghost use Rattle.claim.specs.Hall.{Sent};
 ghost use Rattle.render.specs.Sources.{Framed, bedsOf, sourcesOf};
 ghost use Rattle.render.specs.Run.{momentAt, Passed};
 ghost use Rattle.store.specs.Layout.{size};
-ghost use Rattle.frame.specs.Held.{IsHeld};
+ghost use Rattle.frame.specs.Held.{IsNext};
 ghost use Rattle.frame.specs.Pass.{CanPass, Laid, passedClock, frameOf, settled};
 use lowpass::BiquadLowpassState;
 use store::Small;
@@ -129,7 +129,7 @@ pub fn pass(
     k: usize,
 ) -> Small
     requires { ⌜ CanPass s (now state) (now pcm) (now codes) objects n t k ⌝ }
-    ensures { λ r. ⌜ ((rate : ℕ) (us : List Sent) → IsHeld (settled (frameOf rate us (now (codes .entry)) objects (now (pcm .entry)) n) t k s (now (state .entry))) r (now (state .exit))) ⌝ }
+    ensures { λ r. ⌜ ((rate : ℕ) (us : List Sent) → IsNext (settled (frameOf rate us (now (codes .entry)) objects (now (pcm .entry)) n) t k s (now (state .entry))) (now (state .entry)) r (now (state .exit))) ⌝ }
 {
     let mut rows = [0.0f32; 768];
     let m = s.state;

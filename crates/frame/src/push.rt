@@ -100,7 +100,7 @@ pub struct Rendered {
     pub ready: usize,
 }
 
-// Infos and places are left in `state`, the small part is answered.
+// Infos and places are left in `state`, the small part is answered: its bytes in `state` stay.
 pub fn render(
     s: Small,
     state: &mut [u8],
@@ -115,7 +115,7 @@ pub fn render(
     stride: usize,
 ) -> Rendered
     requires { ⌜ Accepted s (now state) l (argsOf (now pcm) (now meta) (now out) (now codes) rate samples objects stride) ⌝ }
-    ensures { λ r. ⌜ IsRendered (pushed hall (frameOf hall (argsOf (now (pcm .entry)) (now (meta .entry)) (now (out .entry)) (now (codes .entry)) rate samples objects stride)) (decode (now (state .entry)))) stride (now (out .entry)) r (now (state .exit)) (now (out .exit)) ⌝ }
+    ensures { λ r. ⌜ IsRendered (pushed hall (frameOf hall (argsOf (now (pcm .entry)) (now (meta .entry)) (now (out .entry)) (now (codes .entry)) rate samples objects stride)) (decode (now (state .entry)))) stride (now (state .entry)) (now (out .entry)) r (now (state .exit)) (now (out .exit)) ⌝ }
 {
     let start = StreamSample(s.position);
     let mut small = open(s, rate);

@@ -1,6 +1,6 @@
 -- `frame::begin::apply_sent`: the updates from i on lead from the renderer now to that at the end. Assumes nothing.
 use Prim.Native.Nat.{_-_}
-use mathlib.Core.Path.{sym, _∙_}
+use mathlib.Core.Path.{refl, sym, _∙_}
 use native.Mathlib.Omega.{arith}
 use denote.Ref.{now}
 use Rattle.rules.specs.Samples.{updated}
@@ -11,7 +11,7 @@ use Rattle.frame.proofs.begin.apply_sent.Statement.{statement}
 use Rattle.frame.proofs.begin.apply_sent.Tie as tie
 
 abbrev Inv-loop : tie.InvT-loop
-Inv-loop state₀ meta l t at first count next₀ i₀ state next i = Standing meta l t (at .0) (updated hall t (sentOf meta) (held next₀ state₀)) i next state
+Inv-loop state₀ meta l t at first count next₀ i₀ state next i = Standing meta l t (at .0) (updated hall t (sentOf meta) (held next₀ state₀)) state₀ i next state
 
 abbrev μ-loop : tie.MeasureT-loop
 μ-loop state₀ meta l t at first count next₀ i₀ state next i = count - i
@@ -23,7 +23,7 @@ loop-holds : tie.Need-loop-holds Inv-loop μ-loop
 loop-holds c =
     let s = c .before .before .before .before .args in
     let p = c .before .before .before .before .pre in
-    standing (now (s .meta)) (s .l) (s .t) (s .at .0) (updated hall (s .t) (sentOf (now (s .meta))) (held (s .s) (now (s .state)))) (p .2) 0 (c .sent-at .result) (s .s) (now (s .state)) (c .sent-at .ensures) (p .0) (p .1)
+    standing (now (s .meta)) (s .l) (s .t) (s .at .0) (updated hall (s .t) (sentOf (now (s .meta))) (held (s .s) (now (s .state)))) (now (s .state)) (p .2) 0 (c .sent-at .result) (s .s) (now (s .state)) (c .sent-at .ensures) (p .0) refl (p .1)
     (from-first (now (s .meta)) (s .l) (p .2) (s .t) (held (s .s) (now (s .state))))
 
 mul-apply-one : tie.Need-mul-apply-one Inv-loop μ-loop
@@ -49,7 +49,7 @@ loop-again c =
     let s = c .before .before .before .before .before .before .before .before .before .before .before .args in
     let l = c .before .before .before .before .before .before .loop in
     let u = c .before .before .before .apply-one in
-    goes-on (now (s .meta)) (s .l) (s .t) (s .at .0) (updated hall (s .t) (sentOf (now (s .meta))) (held (s .s) (now (s .state)))) (c .before .before .before .before .before .before .before .before .before .before .before .pre .2) (l .i) (c .sent-at2 .result) (l .next) (u .result) (l .state) (u .last .1 .0)
+    goes-on (now (s .meta)) (s .l) (s .t) (s .at .0) (updated hall (s .t) (sentOf (now (s .meta))) (held (s .s) (now (s .state)))) (now (s .state)) (c .before .before .before .before .before .before .before .before .before .before .before .pre .2) (l .i) (c .sent-at2 .result) (l .next) (u .result) (l .state) (u .last .1 .0)
     (omega (arith, c .before .before .before .before .before .loop-test)) (l .inv) (u .ensures) (c .sent-at2 .ensures)
 
 same-length : tie.Need-same-length Inv-loop μ-loop
@@ -59,7 +59,7 @@ returns : tie.Need-returns Inv-loop μ-loop
 returns c =
     let s = c .before .before .before .before .before .before .args in
     let l = c .before .loop in
-    ends (now (s .meta)) (s .l) (s .t) (s .at .0) (updated hall (s .t) (sentOf (now (s .meta))) (held (s .s) (now (s .state)))) (c .before .before .before .before .before .before .pre .2) (l .i) (l .next) (l .state) (omega (arith, c .loop-test)) (l .inv)
+    ends (now (s .meta)) (s .l) (s .t) (s .at .0) (updated hall (s .t) (sentOf (now (s .meta))) (held (s .s) (now (s .state)))) (now (s .state)) (c .before .before .before .before .before .before .pre .2) (l .i) (l .next) (l .state) (omega (arith, c .loop-test)) (l .inv)
 
 pub apply-sent-spec : {M : Type 1} → statement M
 apply-sent-spec =

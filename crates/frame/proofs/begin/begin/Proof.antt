@@ -8,7 +8,7 @@ apply-sent-requires : tie.Need-apply-sent-requires
 apply-sent-requires c κs = search needs
 
 start-slot-requires : tie.Need-start-slot-requires
-start-slot-requires c κs = (c .before .before .before .apply-sent .ensures .long, can-start (c .before .before .before .apply-sent .ensures) (c .before .before .before .before .before .before .before .pre .slot))
+start-slot-requires c κs = (c .before .before .before .apply-sent .ensures .holds .long, can-start (c .before .before .before .apply-sent .ensures .holds) (c .before .before .before .before .before .before .before .pre .slot))
 
 same-length : tie.Need-same-length
 same-length c = search needs

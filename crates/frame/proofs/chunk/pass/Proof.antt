@@ -67,7 +67,9 @@ same-length : tie.Need-same-length
 same-length c = search needs
 
 returns : tie.Need-returns
-returns c = λ rate us. record { is = settles c rate us; long = c .before .before .before .lay .ensures .long }
+returns c =
+    let l = c .before .before .before .lay .ensures in
+    λ rate us. record { holds = record { is = settles c rate us; long = l .long }; small = l .small }
 
 pub pass-spec : {M : Type 1} → statement M
 pass-spec = tie.close (tie.spec slice-aggregate-mix mix-requires slice-aggregate-lay cast-lay lay-requires cast-tick tick-requires same-length returns)

@@ -9,7 +9,7 @@ use Rattle.rules.specs.Refusals.{Args}
 use Rattle.rules.specs.Calls.{frameOf}
 use Rattle.claim.specs.Hall.{sentOf, hall}
 use Rattle.rules.specs.Samples.{updated, slotted}
-use Rattle.frame.specs.Held.{held, IsHeld}
+use Rattle.frame.specs.Held.{held, IsNext}
 use Rattle.rules.specs.Refusals.{argsOf}
 use Rattle.frame.proofs.Begins.{rests}
 use Rattle.frame.proofs.Running.{Taken, takes, starts-at, is-rate, Running, opens, can-begin, end-above, few, Turning, turn-some, turn-within, turn-passes, turn-runs, ready-few, rendered}
@@ -74,7 +74,7 @@ begin-requires c κs =
     (c .before .before .before .at .ensures ∙ ap (λ (p : ℕ). p + x .t) (starts-at (s .s) (now (s .state)) (args (c .before .before .before .before .before .before .before)) (s .l) (c .before .before .before .before .before .before .before .before .before .before .before .before .pre)))
 
 begun : (c : lts.Joined1 (open-reads.Asked, open-reads.Learnt, at-reads.Asked, at-reads.Learnt, begins-reads.Asked, begins-reads.Learnt, begin-reads.Asked, begin-reads.Learnt, next-offset-reads.Asked, next-offset-reads.Learnt, run-length-reads.Asked, run-length-reads.Learnt, pass-reads.Asked, pass-reads.Learnt, give-reads.Asked, give-reads.Learnt, ready-after-reads.Asked, ready-after-reads.Learnt) reads.Pre reads.Post Inv-loop μ-loop)
-    → IsHeld (slotted hall (updated hall (c .before .before .before .before .loop .t) (sentOf (args (c .before .before .before .before .before .before) .meta)) (held (c .before .before .before .before .loop .small) (c .before .before .before .before .loop .state)))) (c .if1 .small) (c .if1 .state)
+    → IsNext (slotted hall (updated hall (c .before .before .before .before .loop .t) (sentOf (args (c .before .before .before .before .before .before) .meta)) (held (c .before .before .before .before .loop .small) (c .before .before .before .before .loop .state)))) (c .before .before .before .before .loop .state) (c .if1 .small) (c .if1 .state)
 begun c =
     let s = c .before .before .before .before .before .before .before .before .before .before .before .args in
     let x = c .before .before .before .before .loop in
