@@ -1,6 +1,6 @@
 -- What a frame's header says of its counts; the digits of a word; a line that grows by a cell. Assumes nothing.
 use Prim.Native.Nat.{ℕ, suc, _+_, _-_, _*_, _^_, _≤_, _<_}
-use mathlib.Core.Path.{_≡_, refl, sym, ap, _∙_}
+use mathlib.Core.Path.{_≡_, refl, sym, ap, subst, _∙_}
 use mathlib.Core.Bool.{true, _&&_}
 use mathlib.Core.List.{List, [], _∷_, _++_, append-assoc}
 use mathlib.Core.Logic.{⊎-elim}
@@ -16,8 +16,15 @@ use Rattle.words.specs.Words.{half, word}
 use Rattle.fields.proofs.All.{and-left, and-right}
 use Rattle.fields.specs.Bytes.{zeros}
 use Rattle.io.specs.Digits.{digits, Fewest}
+use Rattle.rules.specs.Refusals.{argsOf}
+use Rattle.rules.specs.Calls.{Call, push}
+use Rattle.rules.specs.Block.{made}
+use Rattle.claim.specs.Hall.{hall, block}
+use Rattle.hall.specs.Answers.{Left}
+use Rattle.hall.specs.declared.answer.Answer.{Answer}
 use Rattle.hallrender.specs.Framing.{bedsOf, inLimits, isFrame}
 use Rattle.hallrender.specs.Line.{hex8, cells}
+use Rattle.hallrender.specs.Asked.{frameArgs, Called}
 
 -- the counts of a frame
 pub record Limits (r : List ℕ) : Type 0 where
@@ -106,3 +113,10 @@ pub line-whole : (out : List ℕ) (i : ℕ) (line : List ℕ) → length line �
 line-whole out i line n p =
     let d : drop 108 line ≡ [] = ap (λ (k : ℕ). drop k line) (sym n) ∙ drop-length line in
     rw (d, p)
+
+-- a push of the header's parts is the header's push
+pub pushed : (r meta pcm out b : List ℕ) {n rate samples objects : ℕ} {a : Answer} {state out' : List ℕ} → n ≡ bedsOf r → rate ≡ word r 4 → samples ≡ half r 8 → objects ≡ getD r 11 0 → Left (made hall block (push (argsOf pcm meta out (take n (drop 14 r)) rate samples objects 256)) b) a state out' → Called (push (frameArgs r meta pcm out)) b out state out'
+pushed r meta pcm out b {n} {rate} {samples} {objects} {a} {state} {out'} p q e f l =
+    let same : argsOf pcm meta out (take n (drop 14 r)) rate samples objects 256 ≡ frameArgs r meta pcm out = cc in
+    let k = subst (λ x. Left (made hall block (push x) b) a state out') same l in
+    record { block = k .block; output = k .output }

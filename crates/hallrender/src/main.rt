@@ -1,9 +1,11 @@
 // `hallrender`: records of 40 bytes from standard input, each answer to standard output. Document 01, "`hallrender` reads 40-byte records".
 ghost use mathlib.Core.Path.{_≡_};
-ghost use mathlib.Core.Bool.{true};
+ghost use mathlib.Core.Bool.{true, false};
 ghost use Prim.Native.Nat.{_≤_};
 ghost use lib.ListN.{length};
+ghost use Rattle.rules.specs.Calls.{push};
 ghost use Rattle.hallrender.specs.Framing.{isFrame};
+ghost use Rattle.hallrender.specs.Asked.{frameArgs, Called};
 use fields::bytes::byte_at;
 use libc::STDIN_FILENO;
 use libc::STDOUT_FILENO;
@@ -12,7 +14,9 @@ mod framing;
 mod text;
 
 // "prints `bad record` and ends": the program does not go on.
-fn bad() -> bool {
+fn bad() -> bool
+    ensures { λ r. ⌜ r ≡ false ⌝ }
+{
     io::write_all(STDOUT_FILENO, b"bad record\n");
     false
 }
@@ -59,6 +63,7 @@ fn read_body(meta: &mut [u8], pcm: &mut [u8]) -> bool
 // The push of a frame whose header is `rec`, and its answer.
 fn push(state: &mut [u8], meta: &[u8], pcm: &[u8], out: &mut [u8], rec: &[u8; 40])
     requires { ⌜ (isFrame (now rec) ≡ true) × (length (now out) ≡ 12288) ⌝ }
+    ensures { λ _. ⌜ Called (push (frameArgs (now (rec .entry)) (now (meta .entry)) (now (pcm .entry)) (now (out .entry)))) (now (state .entry)) (now (out .entry)) (now (state .exit)) (now (out .exit)) ⌝ }
 {
     let rate = words::u32_at(rec, 4);
     let samples = words::u16_at(rec, 8) as u32;
