@@ -5,7 +5,7 @@ ghost use Prim.Native.Nat.{_≤_};
 ghost use lib.ListN.{length};
 ghost use Rattle.rules.specs.Calls.{push};
 ghost use Rattle.hallrender.specs.Framing.{isFrame};
-ghost use Rattle.hallrender.specs.Asked.{frameArgs, Called};
+ghost use Rattle.hallrender.specs.Asked.{frameArgs, Called, Framed, Handled, One, Ran};
 use fields::bytes::byte_at;
 use libc::STDIN_FILENO;
 use libc::STDOUT_FILENO;
@@ -78,6 +78,7 @@ fn push(state: &mut [u8], meta: &[u8], pcm: &[u8], out: &mut [u8], rec: &[u8; 40
 // A frame whose header is `rec`, whether the program goes on. Nothing of a frame that is cut is pushed.
 fn frame(state: &mut [u8], meta: &mut [u8], pcm: &mut [u8], out: &mut [u8], rec: &[u8; 40]) -> bool
     requires { ⌜ (length (now meta) ≡ 48000) × (length (now pcm) ≡ 34816) × (length (now out) ≡ 12288) ⌝ }
+    ensures { λ r. ⌜ Framed (now (rec .entry)) (now (meta .exit)) (now (pcm .exit)) (now (state .entry)) (now (out .entry)) r (now (state .exit)) (now (out .exit)) ⌝ }
 {
     if !framing::is_frame(rec) {
         return bad();
@@ -91,22 +92,15 @@ fn frame(state: &mut [u8], meta: &mut [u8], pcm: &mut [u8], out: &mut [u8], rec:
     true
 }
 
-// One record and what belongs to it; whether the program goes on.
-fn one(state: &mut [u8], meta: &mut [u8], pcm: &mut [u8], out: &mut [u8]) -> bool
+// What a record asks for; whether the program goes on.
+fn handle(state: &mut [u8], meta: &mut [u8], pcm: &mut [u8], out: &mut [u8], rec: &[u8; 40]) -> bool
     requires { ⌜ (length (now meta) ≡ 48000) × (length (now pcm) ≡ 34816) × (length (now out) ≡ 12288) ⌝ }
+    ensures { λ r. ⌜ Handled (now (rec .entry)) (now (meta .exit)) (now (pcm .exit)) (now (state .entry)) (now (out .entry)) r (now (state .exit)) (now (out .exit)) ⌝ }
 {
-    let mut rec = [0u8; 40];
-    let n = io::read_full(STDIN_FILENO, &mut rec);
-    if n == 0 {
-        return false;
-    }
-    if n < 40 {
-        return bad();
-    }
     if rec[0] == 5 {
-        return frame(state, meta, pcm, out, &rec);
+        return frame(state, meta, pcm, out, rec);
     }
-    if !framing::is_plain(&rec) {
+    if !framing::is_plain(rec) {
         return bad();
     }
     if rec[0] == 7 {
@@ -117,9 +111,26 @@ fn one(state: &mut [u8], meta: &mut [u8], pcm: &mut [u8], out: &mut [u8]) -> boo
     true
 }
 
+// One record and what belongs to it; whether the program goes on.
+fn one(state: &mut [u8], meta: &mut [u8], pcm: &mut [u8], out: &mut [u8]) -> bool
+    requires { ⌜ (length (now meta) ≡ 48000) × (length (now pcm) ≡ 34816) × (length (now out) ≡ 12288) ⌝ }
+    ensures { λ r. ⌜ One (now (meta .exit)) (now (pcm .exit)) (now (state .entry)) (now (out .entry)) r (now (state .exit)) (now (out .exit)) ⌝ }
+{
+    let mut rec = [0u8; 40];
+    let n = io::read_full(STDIN_FILENO, &mut rec);
+    if n == 0 {
+        return false;
+    }
+    if n < 40 {
+        return bad();
+    }
+    handle(state, meta, pcm, out, &rec)
+}
+
 // The loop ends with the input; its budget of turns is more than any input has.
 fn run(state: &mut [u8], meta: &mut [u8], pcm: &mut [u8], out: &mut [u8])
     requires { ⌜ (length (now meta) ≡ 48000) × (length (now pcm) ≡ 34816) × (length (now out) ≡ 12288) ⌝ }
+    ensures { λ _. ⌜ Ran (now (state .entry)) (now (out .entry)) (now (state .exit)) (now (out .exit)) ⌝ }
 {
     let mut turns = u64::MAX;
     while turns > 0 {
