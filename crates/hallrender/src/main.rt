@@ -5,7 +5,7 @@ ghost use Prim.Native.Nat.{_≤_};
 ghost use lib.ListN.{length};
 ghost use Rattle.rules.specs.Calls.{push};
 ghost use Rattle.hallrender.specs.Framing.{isFrame};
-ghost use Rattle.hallrender.specs.Asked.{frameArgs, Called, Framed, Handled, One, Ran};
+ghost use Rattle.hallrender.specs.Asked.{frameArgs, Called, Framed, Handled, One, newBlock, Ran, Nine};
 use fields::bytes::byte_at;
 use libc::STDIN_FILENO;
 use libc::STDOUT_FILENO;
@@ -22,7 +22,9 @@ fn bad() -> bool
 }
 
 // The samples of one record of kind 6 at the front of `rest`: nine, or as many as are left. False where the record is not as laid out.
-fn read_nine(rest: &mut [u8]) -> bool {
+fn read_nine(rest: &mut [u8]) -> bool
+    ensures { λ r. ⌜ Nine (now (rest .entry)) r (now (rest .exit)) ⌝ }
+{
     let mut rec = [0u8; 40];
     if io::read_full(STDIN_FILENO, &mut rec) < 40 {
         return false;
@@ -38,6 +40,7 @@ fn read_nine(rest: &mut [u8]) -> bool {
 // Fills `pcm` from as few records of kind 6 as hold it.
 fn read_pcm(pcm: &mut [u8]) -> bool
     requires { ⌜ length (now pcm) ≤ 34816 ⌝ }
+    ensures { λ r. ⌜ (length (now (pcm .entry)) ≡ 0 → r ≡ true) ⌝ }
 {
     let mut at = 0usize;
     while at < pcm.len() {
@@ -52,6 +55,7 @@ fn read_pcm(pcm: &mut [u8]) -> bool
 // The metadata and the PCM of a frame; false where a record is missing or not as laid out.
 fn read_body(meta: &mut [u8], pcm: &mut [u8]) -> bool
     requires { ⌜ length (now pcm) ≤ 34816 ⌝ }
+    ensures { λ r. ⌜ (length (now (meta .entry)) ≡ 0 → length (now (pcm .entry)) ≡ 0 → r ≡ true) ⌝ }
 {
     let m = meta.len();
     if io::read_full(STDIN_FILENO, meta) < m {
@@ -129,7 +133,7 @@ fn one(state: &mut [u8], meta: &mut [u8], pcm: &mut [u8], out: &mut [u8]) -> boo
 
 // The loop ends with the input; its budget of turns is more than any input has.
 fn run(state: &mut [u8], meta: &mut [u8], pcm: &mut [u8], out: &mut [u8])
-    requires { ⌜ (length (now meta) ≡ 48000) × (length (now pcm) ≡ 34816) × (length (now out) ≡ 12288) ⌝ }
+    requires { ⌜ (length (now meta) ≡ 48000) × (length (now pcm) ≡ 34816) × (length (now out) ≡ 12288) × (now state ≡ newBlock) ⌝ }
     ensures { λ _. ⌜ Ran (now (state .entry)) (now (out .entry)) (now (state .exit)) (now (out .exit)) ⌝ }
 {
     let mut turns = u64::MAX;

@@ -1,7 +1,7 @@
 -- `handle`: each arm makes the call of its kind. Assumes nothing.
 use mathlib.Core.Path.{refl, sym, _∙_}
 use borrow.Author.Tests.{ne-eqb, not-true, not-false}
-use Rattle.hallrender.proofs.Laws.{frame-handled, flush-handled, reset-handled}
+use Rattle.hallrender.proofs.Laws.{frame-kind, frame-handled, flush-handled, reset-handled}
 use borrow.Author.Needs.{needs}
 use Rattle.hallrender.proofs.handle.Statement.{statement}
 use Rattle.hallrender.proofs.handle.Tie as tie
@@ -34,7 +34,7 @@ bad-requires : tie.Need-bad-requires
 bad-requires c κs = search needs
 
 returns-2 : tie.Need-returns-2
-returns-2 c = rw (c .bad .ensures) (sym (c .before .before .is-plain .ensures) ∙ not-true _ (c .before .if2 .taken), record { block = refl; output = refl })
+returns-2 c = rw (c .bad .ensures) (sym (c .before .before .is-plain .ensures) ∙ not-true _ (c .before .if2 .taken), λ f z. c .before .before .before .if1 .left (frame-kind _ f), record { block = refl; output = refl })
 
 element-copy-out-if3 : tie.Need-element-copy-out-if3
 element-copy-out-if3 c = search needs

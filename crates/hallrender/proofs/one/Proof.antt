@@ -36,7 +36,7 @@ same-length-4 : tie.Need-same-length-4
 same-length-4 c = search needs
 
 returns-3 : tie.Need-returns-3
-returns-3 c = let h = c .before .before .before .before .before .before .before .before in handled-one _ _ _ _ _ (h .handle .result) _ _ (h .handle .ensures)
+returns-3 c = let h = c .before .before .before .before .before .before .before .before in handled-one _ _ _ _ _ (h .handle .result) _ _ (search needs) (h .handle .ensures)
 
 pub one-spec : {M : Type 1} → statement M
 one-spec =
