@@ -1,7 +1,8 @@
 -- `frame`: the header's limits keep metadata and PCM within what is lent. Assumes nothing.
-use mathlib.Core.Path.{sym, _∙_}
+use mathlib.Core.Path.{refl, sym, _∙_}
+use Rattle.hallrender.proofs.Laws.{clash, framed, not-alone}
 use native.Mathlib.Omega.{arith}
-use borrow.Author.Tests.{not-false}
+use borrow.Author.Tests.{not-true, not-false}
 use lib.Seq.{length-take-le}
 use borrow.Author.Needs.{needs}
 use Rattle.hallrender.proofs.frame.Statement.{statement}
@@ -14,7 +15,7 @@ bad-requires : tie.Need-bad-requires
 bad-requires c κs = search needs
 
 returns : tie.Need-returns
-returns c = search needs
+returns c = rw (c .bad .ensures) (λ f z. clash (sym (c .before .before .is-frame .ensures) ∙ not-true _ (c .before .if1 .taken)) f, record { block = refl; output = refl })
 
 metadata-bytes-requires : tie.Need-metadata-bytes-requires
 metadata-bytes-requires c κs = sym (c .before .is-frame .ensures) ∙ not-false _ (c .if1 .left)
@@ -47,7 +48,9 @@ same-length-2 : tie.Need-same-length-2
 same-length-2 c = search needs
 
 returns-2 : tie.Need-returns-2
-returns-2 c = search needs
+returns-2 c =
+    let e = c .before .before .before .before .before .before in
+    rw (c .bad2 .ensures) (not-alone _ (e .before .before .before .before .metadata-bytes .ensures .0) (e .before .before .before .pcm-bytes .ensures .0) (length-take-le _ _ (search needs)) (length-take-le _ _ (search needs)) (not-true _ (c .before .if2 .taken)) (e .read-body .ensures), record { block = refl; output = refl })
 
 slice-reshare-prefix-push : tie.Need-slice-reshare-prefix-push
 slice-reshare-prefix-push c = search needs
@@ -77,7 +80,10 @@ same-length-6 : tie.Need-same-length-6
 same-length-6 c = search needs
 
 returns-3 : tie.Need-returns-3
-returns-3 c = search needs
+returns-3 c =
+    let e = c .before .before .before .before .before .before .before .before .before .before .before .before .before .before in
+    let i = e .before .before .before .before .before .before in
+    framed (i .before .before .before .before .before .args .rec .now) _ _ _ _ (e .before .before .before .before .metadata-bytes .ensures .0) (e .before .before .before .pcm-bytes .ensures .0) (sym (i .is-frame .ensures) ∙ not-false _ (e .before .before .before .before .before .if1 .left)) (c .before .before .before .before .push .ensures)
 
 pub frame-spec : {M : Type 1} → statement M
 frame-spec =

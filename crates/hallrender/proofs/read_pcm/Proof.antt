@@ -1,6 +1,7 @@
 -- `read_pcm`: each turn passes a record's 36 bytes. Assumes nothing.
 use Prim.Native.Nat.{_≤_, _-_}
-use mathlib.Core.Path.{_≡_}
+use mathlib.Core.Path.{_≡_, refl}
+use native.Mathlib.Omega.{arith}
 use lib.ListN.{length}
 use borrow.Author.Needs.{needs}
 use Rattle.hallrender.proofs.read_pcm.Statement.{statement}
@@ -31,7 +32,7 @@ same-length : tie.Need-same-length Inv-loop μ-loop
 same-length c = search needs
 
 returns : tie.Need-returns Inv-loop μ-loop
-returns c = search needs
+returns c = λ e. absurd (omega arith)
 
 add-at : tie.Need-add-at Inv-loop μ-loop
 add-at c = search needs
@@ -46,7 +47,7 @@ same-length-2 : tie.Need-same-length-2 Inv-loop μ-loop
 same-length-2 c = search needs
 
 returns-2 : tie.Need-returns-2 Inv-loop μ-loop
-returns-2 c = search needs
+returns-2 c = λ e. refl
 
 pub read-pcm-spec : {M : Type 1} → statement M
 read-pcm-spec =
