@@ -1,4 +1,5 @@
-//! Copies the three Rust sources to OUT_DIR, unchanged but for the substitutions below. They are
+//! Copies the three Rust sources to OUT_DIR, unchanged but for the substitutions below: those of
+//! the nearest values to `unchanged`, these and those of document 02 to `amended`. They are
 //! looked for under VOQLISNA_RUST_SRC, or `../shared/docs/src` where that is not set, a path from
 //! the project's root; where they are not there the crate is built with the cfg `no_sources`.
 
@@ -7,14 +8,40 @@ use std::{env, fs};
 
 const SOURCES: [&str; 3] = ["types.rs", "render_input.rs", "render.rs"];
 
+/// A text that render.rs has exactly once, and what stands in its place.
+type Substitution = (&'static str, &'static str);
+
 /// Calls of the machine's libm, each with the nearest value in its place (docs/DIFFERENCES.md).
-const SUBSTITUTIONS: [(&str, &str); 3] = [
+const NEAREST: [Substitution; 3] = [
     (
         "position.y.powf(depth_factor)",
         "crate::exact::depth_power(position.y, depth_factor)",
     ),
     ("w0.cos()", "crate::exact::cos(w0)"),
     ("w0.sin()", "crate::exact::sin(w0)"),
+];
+
+/// Document 02's R-1: an element that would be kept takes the way of one whose block count has
+/// changed where the dynamic objects of the update are not as many as the state's.
+const LIFTED: [Substitution; 4] = [
+    (
+        "        self.object_count = metadata.object_count;",
+        "        let last = self.object_count.saturating_sub(self.bed_or_isf_objects);
+        let lifted = last != metadata.dynamic_object_count();
+        self.object_count = metadata.object_count;",
+    ),
+    (
+        "                metadata.bed_or_isf_objects,\n            );",
+        "                metadata.bed_or_isf_objects,\n                lifted,\n            );",
+    ),
+    (
+        "        bed_or_isf_objects: usize,\n    ) {",
+        "        bed_or_isf_objects: usize,\n        lifted: bool,\n    ) {",
+    ),
+    (
+        "if self.block_used.len() != block_count ||",
+        "if lifted || self.block_used.len() != block_count ||",
+    ),
 ];
 
 fn main() {
@@ -32,6 +59,10 @@ fn main() {
         return;
     }
     let out = PathBuf::from(env::var("OUT_DIR").unwrap());
+    let copies = ["unchanged", "amended"].map(|name| out.join(name));
+    copies
+        .iter()
+        .for_each(|copy| fs::create_dir_all(copy).unwrap());
     for (name, paths) in SOURCES.iter().zip(&found) {
         let [path] = paths.as_slice() else {
             panic!(
@@ -41,12 +72,15 @@ fn main() {
         };
         println!("cargo::rerun-if-changed={}", path.display());
         let text = fs::read_to_string(path).unwrap();
-        let text = if *name == "render.rs" {
-            substituted(text)
+        let texts = if *name == "render.rs" {
+            let unchanged = substituted(text, &NEAREST);
+            [unchanged.clone(), substituted(unchanged, &LIFTED)]
         } else {
-            text
+            [text.clone(), text]
         };
-        fs::write(out.join(name), text).unwrap();
+        for (copy, text) in copies.iter().zip(texts) {
+            fs::write(copy.join(name), text).unwrap();
+        }
     }
 }
 
@@ -66,8 +100,8 @@ fn find(folder: &Path, name: &str) -> Vec<PathBuf> {
     found
 }
 
-fn substituted(mut text: String) -> String {
-    for (from, to) in SUBSTITUTIONS {
+fn substituted(mut text: String, substitutions: &[Substitution]) -> String {
+    for (from, to) in substitutions {
         let count = text.matches(from).count();
         assert_eq!(count, 1, "render.rs has `{from}` {count} times, not once");
         text = text.replace(from, to);

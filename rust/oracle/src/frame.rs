@@ -20,6 +20,14 @@ impl Frame {
     pub fn channel(&self, index: usize) -> &[f32] {
         &self.pcm[index * self.samples..][..self.samples]
     }
+
+    /// The updates that are applied, in time: not those at or past the end, offset 0 excepted.
+    pub fn applied(&self) -> Vec<&Update> {
+        let applied = |u: &&Update| u.offset == 0 || usize::from(u.offset) < self.samples;
+        let mut updates: Vec<&Update> = self.updates.iter().filter(applied).collect();
+        updates.sort_by_key(|update| update.offset);
+        updates
+    }
 }
 
 #[derive(Clone, Debug, Default, PartialEq)]

@@ -1,5 +1,6 @@
 //! The oracle: `Renderer714` compiled from its own sources, with the nearest value where it calls
-//! the machine's libm, and references in exact arithmetic.
+//! the machine's libm, and references in exact arithmetic. `amended` is the same sources with the
+//! rules of document 02 that the Rust has not (build.rs).
 //!
 //! Where the sources are not at hand (cfg `no_sources`, see build.rs) everything here compiles and
 //! only `exact` runs; tests that need the sources carry
@@ -21,12 +22,33 @@ macro_rules! over_sources {
     )*};
 }
 
+mod answer;
 pub mod exact;
 pub mod frame;
+pub mod state;
+
+/// A file of the sources, unchanged but for the nearest values.
+#[cfg(not(no_sources))]
+macro_rules! sources {
+    ($name:literal) => {
+        include!(concat!(env!("OUT_DIR"), "/unchanged/", $name));
+    };
+}
 mod renderer;
 
-pub use renderer::render::run::{Input, Oracle, Pushed, Refusal, Slot, SlotSource};
-pub use renderer::render::{leaf, state};
+/// The same with the rules of document 02.
+#[cfg(not(no_sources))]
+macro_rules! sources {
+    ($name:literal) => {
+        include!(concat!(env!("OUT_DIR"), "/amended/", $name));
+    };
+}
+#[allow(clippy::duplicate_mod)]
+#[path = "renderer/mod.rs"]
+pub mod amended;
+
+pub use answer::{Pushed, Refusal, Slot, SlotSource};
+pub use renderer::{Input, Oracle, leaf};
 
 /// A position or direction: x, y, z.
 pub type Vector = [f32; 3];

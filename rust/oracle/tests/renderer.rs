@@ -2,7 +2,7 @@
 //! counts as never sent, a panic is an outcome.
 
 use oracle::frame::{Block, Element, Frame, Object, Update};
-use oracle::{Oracle, Pushed, Refusal};
+use oracle::{Oracle, Pushed, Refusal, amended};
 
 const CENTER: u8 = 2;
 const LFE: u8 = 3;
@@ -147,30 +147,81 @@ fn leading_silence_panics_unless_rows_are_in_store() {
     assert_eq!(oracle.push(&silent), Pushed::Ready(vec![vec![0.0; 64]; 12]));
 }
 
-/// Document 01's 7: the second update keeps an element that has no flag for its dynamic object.
+/// An update of these objects, each in the second of two blocks, due at timecode `due`.
+fn moved(bed_or_isf_objects: u8, due: i64, ramp: i64, objects: &[Object]) -> Update {
+    let blocks = [(0, 0), (due - 1, ramp)].map(|(offset, ramp)| Block { offset, ramp });
+    let pair = |&object: &Object| vec![Object::default(), object];
+    Update {
+        offset: 0,
+        objects: objects.len() as u8,
+        bed_or_isf_objects,
+        beds: Vec::new(),
+        elements: vec![Element {
+            blocks: blocks.to_vec(),
+            objects: objects.iter().map(pair).collect(),
+        }],
+    }
+}
+
+fn at(position: [f32; 3]) -> Object {
+    Object {
+        position_valid: true,
+        position: Some(position),
+        ..Object::default()
+    }
+}
+
+/// Document 02's R-1, a rise: the second update keeps an element that has no flag for its dynamic
+/// object. Amended, the element starts afresh: an absent position is the origin.
 #[test]
 #[cfg_attr(no_sources, ignore = "Rust sources not at hand")]
 fn a_kept_element_without_flags_panics_when_used() {
-    let element = Element {
-        blocks: vec![Block { offset: 0, ramp: 0 }],
-        objects: vec![vec![Object::default()]],
+    let absent = Object {
+        position: None,
+        ..at([0.0; 3])
     };
-    let one_object = |bed_or_isf_objects| Update {
-        offset: 0,
-        objects: 1,
-        bed_or_isf_objects,
-        beds: Vec::new(),
-        elements: vec![element.clone()],
-    };
+    let bed = frame(1, &[CENTER], 0, vec![moved(1, 0, 0, &[at([0.5; 3])])]);
+    let lifted = frame(1, &[], 1, vec![moved(0, 0, 0, &[absent])]);
     let mut oracle = Oracle::new();
-    ready(oracle.push(&frame(1, &[CENTER], 0, vec![one_object(1)])));
+    ready(oracle.push(&bed));
     let before = oracle.state();
-    // At sample 64 the timecode passes the block's offset.
-    assert_eq!(
-        oracle.push(&frame(65, &[], 1, vec![one_object(0)])),
-        Pushed::Panicked
-    );
+    assert_eq!(oracle.push(&lifted), Pushed::Panicked);
     assert_eq!(oracle.state(), before);
+
+    let mut amended = amended::Oracle::in_state(&before);
+    ready(amended.push(&lifted));
+    let source = amended.state().metadata.dynamic_sources[0];
+    assert_eq!(source.cubical_position, [-1.0, 0.0, 1.0]);
+    assert!(source.position_valid);
+}
+
+/// R-1, a fall: the Rust keeps flag, target and ramp of the object that is gone, and moves the one
+/// that is left. Amended, no object moves before its block is due.
+#[test]
+#[cfg_attr(no_sources, ignore = "Rust sources not at hand")]
+fn a_fall_keeps_old_flags() {
+    let silent = Object::default();
+    let two = frame(1, &[], 2, vec![moved(0, 0, 129, &[at([1.0; 3]), silent])]);
+    let one = frame(1, &[], 1, vec![moved(1, 6, 0, &[silent; 2])]);
+    let (mut oracle, mut amended) = (Oracle::new(), amended::Oracle::new());
+    assert_eq!(oracle.push(&two), amended.push(&two));
+    assert_eq!(oracle.state(), amended.state());
+    ready(oracle.push(&one));
+    ready(amended.push(&one));
+    let [kept, afresh] = [oracle.state(), amended.state()].map(|state| {
+        let metadata = state.metadata;
+        let element = &metadata.elements[0];
+        assert_eq!(metadata.dynamic_sources.len(), 1);
+        (
+            metadata.dynamic_sources[0].cubical_position,
+            element.update_now.clone(),
+            element.future.clone(),
+            element.future_distance,
+        )
+    });
+    let target = [1.0, 1.0, -1.0];
+    assert_eq!(kept, (target, vec![true, false], vec![target, [0.0; 3]], 0));
+    assert_eq!(afresh, ([0.0; 3], vec![false], vec![[0.0; 3]], 0));
 }
 
 #[test]

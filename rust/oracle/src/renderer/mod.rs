@@ -1,26 +1,30 @@
 //! The sources at the module paths that they name each other by. Code of ours that reads their
-//! private items stands in modules below `render`.
+//! private items stands in modules below `render`. `sources!` says which copy they are.
 
 #[cfg(not(no_sources))]
 #[allow(dead_code)]
 mod types {
-    include!(concat!(env!("OUT_DIR"), "/types.rs"));
+    sources!("types.rs");
 }
 
 #[cfg(not(no_sources))]
 #[allow(dead_code)]
 mod render_input {
-    include!(concat!(env!("OUT_DIR"), "/render_input.rs"));
+    sources!("render_input.rs");
 }
 
 #[allow(dead_code)]
-pub mod render {
+mod render {
     #[cfg(not(no_sources))]
-    include!(concat!(env!("OUT_DIR"), "/render.rs"));
+    sources!("render.rs");
 
     #[cfg(not(no_sources))]
     mod convert;
     pub mod leaf;
+    #[cfg(not(no_sources))]
+    mod read;
     pub mod run;
-    pub mod state;
 }
+
+pub use render::leaf;
+pub use render::run::{Input, Oracle};

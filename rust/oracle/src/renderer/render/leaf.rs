@@ -2,12 +2,12 @@
 
 #[cfg(not(no_sources))]
 use super::convert::{bed_channel, metadata, metadata_object, vec3, vector};
-use super::run::Refusal;
 #[cfg(not(no_sources))]
-use super::state::read;
-use super::state::{Info, Metadata, Source};
+use super::read;
 use crate::Vector;
+use crate::answer::Refusal;
 use crate::frame::{Object, Update};
+use crate::state::{Info, Metadata, Source};
 
 over_sources! {
     pub fn map_to_cube(v: Vector) -> Vector {
@@ -182,6 +182,10 @@ impl Timed {
         #[expect(clippy::new_without_default)]
         pub fn new() -> Self {
             Timed { state: super::MetadataRendererState::default() }
+        }
+
+        pub fn in_state(state: &Metadata) -> Self {
+            Timed { state: read::metadata_state(state) }
         }
 
         pub fn apply_update(&mut self, update: &Update, stream_sample: i64) {

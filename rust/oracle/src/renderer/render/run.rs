@@ -1,53 +1,18 @@
 //! The renderer, under the rules of document 01 that the Rust leaves to its caller: a refused
 //! frame counts as never sent.
 
-use super::state::State;
+#[cfg(not(no_sources))]
+use super::super::render_input::RenderInputFrame;
 #[cfg(not(no_sources))]
 use super::{
     MetadataRendererState, Render714Error, Render714Frame, Render714TimeslotDebug, Renderer714,
-    convert,
+    convert, read,
 };
-use crate::Vector;
-use crate::frame::Frame;
+use crate::answer::{Pushed, Slot};
 #[cfg(not(no_sources))]
-use crate::renderer::render_input::RenderInputFrame;
-
-/// What push answers.
-#[derive(Clone, Debug, PartialEq)]
-pub enum Pushed {
-    /// The ready samples of the twelve channels.
-    Ready(Vec<Vec<f32>>),
-    Refused(Refusal),
-    /// The Rust panicked; the renderer is as before the call.
-    Panicked,
-}
-
-/// A refusal's number, 9 to 14, and its two counts.
-#[derive(Clone, Copy, Debug, PartialEq, Eq)]
-pub struct Refusal {
-    pub number: u8,
-    pub counts: [u64; 2],
-}
-
-/// `Render714TimeslotDebug`: the sources of one slot.
-#[derive(Clone, Debug, PartialEq)]
-pub struct Slot {
-    pub sample_offset: usize,
-    pub sources: Vec<SlotSource>,
-}
-
-/// `Render714SourceDebug`.
-#[derive(Clone, Copy, Debug, PartialEq)]
-pub struct SlotSource {
-    pub object_index: usize,
-    /// Code of a bed's channel.
-    pub static_channel: Option<u8>,
-    pub position: Vector,
-    pub gain: f32,
-    pub size: f32,
-    pub lfe: bool,
-    pub position_valid: bool,
-}
+use crate::answer::{Refusal, SlotSource};
+use crate::frame::Frame;
+use crate::state::State;
 
 pub struct Oracle {
     #[cfg(not(no_sources))]
@@ -77,7 +42,7 @@ impl Oracle {
 
         /// A renderer in that state, with no rows in store.
         pub fn in_state(state: &State) -> Self {
-            Oracle { renderer: super::state::read::renderer(state) }
+            Oracle { renderer: read::renderer(state) }
         }
 
         pub fn reset(&mut self) {
@@ -123,7 +88,7 @@ impl Oracle {
         }
 
         pub fn state(&self) -> State {
-            super::state::read::state(&self.renderer)
+            read::state(&self.renderer)
         }
     }
 }
