@@ -1,14 +1,14 @@
 -- An update that refusals 5 and 6 let pass keeps what `Sound` and `Within` say. Assumes nothing.
 use Prim.Native.Nat.{ℕ, zero, suc, _+_, _-_, _*_, _≤_, _<_}
 use mathlib.Core.Path.{_≡_, refl, sym, _∙_, subst}
-use mathlib.Core.Bool.{Bool, true, false, not}
+use mathlib.Core.Bool.{Bool, true, not, cond}
 use mathlib.Core.List.{List, [], _∷_}
 use lib.Dec.{T, eqb, ltb, lit≤}
 use lib.ListN.{length, getD, set, replicate, length-set, getD-replicate}
 use lib.Ieee.{Float, nan, fits, binary32, le, ofBits}
 use native.Mathlib.Nat.{zero-add}
 use native.Mathlib.Omega.{arith}
-use borrow.Author.Tests.{ltb-true}
+use borrow.Author.Tests.{ltb-true, lt-ltb}
 use Rattle.ieee.specs.Bounds.{All}
 use Rattle.words.specs.Words.{Bytes, word, floatAt}
 use Rattle.vectors.specs.Vectors.{zeroVec3}
@@ -30,9 +30,8 @@ use Rattle.timed.proofs.Keeps.{times-in, times-keeps, cond-keeps, set-each}
 use Rattle.updates.specs.Said.{Element, Update, updateOf}
 use Rattle.updates.specs.Applied.{0·707, newSource, newTrack, nextSources, nextGains, blockGiven, scheduled, elementNext, isKept, isSame, Work, elementGiven, elementsApplied, codeGiven, codesGiven, applied}
 use Rattle.updates.specs.Whole.{WholeUpdate}
-use Rattle.updates.specs.Shape.{shapeOf, lacks}
 use Rattle.updates.proofs.Kept.{applied-within}
-use Rattle.updates.proofs.Shapes.{flags-enough}
+use Rattle.updates.proofs.Elements.{flags-enough}
 use Rattle.store.specs.Ranges.{headValid, headsValid}
 use Rattle.store.specs.Ranged.{Single, Singles, SourceSingles, TrackSingles, InfosRanged}
 use Rattle.store.proofs.Tables.{and-in}
@@ -82,12 +81,6 @@ all-set : {A : Type 0} (P : A → Type 0) (l : List A) (i : ℕ) (x : A) → P x
 all-set P [] i x p h = h
 all-set P (y ∷ l) zero x p h = (p, h .1)
 all-set P (y ∷ l) (suc i) x p h = (h .0, all-set P l i x p (h .1))
-
-pub pair-of : (l : List ElementRendererState) → length l ≡ 2 → l ≡ getD l 0 noElement ∷ getD l 1 noElement ∷ []
-pair-of [] e = absurd (omega arith)
-pair-of (a ∷ []) e = absurd (omega arith)
-pair-of (a ∷ b ∷ []) e = refl
-pair-of (a ∷ b ∷ c ∷ l) e = absurd (omega arith)
 
 -- ---- what starts again
 
@@ -235,9 +228,9 @@ module _ (m : List ℕ) (bytes : Bytes m) (laid : laidOut m ≡ true) (fit : inR
             (λ bed e o b p q r. info-sound m bytes laid fit i one e o b p q r bed) (s .states) (t .infos) (sound-table (t .infos) (h .infos)));
       }
 
-  within-given : (n : ℕ) (t : Timed) → n ≤ 1099511627776 → lacks u (shapeOf (t .state)) ≡ false → Within n t → Within n (applied n u t)
+  within-given : (n : ℕ) (t : Timed) → n ≤ 1099511627776 → Within n t → Within n (applied n u t)
   unfolding applied
-  within-given n t below judged h =
+  within-given n t below h =
       let s = t .state in
       let es = states-kept (isSame s u) u Tables (λ e l kept x q. tables-next kept (u .objects - u .isf) (u .element e) x (w .few-dynamic) q) (s .states) (t .infos)
       (λ k l. let r = h .state .elements k l in record { flags = r .flags; schedule = r .schedule; tracks = r .tracks; targets = r .targets }) in
@@ -256,7 +249,8 @@ module _ (m : List ℕ) (bytes : Bytes m) (laid : laidOut m ≡ true) (fit : inR
               record {
                 flags = r .flags;
                 enough = cond-keeps (λ (k : ℕ). k ≤ elementOf (applied n u t .state) e .flags) (ltb e (u .elements)) (u .objects - u .isf) 0
-                    (λ q. flags-enough n u t (elementOf s 0) (elementOf s 1) (pair-of (s .states) (h .state .states)) (w .few-elements) judged e (ltb-true e (u .elements) q)) (λ _. omega arith);
+                    (λ q. flags-enough n u t e (ltb-true e (u .elements) q) (let k = h .state .states in omega arith)
+                    (λ p. subst (λ (b : Bool). cond b (s .objects - s .isf) 0 ≤ elementOf s e .flags) (lt-ltb e (s .elements) p) (h .state .elements e l .enough))) (λ _. omega arith);
                 schedule = r .schedule;
                 tracks = r .tracks;
                 targets = r .targets;
@@ -270,7 +264,7 @@ module _ (m : List ℕ) (bytes : Bytes m) (laid : laidOut m ≡ true) (fit : inR
 pub sound-apply : (n : ℕ) (u : Sent) (t : Timed) → Checked u → Sound t → Sound (applied n (u .said) t)
 sound-apply n u t c h = subst (λ (v : Sent). Sound (applied n (v .said) t)) (sym (c .is)) (sound-given (c .meta) (c .bytes) (c .laid) (c .fit) (c .index) (c .there) n t h)
 
-pub within-apply : (n : ℕ) (u : Sent) (t : Timed) → n ≤ 1099511627776 → Checked u → lacks (u .said) (shapeOf (t .state)) ≡ false → Within n t → Within n (applied n (u .said) t)
-within-apply n u t l c k h =
+pub within-apply : (n : ℕ) (u : Sent) (t : Timed) → n ≤ 1099511627776 → Checked u → Within n t → Within n (applied n (u .said) t)
+within-apply n u t l c h =
     subst (λ (v : Sent). Within n (applied n (v .said) t)) (sym (c .is))
-    (within-given (c .meta) (c .bytes) (c .laid) (c .fit) (c .index) (c .there) n t l (subst (λ (v : Sent). lacks (v .said) (shapeOf (t .state)) ≡ false) (c .is) k) h)
+    (within-given (c .meta) (c .bytes) (c .laid) (c .fit) (c .index) (c .there) n t l h)

@@ -33,7 +33,6 @@ use Rattle.records.specs.Ranges.{recordInRange, inRange}
 use Rattle.timed.specs.Turns.{times}
 use Rattle.timed.specs.State.{slotAt}
 use Rattle.updates.specs.Applied.{nextSources, nextGains, codesGiven, elementsApplied, applied}
-use Rattle.updates.specs.Shape.{judged}
 use Rattle.store.specs.Layout.{blank}
 use Rattle.rules.specs.Parts.{0·0}
 use Rattle.rules.specs.Mix.{heard, objectTerms}
@@ -71,19 +70,19 @@ abbrev Told : Args → ℕ → Type 0
 Told f at = T (lt 0·0 (floatAt (getD (told hall block (fresh hall) (calls f)) 1 unseen .out) at))
 
 accepted-bed : found hall (fresh hall) bed ≡ clear
-unfolding laidOut isUpdates isWholeUpdate isUpdate codesFit all some last count updateAt elementAt inRange recordInRange each judged times number blank
+unfolding laidOut isUpdates isWholeUpdate isUpdate codesFit all some last count updateAt elementAt inRange recordInRange each times number blank
 accepted-bed = refl
 
 accepted-object : found hall (fresh hall) object ≡ clear
-unfolding laidOut isUpdates isWholeUpdate isUpdate codesFit all some last count updateAt elementAt inRange recordInRange each judged times number blank
+unfolding laidOut isUpdates isWholeUpdate isUpdate codesFit all some last count updateAt elementAt inRange recordInRange each times number blank
 accepted-object = refl
 
 told-bed : Told bed 0
-unfolding laidOut isUpdates isWholeUpdate isUpdate codesFit all some last count updateAt elementAt inRange recordInRange each judged times number blank pushed flushed written applied elementsApplied codesGiven nextGains nextSources slotAt heard bedAdds routeOf firstOf matching new coefficientsOf w0 cosine sine partial up down lowered blockPeak absolute larger floatAt withNumber lt le eq add sub mul div neg sum round units odd size climb span ofInt ofBits ofFields toBits nanBits
+unfolding laidOut isUpdates isWholeUpdate isUpdate codesFit all some last count updateAt elementAt inRange recordInRange each times number blank pushed flushed written applied elementsApplied codesGiven nextGains nextSources slotAt heard bedAdds routeOf firstOf matching new coefficientsOf w0 cosine sine partial up down lowered blockPeak absolute larger floatAt withNumber lt le eq add sub mul div neg sum round units odd size climb span ofInt ofBits ofFields toBits nanBits
 told-bed = tt
 
 told-object : Told object 512
-unfolding laidOut isUpdates isWholeUpdate isUpdate codesFit all some last count updateAt elementAt inRange recordInRange each judged times number blank pushed flushed written applied elementsApplied codesGiven nextGains nextSources slotAt heard bedAdds routeOf firstOf matching new coefficientsOf w0 cosine sine partial up down lowered blockPeak absolute larger floatAt withNumber lt le eq add sub mul div neg sum round units odd size climb span ofInt ofBits ofFields toBits nanBits objectTerms onChannel positions714 hall714 keep every orElse first choice.last below above level end flank layer row side corner ratio terms.up ahead across rowWeight coefficient innerGain extra panned audible paired root rootUnits floorRoot digits mag ne trailingZeros
+unfolding laidOut isUpdates isWholeUpdate isUpdate codesFit all some last count updateAt elementAt inRange recordInRange each times number blank pushed flushed written applied elementsApplied codesGiven nextGains nextSources slotAt heard bedAdds routeOf firstOf matching new coefficientsOf w0 cosine sine partial up down lowered blockPeak absolute larger floatAt withNumber lt le eq add sub mul div neg sum round units odd size climb span ofInt ofBits ofFields toBits nanBits objectTerms onChannel positions714 hall714 keep every orElse first choice.last below above level end flank layer row side corner ratio terms.up ahead across rowWeight coefficient innerGain extra panned audible paired root rootUnits floorRoot digits mag ne trailingZeros
 told-object = tt
 
 -- ---- what is lent is bytes

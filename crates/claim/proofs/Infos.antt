@@ -1,5 +1,5 @@
 -- An update writes infos of which each has its head, gain and size as asked; the others stay. Assumes nothing.
-use Prim.Native.Nat.{ℕ, _+_, _*_, _/_, _%_, _^_, _≤_, _<_}
+use Prim.Native.Nat.{ℕ, _+_, _*_, _^_, _≤_, _<_}
 use mathlib.Core.Path.{_≡_, refl, _∙_}
 use mathlib.Core.Bool.{Bool, true, false}
 use mathlib.Core.List.{List}
@@ -9,13 +9,13 @@ use native.Mathlib.Omega.{arith}
 use borrow.Author.Tests.{ltb-true, ltb-false, eqb-true, eqb-false}
 use Rattle.words.specs.Words.{Bytes, word, withWord}
 use Rattle.words.proofs.Back.{reads-back}
-use Rattle.words.proofs.Beside.{Kept, kept-twice, number-keeps, reads-before, reads-past}
+use Rattle.words.proofs.Beside.{reads-before, reads-past}
 use Rattle.words.proofs.Numbers.{length-kept}
-use Rattle.words.proofs.Small.{number-bytes}
 use Rattle.fields.specs.declared.object.Info.{Info}
-use Rattle.timed.proofs.Keeps.{times-in, cond-keeps}
+use Rattle.timed.proofs.Keeps.{times-in}
 use Rattle.updates.specs.Said.{Element}
-use Rattle.updates.specs.Stored.{withThree, cleared, withPlace, headOf, withHead, withInfo, infoGiven, objectStored, objectGiven, objectsStored}
+use Rattle.updates.specs.Stored.{headOf, withHead, withInfo, infoGiven, objectStored, objectGiven, objectsStored}
+use Rattle.updates.proofs.Written.{Stored, one, twice, places-stored}
 
 -- what is said of an info by its head, gain and size
 abbrev pub Said : Type 1
@@ -32,41 +32,6 @@ pub record Fit (P : Said) (bed : Bool) (i : Info) : Type 0 where
   pub gain : i .gain < 256 ^ 4
   pub size : i .size < 256 ^ 4
   pub holds : P (headOf bed i) (i .gain) (i .size)
-
--- ---- what a store leaves: length, bytes, and all but a range
-
-record Stored (s t : List ℕ) (lo hi : ℕ) : Type 0 where
-  long : length t ≡ length s
-  bytes : Bytes s → Bytes t
-  kept : Kept s t lo hi
-
-stays : (s : List ℕ) (lo hi : ℕ) → Stored s s lo hi
-stays s lo hi = record { long = refl; bytes = λ h. h; kept = record { before = λ k h. refl; past = λ k h. refl } }
-
-one : (s : List ℕ) (at v : ℕ) → Stored s (withWord s at v) at (at + 4)
-one s at v = record { long = length-kept s at 4 v; bytes = number-bytes s at 4 v; kept = number-keeps s at 4 v }
-
-twice : {s t u : List ℕ} {lo hi lo′ hi′ : ℕ} (from to : ℕ) → Stored s t lo hi → Stored t u lo′ hi′ → from ≤ lo → from ≤ lo′ → hi ≤ to → hi′ ≤ to → Stored s u from to
-twice from to a b l l′ h h′ =
-    record { long = b .long ∙ a .long; bytes = λ q. b .bytes (a .bytes q); kept = kept-twice from to (a .kept) (b .kept) l l′ h h′ }
-
-three : (s : List ℕ) (at x y z : ℕ) → Stored s (withThree s at x y z) at (at + 12)
-unfolding withThree
-three s at x y z =
-    let a = withWord s at x in
-    let b = withWord a (at + 4) y in
-    twice at (at + 12) (twice at (at + 8) (one s at x) (one a (at + 4) y) (omega arith) (omega arith) (omega arith) (omega arith)) (one b (at + 8) z) (omega arith) (omega arith) (omega arith) (omega arith)
-
-cleared-stored : (fresh : Bool) (at : ℕ) (s : List ℕ) → Stored s (cleared fresh at s) at (at + 24)
-unfolding cleared
-cleared-stored true at s =
-    twice at (at + 24) (three s at 0 0 0) (three (withThree s at 0 0 0) (at + 12) 0 0 0) (omega arith) (omega arith) (omega arith) (omega arith)
-cleared-stored false at s = stays s at (at + 24)
-
-place-stored : (i : Info) (at : ℕ) (s : List ℕ) → Stored s (withPlace i at s) at (at + 12)
-unfolding withPlace
-place-stored i at s =
-    cond-keeps (λ (t : List ℕ). Stored s t at (at + 12)) (eqb (i .head / 8 % 2) 1) (withThree s at (i .x) (i .y) (i .z)) s (λ _. three s at (i .x) (i .y) (i .z)) (λ _. stays s at (at + 12))
 
 -- ---- an info
 
@@ -102,9 +67,8 @@ info-stored : (fresh bed : Bool) (i : Info) (at : ℕ) (s : List ℕ) → at + 4
 unfolding withInfo
 info-stored fresh bed i at s l p q r =
     let a = withHead (headOf bed i) i at s in
-    let b = cleared fresh (at + 20) a in
     let h = heads (headOf bed i) i at s l p q r in
-    let t = twice (at + 20) (at + 44) (cleared-stored fresh (at + 20) a) (place-stored i (at + 20) b) (omega arith) (omega arith) (omega arith) (omega arith) in
+    let t = places-stored fresh i (at + 20) a in
     record {
       stored = twice at (at + 44) (h .stored) t (omega arith) (omega arith) (omega arith) (omega arith);
       head = reads-before (t .kept) at 4 (omega arith) ∙ h .head;

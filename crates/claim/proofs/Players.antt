@@ -14,7 +14,6 @@ use Rattle.records.specs.Runs.{some, last, each}
 use Rattle.records.specs.Laid.{isWholeUpdate, isUpdates, updateAt, elementAt, laidOut, count}
 use Rattle.records.specs.Ranges.{recordInRange, inRange}
 use Rattle.timed.specs.Turns.{times}
-use Rattle.updates.specs.Shape.{judged}
 use Rattle.store.specs.Layout.{blank}
 use Rattle.words.specs.Words.{number}
 use Rattle.rules.specs.Samples.{State, fresh, pushed}
@@ -62,7 +61,7 @@ not-all-refused cs h a l k = pushed-holds cs h a l (accepts hall (after cs) a k)
 
 -- such a push: the bed of `not-silent`, on a new renderer
 pub bed-acceptable : Acceptable hall (after []) bed
-unfolding laidOut isUpdates isWholeUpdate isUpdate codesFit all some last count updateAt elementAt inRange recordInRange each judged times number blank
+unfolding laidOut isUpdates isWholeUpdate isUpdate codesFit all some last count updateAt elementAt inRange recordInRange each times number blank
 bed-acceptable = record {
   room = refl;
   sized = refl;
@@ -70,7 +69,6 @@ bed-acceptable = record {
   position = lit≤ tt;
   laidOut = refl;
   inRange = refl;
-  flagged = refl;
   passes = refl;
   rate = inl refl;
   told = inr (λ e. let z : _≡_ {A = ℕ} 1 0 = ap length e in omega arith);

@@ -15,7 +15,7 @@ use Rattle.claim.specs.Hall.{hall, block}
 use Rattle.claim.proofs.Sound.{Sound, Within}
 use Rattle.claim.proofs.Checked.{Checked, checked}
 use Rattle.claim.proofs.Applied.{sound-apply, within-apply}
-use Rattle.claim.proofs.Shapes.{mixable, shape-apply, shape-slot, shape-objects, shape-beds, counts-apply, counts-slot}
+use Rattle.claim.proofs.Shapes.{mixable, shape-apply, shape-slot, shape-objects, shape-beds}
 use Rattle.claim.proofs.SlotSound.{sound-slot}
 use Rattle.claim.proofs.SlotWithin.{within-slot}
 use Rattle.claim.proofs.Blank.{sound-blank, within-blank, within-later}
@@ -42,8 +42,6 @@ facts =
       within-later = within-later;
       within-apply = within-apply;
       within-slot = within-slot;
-      counts-apply = counts-apply;
-      counts-slot = λ n start m h. counts-slot start m;
       size = size-of;
       valid = valid-of;
       back = back-of;

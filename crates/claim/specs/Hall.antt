@@ -13,8 +13,6 @@ use Rattle.records.specs.Laid.{laidOut, count, updateAt}
 use Rattle.records.specs.Ranges.{inRange}
 use Rattle.updates.specs.Said.{Update, updateOf}
 use Rattle.updates.specs.Applied.{applied}
-use Rattle.updates.specs.Shape as refusal7
-use Rattle.updates.specs.declared.shape.Shape as judge
 use Rattle.rules.specs.Leaves.{Leaves, Source, Bed, Shape}
 use Rattle.rules.specs.Block.{Layout}
 use Rattle.store.specs.Layout as store
@@ -57,10 +55,6 @@ hall =
       updates = sentOf;
       laidOut = laidOut;
       inRange = inRange;
-      Counts = judge.Shape;
-      counts = λ m. refusal7.shapeOf (m .state);
-      nextCounts = λ u c. refusal7.nextShape (u .said) c;
-      lacks = λ u c. refusal7.lacks (u .said) c;
     }
 
 abbrev pub block : Layout hall

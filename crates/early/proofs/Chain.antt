@@ -1,9 +1,9 @@
 -- The lowest number first: what tests in a row find, and what a test's answer says. Assumes nothing.
 use Prim.Native.Nat.{ℕ, zero, suc, _+_, _-_, _*_, _/_, _≤_}
-use mathlib.Core.Path.{_≡_, refl, sym, ap, _∙_}
+use mathlib.Core.Path.{_≡_, refl, sym, ap, _∙_, subst}
 use mathlib.Core.Bool.{Bool, true, false, not, _&&_}
 use mathlib.Core.List.{List, [], _∷_}
-use lib.Dec.{eqb, leb}
+use lib.Dec.{T, eqb, leb}
 use lib.ListN.{length, getD, take}
 use native.Mathlib.Omega.{arith}
 use borrow.Author.Tests.{eqb-true, leb-true, leb-false, le-leb, lt-leb, not-true, not-false}
@@ -11,13 +11,10 @@ use Rattle.ieee.specs.Bounds.{All}
 use Rattle.fields.proofs.All.{and-left, and-right}
 use Rattle.records.specs.Laid.{laidOut}
 use Rattle.records.specs.Ranges.{inRange}
-use Rattle.updates.specs.Shape.{shapeOf}
 use Rattle.mixing.specs.Samples.{allPass}
-use Rattle.rules.specs.Parts.{Places}
-use Rattle.rules.specs.Refusals.{Args, Found, clear, stop, unless, _then_, every, room, sized, listed, lackingFrom, offsets, early}
-use Rattle.store.specs.Layout.{joined}
-use Rattle.store.specs.declared.Small.{Small}
-use Rattle.claim.specs.Hall.{sentOf, hall}
+use Rattle.rules.specs.Samples.{State}
+use Rattle.rules.specs.Refusals.{Args, Found, clear, stop, unless, _then_, every, room, sized, listed, early}
+use Rattle.claim.specs.Hall.{hall}
 
 -- a test that the code makes and that fails, or does not
 pub failed : {b r : Bool} → r ≡ b → not r ≡ true → b ≡ false
@@ -28,28 +25,39 @@ passed {b} {r} e t = sym e ∙ not-false r t
 
 -- ---- tests in a row
 
--- the first of them that fails; they are numbered from n on
-abbrev firstOf : ℕ → List Bool → Found
-firstOf n [] = clear
-firstOf n (b ∷ ts) = unless b n 0 0 then firstOf (suc n) ts
+-- a refusal's number, and the test that it wants
+pub record Test : Type 0 where
+  pub number : ℕ
+  pub holds : Bool
 
-abbrev pub Hold : List Bool → Type 0
-Hold ts = All (λ b. b ≡ true) ts
+abbrev firstOf : List Test → Found
+firstOf [] = clear
+firstOf (t ∷ ts) = unless (t .holds) (t .number) 0 0 then firstOf ts
+
+abbrev pub test : ℕ → Bool → Test
+test n b = record { number = n; holds = b }
+
+-- past the end nothing is tested
+abbrev pub at : List Test → ℕ → Test
+at ts k = getD ts k (test 0 true)
+
+abbrev pub Hold : List Test → Type 0
+Hold ts = All (λ t. t .holds ≡ true) ts
 
 -- k tests that hold, and one more
-pub more : (ts : List Bool) (k : ℕ) → Hold (take k ts) → getD ts k true ≡ true → Hold (take (suc k) ts)
+pub more : (ts : List Test) (k : ℕ) → Hold (take k ts) → at ts k .holds ≡ true → Hold (take (suc k) ts)
 more [] k h e = tt
-more (b ∷ ts) zero h e = (e, tt)
-more (b ∷ ts) (suc k) h e = (h .0, more ts k (h .1) e)
+more (t ∷ ts) zero h e = (e, tt)
+more (t ∷ ts) (suc k) h e = (h .0, more ts k (h .1) e)
 
-stops : (n m : ℕ) (ts : List Bool) (k : ℕ) → m ≡ n + k → Hold (take k ts) → getD ts k true ≡ false → stop m 0 0 ≡ firstOf n ts
-stops n m [] k q h e = absurd (let z : _≡_ {A = ℕ} 0 1 = cc in omega arith)
-stops n m (b ∷ ts) zero q h e = let l : m ≡ n = omega arith in rw (e, l)
-stops n m (b ∷ ts) (suc k) q h e = rw (h .0) (stops (suc n) m ts k (omega arith) (h .1) e)
+stops : (ts : List Test) (k : ℕ) → Hold (take k ts) → at ts k .holds ≡ false → stop (at ts k .number) 0 0 ≡ firstOf ts
+stops [] k h e = absurd (subst T e tt)
+stops (t ∷ ts) zero h e = rw e
+stops (t ∷ ts) (suc k) h e = rw (h .0) (stops ts k (h .1) e)
 
-goes-through : (n : ℕ) (ts : List Bool) → Hold ts → clear ≡ firstOf n ts
-goes-through n [] h = refl
-goes-through n (b ∷ ts) h = rw (h .0) (goes-through (suc n) ts (h .1))
+goes-through : (ts : List Test) → Hold ts → clear ≡ firstOf ts
+goes-through [] h = refl
+goes-through (t ∷ ts) h = rw (h .0) (goes-through ts (h .1))
 
 then-none : (x : Found) → (x then clear) ≡ x
 then-none clear = refl
@@ -57,29 +65,28 @@ then-none (stop n a b) = refl
 
 -- ---- 1 to 8
 
--- a push's tests
-abbrev pub tests : Small → Args → List Bool
-tests s a =
-    room (a .stride) (length (a .out))
-    ∷ sized a
-    ∷ listed (a .rate)
-    ∷ leb (s .position + a .samples) 1099511627776
-    ∷ laidOut (a .meta)
-    ∷ inRange (a .meta)
-    ∷ not (lackingFrom hall (offsets hall (a .samples)) 0 (sentOf (a .meta)) (shapeOf (s .state)))
-    ∷ allPass (a .pcm) 0 ((length (a .codes) + a .objects) * a .samples)
+-- a push's tests at a stream position
+abbrev pub tests : ℕ → Args → List Test
+tests position a =
+    test 1 (room (a .stride) (length (a .out)))
+    ∷ test 2 (sized a)
+    ∷ test 3 (listed (a .rate))
+    ∷ test 4 (leb (position + a .samples) 1099511627776)
+    ∷ test 5 (laidOut (a .meta))
+    ∷ test 6 (inRange (a .meta))
+    ∷ test 8 (allPass (a .pcm) 0 ((length (a .codes) + a .objects) * a .samples))
     ∷ []
 
-module _ (s : Small) (is : List ℕ) (ps : Places) (a : Args) where
-  early-is : firstOf 1 (tests s a) ≡ early hall (joined s is ps) a
-  early-is = rw (then-none (unless (allPass (a .pcm) 0 ((length (a .codes) + a .objects) * a .samples)) 8 0 0))
+module _ (position : ℕ) (r : State hall) (p : r .position ≡ position) (a : Args) where
+  early-is : firstOf (tests position a) ≡ early hall r a
+  early-is = rw (then-none (unless (allPass (a .pcm) 0 ((length (a .codes) + a .objects) * a .samples)) 8 0 0), p)
 
   -- the first k tests hold and the next one does not
-  pub refuses : (k : ℕ) → Hold (take k (tests s a)) → getD (tests s a) k true ≡ false → stop (1 + k) 0 0 ≡ early hall (joined s is ps) a
-  refuses k h e = stops 1 (1 + k) (tests s a) k refl h e ∙ early-is
+  pub refuses : (k : ℕ) → Hold (take k (tests position a)) → at (tests position a) k .holds ≡ false → stop (at (tests position a) k .number) 0 0 ≡ early hall r a
+  refuses k h e = stops (tests position a) k h e ∙ early-is
 
-  pub refuses-none : Hold (tests s a) → clear ≡ early hall (joined s is ps) a
-  refuses-none h = goes-through 1 (tests s a) h ∙ early-is
+  pub refuses-none : Hold (tests position a) → clear ≡ early hall r a
+  refuses-none h = goes-through (tests position a) h ∙ early-is
 
 -- ---- single tests
 

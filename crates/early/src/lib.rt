@@ -4,18 +4,11 @@ ghost use mathlib.Core.List.{List, []};
 ghost use Prim.Native.Nat.{ℕ, _+_, _*_, _≤_};
 ghost use lib.Dec.{leb};
 ghost use lib.ListN.{length};
-ghost use Rattle.records.specs.Answers.{IsLayout};
-ghost use Rattle.updates.specs.Whole.{WholeUpdates};
-ghost use Rattle.updates.specs.Shape.{shapeOf};
-ghost use Rattle.rules.specs.Parts.{Places};
+ghost use Rattle.rules.specs.Samples.{State};
 ghost use Rattle.rules.specs.Refusals as rules;
 ghost use Rattle.refusals.specs.Numbers.{foundOf};
-ghost use Rattle.store.specs.Layout.{joined};
-ghost use Rattle.claim.specs.Hall.{sentOf, hall};
-use records::layout::Layout;
+ghost use Rattle.claim.specs.Hall.{hall};
 use refusals::Refusal;
-use store::Small;
-use timed::state::MetadataRendererState;
 
 // Whether the stride is one of those allowed and an output of so many bytes has room for it: refusal 1.
 pub fn room(stride: u32, bytes: usize) -> bool
@@ -88,19 +81,9 @@ fn stays(position: u64, samples: u32) -> bool
     position <= 1099511627776 - samples as u64
 }
 
-// Whether an update that would be applied keeps an element that lacks flags: refusal 7.
-fn lacks(s: MetadataRendererState, meta: &[u8], l: Layout, samples: u32) -> bool
-    requires { ⌜ IsLayout (now meta) l × WholeUpdates (now meta) (l .first) (l .count) ⌝ }
-    ensures { λ r. ⌜ r ≡ rules.lackingFrom hall (rules.offsets hall samples) 0 (sentOf (now (meta .entry))) (shapeOf s) ⌝ }
-{
-    let before = updates::shape::shape_of(s);
-    let judged = updates::walk::judge_frame(before, meta, l, samples as usize);
-    judged.lacks
-}
-
-// The first of refusals 1 to 8 of a push on a renderer whose small part is s; the output has so many bytes.
+// The first of refusals 1 to 8 of a push at a stream position; the output has so many bytes.
 pub fn refusal(
-    s: Small,
+    position: u64,
     pcm: &[u8],
     meta: &[u8],
     bytes: usize,
@@ -110,7 +93,7 @@ pub fn refusal(
     objects: u32,
     stride: u32,
 ) -> Refusal
-    ensures { λ r. ⌜ ((out : List ℕ) → length out ≡ bytes → (is : List ℕ) (ps : Places) → foundOf r ≡ rules.early hall (joined s is ps) (rules.argsOf (now (pcm .entry)) (now (meta .entry)) out (now (codes .entry)) rate samples objects stride)) ⌝ }
+    ensures { λ r. ⌜ ((out : List ℕ) → length out ≡ bytes → (t : State hall) → t .position ≡ position → foundOf r ≡ rules.early hall t (rules.argsOf (now (pcm .entry)) (now (meta .entry)) out (now (codes .entry)) rate samples objects stride)) ⌝ }
 {
     if !room(stride, bytes) {
         return Refusal::Lent;
@@ -121,7 +104,7 @@ pub fn refusal(
     if !angles::listed(rate) {
         return Refusal::Rate;
     }
-    if !stays(s.position, samples) {
+    if !stays(position, samples) {
         return Refusal::StreamEnd;
     }
     let l = records::layout::layout_of(meta);
@@ -130,10 +113,6 @@ pub fn refusal(
     }
     if !records::ranges::in_range(meta) {
         return Refusal::Ranges;
-    }
-    let state = s.state;
-    if lacks(state, meta, l, samples) {
-        return Refusal::Flags;
     }
     if !mixing::samples_pass(pcm, 0, pcm.len() / 4) {
         return Refusal::Samples;

@@ -1,28 +1,27 @@
 -- The frame's loop over the rules: what holds before each turn, and that a turn keeps it. Assumes nothing beyond `Facts` and `Shaped`.
-use Prim.Native.Nat.{ℕ, zero, suc, _+_, _-_, _*_, _%_, _≤_, _<_, zero-le}
-use native.Mathlib.Nat.{zero-add, suc-add}
+use Prim.Native.Nat.{ℕ, suc, _+_, _-_, _*_, _%_, _≤_, _<_, zero-le}
+use native.Mathlib.Nat.{zero-add}
 use native.Mathlib.Omega.{arith}
 use mathlib.Core.Path.{_≡_, refl, sym, ap, _∙_, subst}
-use mathlib.Core.Bool.{Bool, true, false, cond, _||_}
-use mathlib.Core.List.{List, [], _∷_}
-use lib.Dec.{eqb, eqb·suc-zero, lit<}
+use mathlib.Core.Bool.{Bool, true, false, cond}
+use mathlib.Core.List.{List}
+use lib.Dec.{eqb, lit<}
 use lib.ListN.{length, length-append}
 use borrow.Author.Tests.{eqb-true, eqb-false}
 use Rattle.ieee.specs.Bounds.{All}
 use Rattle.rules.specs.Leaves.{Leaves, Shape}
 use Rattle.rules.specs.Samples.{State, After, updated, slotted, framed, opened, pushed}
-use Rattle.rules.specs.Refusals.{Args, listed, lacking, countsAfter, lackingFrom, offsets, shapeAt}
+use Rattle.rules.specs.Refusals.{Args, listed, shapeAt}
 use Rattle.rules.specs.Calls.{sentOf, frameOf}
 use Rattle.rules.specs.Block.{Layout, written}
 use Rattle.rules.proofs.Facts.{Facts}
-use Rattle.rules.proofs.Lists.{neither}
 use Rattle.rules.proofs.Judged.{Passed, is-roomy, samples-fit}
 use Rattle.rules.proofs.Clock.{untouched}
-use Rattle.rules.proofs.Ranged.{R, updated-ranged, slotted-met, framed-ranged, opened-ranged}
+use Rattle.rules.proofs.Ranged.{R, updated-ranged, slotted-ranged, framed-ranged, opened-ranged}
 use Rattle.rules.proofs.Shapes.{Matches, matches-on, judged, updated-shape, slotted-shape}
 use Rattle.frame.specs.Chunk.{chunk}
 use Rattle.frame.specs.Out.{behind}
-use Rattle.frame.proofs.Chunks.{NoneAt, both, Turn, chunk-passes, chunk-whole, turn}
+use Rattle.frame.proofs.Chunks.{both, Turn, chunk-passes, chunk-whole, turn}
 use Rattle.frame.proofs.Outs.{behind-joined, behind-nothing, behind-none, length-behind}
 use Rattle.frame.proofs.Counted.{Counted, framed-counted}
 
@@ -37,22 +36,6 @@ ready-is false ready p n blocks pending e h l = let z = eqb-false pending 0 e in
 space : (ready p₀ p t n m samples stride b d pending end : ℕ) → ready % 64 ≡ 0 → stride % 64 ≡ 0 → p₀ < 64 → samples ≤ stride → t + suc n + m ≡ samples → ready + p ≡ p₀ + t
     → 64 * b + pending ≡ p + suc n → 64 * d + end ≡ pending + m → ready + 64 * b + 64 * d ≤ stride
 space ready p₀ p t n m samples stride b d pending end x y few fit all at c e = omega arith
-
--- ---- refusal 7 along samples on which no update falls
-module _ (L : Leaves) where
-  none-lacks : (t : ℕ) (us : List (L .Update)) (k : L .Counts) → NoneAt L t us → (lacking L t us k ≡ false) × (countsAfter L t us k ≡ k)
-  none-lacks t [] k h = (refl, refl)
-  none-lacks t (u ∷ us) k h = let i = none-lacks t us k (h .1) in (rw (h .0) (i .0), rw (h .0) (i .1))
-
-  quiet-lacks : (n m t : ℕ) (us : List (L .Update)) (k : L .Counts) → ((j : ℕ) → t ≤ j → j < t + n → NoneAt L j us) → lackingFrom L (n + m) t us k ≡ lackingFrom L m (t + n) us k
-  quiet-lacks zero m t us k h = ap (λ (i : ℕ). lackingFrom L i t us k) (zero-add m) ∙ ap (λ (i : ℕ). lackingFrom L m i us k) (let e : t ≡ t + 0 = omega arith in e)
-  quiet-lacks (suc n) m t us k h =
-      let i = none-lacks t us k (h t (omega arith) (omega arith)) in
-      ap (λ (i : ℕ). lackingFrom L i t us k) (suc-add n m)
-      ∙ ap (λ (b : Bool). b || lackingFrom L (n + m) (suc t) us (countsAfter L t us k)) (i .0)
-      ∙ ap (lackingFrom L (n + m) (suc t) us) (i .1)
-      ∙ quiet-lacks n m (suc t) us k (λ j a b. h j (omega arith) (omega arith))
-      ∙ ap (λ (i : ℕ). lackingFrom L m i us k) (let e : suc t + n ≡ t + suc n = omega arith in e)
 
 module _ (L : Leaves) (B : Layout L) (F : Facts L B) where
   -- what timed states within their ranges have for updates and slots to give them their shapes, gains of any bits
@@ -90,7 +73,6 @@ module _ (L : Leaves) (B : Layout L) (F : Facts L B) where
       pub position : r .position ≡ r₀ .position + t
       pub pending : ready + r .pending ≡ r₀ .pending + t
       pub whole : ready % 64 ≡ 0
-      pub enough : lackingFrom L (a .samples - t) t us (L .counts (r .meta)) ≡ false
       pub fits : t < a .samples → Fit (shaped t (L .shape (r .meta)))
 
     abbrev met : ℕ → State L → State L
@@ -103,33 +85,21 @@ module _ (L : Leaves) (B : Layout L) (F : Facts L B) where
       pub listed : listed (met t r .rate) ≡ true
       pub position : met t r .position ≡ r .position
       pub pending : met t r .pending ≡ r .pending
-      pub counts : L .counts (met t r .meta) ≡ countsAfter L t us (L .counts (r .meta))
-      pub lacks : lacking L t us (L .counts (r .meta)) ≡ false
       pub fits : Fit (L .shape (met t r .meta))
 
     module _ (S : Shaped) (p : Passed L r₀ a) (k : All (F .Checked) us) (t : ℕ) (r : State L) (ready : ℕ) (out : List ℕ) (g : Going t r ready out) (more : t < a .samples) where
-      -- refusal 7 at t and at the samples after it
-      lacks-here : (n : ℕ) → a .samples - t ≡ suc n → (lacking L t us (L .counts (r .meta)) ≡ false) × (lackingFrom L n (suc t) us (countsAfter L t us (L .counts (r .meta))) ≡ false)
-      lacks-here n e =
-          neither (lacking L t us (L .counts (r .meta))) (lackingFrom L n (suc t) us (countsAfter L t us (L .counts (r .meta))))
-          (ap (λ (i : ℕ). lackingFrom L i t us (L .counts (r .meta))) (sym e) ∙ g .enough)
-
       pub begun : Begun t r
       begun =
-          let l = lacks-here (a .samples - suc t) (omega arith) .0 in
-          let u = updated-ranged L B F t us r (L .counts (r .meta)) k l (g .ranged, refl) in
-          let s = slotted-met L B F (countsAfter L t us (L .counts (r .meta))) (updated L t us r) u in
+          let u = updated-ranged L B F t us r k (g .ranged) in
           let w = untouched L t us r in
           let e = slotted-shape L B F (updated L t us r) (λ n. S .rests n (updated L t us r .meta))
           ∙ updated-shape L B F (S .Coded) (S .keeps) (S .gives) (sentOf L us) (a .objects) (a .codes) t us r k (S .within (r .position) (r .meta) (g .ranged .meta)) in
           record {
-            updates = u .0;
-            ranged = s .0;
+            updates = u;
+            ranged = slotted-ranged L B F (updated L t us r) u;
             listed = ap listed (w .rate) ∙ g .listed;
             position = w .position;
             pending = w .pending;
-            counts = s .1;
-            lacks = l;
             fits = subst Fit (sym e) (g .fits more);
           }
 
@@ -152,20 +122,11 @@ module _ (L : Leaves) (B : Layout L) (F : Facts L B) where
         counted : Counted L (r .pending) (suc n) C
         counted = subst (Counted L (r .pending) (suc n)) at-once (framed-counted L (frameOf L a) (suc n) t r (g .ranged .long) (g .ranged .pending))
 
-        quiet : (m : ℕ) (c : L .Counts) → lackingFrom L (n + m) (suc t) us c ≡ lackingFrom L m (t + suc n) us c
-        quiet m c =
-            quiet-lacks L n m (suc t) us c (λ j x y. q .quiet j x (omega arith)) ∙ ap (λ (i : ℕ). lackingFrom L m i us c) (let e : suc t + n ≡ t + suc n = omega arith in e)
-
         chunk-ranged : R L B F (C .next)
         chunk-ranged =
-            let c = L .counts (r .meta) in
-            let l : lackingFrom L n (suc t) us (countsAfter L t us c) ≡ false = ap (λ (i : ℕ). lackingFrom L i (suc t) us (countsAfter L t us c)) (let e : n ≡ n + 0 = omega arith in e) ∙ quiet 0 (countsAfter L t us c) in
             let at = g .position in
             let last = p .early .position in
-            subst (λ (x : After L). R L B F (x .next)) at-once
-            (framed-ranged L B F (frameOf L a) k (suc n) t r c
-            (ap (λ (b : Bool). b || lackingFrom L n (suc t) us (countsAfter L t us c)) (begun .lacks) ∙ l)
-            (g .listed) (omega arith) (g .ranged, refl))
+            subst (λ (x : After L). R L B F (x .next)) at-once (framed-ranged L B F (frameOf L a) k (suc n) t r (g .listed) (omega arith) (g .ranged))
 
         rest-counted : Counted L (C .next .pending) (a .samples - (t + suc n)) D
         rest-counted = framed-counted L (frameOf L a) (a .samples - (t + suc n)) (t + suc n) (C .next) (chunk-ranged .long) (chunk-ranged .pending)
@@ -181,14 +142,6 @@ module _ (L : Leaves) (B : Layout L) (F : Facts L B) where
         count-more : length (rest t r .given 0) ≡ 64 * counted .blocks + length (D .given 0)
         count-more =
             ap (λ (x : After L). length (x .given 0)) parts ∙ length-append (C .given 0) (D .given 0) ∙ ap (λ (i : ℕ). i + length (D .given 0)) (counted .length 0 (lit< tt))
-
-        enough-more : lackingFrom L (a .samples - (t + suc n)) (t + suc n) us (L .counts (C .next .meta)) ≡ false
-        enough-more =
-            let m = a .samples - (t + suc n) in
-            ap (λ (x : L .Meta). lackingFrom L m (t + suc n) us (L .counts x)) (chunk-passes L (frameOf L a) (suc n) t (met t r) .meta)
-            ∙ ap (lackingFrom L m (t + suc n) us) (begun .counts)
-            ∙ sym (quiet m (countsAfter L t us (L .counts (r .meta))))
-            ∙ lacks-here (n + m) (omega arith) .1
 
         fits-more : t + suc n < a .samples → Fit (shaped (t + suc n) (L .shape (C .next .meta)))
         fits-more l =
@@ -212,7 +165,6 @@ module _ (L : Leaves) (B : Layout L) (F : Facts L B) where
               position = numbers-position (r₀ .position) (C .next .position) (met t r .position) (r .position) (c .position) (b .position) (g .position);
               pending = numbers-pending (r₀ .pending) (counted .blocks) (C .next .pending) (r .pending) (counted .all) (g .pending);
               whole = numbers-whole (counted .blocks) (g .whole);
-              enough = enough-more;
               fits = fits-more;
             }
           where
@@ -252,18 +204,11 @@ module _ (L : Leaves) (B : Layout L) (F : Facts L B) where
           position = omega arith;
           pending = omega arith;
           whole = refl;
-          enough = go (a .samples) (p .early .enough);
           fits = λ l. j .first;
         }
       where
         all : rest 0 (opened L (a .rate) r₀) ≡ framed L (frameOf L a) (a .samples) 0 (opened L (a .rate) r₀)
         all = ap (λ (i : ℕ). framed L (frameOf L a) i 0 (opened L (a .rate) r₀)) (let e : a .samples - 0 ≡ a .samples = omega arith in e)
-
-        go : (n : ℕ) → lackingFrom L (offsets L n) 0 us (L .counts (r₀ .meta)) ≡ false → lackingFrom L (n - 0) 0 us (L .counts (r₀ .meta)) ≡ false
-        go zero e = refl
-        go (suc n) e =
-            ap (λ (i : ℕ). lackingFrom L i 0 us (L .counts (r₀ .meta))) (let e : suc n - 0 ≡ suc n = omega arith in e)
-            ∙ ap (λ (b : Bool). lackingFrom L (cond b 1 (suc n)) 0 us (L .counts (r₀ .meta))) (sym (eqb·suc-zero n)) ∙ e
 
     pub ends : (t : ℕ) (r : State L) (ready : ℕ) (out : List ℕ) → Going t r ready out → a .samples ≤ t
         → (r ≡ pushed L (frameOf L a) r₀ .next) × (out ≡ written (pushed L (frameOf L a) r₀ .given) (a .stride) (a .out)) × (ready ≡ length (pushed L (frameOf L a) r₀ .given 0))

@@ -8,7 +8,7 @@ use Rattle.rules.specs.Refusals.{Found, clear, stop, _then_}
 use Rattle.rules.proofs.Judged.{stops}
 use Rattle.refusals.specs.Numbers.{foundOf}
 use Rattle.refusals.specs.declared.Refusal.{Refusal}
-use Rattle.refusals.specs.declared.Refusal.the-variants.{Clear, Lent, Sizes, Rate, StreamEnd, Records, Ranges, Flags, Samples}
+use Rattle.refusals.specs.declared.Refusal.the-variants.{Clear, Lent, Sizes, Rate, StreamEnd, Records, Ranges, Samples}
 use Rattle.refusals.specs.declared.Refusal.the-variants.{SampleRateChanged, MissingOamd, ObjectCountMismatch, UnsupportedSampleCount, BedChannelCountMismatch, UnsupportedBedChannel}
 use Rattle.refusals.proofs.Refusal as refusal
 
@@ -16,7 +16,7 @@ abbrev pub tag : Refusal → ℕ
 tag x = tagOf refusal.the-type x
 
 abbrev others : List ℕ
-others = 1 ∷ 2 ∷ 3 ∷ 4 ∷ 5 ∷ 6 ∷ 7 ∷ 8 ∷ 9 ∷ 10 ∷ 11 ∷ 12 ∷ 13 ∷ 14 ∷ []
+others = 1 ∷ 2 ∷ 3 ∷ 4 ∷ 5 ∷ 6 ∷ 7 ∷ 8 ∷ 9 ∷ 10 ∷ 11 ∷ 12 ∷ 13 ∷ []
 
 pub not-clear : (x : Refusal) → OneOf others (tag x) → foundOf x ≡ clear → ⊥
 not-clear Clear h e = miss others 0 tt h
@@ -26,7 +26,6 @@ not-clear Rate h e = stops e
 not-clear StreamEnd h e = stops e
 not-clear Records h e = stops e
 not-clear Ranges h e = stops e
-not-clear Flags h e = stops e
 not-clear Samples h e = stops e
 not-clear (SampleRateChanged a b) h e = stops e
 not-clear MissingOamd h e = stops e

@@ -38,7 +38,6 @@ pub fn refusal(found: Refusal) -> Answer
         Refusal::StreamEnd => stopped(4, 0, 0),
         Refusal::Records => stopped(5, 0, 0),
         Refusal::Ranges => stopped(6, 0, 0),
-        Refusal::Flags => stopped(7, 0, 0),
         Refusal::Samples => stopped(8, 0, 0),
         Refusal::SampleRateChanged(expected, provided) => stopped(9, expected, provided),
         Refusal::MissingOamd => stopped(10, 0, 0),

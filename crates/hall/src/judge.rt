@@ -28,7 +28,7 @@ pub fn push_refusal(
     requires { ⌜ (s .state .beds ≤ 18) × (s .state .objects ≤ 32) ⌝ }
     ensures { λ r. ⌜ ((b out : List ℕ) → s ≡ smallOf (wordsAt b 0 340) → length out ≡ bytes → foundOf r ≡ found hall (decode b) (argsOf (now (pcm .entry)) (now (meta .entry)) out (now (codes .entry)) rate samples objects stride)) ⌝ }
 {
-    let first = early::refusal(s, pcm, meta, bytes, codes, rate, samples, objects, stride);
+    let first = early::refusal(s.position, pcm, meta, bytes, codes, rate, samples, objects, stride);
     let Refusal::Clear = first else {
         return first;
     };

@@ -28,7 +28,15 @@ use records::layout::Layout;
 use records::order::next_offset;
 use refusals::Refusal;
 use timed::state::MetadataRendererState;
-use updates::shape::either;
+
+fn either(a: bool, b: bool) -> bool
+    ensures { λ r. ⌜ r ≡ (a || b) ⌝ }
+{
+    if a {
+        return true;
+    }
+    b
+}
 
 // 9 and 10.
 fn start_refusal(rate_before: u32, rate: u32, started: bool, updates: usize) -> Refusal

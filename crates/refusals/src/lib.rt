@@ -4,14 +4,13 @@
 // The refusals of a push, and none. `foundOf` gives document 01's number and counts for each.
 pub enum Refusal {
     Clear,
-    // 1 to 8
+    // 1 to 8; 7 is not in use
     Lent,
     Sizes,
     Rate,
     StreamEnd,
     Records,
     Ranges,
-    Flags,
     Samples,
     // 9 to 14, the Rust's own; (expected, provided), (expected), (code)
     SampleRateChanged(u32, u32),

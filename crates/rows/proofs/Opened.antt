@@ -19,7 +19,6 @@ use Rattle.records.specs.Ranges as ranges
 use Rattle.timed.specs.Infos as infos
 use Rattle.timed.specs.State as timed
 use Rattle.updates.specs.Applied as applied
-use Rattle.updates.specs.Shape as shape
 use Rattle.beds.specs.Routes as routes
 use Rattle.beds.specs.Positions as positions
 use Rattle.beds.specs.Terms as terms
@@ -44,7 +43,7 @@ unfoldable pub metadata : Unit {0}
 unfolding
     fields.all update.codesFit update.isUpdate block.isElement block.isBlock object.valuesFit object.isObject object.maybeOf object.depthOf
     runs.some runs.last runs.each laid.isWholeElement laid.elementAt laid.isWholeUpdate laid.updateAt laid.isUpdates laid.laidOut laid.count
-    ranges.recordInRange ranges.inRange shape.judged
+    ranges.recordInRange ranges.inRange
 metadata = tt
 
 unfoldable pub time : Unit {0}

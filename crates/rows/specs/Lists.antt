@@ -95,15 +95,6 @@ both =
     (ofBed (spoilt 121 3 (update 0 (0 ∷ []) 0 (element (block 0 0 ∷ []) (gain 0x41100000 object ∷ []) ∷ [])) ∷ []) ⇒ refusal 5 0 0
     ∷ [])
 
--- 7: an update at offset 0, or 1, keeps an element without a flag for its object
-abbrev pub no-flags : Row
-no-flags =
-    row
-    (ofBed (update 0 (0 ∷ []) 0 (element (block 0 0 ∷ []) (object ∷ []) ∷ []) ∷ []) ⇒ ready []
-    ∷ ofObject (update 0 [] 1 (element (block 0 0 ∷ []) (object ∷ []) ∷ []) ∷ []) ⇒ refusal 7 0 0
-    ∷ sent 2 [] 1 (0x3f000000 ∷ 0x3f000000 ∷ []) (update 1 [] 1 (element (block 0 0 ∷ []) (object ∷ []) ∷ []) ∷ []) ⇒ refusal 7 0 0
-    ∷ [])
-
 -- 8: the f32 above 16, NaN, an infinity; -16 passes
 abbrev pub samples : Row
 samples =
@@ -185,8 +176,8 @@ rear-centre =
 
 abbrev pub refusals : List Row
 refusals =
-    no-room ∷ too-many ∷ rates ∷ end-of-stream ∷ counts ∷ values ∷ ranges ∷ both ∷ no-flags ∷ samples ∷ lowest-first ∷ rate-changed ∷ no-update ∷ objects-differ ∷ no-samples ∷
-    no-input ∷ rear-centre ∷ []
+    no-room ∷ too-many ∷ rates ∷ end-of-stream ∷ counts ∷ values ∷ ranges ∷ both ∷ samples ∷ lowest-first ∷ rate-changed ∷ no-update ∷ objects-differ ∷ no-samples ∷ no-input ∷
+    rear-centre ∷ []
 
 -- ---- outputs
 
@@ -551,9 +542,22 @@ new =
     (0 ∷ 0x3e02b16e ∷ 0 ∷ 0 ∷ 0 ∷ 0 ∷ 0x3d32d332 ∷ 0x3e061e64 ∷ 0x3ddb03d6 ∷ 0x3ea442df ∷ 0 ∷ 0x3e285fb9 ∷ []) ∷ [])
     ∷ [])
 
+-- an object becomes a bed, and then an object again: each time all start afresh, stored positions too
+abbrev pub lifted : Row
+lifted =
+    row
+    (sent 1 [] 2 (0x3f000000 ∷ 0 ∷ []) (update 0 [] 2 (atOnce 129 (at 0x3f666666 0x3ecccccd 0x3f4ccccd ∷ object ∷ []) ∷ []) ∷ []) ⇒ ready []
+    ∷ sent 1 (0 ∷ []) 1 (0 ∷ 0x3f000000 ∷ []) (update 0 (0 ∷ []) 1 (element (block 0 0 ∷ block 5 0 ∷ []) (object ∷ at 0x3f666666 0x3ecccccd 0x3f4ccccd ∷ object ∷
+    object ∷ []) ∷ []) ∷ []) ⇒ ready []
+    ∷ sent 1 [] 2 (0x3f000000 ∷ 0x3e800000 ∷ []) (update 0 [] 2 (atOnce 0 (valid object ∷ at 0x3dcccccd 0x3e4ccccd 0x3dcccccd ∷ []) ∷ []) ∷ []) ⇒ ready []
+    ∷ flushAt 64 ⇒ ready ((0 ∷ 0x3e02b16e ∷ 0 ∷ 0 ∷ 0 ∷ 0 ∷ 0x3d32d332 ∷ 0x3e061e64 ∷ 0x3ddb03d6 ∷ 0x3ea442df ∷ 0 ∷ 0x3e285fb9 ∷ []) ∷
+    (0 ∷ 0 ∷ 0x3e75ce32 ∷ 0 ∷ 0 ∷ 0 ∷ 0x3e79ea5d ∷ 0x3e79ea5d ∷ 0 ∷ 0 ∷ 0 ∷ 0 ∷ []) ∷
+    (0x3f1741de ∷ 0 ∷ 0 ∷ 0 ∷ 0 ∷ 0 ∷ 0x3dc92d97 ∷ 0x3d061e64 ∷ 0x3d8126e5 ∷ 0x3cac33dc ∷ 0 ∷ 0 ∷ []) ∷ [])
+    ∷ [])
+
 abbrev pub updates : List Row
 updates =
-    offset-0 ∷ new-slot ∷ mid-frame ∷ leading-silence ∷ dropped ∷ in-order ∷ two-elements ∷ below-0 ∷ differences ∷ another-number ∷ kept ∷ no-flag ∷ new ∷ []
+    offset-0 ∷ new-slot ∷ mid-frame ∷ leading-silence ∷ dropped ∷ in-order ∷ two-elements ∷ below-0 ∷ differences ∷ another-number ∷ kept ∷ no-flag ∷ new ∷ lifted ∷ []
 
 -- ---- slots
 

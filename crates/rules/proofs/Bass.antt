@@ -27,7 +27,7 @@ use Rattle.rules.specs.Parts.{0·0}
 use Rattle.rules.specs.Leaves.{Leaves, Source, Bed}
 use Rattle.rules.specs.Mix.{Moment, addsOf, sampleAt, scaledBy, fedBy, bedsOn, objectsOn, heard, fed}
 use Rattle.rules.specs.Samples.{State}
-use Rattle.rules.specs.Refusals.{Args, Found, clear, unless, _then_, every, room, sized, listed, lackingFrom, offsets, later}
+use Rattle.rules.specs.Refusals.{Args, Found, clear, unless, _then_, every, room, sized, listed, later}
 use Rattle.rules.specs.Calls.{sentOf, found}
 use Rattle.rules.specs.Promises.{Replaced, withPcm}
 use Rattle.rules.proofs.Facts.{InHall}
@@ -106,7 +106,6 @@ module _ (L : Leaves) (r : State L) (a : Args) where
       then unless (leb (r .position + a .samples) 1099511627776) 4 0 0
       then unless (L .laidOut (a .meta)) 5 0 0
       then unless (L .inRange (a .meta)) 6 0 0
-      then unless (not (lackingFrom L (offsets L (a .samples)) 0 (L .updates (a .meta)) (L .counts (r .meta)))) 7 0 0
       then unless pass 8 0 0)
       then later (sentOf L (L .updates (a .meta))) (a .objects) (a .codes) (a .samples) (a .rate) (r .rate) (L .shape (r .meta))
 

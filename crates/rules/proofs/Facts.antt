@@ -1,7 +1,7 @@
 -- What the theorem over every list of calls takes from the crates `timed`, `records` and `store`. All else is taken from the proofs of the crates below. Assumes nothing.
 use Prim.Native.Nat.{ℕ, _≤_}
 use mathlib.Core.Path.{_≡_}
-use mathlib.Core.Bool.{true, false}
+use mathlib.Core.Bool.{true}
 use mathlib.Core.List.{List, map}
 use lib.Dec.{T}
 use lib.ListN.{length}
@@ -48,11 +48,8 @@ pub record Facts (L : Leaves) (B : Layout L) : Type 1 where
   pub Within : ℕ → L .Meta → Type 0
   pub within-blank : Within 0 (L .blank)
   pub within-later : (n k : ℕ) (m : L .Meta) → n ≤ k → Within n m → Within k m
-  pub within-apply : (n : ℕ) (u : L .Update) (m : L .Meta) → n ≤ 1099511627776 → Checked u → L .lacks u (L .counts m) ≡ false → Within n m → Within n (L .apply n u m)
+  pub within-apply : (n : ℕ) (u : L .Update) (m : L .Meta) → n ≤ 1099511627776 → Checked u → Within n m → Within n (L .apply n u m)
   pub within-slot : (n start : ℕ) (m : L .Meta) → start ≤ n → n ≤ 1099511627776 → Within n m → Within n (L .slot start m)
-  -- what an update leaves of the counts depends on the counts alone, and a slot keeps them
-  pub counts-apply : (n : ℕ) (u : L .Update) (m : L .Meta) → Checked u → Within n m → L .counts (L .apply n u m) ≡ L .nextCounts u (L .counts m)
-  pub counts-slot : (n start : ℕ) (m : L .Meta) → Within n m → L .counts (L .slot start m) ≡ L .counts m
   -- the block of a renderer in its ranges is as long as it should be, valid, and gives the renderer back; a valid block holds a renderer in its ranges
   pub size : (r : State L) → Ranged L Within r → length (B .encode r) ≡ B .size
   pub valid : (r : State L) → Ranged L Within r → B .valid (B .encode r) ≡ true

@@ -5,7 +5,7 @@ use mathlib.Core.List.{List}
 use Prim.Native.Nat.{ℕ, zero, suc, _+_, _*_, _%_, _≤_, _<_}
 use native.Mathlib.Nat.{mul-le-mul-right, zero-add}
 use native.Mathlib.Omega.{arith}
-use borrow.Author.Tests.{leb-true, eqb-true, not-true}
+use borrow.Author.Tests.{leb-true, eqb-true}
 use lib.Dec.{T, eqb, leb}
 use lib.ListN.{length}
 use Rattle.ieee.specs.Units.{One}
@@ -16,7 +16,7 @@ use Rattle.rates.specs.Rates.{lowest, highest, Listed}
 use Rattle.rules.specs.Leaves.{Leaves}
 use Rattle.rules.specs.Mix.{sampleAt, samplesAt}
 use Rattle.rules.specs.Samples.{State}
-use Rattle.rules.specs.Refusals.{Args, Found, clear, stop, _then_, unless, every, room, sized, listed, lackingFrom, offsets, early, later}
+use Rattle.rules.specs.Refusals.{Args, Found, clear, stop, _then_, unless, every, room, sized, listed, early, later}
 use Rattle.rules.specs.Calls.{sentOf, found}
 use Rattle.mixing.proofs.Meant.{sample-bounded}
 
@@ -101,7 +101,6 @@ module _ (L : Leaves) where
     pub position : r .position + a .samples ≤ 1099511627776
     pub laidOut : L .laidOut (a .meta) ≡ true
     pub inRange : L .inRange (a .meta) ≡ true
-    pub enough : lackingFrom L (offsets L (a .samples)) 0 (L .updates (a .meta)) (L .counts (r .meta)) ≡ false
     pub pass : allPass (a .pcm) 0 ((length (a .codes) + a .objects) * a .samples) ≡ true
 
   pub record Passed (r : State L) (a : Args) : Type 0 where
@@ -116,8 +115,6 @@ module _ (L : Leaves) where
       let s4 = then-clear (unless (leb (r .position + a .samples) 1099511627776) 4 0 0) _ (s3 .1) in
       let s5 = then-clear (unless (L .laidOut (a .meta)) 5 0 0) _ (s4 .1) in
       let s6 = then-clear (unless (L .inRange (a .meta)) 6 0 0) _ (s5 .1) in
-      let x7 = lackingFrom L (offsets L (a .samples)) 0 (L .updates (a .meta)) (L .counts (r .meta)) in
-      let s7 = then-clear (unless (not x7) 7 0 0) _ (s6 .1) in
       record {
         room = unless-clear (room (a .stride) (length (a .out))) 1 0 0 (s1 .0);
         sized = unless-clear (sized a) 2 0 0 (s2 .0);
@@ -125,8 +122,7 @@ module _ (L : Leaves) where
         position = leb-true (r .position + a .samples) 1099511627776 (unless-clear (leb (r .position + a .samples) 1099511627776) 4 0 0 (s4 .0));
         laidOut = unless-clear (L .laidOut (a .meta)) 5 0 0 (s5 .0);
         inRange = unless-clear (L .inRange (a .meta)) 6 0 0 (s6 .0);
-        enough = not-true x7 (unless-clear (not x7) 7 0 0 (s7 .0));
-        pass = unless-clear (allPass (a .pcm) 0 ((length (a .codes) + a .objects) * a .samples)) 8 0 0 (s7 .1);
+        pass = unless-clear (allPass (a .pcm) 0 ((length (a .codes) + a .objects) * a .samples)) 8 0 0 (s6 .1);
       }
 
   pub is-passed : (r : State L) (a : Args) → found L r a ≡ clear → Passed r a

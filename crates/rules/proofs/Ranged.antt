@@ -6,7 +6,7 @@ use mathlib.Core.List.{List, [], _∷_}
 use Prim.Native.Nat.{ℕ, zero, suc, _+_, _≤_, _<_, zero-le}
 use native.Mathlib.Omega.{arith}
 use borrow.Author.Tests.{leb-true, leb-false, eqb-false, le-ltb}
-use lib.Dec.{T, eqb, leb, ltb, lit≤, lit<, eqb·suc-zero}
+use lib.Dec.{T, eqb, leb, ltb, lit≤, lit<}
 use lib.ListN.{replicate}
 use lib.Ieee.{binary32, fits}
 use lib.Ieee.Fits.{sub-fits}
@@ -16,11 +16,11 @@ use Rattle.rules.specs.Parts.{laid}
 use Rattle.rules.specs.Leaves.{Leaves, started}
 use Rattle.rules.specs.Mix.{Moment}
 use Rattle.rules.specs.Samples.{Frame, State, fresh, row, applied, updated, slotted, moment, passed, sampled, framed, opened, pushed, flushed}
-use Rattle.rules.specs.Refusals.{Args, listed, lacking, countsAfter, lackingFrom, offsets}
+use Rattle.rules.specs.Refusals.{Args, listed}
 use Rattle.rules.specs.Ranges.{Fits, FilterFits, Ranged}
 use Rattle.rules.specs.Calls.{frameOf}
 use Rattle.rules.specs.Block.{Layout}
-use Rattle.rules.proofs.Lists.{either, neither, length-laid, zeros-long, few-left}
+use Rattle.rules.proofs.Lists.{either, length-laid, zeros-long, few-left}
 use Rattle.rules.proofs.Facts.{Facts}
 use Rattle.rules.proofs.Fitting.{heard-fits, grown-fits, new-fits, laid-words, laid-none, same-words, row-fits}
 use Rattle.rules.proofs.Judged.{Passed}
@@ -48,8 +48,8 @@ module _ (L : Leaves) (B : Layout L) (F : Facts L B) where
   }
 
   -- ---- updates and slots
-  pub applied-ranged : (t : ℕ) (u : L .Update) (r : State L) → F .Checked u → L .lacks u (L .counts (r .meta)) ≡ false → R r → R (applied L t u r)
-  applied-ranged t u r k l g =
+  pub applied-ranged : (t : ℕ) (u : L .Update) (r : State L) → F .Checked u → R r → R (applied L t u r)
+  applied-ranged t u r k g =
       let s = slot-kept (not (started L (r .meta)) || eqb t 0) in
       record {
         rate = g .rate;
@@ -58,7 +58,7 @@ module _ (L : Leaves) (B : Layout L) (F : Facts L B) where
         start = s .1;
         gain = g .gain;
         filter = g .filter;
-        meta = F .within-apply (r .position) u (r .meta) (g .position) k l (g .meta);
+        meta = F .within-apply (r .position) u (r .meta) (g .position) k (g .meta);
         pending = g .pending;
         idle = g .idle;
         long = g .long;
@@ -113,40 +113,22 @@ module _ (L : Leaves) (B : Layout L) (F : Facts L B) where
       slot-kept true false e = let s = g .start in (leb-false 64 (suc (r .phase)) e, omega arith)
       slot-kept false last e = let s = g .start in (g .phase, omega arith)
 
-  -- ---- refusal 7 as the frame meets it: the counts are those of the walk
-  abbrev pub Met : L .Counts → State L → Type 0
-  Met k s = R s × (L .counts (s .meta) ≡ k)
-
-  pub updated-ranged : (t : ℕ) (us : List (L .Update)) (r : State L) (k : L .Counts) → All (F .Checked) us → lacking L t us k ≡ false → Met k r → Met (countsAfter L t us k) (updated L t us r)
-  updated-ranged t [] r k c e g = g
-  updated-ranged t (u ∷ us) r k c e g = go (eqb (L .offset u) t) e (λ s o i h. updated-ranged t us s o (c .1) i h)
-    where
-      go : (b : Bool) → cond b (L .lacks u k || lacking L t us (L .nextCounts u k)) (lacking L t us k) ≡ false
-          → ((s : State L) (o : L .Counts) → lacking L t us o ≡ false → Met o s → Met (countsAfter L t us o) (updated L t us s))
-          → Met (countsAfter L t us (cond b (L .nextCounts u k) k)) (updated L t us (cond b (applied L t u r) r))
-      go true e rec =
-          let p = neither (L .lacks u k) (lacking L t us (L .nextCounts u k)) e in
-          rec (applied L t u r) (L .nextCounts u k) (p .1)
-          (applied-ranged t u r (c .0) (ap (L .lacks u) (g .1) ∙ p .0) (g .0), F .counts-apply (r .position) u (r .meta) (c .0) (g .0 .meta) ∙ ap (L .nextCounts u) (g .1))
-      go false e rec = rec r k e g
-
-  pub slotted-met : (k : L .Counts) (r : State L) → Met k r → Met k (slotted L r)
-  slotted-met k r g =
-      (slotted-ranged r (g .0), either (λ (m : L .Meta). L .counts m ≡ k) (started L (r .meta) && eqb (r .phase) 0) (F .counts-slot (r .position) (r .start) (r .meta) (g .0 .meta) ∙ g .1) (g .1))
-
   -- ---- a frame
-  pub framed-ranged : (f : Frame (L .Update)) → All (F .Checked) (f .updates) → (n t : ℕ) (r : State L) (m : L .Counts) → lackingFrom L n t (f .updates) m ≡ false
-      → listed (r .rate) ≡ true → r .position + n ≤ 1099511627776 → Met m r → R (framed L f n t r .next)
-  framed-ranged f k zero t r m e l h g = g .0
-  framed-ranged f k (suc n) t r m e l h g =
-      let p = neither (lacking L t (f .updates) m) (lackingFrom L n (suc t) (f .updates) (countsAfter L t (f .updates) m)) e in
+  pub updated-ranged : (t : ℕ) (us : List (L .Update)) (r : State L) → All (F .Checked) us → R r → R (updated L t us r)
+  updated-ranged t [] r c g = g
+  updated-ranged t (u ∷ us) r c g =
+      updated-ranged t us (cond (eqb (L .offset u) t) (applied L t u r) r) (c .1) (either R (eqb (L .offset u) t) (applied-ranged t u r (c .0) g) g)
+
+  pub framed-ranged : (f : Frame (L .Update)) → All (F .Checked) (f .updates) → (n t : ℕ) (r : State L) → listed (r .rate) ≡ true → r .position + n ≤ 1099511627776 → R r →
+      R (framed L f n t r .next)
+  framed-ranged f k zero t r l h g = g
+  framed-ranged f k (suc n) t r l h g =
       let s = slotted L (updated L t (f .updates) r) in
-      let i = slotted-met (countsAfter L t (f .updates) m) (updated L t (f .updates) r) (updated-ranged t (f .updates) r m k (p .0) g) in
+      let i = slotted-ranged (updated L t (f .updates) r) (updated-ranged t (f .updates) r k g) in
       let u = untouched L t (f .updates) r in
       let w : listed (s .rate) ≡ true = ap listed (u .rate) ∙ l in
       let v = u .position in
-      framed-ranged f k n (suc t) (sampled L f t r .next) (countsAfter L t (f .updates) m) (p .1) w (omega arith)
-      (passed-ranged (moment L f t (s .meta)) s w (omega arith) (i .0), i .1)
+      framed-ranged f k n (suc t) (sampled L f t r .next) w (omega arith) (passed-ranged (moment L f t (s .meta)) s w (omega arith) i)
 
   pub opened-ranged : (rate : ℕ) (r : State L) → listed rate ≡ true → R r → R (opened L rate r) × (listed (opened L rate r .rate) ≡ true)
   opened-ranged rate r l g = (
@@ -177,16 +159,10 @@ module _ (L : Leaves) (B : Layout L) (F : Facts L B) where
 
   pub pushed-ranged : (r : State L) (a : Args) → Bytes (a .meta) → Passed L r a → R r → R (pushed L (frameOf L a) r .next)
   unfolding pushed
-  pushed-ranged r a b p g = go (a .samples) (p .early .enough) (p .early .position)
-    where
-      o : R (opened L (a .rate) r) × (listed (opened L (a .rate) r .rate) ≡ true)
-      o = opened-ranged (a .rate) r (p .early .listed) g
-
-      go : (n : ℕ) → lackingFrom L (offsets L n) 0 (L .updates (a .meta)) (L .counts (r .meta)) ≡ false → r .position + n ≤ 1099511627776 → R (framed L (frameOf L a) n 0 (opened L (a .rate) r) .next)
-      go zero e h = o .0
-      go (suc n) e h =
-          framed-ranged (frameOf L a) (F .checked (a .meta) b (p .early .laidOut) (p .early .inRange)) (suc n) 0 (opened L (a .rate) r) (L .counts (r .meta))
-          (ap (λ (t : Bool). lackingFrom L (cond t 1 (suc n)) 0 (L .updates (a .meta)) (L .counts (r .meta))) (sym (eqb·suc-zero n)) ∙ e) (o .1) h (o .0, refl)
+  pushed-ranged r a b p g =
+      let e = p .early in
+      let o = opened-ranged (a .rate) r (e .listed) g in
+      framed-ranged (frameOf L a) (F .checked (a .meta) b (e .laidOut) (e .inRange)) (a .samples) 0 (opened L (a .rate) r) (o .1) (e .position) (o .0)
 
   pub flushed-ranged : (r : State L) → R r → R (flushed L r .next)
   unfolding flushed

@@ -2,7 +2,7 @@
 use Prim.Native.Nat.{ℕ, _+_, _*_, _≤_, _<_}
 use mathlib.Core.Path.{_≡_}
 use mathlib.Core.Logic.{_⊎_}
-use mathlib.Core.Bool.{true, false}
+use mathlib.Core.Bool.{true}
 use mathlib.Core.List.{List, []}
 use lib.ListN.{length}
 use Rattle.ieee.specs.Bounds.{All}
@@ -10,7 +10,7 @@ use Rattle.mixing.specs.Samples.{allPass}
 use Rattle.beds.specs.Matching.{counted}
 use Rattle.rules.specs.Leaves.{Leaves, Shape, started}
 use Rattle.rules.specs.Samples.{State}
-use Rattle.rules.specs.Refusals.{Args, room, sized, listed, lackingFrom, offsets}
+use Rattle.rules.specs.Refusals.{Args, room, sized, listed}
 
 -- a shape that a push of n objects and beds of these codes can be heard with: no 11, no 13, no 14
 pub record Suits (n : ℕ) (codes : List ℕ) (s : Shape) : Type 0 where
@@ -26,7 +26,6 @@ module _ (L : Leaves) where
     pub position : r .position + a .samples ≤ 1099511627776
     pub laidOut : L .laidOut (a .meta) ≡ true
     pub inRange : L .inRange (a .meta) ≡ true
-    pub flagged : lackingFrom L (offsets L (a .samples)) 0 (L .updates (a .meta)) (L .counts (r .meta)) ≡ false
     pub passes : allPass (a .pcm) 0 ((length (a .codes) + a .objects) * a .samples) ≡ true
     pub rate : (r .rate ≡ 0) ⊎ (r .rate ≡ a .rate)
     pub told : (started L (r .meta) ≡ true) ⊎ (L .updates (a .meta) ≡ [] → ⊥)

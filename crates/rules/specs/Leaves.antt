@@ -43,12 +43,6 @@ pub record Leaves : Type 1 where
   -- no refusal 5, and no refusal 6, for metadata bytes
   pub laidOut : List ℕ → Bool
   pub inRange : List ℕ → Bool
-  -- the counts of the elements' blocks, objects and flags, and what an update leaves of them
-  pub Counts : Type 0
-  pub counts : Meta → Counts
-  pub nextCounts : Update → Counts → Counts
-  -- refusal 7: an update keeps an element "that has flags for fewer dynamic objects than the update"
-  pub lacks : Update → Counts → Bool
 
 -- whether an update was applied
 abbrev pub started : (L : Leaves) → L .Meta → Bool

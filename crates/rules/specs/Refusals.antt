@@ -44,7 +44,7 @@ abbrev pub every : (ℕ → Bool) → List ℕ → Bool
 every f [] = true
 every f (x ∷ xs) = f x && every f xs
 
--- ---- 1 to 8, "lowest number first"
+-- ---- 1 to 8, "lowest number first"; R-1: "7 never occurs again"
 
 -- "a stride, a multiple of 64 from 64 to 1,536. The output has 12 × stride places or more": places of four bytes
 abbrev pub room : ℕ → ℕ → Bool
@@ -58,34 +58,14 @@ sized a =
     && eqb (length (a .pcm)) (4 * (channels * a .samples)) && (eqb (a .samples) 0 || not (eqb channels 0))
 
 module _ (L : Leaves) where
-  -- 7 along the updates whose offset is t, in the order sent; the counts after them
-  abbrev pub lacking : ℕ → List (L .Update) → L .Counts → Bool
-  lacking t [] k = false
-  lacking t (u ∷ us) k = cond (eqb (L .offset u) t) (L .lacks u k || lacking t us (L .nextCounts u k)) (lacking t us k)
-
-  abbrev pub countsAfter : ℕ → List (L .Update) → L .Counts → L .Counts
-  countsAfter t [] k = k
-  countsAfter t (u ∷ us) k = countsAfter t us (cond (eqb (L .offset u) t) (L .nextCounts u k) k)
-
-  -- 7 along all updates that would be applied, in time order: n offsets from t on
-  abbrev pub lackingFrom : ℕ → ℕ → List (L .Update) → L .Counts → Bool
-  lackingFrom zero t us k = false
-  lackingFrom (suc n) t us k = lacking t us k || lackingFrom n (suc t) us (countsAfter t us k)
-
-  -- "One at or past the frame's end is dropped, offset 0 excepted": at least the offset 0 counts
-  abbrev pub offsets : ℕ → ℕ
-  offsets n = cond (eqb n 0) 1 n
-
   abbrev pub early : State L → Args → Found
   early r a =
-      let us = L .updates (a .meta) in
       unless (room (a .stride) (length (a .out))) 1 0 0
       then unless (sized a) 2 0 0
       then unless (listed (a .rate)) 3 0 0
       then unless (leb (r .position + a .samples) 1099511627776) 4 0 0
       then unless (L .laidOut (a .meta)) 5 0 0
       then unless (L .inRange (a .meta)) 6 0 0
-      then unless (not (lackingFrom (offsets (a .samples)) 0 us (L .counts (r .meta)))) 7 0 0
       then unless (allPass (a .pcm) 0 ((length (a .codes) + a .objects) * a .samples)) 8 0 0
 
 -- ---- 9 to 14

@@ -1,8 +1,7 @@
 -- An applied update keeps the ranges of the state. Assumes nothing.
 use Prim.Native.Nat.{ℕ, _+_, _-_, _*_, _≤_, _<_}
-use mathlib.Core.Bool.{Bool, false, _&&_}
+use mathlib.Core.Bool.{Bool, false}
 use mathlib.Core.List.{List}
-use lib.Dec.{eqb}
 use lib.ListN.{getD}
 use native.Mathlib.Omega.{arith}
 use Rattle.fields.specs.Update.{objects}
@@ -14,7 +13,7 @@ use Rattle.timed.specs.declared.state.ElementRendererState.{ElementRendererStat
 use Rattle.timed.proofs.Keeps.{times-in, cond-keeps, set-each}
 use Rattle.updates.specs.Whole.{WholeElement, WholeUpdate}
 use Rattle.updates.specs.Said.{elementOf, updateOf}
-use Rattle.updates.specs.Applied.{Work, blockGiven, scheduled, elementNext, isKept, elementGiven, elementsApplied, applied}
+use Rattle.updates.specs.Applied.{Work, blockGiven, scheduled, elementNext, isKept, elementGiven, elementsApplied, isSame, applied}
 
 -- ---- an element
 
@@ -72,5 +71,5 @@ applied-within position m u t w l h =
       beds = w .few-beds;
       channels = w .no-more-beds;
       elements = w .few-elements;
-      states = elements-range position (eqb (s .elements) (updateOf m u .elements) && eqb (s .objects) (updateOf m u .objects)) m u (s .states) (t .infos) w (h .states);
+      states = elements-range position (isSame s (updateOf m u)) m u (s .states) (t .infos) w (h .states);
     }

@@ -42,11 +42,11 @@ element-turn same m u c p e es is r out k q h = rw (h .element, h .infos, k .obj
 module _ (at : StreamSample) (m : List ℕ) (u : ℕ) (s : MetadataRendererState) (is : List ℕ) where
   pub update-done :
       (h : Header) (same : Bool) (states : List ElementRendererState) (out codes : List ℕ) (gains : List Float) (sources : List DynamicSourceState) (was now : ℕ) → h ≡ headerOf m u →
-      same ≡ (eqb (s .elements) (h .elements) && eqb (s .objects) (h .objects)) → IsWork (elementsApplied same (updateOf m u) (s .states) is) states out → codes ≡ codesGiven (updateOf m u) (s .codes) →
+      same ≡ (eqb (s .elements) (h .elements) && eqb (s .objects) (h .objects) && eqb was now) → IsWork (elementsApplied same (updateOf m u) (s .states) is) states out → codes ≡ codesGiven (updateOf m u) (s .codes) →
       gains ≡ nextGains (s .beds) (h .beds) (s .gains) → sources ≡ nextSources was now (s .sources) → was ≡ s .objects - s .isf → now ≡ h .objects - h .«bed_or_isf» →
       IsTimed (applied (at .0) (updateOf m u) (record { state = s; infos = is }))
       (record { initialized = true; payload = at; objects = h .objects; isf = h .«bed_or_isf»; beds = h .beds; elements = h .elements; codes = codes; gains = gains; states = states; sources = sources })
       out
   unfolding applied
   update-done h same states out codes gains sources was now e f w k g r a b =
-      record { state = rw (w .states, k, g, r, a, b, f, e); infos = rw (w .infos, f, e) }
+      record { state = rw (w .states, k, g, r, f, a, b, e); infos = rw (w .infos, f, a, b, e) }

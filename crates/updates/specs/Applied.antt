@@ -61,7 +61,7 @@ elementNext kept dynamic x s =
       tracks = cond kept (s .tracks) (replicate 16 newTrack);
     }
 
--- "keeps an element (same number of elements, blocks and objects)"; `same` is of elements and objects
+-- "keeps an element (same number of elements, blocks and objects)"; `same` is of all but the blocks
 abbrev pub isKept : Bool → ℕ → ℕ → Bool
 isKept same blocks blocks′ = same && eqb blocks blocks′
 
@@ -109,8 +109,10 @@ unfoldable pub codesGiven : Update → List ℕ → List ℕ
 unfolding times
 codesGiven u cs = times 18 0 (codeGiven u) cs
 
+-- Elements and objects are as many as at the last applied update, and by R-1 the dynamic objects too: "an element that would be kept starts afresh when an applied update's number of
+-- dynamic objects differs from the last applied one's, as if its block count had changed"
 abbrev pub isSame : MetadataRendererState → Update → Bool
-isSame s u = eqb (s .elements) (u .elements) && eqb (s .objects) (u .objects)
+isSame s u = eqb (s .elements) (u .elements) && eqb (s .objects) (u .objects) && eqb (s .objects - s .isf) (u .objects - u .isf)
 
 -- the state and the infos once an update is applied at a stream position, from the elements that it leaves
 abbrev pub updated : ℕ → Update → MetadataRendererState → Work → Timed

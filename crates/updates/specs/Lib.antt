@@ -2,4 +2,3 @@ pub mod Whole
 pub mod Said
 pub mod Stored
 pub mod Applied
-pub mod Shape

@@ -108,8 +108,8 @@ fn next_tracks(tracks: [Track; 16], kept: bool) -> [Track; 16]
     [track; 16]
 }
 
-// Whether an element is kept; `same` is of elements and objects.
-pub fn is_kept(same: bool, blocks: usize, next: usize) -> bool
+// Whether an element is kept; `same` is of all counts but the blocks.
+fn is_kept(same: bool, blocks: usize, next: usize) -> bool
     ensures { λ r. ⌜ r ≡ isKept same blocks next ⌝ }
 {
     if same {

@@ -93,14 +93,17 @@ fn apply_elements(
     next
 }
 
-// Whether elements and objects are as many as before.
-pub fn same_counts(elements: usize, given: usize, objects: usize, sent: usize) -> bool
-    ensures { λ r. ⌜ r ≡ (eqb elements given && eqb objects sent) ⌝ }
+// Whether elements, objects and dynamic objects are as many as at the last applied update.
+fn same_counts(elements: usize, given: usize, last: Counts, counts: Counts) -> bool
+    ensures { λ r. ⌜ r ≡ (eqb elements given && eqb (last .objects) (counts .objects) && eqb (last .dynamic) (counts .dynamic)) ⌝ }
 {
-    if elements == given {
-        return objects == sent;
+    if elements != given {
+        return false;
     }
-    false
+    if last.objects != counts.objects {
+        return false;
+    }
+    last.dynamic == counts.dynamic
 }
 
 // The update at record u, applied at a sample of the stream.
@@ -120,7 +123,12 @@ pub fn apply_update(
         isf: h.bed_or_isf,
         dynamic: state::dynamic(h.objects, h.bed_or_isf),
     };
-    let same = same_counts(s.elements, h.elements, s.objects, h.objects);
+    let last = Counts {
+        objects: s.objects,
+        isf: s.isf,
+        dynamic: state::dynamic(s.objects, s.isf),
+    };
+    let same = same_counts(s.elements, h.elements, last, counts);
     let states = s.states;
     let next = apply_elements(states, infos, meta, u, h.elements, counts, same);
     let before = s.codes;
@@ -128,7 +136,7 @@ pub fn apply_update(
     let heard = s.gains;
     let gains = next_gains(heard, s.beds, h.beds);
     let moved = s.sources;
-    let sources = next_sources(moved, state::dynamic(s.objects, s.isf), counts.dynamic);
+    let sources = next_sources(moved, last.dynamic, counts.dynamic);
     MetadataRendererState {
         initialized: true,
         payload: at,

@@ -72,6 +72,14 @@ impl Calls {
         }
     }
 
+    /// Calls in which bed channels are lifted.
+    pub fn lifting(seed: u64, most_samples: u64) -> Self {
+        Calls {
+            inputs: Generator::new(!seed),
+            frames: Frames::lifting(seed, most_samples),
+        }
+    }
+
     /// The frames that follow have up to so many samples.
     pub fn set_most_samples(&mut self, most_samples: u64) {
         self.frames.set_most_samples(most_samples);

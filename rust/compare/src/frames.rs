@@ -3,13 +3,15 @@ use oracle::frame::{Anchor, Block, Element, Frame, Object, Update};
 use oracle::state::State;
 
 /// A seeded stream of frames that document 01's checks 1 to 6 and 8 let pass: mostly accepted,
-/// now and then refused by 7 or 9 to 14.
+/// now and then refused by 9 to 14.
 pub struct Frames {
     inputs: Generator,
     most_samples: u64,
     most_records: u64,
     rate: u32,
     layout: Layout,
+    /// Channels are lifted often.
+    lifting: bool,
     /// An update was sent.
     started: bool,
 }
@@ -78,8 +80,22 @@ impl Frames {
             most_records: PROGRAM_RECORDS,
             rate,
             layout,
+            lifting: false,
             started: false,
         }
+    }
+
+    /// Frames in which bed channels become objects, and objects bed channels, one time in three,
+    /// most of them of as many objects in all; one or two elements that would be kept.
+    pub fn lifting(seed: u64, most_samples: u64) -> Self {
+        let mut frames = Frames::new(seed, most_samples);
+        frames.set_lifting();
+        let Frames { inputs, layout, .. } = &mut frames;
+        layout.objects = layout.objects.max(1 + inputs.below(4) as u8);
+        layout.blocks = (0..1 + inputs.below(2))
+            .map(|_| 1 + inputs.below(3))
+            .collect();
+        frames
     }
 
     /// Frames for the entries, with as many metadata records as document 01 allows.
@@ -115,10 +131,15 @@ impl Frames {
         self.most_samples = most_samples;
     }
 
-    /// After a reset: another rate, and often another layout.
+    /// The frames that follow lift channels.
+    pub fn set_lifting(&mut self) {
+        self.lifting = true;
+    }
+
+    /// After a reset: another rate, and often another layout; the same where channels are lifted.
     pub fn restart(&mut self) {
         self.rate = rate(&mut self.inputs);
-        if self.inputs.chance(2) {
+        if !self.lifting && self.inputs.chance(2) {
             self.layout = layout(&mut self.inputs);
         }
         self.started = false;
@@ -164,8 +185,12 @@ impl Frames {
                 updates.push(update(inputs, layout, offset as u16));
             }
         };
-        if inputs.chance(12) {
-            self.layout = changed(inputs, &self.layout);
+        if inputs.chance(if self.lifting { 3 } else { 12 }) {
+            self.layout = if self.lifting {
+                lifted(inputs, &self.layout)
+            } else {
+                changed(inputs, &self.layout)
+            };
             add(inputs, &self.layout, 0);
         } else if !self.started && !inputs.chance(20) {
             // Leading silence one time in three.
@@ -290,6 +315,40 @@ fn changed(inputs: &mut Generator, old: &Layout) -> Layout {
         bed_or_isf_objects: isf as u8,
         ..old.clone()
     }
+}
+
+/// Of as many objects one more or one less is dynamic, often with its bed channel, and now and then
+/// with other blocks in the first element. One time in eight one object more that is not dynamic, or
+/// `bed_or_isf_objects` at or above the objects.
+fn lifted(inputs: &mut Generator, old: &Layout) -> Layout {
+    let mut new = old.clone();
+    let isf = old.bed_or_isf_objects.min(old.objects);
+    match inputs.below(16) {
+        0 if old.objects < 32 => {
+            new.objects += 1;
+            new.bed_or_isf_objects = old.bed_or_isf_objects.saturating_add(1);
+        }
+        1 => new.bed_or_isf_objects = old.objects + inputs.below(4) as u8,
+        2..9 if isf > 0 && old.dynamic() < 16 => {
+            new.bed_or_isf_objects = isf - 1;
+            if inputs.chance(2) {
+                new.beds.pop();
+            }
+        }
+        _ if isf < old.objects => {
+            new.bed_or_isf_objects = isf + 1;
+            if inputs.chance(2) && new.beds.len() < usize::from(old.objects.min(18)) {
+                new.beds.push(inputs.pick(&[0, 1, 2, 3, 4, 9, 15, 17]));
+            }
+        }
+        _ => {}
+    }
+    if let Some(blocks) = new.blocks.first_mut()
+        && inputs.chance(8)
+    {
+        *blocks = *blocks % 3 + 1;
+    }
+    new
 }
 
 /// The codes of the bed channels that come with the frame: those of the layout in any order,

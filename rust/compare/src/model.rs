@@ -1,12 +1,13 @@
-//! What document 01 has a call answer: its refusals 1 to 8, read here apart from the Rattle code,
-//! and the oracle for everything else.
+//! What documents 01 and 02 have a call answer: refusals 1 to 8, read here apart from the Rattle
+//! code, and the oracle for everything else: the unchanged Rust, and the amended one from a lifted
+//! bed channel to the next reset.
 
 use crate::calls::Call;
 use crate::entry::Answer;
 use crate::{block, ranges, reading};
 use oracle::frame::{Anchor, Block, Element, Frame, Object, Update};
 use oracle::state::{Metadata, State};
-use oracle::{Oracle, Pushed};
+use oracle::{Oracle, Pushed, amended};
 
 #[derive(Clone, Debug, PartialEq)]
 pub enum Outcome {
@@ -41,7 +42,9 @@ impl Outcome {
 pub const STREAM_END: u64 = 1 << 40;
 
 pub struct Model {
-    pub oracle: Oracle,
+    rust: Oracle,
+    /// In the Rust's place since a channel was lifted.
+    amended: Option<amended::Oracle>,
     /// Samples of the stream before the oracle's first.
     pub before: u64,
 }
@@ -50,7 +53,8 @@ impl Model {
     #[expect(clippy::new_without_default)]
     pub fn new() -> Self {
         Model {
-            oracle: Oracle::new(),
+            rust: Oracle::new(),
+            amended: None,
             before: 0,
         }
     }
@@ -58,35 +62,72 @@ impl Model {
     /// What a block in range holds.
     pub fn of_block(bytes: &[u8]) -> Self {
         Model {
-            oracle: Oracle::in_state(&block::state(bytes)),
-            before: 0,
+            rust: Oracle::in_state(&block::state(bytes)),
+            ..Model::new()
         }
     }
 
+    pub fn state(&self) -> State {
+        let amended = self.amended.as_ref().map(amended::Oracle::state);
+        amended.unwrap_or_else(|| self.rust.state())
+    }
+
+    /// A channel was lifted since the last reset.
+    pub fn lifted(&self) -> bool {
+        self.amended.is_some()
+    }
+
     pub fn push(&mut self, call: &Call, stride: usize) -> Outcome {
-        let frame = match judged(&self.oracle.state(), self.before, call, stride) {
-            Ok(frame) => frame,
-            Err(number) => return Outcome::Refused([number, 0, 0]),
-        };
+        let state = self.state();
+        match judged(&state, self.before, call, stride) {
+            Ok(frame) => self.render(&state, &frame),
+            Err(number) => Outcome::Refused([number, 0, 0]),
+        }
+    }
+
+    /// What a frame that 1 to 8 let pass comes to. A refused one lifts nothing.
+    fn render(&mut self, state: &State, frame: &Frame) -> Outcome {
         // "leading silence leaves fewer debug rows than ready blocks; there the rules above alone hold"
-        self.oracle.store_debug_rows(frame.samples / 64 + 1);
-        match self.oracle.push(&frame) {
+        let rows = frame.samples / 64 + 1;
+        let lifts = self.amended.is_none() && lifts(&state.metadata, &frame.applied());
+        if lifts {
+            self.amended = Some(amended::Oracle::in_state(state));
+        }
+        let pushed = match &mut self.amended {
+            Some(amended) => {
+                amended.store_debug_rows(rows);
+                amended.push(frame)
+            }
+            None => {
+                self.rust.store_debug_rows(rows);
+                self.rust.push(frame)
+            }
+        };
+        if lifts && !matches!(pushed, Pushed::Ready(_)) {
+            self.amended = None;
+        }
+        match pushed {
             Pushed::Ready(ready) => Outcome::Ready(ready),
             Pushed::Refused(refusal) => Outcome::Refused([
                 refusal.number.into(),
                 refusal.counts[0] as u32,
                 refusal.counts[1] as u32,
             ]),
-            Pushed::Panicked => panic!("the Rust panicked at {frame:?}"),
+            Pushed::Panicked => panic!("the oracle panicked at {frame:?}"),
         }
     }
 
     pub fn flush(&mut self) -> Outcome {
-        self.oracle.flush().map_or(Outcome::Nothing, Outcome::Ready)
+        let flushed = match &mut self.amended {
+            Some(amended) => amended.flush(),
+            None => self.rust.flush(),
+        };
+        flushed.map_or(Outcome::Nothing, Outcome::Ready)
     }
 
     pub fn reset(&mut self) -> Outcome {
-        self.oracle.reset();
+        self.rust.reset();
+        self.amended = None;
         self.before = 0;
         Outcome::Reset
     }
@@ -112,7 +153,7 @@ fn counts_fit(call: &Call, stride: usize) -> bool {
         && (samples == 0 || channels > 0)
 }
 
-/// The frame, or the least of 2 to 8 that refuses it.
+/// The frame, or the least of 2 to 6 and 8 that refuses it.
 pub fn judged(state: &State, before: u64, call: &Call, stride: usize) -> Result<Frame, u32> {
     if !counts_fit(call, stride) {
         return Err(2);
@@ -139,45 +180,53 @@ pub fn judged(state: &State, before: u64, call: &Call, stride: usize) -> Result<
         pcm: words.iter().map(|&word| f32::from_le_bytes(word)).collect(),
         updates: updates.iter().map(update).collect(),
     };
-    if keeps_too_few_flags(&state.metadata, &frame) {
-        return Err(7);
-    }
     if !frame.pcm.iter().all(|x| x.abs() <= 16.0) {
         return Err(8);
     }
     Ok(frame)
 }
 
-/// Document 01's 7: an update that would be applied keeps an element that has flags for fewer
-/// dynamic objects than the update.
-pub fn keeps_too_few_flags(state: &Metadata, frame: &Frame) -> bool {
-    // Blocks, objects and flags of each element.
-    let mut elements: Vec<(usize, usize, usize)> = state
-        .elements
-        .iter()
-        .map(|e| (e.block_used.len(), e.info_blocks.len(), e.update_now.len()))
-        .collect();
-    let applied =
-        |update: &&Update| update.offset == 0 || usize::from(update.offset) < frame.samples;
-    let mut updates: Vec<&Update> = frame.updates.iter().filter(applied).collect();
-    updates.sort_by_key(|update| update.offset);
+/// Document 02's R-1: one of these updates, applied in turn, meets an element that would be kept
+/// and another number of dynamic objects than that of the update before.
+pub fn lifts(state: &Metadata, updates: &[&Update]) -> bool {
+    let blocks = |state: &Metadata| state.elements.iter().map(|e| e.block_used.len()).collect();
+    let mut last = Counts {
+        objects: state.object_count,
+        dynamic: state.object_count.saturating_sub(state.bed_or_isf_objects),
+        blocks: blocks(state),
+    };
     updates.iter().any(|update| {
-        let objects = usize::from(update.objects);
-        let dynamic = objects.saturating_sub(update.bed_or_isf_objects.into());
-        if elements.len() != update.elements.len() {
-            elements = vec![(0, 0, 0); update.elements.len()];
-        }
-        elements
-            .iter_mut()
-            .zip(&update.elements)
-            .fold(false, |few, (kept, element)| {
-                let blocks = element.blocks.len();
-                if (kept.0, kept.1) != (blocks, objects) {
-                    *kept = (blocks, objects, dynamic);
-                }
-                few || kept.2 < dynamic
-            })
+        let next = Counts::of(update);
+        let lifted = last.keeps(&next) && last.dynamic != next.dynamic;
+        last = next;
+        lifted
     })
+}
+
+/// What an update is held against by the next one.
+struct Counts {
+    objects: usize,
+    dynamic: usize,
+    /// Of each element.
+    blocks: Vec<usize>,
+}
+
+impl Counts {
+    fn of(update: &Update) -> Self {
+        let dynamic = update.objects.saturating_sub(update.bed_or_isf_objects);
+        Counts {
+            objects: update.objects.into(),
+            dynamic: dynamic.into(),
+            blocks: update.elements.iter().map(|e| e.blocks.len()).collect(),
+        }
+    }
+
+    /// By document 01 an element is kept.
+    fn keeps(&self, next: &Counts) -> bool {
+        self.objects == next.objects
+            && self.blocks.len() == next.blocks.len()
+            && self.blocks.iter().zip(&next.blocks).any(|(a, b)| a == b)
+    }
 }
 
 fn update(read: &reading::Update) -> Update {

@@ -220,10 +220,8 @@ fn updates(list: &mut List) {
     list.push(&quiet, vec![]);
     list.flush();
     list.flush();
-    // As many objects, two of them dynamic now: 7. 11 at offset 0, for the present state, later.
-    let two = update(0, &[], 2, &[&[(0, 32)]], |_, _| Object::default());
+    // 11 at offset 0, for the present state, later.
     let frame = list.frame(64, &[1], 2, 0.5);
-    list.push(&frame, vec![two]);
     list.push(&frame, vec![at(0, 0.0)]);
     list.push(&frame, vec![]);
     let frame = list.frame(64, &[1], 1, 0.5);
@@ -238,6 +236,27 @@ fn updates(list: &mut List) {
     );
     let empty = list.frame(0, &[1], 1, 0.5);
     list.push(&empty, vec![]);
+}
+
+/// A bed channel that becomes an object, then a bed channel again, then an object: where the object
+/// has no position it is heard at the origin, not where its channel was said to be.
+fn lifted(list: &mut List) {
+    // The second block is due at once.
+    let blocks: &[(i64, i64)] = &[(0, 0), (-1, 200)];
+    let said = |o: usize, _: usize| placed(Anchor::Room, [0.9, 0.4 * o as f32, 0.8], 0.5, 0.0);
+    let absent = |o: usize, b: usize| Object {
+        position: None,
+        differential: o == 1,
+        ..said(o, b)
+    };
+    list.reset();
+    let [bed, object] = [1, 0].map(|beds| list.frame(70, &[1][..beds], 2 - beds, 0.5));
+    list.push(&bed, vec![update(0, &[1], 1, &[blocks], said)]);
+    list.push(&object, vec![update(0, &[], 2, &[blocks], absent)]);
+    list.push(&object, vec![update(0, &[], 2, &[blocks], said)]);
+    list.push(&bed, vec![update(0, &[1], 1, &[&[(0, 0), (5, 0)]], absent)]);
+    list.push(&object, vec![update(0, &[], 2, &[blocks], absent)]);
+    list.flush();
 }
 
 /// Frames that 2, 3, 5, 6 and 8 refuse; and gain 8, which none does.
@@ -321,6 +340,7 @@ pub fn stdin() -> Vec<u8> {
     updates(&mut list);
     checks(&mut list);
     rates(&mut list);
+    lifted(&mut list);
     drawn(&mut list);
     // A cut record ends the list.
     list.stream.extend([7; 39]);
@@ -339,7 +359,7 @@ pub fn stdout(stdin: &[u8]) -> String {
         };
         *answers.entry(answer).or_insert(0) += 1;
     }
-    // ready, none, reset, bad record, and 2 to 14 but 4
-    assert_eq!(answers.len(), 4 + 12, "{answers:?}");
+    // ready, none, reset, bad record, and 2 to 14 but 4 and 7
+    assert_eq!(answers.len(), 4 + 11, "{answers:?}");
     text
 }

@@ -43,7 +43,7 @@ macro_rules! sources {
         include!(concat!(env!("OUT_DIR"), "/amended/", $name));
     };
 }
-#[allow(clippy::duplicate_mod)]
+#[expect(clippy::duplicate_mod)]
 #[path = "renderer/mod.rs"]
 pub mod amended;
 

@@ -1,14 +1,11 @@
 -- `refusal`: each early answer is a test that fails after those that hold. Assumes nothing.
 use Prim.Native.Nat.{ℕ}
-use mathlib.Core.Path.{_≡_, sym, ap, _∙_}
-use mathlib.Core.Bool.{Bool, not}
+use mathlib.Core.Path.{_≡_, ap, _∙_}
 use mathlib.Core.List.{List}
 use lib.ListN.{length, take}
-use native.Mathlib.Omega.{arith}
 use borrow.Author.Needs.{needs}
-use Rattle.updates.proofs.Passed.{passes-all}
 use Rattle.rules.specs.Refusals.{Args, room}
-use Rattle.early.proofs.Chain.{failed, passed, Hold, more, tests, refuses, refuses-none, pcm-samples}
+use Rattle.early.proofs.Chain.{failed, passed, Test, Hold, more, tests, refuses, refuses-none, pcm-samples}
 use Rattle.early.proofs.refusal.Statement.{statement}
 use Rattle.early.proofs.refusal.Tie as tie
 
@@ -19,8 +16,8 @@ given s out =
     let b = s .args in
     record { pcm = b .pcm .now; meta = b .meta .now; out = out; codes = b .codes .now; rate = b .rate; samples = b .samples; objects = b .objects; stride = b .stride }
 
-abbrev testsOf : tie.Start → List ℕ → List Bool
-testsOf s out = tests (s .args .s) (given s out)
+abbrev testsOf : tie.Start → List ℕ → List Test
+testsOf s out = tests (s .args .position) (given s out)
 
 -- the first k hold
 abbrev Held : ℕ → tie.Start → Type 0
@@ -44,9 +41,6 @@ from-5 c = from-4 (c .before .before)
 abbrev from-6 : tie.After-in-range → tie.Start
 from-6 c = from-5 (c .before .before .before)
 
-abbrev from-7 : tie.After-lacks → tie.Start
-from-7 c = from-6 (c .before .before .before)
-
 held-1 : (c : tie.Else1) → Held 1 (from-1 (c .before))
 held-1 c out q = (ap (room (from-1 (c .before) .args .stride)) q ∙ passed (c .before .room .ensures) (c .if1 .left), tt)
 
@@ -65,86 +59,70 @@ held-5 c out q = more (testsOf (from-5 (c .before .before)) out) 4 (held-4 (c .b
 held-6 : (c : tie.Else6) → Held 6 (from-6 (c .before))
 held-6 c out q = more (testsOf (from-6 (c .before)) out) 5 (held-5 (c .before .before) out q) (passed (c .before .in-range .ensures) (c .if6 .left))
 
-held-7 : (c : tie.Else7) → Held 7 (from-7 (c .before))
-held-7 c out q = more (testsOf (from-7 (c .before)) out) 6 (held-6 (c .before .before .before) out q) (ap not (sym (c .before .lacks .ensures) ∙ c .if7 .left))
-
 -- ---- the answers
 
 room-requires : tie.Need-room-requires
 room-requires c κs = search needs
 
 returns : tie.Need-returns
-returns c out q is ps =
+returns c out q r p =
     let s = from-1 (c .before) in
-    refuses (s .args .s) is ps (given s out) 0 tt (ap (room (s .args .stride)) q ∙ failed (c .before .room .ensures) (c .if1 .taken))
+    refuses (s .args .position) r p (given s out) 0 tt (ap (room (s .args .stride)) q ∙ failed (c .before .room .ensures) (c .if1 .taken))
 
 sized-requires : tie.Need-sized-requires
 sized-requires c κs = search needs
 
 returns-2 : tie.Need-returns-2
-returns-2 c out q is ps =
+returns-2 c out q r p =
     let s = from-2 (c .before) in
-    refuses (s .args .s) is ps (given s out) 1 (held-1 (c .before .before) out q) (failed (c .before .sized .ensures) (c .if2 .taken))
+    refuses (s .args .position) r p (given s out) 1 (held-1 (c .before .before) out q) (failed (c .before .sized .ensures) (c .if2 .taken))
 
 listed-requires : tie.Need-listed-requires
 listed-requires c κs = search needs
 
 returns-3 : tie.Need-returns-3
-returns-3 c out q is ps =
+returns-3 c out q r p =
     let s = from-3 (c .before) in
-    refuses (s .args .s) is ps (given s out) 2 (held-2 (c .before .before) out q) (failed (c .before .listed .ensures) (c .if3 .taken))
+    refuses (s .args .position) r p (given s out) 2 (held-2 (c .before .before) out q) (failed (c .before .listed .ensures) (c .if3 .taken))
 
 stays-requires : tie.Need-stays-requires
 stays-requires c κs = search needs
 
 returns-4 : tie.Need-returns-4
-returns-4 c out q is ps =
+returns-4 c out q r p =
     let s = from-4 (c .before) in
-    refuses (s .args .s) is ps (given s out) 3 (held-3 (c .before .before) out q) (failed (c .before .stays .ensures) (c .if4 .taken))
+    refuses (s .args .position) r p (given s out) 3 (held-3 (c .before .before) out q) (failed (c .before .stays .ensures) (c .if4 .taken))
 
 layout-of-requires : tie.Need-layout-of-requires
 layout-of-requires c κs = search needs
 
 returns-5 : tie.Need-returns-5
-returns-5 c out q is ps =
+returns-5 c out q r p =
     let s = from-5 (c .before .before) in
-    refuses (s .args .s) is ps (given s out) 4 (held-4 (c .before .before .before) out q) (failed (c .before .before .layout-of .ensures .fits) (c .if5 .taken))
+    refuses (s .args .position) r p (given s out) 4 (held-4 (c .before .before .before) out q) (failed (c .before .before .layout-of .ensures .fits) (c .if5 .taken))
 
 in-range-requires : tie.Need-in-range-requires
 in-range-requires c κs = search needs
 
 returns-6 : tie.Need-returns-6
-returns-6 c out q is ps =
+returns-6 c out q r p =
     let s = from-6 (c .before) in
-    refuses (s .args .s) is ps (given s out) 5 (held-5 (c .before .before) out q) (failed (c .before .in-range .ensures) (c .if6 .taken))
-
-lacks-requires : tie.Need-lacks-requires
-lacks-requires c κs =
-    let x = c .before in
-    let y = x .before .before in
-    let l = y .before .before in
-    let g = l .layout-of .ensures in
-    (g, passes-all _ (passed (g .fits) (y .if5 .left)) (passed (x .before .in-range .ensures) (x .if6 .left)) (λ i. omega (arith, l .before .before .before .before .before .before .before .before .before .before .shared-slice-known2 .given i)) _ g)
-
-returns-7 : tie.Need-returns-7
-returns-7 c out q is ps =
-    let s = from-7 (c .before) in
-    refuses (s .args .s) is ps (given s out) 6 (held-6 (c .before .before .before) out q) (ap not (sym (c .before .lacks .ensures) ∙ c .if7 .taken))
+    refuses (s .args .position) r p (given s out) 5 (held-5 (c .before .before) out q) (failed (c .before .in-range .ensures) (c .if6 .taken))
 
 samples-pass-requires : tie.Need-samples-pass-requires
 samples-pass-requires c κs = search needs
 
-returns-8 : tie.Need-returns-8
-returns-8 c out q is ps =
-    let s = from-7 (c .before .before .before) in
-    let h = held-7 (c .before .before) out q in
-    refuses (s .args .s) is ps (given s out) 7 h (pcm-samples (given s out) (h .1 .0) ∙ failed (c .before .samples-pass .ensures) (c .if8 .taken))
+returns-7 : tie.Need-returns-7
+returns-7 c out q r p =
+    let s = from-6 (c .before .before .before) in
+    let h = held-6 (c .before .before) out q in
+    refuses (s .args .position) r p (given s out) 6 h (pcm-samples (given s out) (h .1 .0) ∙ failed (c .before .samples-pass .ensures) (c .if7 .taken))
 
-returns-9 : tie.Need-returns-9
-returns-9 c out q is ps =
-    let s = from-7 (c .before .before .before) in
-    let h = held-7 (c .before .before) out q in
-    refuses-none (s .args .s) is ps (given s out) (more (testsOf s out) 7 h (pcm-samples (given s out) (h .1 .0) ∙ passed (c .before .samples-pass .ensures) (c .if8 .left)))
+returns-8 : tie.Need-returns-8
+returns-8 c out q r p =
+    let s = from-6 (c .before .before .before) in
+    let h = held-6 (c .before .before) out q in
+    refuses-none (s .args .position) r p (given s out) (more (testsOf s out) 6 h (pcm-samples (given s out) (h .1 .0) ∙ passed (c .before .samples-pass .ensures) (c .if7 .left)))
 
 pub refusal-spec : {M : Type 1} → statement M
 refusal-spec =
@@ -162,8 +140,6 @@ refusal-spec =
     returns-5
     in-range-requires
     returns-6
-    lacks-requires
-    returns-7
     samples-pass-requires
-    returns-8
-    returns-9)
+    returns-7
+    returns-8)

@@ -132,12 +132,6 @@ fn refusals(rows: &mut Rows) {
     rows.row("both")
         .shows("5 before 6")
         .push(with_object(gain(9.0, SILENT)).spoilt(121, 3));
-    let dynamic = |offset| update(offset, &[], 1, &[element([(0, 0)], &[[SILENT]])]);
-    rows.row("no-flags")
-        .shows("7: an update at offset 0, or 1, keeps an element without a flag for its object")
-        .push(with_object(SILENT))
-        .push(of_object().with(dynamic(0)))
-        .push(frame(&[], &[[0.5; 2]]).with(dynamic(1)));
     rows.row("samples")
         .shows("8: the f32 above 16, NaN, an infinity; -16 passes")
         .pushes([16f32.next_up(), f32::NAN, -f32::INFINITY, -16.0].map(loud));
@@ -414,6 +408,13 @@ fn updates(rows: &mut Rows) {
         .push(moved(0, near()))
         .push(of_object().with(update(0, &[], 1, &[longer])))
         .push(of_object().with(resting))
+        .flush();
+    let fallen = element([(0, 0), (5, 0)], &[[SILENT, far()], [SILENT; 2]]);
+    rows.row("lifted")
+        .shows("an object becomes a bed, and then an object again: each time all start afresh, stored positions too")
+        .push(frame(&[], &[[0.5], [0.0]]).with(set(129, &[far(), SILENT])))
+        .push(frame(&[0], &[[0.0], [0.5]]).with(update(0, &[0], 1, &[fallen])))
+        .push(frame(&[], &[[0.5], [0.25]]).with(set(0, &[valid(true, SILENT), near()])))
         .flush();
 }
 

@@ -120,7 +120,7 @@ fn called(case: &Case) -> (Answer, Vec<u8>, Vec<u8>) {
     (answer, state, out)
 }
 
-/// Document 01's refusal among 1 to 8, by a reading that needs no Rust; else 0.
+/// The refusal among 1 to 8 but 7, by a reading that needs no Rust; else 0.
 fn early(case: &Case) -> u32 {
     let lent = || rightly_lent(&case.state, case.out.len(), case.stride);
     match &case.step {
@@ -174,7 +174,7 @@ fn check_rendered(case: &Case, ready: usize, state: &[u8], out: &[u8]) {
 }
 
 /// Every call is answered: 1 to 8 where document 01 says so, each other number only where none of
-/// these holds; what is not to be written stays. Every answer arises.
+/// these holds, 7 never; what is not to be written stays. Every other answer arises.
 #[test]
 fn any_bytes() {
     let mut answers = BTreeMap::new();
@@ -196,11 +196,13 @@ fn any_bytes() {
     println!("{answers:?}");
     let kinds = [(0, 0), (2, 0), (3, 0)].into_iter();
     for kind in kinds.chain((1..=14).map(|number| (1, number))) {
-        assert!(!seeds::all() || answers.contains_key(&kind), "{kind:?}");
+        let arises = kind != (1, 7);
+        let seen = answers.contains_key(&kind);
+        assert!(seen == arises || !seeds::all() && !seen, "{kind:?}");
     }
 }
 
-/// What document 01 and the Rust have the call come to, with the renderer that it leaves.
+/// What the documents and the Rust have the call come to, with the renderer that it leaves.
 fn expected(case: &Case) -> (Outcome, Option<Model>) {
     match (early(case), &case.step) {
         (0, Step::Reset) => (Outcome::Reset, None),
@@ -236,7 +238,7 @@ fn any_bytes_as_in_the_rust() {
         };
         host.calls(&outcome, call, "any bytes");
         if let Some(model) = model {
-            let differs = block::difference(&host.state, &model.oracle.state());
+            let differs = block::difference(&host.state, &model.state());
             assert_eq!(differs, None);
         }
     }

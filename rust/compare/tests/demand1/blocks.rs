@@ -1,12 +1,14 @@
 //! State blocks (docs/STATE-BLOCK.md): out of range they are refused, in range they are taken, at
 //! the ends of every range and with floats of any bits.
 
-use compare::calls::{Call, Step, bed_frame};
+use compare::calls::{Call, bed_frame};
 use compare::entry::{self, BLOCK};
 use compare::host::{Host, used_block};
-use compare::model::{Model, Outcome};
+use compare::model::{Model, Outcome, lifts};
 use compare::ranges::{self, Field};
 use compare::{Frames, Generator, block, seeds};
+use oracle::frame::{self, Frame};
+use oracle::state::{Element, Metadata};
 use std::collections::BTreeSet;
 
 /// Fields that depend on another, each put out of range: byte and word.
@@ -148,34 +150,88 @@ fn block_with_room(inputs: &mut Generator) -> Vec<u8> {
     }
 }
 
-/// From a block in range the entries go on as the Rust does from the state that it holds.
+/// Both elements have flags for one dynamic object more than the state, as many as a rise asks for.
+fn put_a_flag_more(block: &mut [u8]) {
+    let dynamic = block::state(block).metadata.dynamic_sources.len() as u32;
+    for at in [628, 996] {
+        block[at..at + 4].copy_from_slice(&(dynamic + 1).min(16).to_le_bytes());
+    }
+}
+
+/// What the pushes from blocks in range come to.
+#[derive(Debug, Default)]
+struct Tally {
+    accepted: u64,
+    /// Of these, those with a NaN, and those that lift a channel.
+    nans: u64,
+    lifted: u64,
+    /// Accepted pushes that meet an element that would be kept, whose flags tell otherwise than the
+    /// state whether it is: more than the update's dynamic objects, though these are as many as the
+    /// state's; or as many, though a channel is lifted.
+    more_flags: u64,
+    as_many_flags: u64,
+}
+
+impl Tally {
+    fn count(&mut self, before: &Metadata, frame: &Frame, channels: &[Vec<f32>]) {
+        let updates = frame.applied();
+        let lifted = lifts(before, &updates);
+        let met = updates.first().is_some_and(|update| {
+            let dynamic = update.objects.saturating_sub(update.bed_or_isf_objects);
+            let kept = |(e, new): (&Element, &frame::Element)| {
+                e.block_used.len() == new.blocks.len()
+                    && (e.update_now.len() == usize::from(dynamic)) == lifted
+            };
+            before.object_count == usize::from(update.objects)
+                && before.elements.len() == update.elements.len()
+                && before.elements.iter().zip(&update.elements).any(kept)
+        });
+        self.accepted += 1;
+        self.nans += u64::from(channels.concat().iter().any(|x| x.is_nan()));
+        self.lifted += u64::from(lifted);
+        self.more_flags += u64::from(met && !lifted);
+        self.as_many_flags += u64::from(met && lifted);
+    }
+}
+
+/// From a block in range the entries go on as the Rust does from the state that it holds, and as
+/// the amended one does from a lifted channel on: in every second run channels are lifted.
 #[test]
 #[cfg_attr(no_sources, ignore = "Rust sources not at hand")]
 fn blocks_in_range_go_on_as_in_the_rust() {
-    let (mut accepted, mut nans) = (0, 0);
+    let mut tally = Tally::default();
     for seed in seeds!(0..6_000) {
         let mut inputs = Generator::new(!seed);
         let mut host = Host::new(256);
         host.state = block_with_room(&mut inputs);
+        if seed % 4 == 1 {
+            put_a_flag_more(&mut host.state);
+        }
         let mut model = Model::of_block(&host.state);
-        let mut frames = Frames::after(&block::state(&host.state), seed, 256);
+        let mut frames = Frames::after(&model.state(), seed, 256);
+        if seed % 2 == 1 {
+            frames.set_lifting();
+        }
         for k in 0..4 {
-            let step = if k == 3 || inputs.chance(8) {
-                Step::Flush
-            } else {
-                Step::Push(Call::from(&frames.next_frame()))
-            };
             let name = &format!("call {k}");
-            let outcome = host.step(&mut model, &step, name);
-            assert!(ranges::hold(&host.state), "{name}");
-            let differs = block::difference(&host.state, &model.oracle.state());
-            assert_eq!(differs, None, "{name}");
-            if let (Step::Push(_), Outcome::Ready(channels)) = (&step, &outcome) {
-                accepted += 1;
-                nans += u64::from(channels.concat().iter().any(|x| x.is_nan()));
+            if k == 3 || inputs.chance(8) {
+                host.flush(&mut model, name);
+            } else {
+                let frame = frames.next_frame();
+                let before = model.state().metadata;
+                let outcome = host.push(&mut model, &Call::from(&frame), name);
+                if let Outcome::Ready(channels) = &outcome {
+                    tally.count(&before, &frame, channels);
+                }
             }
+            assert!(ranges::hold(&host.state), "{name}");
+            let differs = block::difference(&host.state, &model.state());
+            assert_eq!(differs, None, "{name}");
         }
     }
-    println!("{accepted} accepted pushes, {nans} of them with a NaN");
-    assert!(!seeds::all() || accepted > 2_000 && (500..accepted - 500).contains(&nans));
+    println!("{tally:?}");
+    let few = 500..tally.accepted - 500;
+    assert!(!seeds::all() || tally.accepted > 2_000 && few.contains(&tally.nans));
+    let flags = [tally.more_flags, tally.as_many_flags];
+    assert!(!seeds::all() || tally.lifted > 300 && flags.iter().all(|&n| n > 20));
 }

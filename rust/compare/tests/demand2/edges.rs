@@ -1,11 +1,13 @@
-//! Document 01, "Listening positions and edges", and document 02's rates: each case on the entries,
-//! and on the Rust where its sources are at hand; both must give what the document says.
+//! Document 01, "Listening positions and edges", and document 02's rates and lifted channel: each
+//! case on the entries, and on the Rust where its sources are at hand; both must give what the
+//! document says.
 
 use compare::calls::{Call, Step, bed_frame};
 use compare::entry::{self, Answer};
 use compare::host::Host;
 use compare::model::{Model, Outcome};
 use compare::probe::{limiter, panning, roots};
+use oracle::frame::{Block, Element, Frame, Object, Update};
 use oracle::state::Source;
 use oracle::{exact, leaf};
 
@@ -193,6 +195,57 @@ fn a_block_at_offset_0() {
             panic!("refused");
         };
         assert_eq!(channels[2], expected);
+    }
+}
+
+/// 64 samples, a half each, of one channel: a bed's, or a dynamic object's. Its object is due at
+/// once, with that position.
+fn of_one_channel(dynamic: bool, position: Option<[f32; 3]>) -> Call {
+    let object = Object {
+        position_valid: true,
+        position,
+        ..Object::default()
+    };
+    let blocks = [0, -1].map(|offset| Block { offset, ramp: 0 });
+    let update = Update {
+        offset: 0,
+        objects: 1,
+        bed_or_isf_objects: u8::from(!dynamic),
+        beds: vec![2; usize::from(!dynamic)],
+        elements: vec![Element {
+            blocks: blocks.to_vec(),
+            objects: vec![vec![Object::default(), object]],
+        }],
+    };
+    Call::from(&Frame {
+        rate: 48_000,
+        samples: 64,
+        beds: update.beds.clone(),
+        objects: usize::from(dynamic),
+        pcm: vec![0.5; 64],
+        updates: vec![update],
+    })
+}
+
+/// a bed channel becomes an object, and a bed channel again, and is accepted. It starts afresh:
+/// without a position it is at the origin, front left, and not where the bed's object was said to be.
+#[test]
+fn a_lifted_channel() {
+    let (bed, object) = (
+        of_one_channel(false, Some([0.5; 3])),
+        of_one_channel(true, None),
+    );
+    let calls = [&bed, &object, &bed, &object];
+    let list = calls.map(|call| (push(call.clone()), Said::Ready(64)));
+    both_say(64, &list);
+    let mut host = Host::new(64);
+    for (call, heard, sample) in [(&bed, 2, 0.707), (&object, 0, 0.707f32.sqrt())] {
+        entry::push(&mut host.state, call, &mut host.out, 64);
+        let words = host.out.as_chunks().0.iter();
+        let found: Vec<f32> = words.map(|&word| f32::from_le_bytes(word)).collect();
+        let mut expected = [[0.0; 64]; 12];
+        expected[heard] = [0.5 * sample; 64];
+        assert_eq!(found, expected.concat());
     }
 }
 

@@ -89,6 +89,8 @@ struct Tally {
     other_strides: u64,
     /// Accepted pushes into more than 12 x stride places.
     long_outputs: u64,
+    /// Accepted pushes from a lifted channel to the next reset.
+    lifted: u64,
 }
 
 fn any_stride(inputs: &mut Generator) -> usize {
@@ -138,6 +140,7 @@ impl Run {
         tally.long_lists += u64::from(accepted && call.meta.len() > 40 * 1_200);
         tally.other_strides += u64::from(accepted && self.host.stride != stride);
         tally.long_outputs += u64::from(accepted && room > 0);
+        tally.lifted += u64::from(accepted && self.model.lifted());
         outcome
     }
 
@@ -171,17 +174,19 @@ fn entries_answer_as_the_model() {
             run.call(name, &mut tally);
             assert!(ranges::hold(&run.host.state), "{name}");
             if k % 4 == 3 {
-                let differs = block::difference(&run.host.state, &run.model.oracle.state());
+                let differs = block::difference(&run.host.state, &run.model.state());
                 assert_eq!(differs, None, "{name}");
             }
         }
     }
     println!("{tally:?}");
     if seeds::all() {
-        // rendered, nothing, reset, and 2 to 14 but 4
-        assert_eq!(tally.answers.len(), 3 + 12);
+        // rendered, nothing, reset, and 2 to 14 but 4 and 7
+        assert_eq!(tally.answers.len(), 3 + 11);
         let least = [tally.long_lists, tally.other_strides, tally.long_outputs];
         assert!(least.iter().all(|&count| count > 300), "{tally:?}");
+        // The others are held against the unchanged Rust.
+        assert!(tally.answers[&(0, 0)] > 4 * tally.lifted, "{tally:?}");
     }
 }
 
@@ -195,7 +200,7 @@ fn the_longest_metadata() {
         assert_eq!(call.meta.len(), 40 * 8_496);
         let outcome = host.push(&mut model, &call, "the most");
         assert!(matches!(outcome, Outcome::Ready(_)), "{outcome:?}");
-        let differs = block::difference(&host.state, &model.oracle.state());
+        let differs = block::difference(&host.state, &model.state());
         assert_eq!(differs, None);
         call.meta.extend([1; 1]);
         call.meta.extend([0; 39]);
@@ -206,7 +211,7 @@ fn the_longest_metadata() {
 
 /// Moves a renderer to so many samples before the stream's end.
 fn move_on(host: &mut Host, model: &mut Model, room: u64) {
-    let position = model.oracle.state().stream_sample_offset as u64;
+    let position = model.state().stream_sample_offset as u64;
     model.before = STREAM_END - room - position;
     // Position, slot start, payload position.
     for at in [8, 16, 72] {
@@ -239,7 +244,7 @@ fn the_end_of_the_stream() {
             ends += u32::from(outcome == Outcome::Refused([4, 0, 0]));
         }
         // One sample more than are left; then exactly as many.
-        let left = STREAM_END - model.before - model.oracle.state().stream_sample_offset as u64;
+        let left = STREAM_END - model.before - model.state().stream_sample_offset as u64;
         if left < 255 {
             let mut frame = frames.next_frame();
             frame.updates.clear();

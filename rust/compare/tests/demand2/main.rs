@@ -1,5 +1,7 @@
-//! Demand 2: what is given out is the Rust's, bit for bit, all NaNs being equal.
+//! Demand 2: what is given out is the Rust's, bit for bit, all NaNs being equal; from a lifted bed
+//! channel to the next reset that of the Rust with R-1's rule.
 
 mod edges;
 mod entries;
+mod lifted;
 mod program;

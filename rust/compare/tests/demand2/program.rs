@@ -106,8 +106,8 @@ fn prints_what_the_oracle_has_it_print() {
     println!("{:?} {:?}, {} rates", halves[0].0, halves[1].0, rates.len());
     if seeds::all() {
         assert!(rates.len() > 8_000, "{} rates", rates.len());
-        // ready, none, reset, bad record, and 2 to 14 but 4, which no stream is long enough for
-        assert_eq!(kinds.len(), 4 + 12, "{kinds:?}");
+        // ready, none, reset, bad record, and 2 to 14 but 7 and 4, which no stream is long enough for
+        assert_eq!(kinds.len(), 4 + 11, "{kinds:?}");
     }
 }
 

@@ -1,10 +1,12 @@
-//! Updates and slots: the whole timed state after each slot, 1,200,000 slots. Updates that document
-//! 01's refusal 7 stops are left out.
+//! Updates and slots: the whole timed state after each slot, 1,200,000 slots. Once a sequence has
+//! lifted a channel it is held against the amended Rust.
 
+use compare::model::lifts;
 use compare::probe::timed::{self, MIDDLE, Timed, ZERO};
 use compare::{Drawn, Generator, drawn, same};
 use oracle::frame::{Anchor, Block, Element, Object, Update};
-use oracle::leaf;
+use oracle::state::Metadata;
+use oracle::{amended, leaf};
 
 const DEPTHS: [f32; 4] = [0.25, 0.5, 1.0, 2.0];
 const ANCHORS: [Anchor; 3] = [Anchor::Room, Anchor::Screen, Anchor::Speaker];
@@ -100,25 +102,46 @@ fn update(inputs: &mut Generator, layout: &Layout) -> Update {
     }
 }
 
-/// Refusal 7.
-fn lacks_flags(state: &oracle::state::Metadata, update: &Update) -> bool {
-    let dynamic = usize::from(update.objects.saturating_sub(update.bed_or_isf_objects));
-    state.elements.len() == update.elements.len()
-        && state.object_count == usize::from(update.objects)
-        && state
-            .elements
-            .iter()
-            .zip(&update.elements)
-            .any(|(old, new)| {
-                old.block_used.len() == new.blocks.len() && old.update_now.len() < dynamic
-            })
+/// The timed state of the Rust: of the unchanged one up to the first lifted channel.
+enum Theirs {
+    Unchanged(leaf::Timed),
+    Amended(amended::leaf::Timed),
+}
+
+impl Theirs {
+    fn state(&self) -> Metadata {
+        match self {
+            Theirs::Unchanged(timed) => timed.state(),
+            Theirs::Amended(timed) => timed.state(),
+        }
+    }
+
+    fn apply_update(&mut self, update: &Update, at: i64) {
+        if let Theirs::Unchanged(timed) = self {
+            let state = timed.state();
+            if lifts(&state, &[update]) {
+                *self = Theirs::Amended(amended::leaf::Timed::in_state(&state));
+            }
+        }
+        match self {
+            Theirs::Unchanged(timed) => timed.apply_update(update, at),
+            Theirs::Amended(timed) => timed.apply_update(update, at),
+        }
+    }
+
+    fn update_timeslot(&mut self, at: i64) {
+        match self {
+            Theirs::Unchanged(timed) => timed.update_timeslot(at, 64),
+            Theirs::Amended(timed) => timed.update_timeslot(at, 64),
+        }
+    }
 }
 
 fn same_vector(a: timed::Vec3, b: [f32; 3]) -> bool {
     same(a.x, b[0]) && same(a.y, b[1]) && same(a.z, b[2])
 }
 
-fn assert_same(ours: &Timed, theirs: &oracle::state::Metadata, step: usize) {
+fn assert_same(ours: &Timed, theirs: &Metadata, step: usize) {
     let state = &ours.state;
     assert_eq!(state.initialized, theirs.initialized);
     assert_eq!(state.payload as i64, theirs.payload_stream_sample);
@@ -214,11 +237,12 @@ fn assert_same_info(ours: &Timed, k: usize, theirs: &oracle::state::Info, step: 
     assert!(same_vector(vector(8), theirs.last_precise), "step {step}");
 }
 
-/// Sequences of updates and slots, up to `most` of everything.
-fn compare_slots(mut inputs: Drawn, most: u64, slots: usize) {
-    let mut done = 0;
+/// Sequences of updates and slots, up to `most` of everything. `lifted` slots at least are held
+/// against the amended Rust, and as many against the unchanged one.
+fn compare_slots(mut inputs: Drawn, most: u64, slots: usize, lifted: usize) {
+    let (mut done, mut amended) = (0, 0);
     while done < slots {
-        let (mut ours, mut theirs) = (Timed::new(), leaf::Timed::new());
+        let (mut ours, mut theirs) = (Timed::new(), Theirs::Unchanged(leaf::Timed::new()));
         let mut at = inputs.below(1 << 39);
         let mut kept = layout(&mut inputs, most);
         for _ in 0..1 + inputs.below(40) {
@@ -238,34 +262,38 @@ fn compare_slots(mut inputs: Drawn, most: u64, slots: usize) {
                 .collect();
             let records = timed::records(&updates);
             for (index, update) in updates.iter().enumerate() {
-                if !lacks_flags(&theirs.state(), update) {
-                    ours.apply_update(&records, index, at);
-                    theirs.apply_update(update, at as i64);
-                    assert_same(&ours, &theirs.state(), done);
-                }
+                ours.apply_update(&records, index, at);
+                theirs.apply_update(update, at as i64);
+                assert_same(&ours, &theirs.state(), done);
             }
             if inputs.chance(3) {
                 at += inputs.below(64);
             }
             for _ in 0..inputs.below(24) {
                 ours.update_timeslot(at);
-                theirs.update_timeslot(at as i64, 64);
+                theirs.update_timeslot(at as i64);
                 assert_same(&ours, &theirs.state(), done);
                 at += 64;
                 done += 1;
+                amended += usize::from(matches!(theirs, Theirs::Amended(_)));
             }
         }
     }
+    println!("{done} slots, {amended} of them after a lift");
+    assert!(
+        (lifted..done - lifted).contains(&amended),
+        "{amended} of {done}"
+    );
 }
 
 #[test]
 #[cfg_attr(no_sources, ignore = "Rust sources not at hand")]
 fn slots_of_few_objects() {
-    compare_slots(drawn!(31), 3, 1_000_000);
+    compare_slots(drawn!(31), 3, 1_000_000, 200_000);
 }
 
 #[test]
 #[cfg_attr(no_sources, ignore = "Rust sources not at hand")]
 fn slots_up_to_the_limits() {
-    compare_slots(drawn!(32), 16, 200_000);
+    compare_slots(drawn!(32), 16, 200_000, 40_000);
 }

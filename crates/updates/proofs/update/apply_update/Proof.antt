@@ -13,22 +13,25 @@ header-at-requires c κs = search needs
 dynamic-requires : tie.Need-dynamic-requires
 dynamic-requires c κs = search needs
 
+dynamic-requires-2 : tie.Need-dynamic-requires-2
+dynamic-requires-2 c κs = search needs
+
 same-counts-requires : tie.Need-same-counts-requires
 same-counts-requires c κs = search needs
 
 apply-elements-requires : tie.Need-apply-elements-requires
 apply-elements-requires c κs =
-    let e = c .before .before .before .before .header-at .ensures in
-    (omega (arith, c .before .before .before .before .before .before .before .pre .0), rw e, record { objects = rw e; isf = rw e; dynamic = c .before .before .before .dynamic .ensures ∙ rw e }, c .before .before .before .before .before .before .before .pre .1)
+    let d = c .before .before .before .before in
+    let h = d .before in
+    let s = h .before .before .before in
+    let e = h .header-at .ensures in
+    (omega (arith, s .pre .0), rw e, record { objects = rw e; isf = rw e; dynamic = d .dynamic .ensures ∙ rw e }, s .pre .1)
 
 next-codes-requires : tie.Need-next-codes-requires
 next-codes-requires c κs = search needs
 
 next-gains-requires : tie.Need-next-gains-requires
 next-gains-requires c κs = search needs
-
-dynamic-requires-2 : tie.Need-dynamic-requires-2
-dynamic-requires-2 c κs = search needs
 
 next-sources-requires : tie.Need-next-sources-requires
 next-sources-requires c κs = search needs
@@ -38,9 +41,17 @@ same-length c = search needs
 
 returns : tie.Need-returns
 returns c =
-    let s = c .before .before .before .before .before .before .before .before .before .before .before .before .before .before .before .before .before .args in
-    let w = c .before .before .before .before .before .before .before .before .before .apply-elements in
-    update-done (s .at) (now (s .meta)) (s .u) (s .s) (now (s .infos)) (c .before .before .before .before .before .before .before .before .before .before .before .before .before .before .header-at .result) (c .before .before .before .before .before .before .before .before .before .before .before .before .same-counts .result) (w .result) (w .last .1 .0) (c .before .before .before .before .before .next-codes .result) (c .before .before .before .next-gains .result) (c .next-sources .result) (c .before .dynamic2 .result) (c .before .before .before .before .before .before .before .before .before .before .before .before .before .dynamic .result) (c .before .before .before .before .before .before .before .before .before .before .before .before .before .before .header-at .ensures) (c .before .before .before .before .before .before .before .before .before .before .before .before .same-counts .ensures) (w .ensures) (c .before .before .before .before .before .next-codes .ensures) (c .before .before .before .next-gains .ensures) (c .next-sources .ensures) (c .before .dynamic2 .ensures) (c .before .before .before .before .before .before .before .before .before .before .before .before .before .dynamic .ensures)
+    let g = c .before .before in
+    let k = g .before .before in
+    let w = k .before .before .before .before in
+    let same = w .before .before .before in
+    let was = same .before in
+    let now′ = was .before in
+    let h = now′ .before in
+    let s = h .before .before .before .args in
+    update-done (s .at) (now (s .meta)) (s .u) (s .s) (now (s .infos)) (h .header-at .result) (same .same-counts .result) (w .apply-elements .result) (w .apply-elements .last .1 .0)
+    (k .next-codes .result) (g .next-gains .result) (c .next-sources .result) (was .dynamic2 .result) (now′ .dynamic .result) (h .header-at .ensures) (same .same-counts .ensures)
+    (w .apply-elements .ensures) (k .next-codes .ensures) (g .next-gains .ensures) (c .next-sources .ensures) (was .dynamic2 .ensures) (now′ .dynamic .ensures)
 
 pub apply-update-spec : {M : Type 1} → statement M
 apply-update-spec =
@@ -48,11 +59,11 @@ apply-update-spec =
     (tie.spec
     header-at-requires
     dynamic-requires
+    dynamic-requires-2
     same-counts-requires
     apply-elements-requires
     next-codes-requires
     next-gains-requires
-    dynamic-requires-2
     next-sources-requires
     same-length
     returns)
