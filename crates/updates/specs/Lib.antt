@@ -2,3 +2,4 @@ pub mod Whole
 pub mod Said
 pub mod Stored
 pub mod Applied
+pub mod Lifted
