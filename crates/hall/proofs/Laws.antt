@@ -7,13 +7,15 @@ use lib.Dec.{eqb}
 use lib.ListN.{length}
 use Rattle.rules.specs.Refusals.{Args, Found, clear, stop, room}
 use Rattle.rules.specs.Samples.{pushed, flushed}
+use Rattle.rules.specs.Calls as rules
 use Rattle.rules.specs.Calls.{Call, push, flush, reset, refused, rendered, nothing, cleared, Result, frameOf, found, asked, drained, step}
 use Rattle.rules.specs.Block.{Outcome, outOf, strideOf, written, left, takes, made}
+use Rattle.rules.proofs.Unused.{numberOf, never-seven}
 use Rattle.store.specs.Layout.{size, decode, encode, fresh}
 use Rattle.store.specs.Ranges.{valid}
 use Rattle.claim.specs.Hall.{hall, block}
 use Rattle.hall.specs.declared.answer.Answer.{Answer}
-use Rattle.hall.specs.Answers.{codeOfFound, Left}
+use Rattle.hall.specs.Answers.{codeOf, codeOfFound, Left}
 
 -- ---- a block that is not taken, and one that is
 
@@ -74,3 +76,15 @@ module _ (out : List ℕ) (stride : ℕ) (b : List ℕ) (v : valid b ≡ true) w
 
 pub resets : (b : List ℕ) → eqb (length b) size ≡ true → made hall block reset b ≡ record { answer = cleared; state = encode fresh; out = [] }
 resets b e = taken reset b _ e refl
+
+-- ---- R-1: "7 never occurs again"
+
+number-told : (x : rules.Answer) → codeOf x .number ≡ numberOf x
+number-told (refused n a b) = refl
+number-told (rendered given) = refl
+number-told nothing = refl
+number-told cleared = refl
+
+-- whatever an entry is lent, its contract being `Left` of what is made of the block
+pub seven-unanswered : (c : Call) (b : List ℕ) (r : Answer) (state out : List ℕ) → Left (made hall block c b) r state out → r .number ≡ 7 → ⊥
+seven-unanswered c b r state out h e = never-seven hall block c b (sym (number-told (made hall block c b .answer)) ∙ ap (λ (x : Answer). x .number) (sym (h .answer)) ∙ e)

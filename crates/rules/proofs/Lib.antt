@@ -17,6 +17,7 @@ pub mod Moments
 pub mod Sounding
 pub mod Order
 pub mod Accepted
+pub mod Unused
 pub mod Begun
 pub mod Shapes
 pub mod Quiet
