@@ -1,7 +1,6 @@
 pub mod Rows
 pub mod Arms
 pub mod Corners714
-pub mod Mixed
 pub mod Lists
 pub mod Axis
 pub mod Tables

@@ -5,7 +5,6 @@ pub mod Ends
 pub mod Updates
 pub mod Walked
 pub mod Times
-pub mod Stable
 pub mod Reached
 pub mod Placed
 pub mod Meant
