@@ -34,7 +34,8 @@ use Rattle.hall.specs.declared.answer.Answer.{Answer}
 use Rattle.hall.specs.Answers.{Left, readyOf}
 use Rattle.frame.specs.Give.{CanGive}
 use Rattle.hall.proofs.Laws.{leaves-as, accepted, flushes}
-use Rattle.hall.proofs.Known.{valid-long, loaded, loaded-pending, loaded-ranged, saved}
+use Rattle.refusals.proofs.Loaded.{loaded}
+use Rattle.hall.proofs.Known.{valid-long, loaded-pending, loaded-ranged, saved}
 
 -- ---- push
 

@@ -22,6 +22,7 @@ use Rattle.store.proofs.Whole.{small-full, saved-encode}
 use Rattle.claim.specs.Hall.{hall}
 use Rattle.claim.proofs.Sound.{Within}
 use Rattle.claim.proofs.Blocks.{ranged, decoded-of}
+use Rattle.refusals.proofs.Loaded.{loaded}
 use Rattle.frame.specs.Held.{held, IsHeld}
 
 pub valid-long : (b : List ℕ) → valid b ≡ true → length b ≡ size
@@ -33,16 +34,11 @@ pos-of zero h = absurd (h refl)
 pos-of (suc n) h = omega arith
 
 module _ (b : List ℕ) (s : Small) (e : s ≡ smallOf (wordsAt b 0 340)) where
-  -- a loaded small part and its block hold what the block decodes to
-  pub loaded : held s b ≡ decode b
-  unfolding decode
-  loaded = ap (λ (x : Small). held x b) e
-
   pub loaded-pending : decode b .pending ≡ s .pending
-  loaded-pending = sym (ap (λ (r : Renderer Timed). r .pending) loaded)
+  loaded-pending = sym (ap (λ (r : Renderer Timed). r .pending) (loaded b s e))
 
   pub loaded-ranged : Bytes b → valid b ≡ true → Ranged hall Within (held s b)
-  loaded-ranged bs v = subst (Ranged hall Within) (sym loaded) (decoded-of b bs v)
+  loaded-ranged bs v = subst (Ranged hall Within) (sym (loaded b s e)) (decoded-of b bs v)
 
 -- the small part saved into the block with which it holds r
 pub saved : (b : List ℕ) (r : Renderer Timed) (s : Small) → Bytes b → IsHeld r s b → Ranged hall Within r → withWords b 0 (smallWords s) ≡ encode r

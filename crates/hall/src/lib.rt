@@ -9,7 +9,6 @@ use answer::Answer;
 use refusals::Refusal;
 
 pub mod answer;
-mod judge;
 mod work;
 
 // Renders a frame: beds (one code each), then objects, `samples` of each channel in `pcm`. What is ready goes to `out`, channel c from place c x `stride` on.
@@ -31,7 +30,7 @@ pub extern "C" fn push(
         return answer::refusal(Refusal::Lent);
     }
     let s = store::load(state);
-    let found = judge::push_refusal(
+    let found = refusals::push_refusal(
         s,
         pcm,
         meta,
@@ -67,7 +66,7 @@ pub extern "C" fn flush(state: &mut [u8], out: &mut [u8], stride: u32) -> Answer
     if !store::ranges::is_valid(state) {
         return answer::refusal(Refusal::Lent);
     }
-    if !early::room(stride, out.len()) {
+    if !refusals::early::room(stride, out.len()) {
         return answer::refusal(Refusal::Lent);
     }
     let s = store::load(state);

@@ -3,10 +3,10 @@ use mathlib.Core.Path.{refl, sym, ap, _∙_}
 use native.Mathlib.Omega.{arith}
 use borrow.Author.Tests.{not-true, not-false}
 use Rattle.rules.specs.Calls.{push}
-use Rattle.refusals.specs.Numbers.{foundOf}
+use Rattle.refusals.specs.Found.{foundOf}
 use Rattle.rules.specs.Refusals.{argsOf}
 use Rattle.hall.proofs.Laws.{leaves-as, wrong, refused-push}
-use Rattle.hall.proofs.Stops.{not-clear}
+use Rattle.refusals.proofs.Cleared.{not-clear}
 use Rattle.hall.proofs.Known.{valid-long, loaded-ranged}
 use borrow.Author.Needs.{needs}
 use Rattle.hall.proofs.push.Statement.{statement}

@@ -1,0 +1,12 @@
+-- A loaded small part, with its block's infos and places, is what the block decodes to. Assumes nothing.
+use Prim.Native.Nat.{ℕ}
+use mathlib.Core.Path.{_≡_, ap}
+use mathlib.Core.List.{List}
+use Rattle.words.specs.Words.{wordsAt}
+use Rattle.store.specs.declared.Small.{Small}
+use Rattle.store.specs.Fields.{smallOf}
+use Rattle.store.specs.Layout.{joined, infosOf, placesOf, decode}
+
+pub loaded : (b : List ℕ) (s : Small) → s ≡ smallOf (wordsAt b 0 340) → joined s (infosOf b) (placesOf b) ≡ decode b
+unfolding decode
+loaded b s e = ap (λ (x : Small). joined x (infosOf b) (placesOf b)) e

@@ -1,0 +1,113 @@
+-- `later::walk_refusal`: nothing was found before t. Assumes nothing.
+use Prim.Native.Nat.{_-_, _<_, _≤_}
+use mathlib.Core.Path.{_≡_, sym, _∙_}
+use native.Mathlib.Omega.{arith}
+use native.Mathlib.Numerals.{unary-clauses}
+use borrow.Author.Tests.{not-true, not-false}
+use lib.ListN.{getD}
+use denote.Ref.{now}
+use Rattle.records.proofs.Times.{next-within, next-above}
+use Rattle.rules.specs.Refusals.{walk}
+use Rattle.refusals.specs.Told.{toldOf, presentShape}
+use Rattle.refusals.proofs.Walks.{updates-stop, beds-stop, goes-on, walk-ends}
+use Rattle.refusals.proofs.later.walk_refusal.Statement.{statement}
+use Rattle.refusals.proofs.later.walk_refusal.Tie as tie
+
+abbrev Inv-loop : tie.InvT-loop
+Inv-loop meta l codes samples objects present₀ t₀ present t = (t ≤ samples) × (present .beds ≤ 18) × (walk (toldOf meta) objects codes (samples - t) t (presentShape present) ≡ walk (toldOf meta) objects codes samples 0 (presentShape present₀))
+
+abbrev μ-loop : tie.MeasureT-loop
+μ-loop meta l codes samples objects present₀ t₀ present t = samples - t
+
+loop-holds : tie.Need-loop-holds Inv-loop μ-loop
+loop-holds c = (omega arith, c .before .before .pre .3, simp unary-clauses)
+
+counts-refusal-requires : tie.Need-counts-refusal-requires Inv-loop μ-loop
+counts-refusal-requires c κs = (c .before .before .before .before .pre .0, c .before .before .before .before .pre .1)
+
+is-clear-requires : tie.Need-is-clear-requires Inv-loop μ-loop
+is-clear-requires c κs = tt
+
+returns : tie.Need-returns Inv-loop μ-loop
+returns c =
+    let s = c .before .before .before .before .before .before .before in
+    let l = c .before .before .before .before .loop in
+    let m = now (s .args .meta) in
+    let codes = now (s .args .codes) in
+    let all = walk (toldOf m) (s .args .objects) codes (s .args .samples) 0 (presentShape (s .args .start)) in
+    let r = c .before .before .counts-refusal in
+    updates-stop m (s .args .l) (s .pre .0) (s .args .objects) codes (s .args .samples) (l .t) (l .present) all (omega (arith, c .before .before .before .loop-test)) (l .inv .2) (r .result) (r .ensures)
+    (sym (c .before .is-clear .ensures) ∙ not-true _ (c .if1 .taken))
+
+present-after-requires : tie.Need-present-after-requires Inv-loop μ-loop
+present-after-requires c κs = (c .before .before .before .before .before .before .before .pre .0, c .before .before .before .before .before .before .before .pre .1, c .before .before .before .before .loop .inv .1)
+
+beds-refusal-requires : tie.Need-beds-refusal-requires Inv-loop μ-loop
+beds-refusal-requires c κs = (c .present-after .ensures .few, c .before .before .before .before .before .before .before .before .pre .2)
+
+is-clear-requires-2 : tie.Need-is-clear-requires-2 Inv-loop μ-loop
+is-clear-requires-2 c κs = tt
+
+returns-2 : tie.Need-returns-2 Inv-loop μ-loop
+returns-2 c =
+    let s = c .before .before .before .before .before .before .before .before .before .before .before in
+    let l = c .before .before .before .before .before .before .before .before .loop in
+    let m = now (s .args .meta) in
+    let codes = now (s .args .codes) in
+    let all = walk (toldOf m) (s .args .objects) codes (s .args .samples) 0 (presentShape (s .args .start)) in
+    let r = c .before .before .before .before .before .before .counts-refusal in
+    beds-stop m (s .args .l) (s .pre .0) (s .args .objects) codes (s .args .samples) (l .t) (l .present) all (omega (arith, c .before .before .before .before .before .before .before .loop-test)) (l .inv .2) (r .result) (r .ensures)
+    (sym (c .before .before .before .before .before .is-clear .ensures) ∙ not-false _ (c .before .before .before .before .if1 .left)) (c .before .before .before .present-after .result) (c .before .before .before .present-after .ensures) (c .before .before .beds-refusal .result) (c .before .before .beds-refusal .ensures)
+    (sym (c .before .is-clear2 .ensures) ∙ not-true _ (c .if2 .taken))
+
+next-offset-requires : tie.Need-next-offset-requires Inv-loop μ-loop
+next-offset-requires c κs = c .before .before .before .before .before .before .before .before .before .before .before .pre .1 .few
+
+loop-less : tie.Need-loop-less Inv-loop μ-loop
+loop-less c =
+    let s = c .before .before .before .before .before .before .before .before .before .before .before .before in
+    let l = c .before .before .before .before .before .before .before .before .before .loop in
+    let below : l .t < s .args .samples = omega (arith, c .before .before .before .before .before .before .before .before .loop-test) in
+    let a : l .t < c .next-offset .result = rw (c .next-offset .ensures) (next-above (λ i. getD (s .args .l .offset) i 0) (l .t) (s .args .samples) (s .args .l .count) below) in
+    omega arith
+
+loop-again : tie.Need-loop-again Inv-loop μ-loop
+loop-again c =
+    let s = c .before .before .before .before .before .before .before .before .before .before .before .before in
+    let l = c .before .before .before .before .before .before .before .before .before .loop in
+    let m = now (s .args .meta) in
+    let codes = now (s .args .codes) in
+    let all = walk (toldOf m) (s .args .objects) codes (s .args .samples) 0 (presentShape (s .args .start)) in
+    let r = c .before .before .before .before .before .before .before .counts-refusal in (
+      rw (c .next-offset .ensures) (next-within (λ i. getD (s .args .l .offset) i 0) (l .t) (s .args .samples) (s .args .l .count)),
+      c .before .before .before .before .present-after .ensures .few,
+      rw (c .next-offset .ensures)
+          (goes-on m (s .args .l) (s .pre .0) (s .args .objects) codes (s .args .samples) (l .t) (l .present) all (omega (arith, c .before .before .before .before .before .before .before .before .loop-test)) (l .inv .2) (r .result) (r .ensures)
+          (sym (c .before .before .before .before .before .before .is-clear .ensures) ∙ not-false _ (c .before .before .before .before .before .if1 .left)) (c .before .before .before .before .present-after .result) (c .before .before .before .before .present-after .ensures) (c .before .before .before .beds-refusal .result) (c .before .before .before .beds-refusal .ensures)
+          (sym (c .before .before .is-clear2 .ensures) ∙ not-false _ (c .before .if2 .left))),
+    )
+
+returns-3 : tie.Need-returns-3 Inv-loop μ-loop
+returns-3 c =
+    let s = c .before .before .before .before in
+    let l = c .before .loop in
+    sym (walk-ends (now (s .args .meta)) (s .args .l) (s .pre .0) (s .args .objects) (now (s .args .codes)) (s .args .samples) (l .t) (presentShape (l .present)) (omega (arith, c .loop-test))) ∙ l .inv .2
+
+pub walk-refusal-spec : {M : Type 1} → statement M
+walk-refusal-spec =
+    tie.close
+    (tie.spec
+    Inv-loop
+    μ-loop
+    loop-holds
+    counts-refusal-requires
+    is-clear-requires
+    returns
+    present-after-requires
+    beds-refusal-requires
+    is-clear-requires-2
+    returns-2
+    next-offset-requires
+    loop-less
+    loop-again
+    returns-3)
