@@ -14,7 +14,7 @@ ghost use Rattle.store.specs.Layout.{decode};
 ghost use Rattle.claim.specs.Hall.{hall};
 ghost use Rattle.frame.specs.Held.{held};
 ghost use Rattle.frame.specs.Begin.{Rests};
-ghost use Rattle.rules.specs.Refusals.{argsOf};
+ghost use Rattle.refusals.specs.Found.{argsWith};
 ghost use Rattle.frame.specs.Turns.{least, runLength, readyAfter, Accepted, IsRendered};
 use crate::begin::begin;
 use crate::chunk::pass;
@@ -23,6 +23,7 @@ use lowpass::BiquadLowpassState;
 use records::layout::Layout;
 use records::order::next_offset;
 use records::order::sent_at;
+use refusals::Numbers;
 use store::Small;
 use timed::clock::FrameOffset;
 use timed::clock::StreamSample;
@@ -109,14 +110,15 @@ pub fn render(
     out: &mut [u8],
     codes: &[u8],
     l: Layout,
-    rate: u32,
-    samples: usize,
-    objects: usize,
-    stride: usize,
+    n: Numbers,
 ) -> Rendered
-    requires { ⌜ Accepted s (now state) l (argsOf (now pcm) (now meta) (now out) (now codes) rate samples objects stride) ⌝ }
-    ensures { λ r. ⌜ IsRendered (pushed hall (frameOf hall (argsOf (now (pcm .entry)) (now (meta .entry)) (now (out .entry)) (now (codes .entry)) rate samples objects stride)) (decode (now (state .entry)))) stride (now (state .entry)) (now (out .entry)) r (now (state .exit)) (now (out .exit)) ⌝ }
+    requires { ⌜ Accepted s (now state) l (argsWith (now pcm) (now meta) (now out) (now codes) n) ⌝ }
+    ensures { λ r. ⌜ IsRendered (pushed hall (frameOf hall (argsWith (now (pcm .entry)) (now (meta .entry)) (now (out .entry)) (now (codes .entry)) n)) (decode (now (state .entry)))) (n .stride) (now (state .entry)) (now (out .entry)) r (now (state .exit)) (now (out .exit)) ⌝ }
 {
+    let rate = n.rate;
+    let samples = n.samples as usize;
+    let objects = n.objects as usize;
+    let stride = n.stride as usize;
     let start = StreamSample(s.position);
     let mut small = open(s, rate);
     let mut ready = 0usize;

@@ -9,6 +9,8 @@ use Rattle.rules.specs.Calls as rules
 use Rattle.rules.specs.Calls.{refused, rendered, nothing, cleared, found}
 use Rattle.rules.specs.Block.{Outcome}
 use Rattle.words.specs.Words.{wordsAt}
+use Rattle.records.specs.declared.layout.Layout.{Layout}
+use Rattle.records.specs.Answers.{IsLayout}
 use Rattle.store.specs.declared.Small.{Small}
 use Rattle.store.specs.Fields.{smallOf}
 use Rattle.store.specs.Layout.{decode}
@@ -45,10 +47,11 @@ pub record Loaded (s : Small) (b : List ℕ) : Type 0 where
   pub small : s ≡ smallOf (wordsAt b 0 340)
   pub valid : valid b ≡ true
 
--- no refusal turned the push away
-pub record Cleared (s : Small) (b : List ℕ) (a : Args) : Type 0 where
+-- no refusal turned the push away, and l is the metadata's layout
+pub record Cleared (s : Small) (b : List ℕ) (l : Layout) (a : Args) : Type 0 where
   pub loaded : Loaded s b
   pub clear : found hall (decode b) a ≡ clear
+  pub layout : IsLayout (a .meta) l
 
 -- samples wait, and the output has room
 pub record Waiting (s : Small) (b out : List ℕ) (stride : ℕ) : Type 0 where

@@ -6,6 +6,8 @@ ghost use Rattle.claim.specs.Hall.{hall, block};
 ghost use Rattle.hall.specs.Answers.{Left, codeOf};
 ghost use Rattle.rules.specs.Refusals.{argsOf};
 use answer::Answer;
+use records::layout::layout_of;
+use refusals::Numbers;
 use refusals::Refusal;
 
 pub mod answer;
@@ -30,30 +32,16 @@ pub extern "C" fn push(
         return answer::refusal(Refusal::Lent);
     }
     let s = store::load(state);
-    let found = refusals::push_refusal(
-        s,
-        pcm,
-        meta,
-        out.len(),
-        codes,
+    let l = layout_of(meta);
+    let n = Numbers {
         rate,
         samples,
         objects,
         stride,
-    );
+    };
+    let found = refusals::push_refusal(s, pcm, meta, out.len(), codes, l, n);
     if let Refusal::Clear = found {
-        return work::render(
-            s,
-            state,
-            pcm,
-            meta,
-            out,
-            codes,
-            rate,
-            samples,
-            objects,
-            stride,
-        );
+        return work::render(s, state, pcm, meta, out, codes, l, n);
     }
     answer::refusal(found)
 }

@@ -3,9 +3,11 @@ ghost use Rattle.rules.specs.Calls.{push, flush};
 ghost use Rattle.rules.specs.Block.{made};
 ghost use Rattle.claim.specs.Hall.{hall, block};
 ghost use Rattle.hall.specs.Answers.{Waiting, Cleared, Left};
-ghost use Rattle.rules.specs.Refusals.{argsOf};
+ghost use Rattle.refusals.specs.Found.{argsWith};
 use crate::answer;
 use crate::answer::Answer;
+use records::layout::Layout;
+use refusals::Numbers;
 use store::Small;
 
 // A push that no refusal turned away.
@@ -16,28 +18,13 @@ pub fn render(
     meta: &[u8],
     out: &mut [u8],
     codes: &[u8],
-    rate: u32,
-    samples: u32,
-    objects: u32,
-    stride: u32,
+    l: Layout,
+    n: Numbers,
 ) -> Answer
-    requires { ⌜ Cleared s (now state) (argsOf (now pcm) (now meta) (now out) (now codes) rate samples objects stride) ⌝ }
-    ensures { λ r. ⌜ Left (made hall block (push (argsOf (now (pcm .entry)) (now (meta .entry)) (now (out .entry)) (now (codes .entry)) rate samples objects stride)) (now (state .entry))) r (now (state .exit)) (now (out .exit)) ⌝ }
+    requires { ⌜ Cleared s (now state) l (argsWith (now pcm) (now meta) (now out) (now codes) n) ⌝ }
+    ensures { λ r. ⌜ Left (made hall block (push (argsWith (now (pcm .entry)) (now (meta .entry)) (now (out .entry)) (now (codes .entry)) n)) (now (state .entry))) r (now (state .exit)) (now (out .exit)) ⌝ }
 {
-    let l = records::layout::layout_of(meta);
-    let done = frame::push::render(
-        s,
-        state,
-        pcm,
-        meta,
-        out,
-        codes,
-        l,
-        rate,
-        samples as usize,
-        objects as usize,
-        stride as usize,
-    );
+    let done = frame::push::render(s, state, pcm, meta, out, codes, l, n);
     let next = done.small;
     store::write::save(state, next);
     answer::ready(done.ready)

@@ -11,7 +11,8 @@ use Rattle.refusals.proofs.Refusal as refusal
 use Rattle.refusals.specs.Found.{foundOf}
 use Rattle.refusals.specs.declared.Refusal.{Refusal}
 use Rattle.refusals.specs.declared.Refusal.the-variants.{Clear, Lent, Sizes, Rate, StreamEnd, Records, Ranges, Samples}
-use Rattle.refusals.specs.declared.Refusal.the-variants.{SampleRateChanged, MissingOamd, ObjectCountMismatch, UnsupportedSampleCount, BedChannelCountMismatch, UnsupportedBedChannel}
+use Rattle.refusals.specs.declared.Refusal.the-variants.{SampleRateChanged, MissingOamd, ObjectCountMismatch}
+use Rattle.refusals.specs.declared.Refusal.the-variants.{UnsupportedSampleCount, BedChannelCountMismatch, UnsupportedBedChannel}
 use Rattle.refusals.specs.Told.{isNone, isClear}
 
 abbrev others : List ℕ

@@ -1,13 +1,12 @@
 // Refusals 1 to 8 of a push: "Lowest number first among 1 to 8". Each is decided before the next is worked out.
 ghost use mathlib.Core.Path.{_≡_};
-ghost use mathlib.Core.List.{List, []};
-ghost use Prim.Native.Nat.{ℕ, _+_, _*_, _≤_};
+ghost use mathlib.Core.List.{[]};
+ghost use Prim.Native.Nat.{_+_, _*_, _≤_};
 ghost use lib.Dec.{leb};
-ghost use lib.ListN.{length};
-ghost use Rattle.rules.specs.Samples.{State};
+ghost use Rattle.records.specs.Laid.{laidOut};
 ghost use Rattle.rules.specs.Refusals as rules;
-ghost use Rattle.refusals.specs.Found.{foundOf};
-ghost use Rattle.claim.specs.Hall.{hall};
+ghost use Rattle.refusals.specs.Found.{argsWith, IsEarly};
+use crate::Numbers;
 use crate::Refusal;
 
 // Whether the stride is one of those allowed and an output of so many bytes has room for it: refusal 1.
@@ -49,9 +48,12 @@ fn pcm_bytes(channels: usize, samples: u32) -> usize
 }
 
 // Whether samples, beds, objects, codes and the PCM's length are as allowed: refusal 2.
-fn sized(pcm: &[u8], codes: &[u8], samples: u32, objects: u32, stride: u32) -> bool
-    ensures { λ r. ⌜ r ≡ rules.sized (rules.argsOf (now (pcm .entry)) [] [] (now (codes .entry)) 0 samples objects stride) ⌝ }
+fn sized(pcm: &[u8], codes: &[u8], n: Numbers) -> bool
+    ensures { λ r. ⌜ r ≡ rules.sized (argsWith (now (pcm .entry)) [] [] (now (codes .entry)) n) ⌝ }
 {
+    let samples = n.samples;
+    let objects = n.objects;
+    let stride = n.stride;
     if samples > stride {
         return false;
     }
@@ -81,34 +83,32 @@ fn stays(position: u64, samples: u32) -> bool
     position <= 1099511627776 - samples as u64
 }
 
-// The first of refusals 1 to 8 of a push at a stream position; the output has so many bytes.
+// The first of refusals 1 to 8 of a push at a stream position; the output has so many bytes, and `laid` says whether the records are as laid out.
 pub fn refusal(
     position: u64,
     pcm: &[u8],
     meta: &[u8],
     bytes: usize,
     codes: &[u8],
-    rate: u32,
-    samples: u32,
-    objects: u32,
-    stride: u32,
+    laid: bool,
+    n: Numbers,
 ) -> Refusal
-    ensures { λ r. ⌜ ((out : List ℕ) → length out ≡ bytes → (t : State hall) → t .position ≡ position → foundOf r ≡ rules.early hall t (rules.argsOf (now (pcm .entry)) (now (meta .entry)) out (now (codes .entry)) rate samples objects stride)) ⌝ }
+    requires { ⌜ laid ≡ laidOut (now meta) ⌝ }
+    ensures { λ r. ⌜ IsEarly position bytes (λ out. argsWith (now (pcm .entry)) (now (meta .entry)) out (now (codes .entry)) n) r ⌝ }
 {
-    if !room(stride, bytes) {
+    if !room(n.stride, bytes) {
         return Refusal::Lent;
     }
-    if !sized(pcm, codes, samples, objects, stride) {
+    if !sized(pcm, codes, n) {
         return Refusal::Sizes;
     }
-    if !angles::listed(rate) {
+    if !angles::listed(n.rate) {
         return Refusal::Rate;
     }
-    if !stays(position, samples) {
+    if !stays(position, n.samples) {
         return Refusal::StreamEnd;
     }
-    let l = records::layout::layout_of(meta);
-    if !l.laid {
+    if !laid {
         return Refusal::Records;
     }
     if !records::ranges::in_range(meta) {

@@ -1,8 +1,8 @@
 // SPDX-License-Identifier: Apache-2.0
 // Translated from libstarmine_ad render.rs; changed.
 
-// Refusals 9 to 14 of a push whose 1 to 8 found nothing: a pass over its samples that changes nothing. Document 01: "After 8: 9, 10, 11 for updates at offset 0, 12, 11 for the present
-// state, then 11, 13, 14 as they arise in time."
+// Refusals 9 to 14 of a push whose 1 to 8 found nothing: a pass over its samples that changes nothing.
+// Document 01: "After 8: 9, 10, 11 for updates at offset 0, 12, 11 for the present state, then 11, 13, 14 as they arise in time."
 ghost use mathlib.Core.Path.{_≡_};
 ghost use mathlib.Core.Bool.{_||_, not};
 ghost use Prim.Native.Nat.{_≤_};
@@ -14,6 +14,7 @@ ghost use Rattle.rules.specs.Refusals.{_then_, unless, walk, later};
 ghost use Rattle.refusals.specs.Found.{foundOf};
 ghost use Rattle.claim.specs.Hall.{shapeOf};
 ghost use Rattle.refusals.specs.Told.{toldOf, presentShape};
+use crate::Numbers;
 use crate::Refusal;
 use crate::checks::beds_refusal;
 use crate::checks::counts_refusal;
@@ -33,6 +34,12 @@ fn either(a: bool, b: bool) -> bool
         return true;
     }
     b
+}
+
+fn wide(n: u32) -> usize
+    ensures { λ r. ⌜ r ≡ n ⌝ }
+{
+    n as usize
 }
 
 // 9 and 10.
@@ -84,14 +91,14 @@ pub fn refusal(
     meta: &[u8],
     l: Layout,
     codes: &[u8],
-    rate: u32,
-    samples: u32,
-    objects: u32,
+    n: Numbers,
 ) -> Refusal
     requires { ⌜ IsLayout (now meta) l × WholeUpdates (now meta) (l .first) (l .count) × (length (now codes) ≤ 18) × (state .beds ≤ 18) × (state .objects ≤ 32) ⌝ }
-    ensures { λ r. ⌜ foundOf r ≡ later (toldOf (now (meta .entry))) objects (now (codes .entry)) samples rate «rate_before» (shapeOf state) ⌝ }
+    ensures { λ r. ⌜ foundOf r ≡ later (toldOf (now (meta .entry))) (n .objects) (now (codes .entry)) (n .samples) (n .rate) «rate_before» (shapeOf state) ⌝ }
 {
-    let begin = start_refusal(rate_before, rate, state.initialized, l.count);
+    let samples = n.samples;
+    let objects = n.objects;
+    let begin = start_refusal(rate_before, n.rate, state.initialized, l.count);
     if !is_clear(begin) {
         return begin;
     }
@@ -108,5 +115,5 @@ pub fn refusal(
     if !is_clear(present) {
         return present;
     }
-    walk_refusal(start, meta, l, codes, samples as usize, objects)
+    walk_refusal(start, meta, l, codes, wide(samples), objects)
 }

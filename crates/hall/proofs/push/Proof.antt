@@ -30,20 +30,31 @@ returns c =
 load-requires : tie.Need-load-requires
 load-requires c κs = valid-long (c .before .before .before .before .before .before .before .before .before .args .state .now) (sym (c .before .before .is-valid .ensures) ∙ not-false _ (c .before .if1 .left))
 
+layout-of-requires : tie.Need-layout-of-requires
+layout-of-requires c κs = search needs
+
 push-refusal-requires : tie.Need-push-refusal-requires
 push-refusal-requires c κs =
-    let w = loaded-ranged (c .before .before .before .before .before .before .before .before .before .before .args .state .now) (c .load .result) (c .load .ensures) (λ k. omega (arith, c .before .before .before .before .before .before .before .before .before .slice-known .given k)) (sym (c .before .before .before .is-valid .ensures) ∙ not-false _ (c .before .before .if1 .left)) .meta .state .within in
-    (w .beds, w .objects)
+    let l = c .before in
+    let e = l .before .before in
+    let k = e .before .before .before .before .before .before .before in
+    let valid = sym (e .before .is-valid .ensures) ∙ not-false _ (e .if1 .left) in
+    let w = loaded-ranged (k .before .args .state .now) (l .load .result) (l .load .ensures) (λ i. omega (arith, k .slice-known .given i)) valid .meta .state .within in
+    (w .beds, w .objects, c .layout-of .ensures)
 
 enum-told : tie.Need-enum-told
 enum-told c = search needs
 
 render-requires : tie.Need-render-requires
 render-requires c κs =
-    let a = c .before .before .before .before .before .before .before .before .before .before .before .before .before .before .before .args in
+    let f = c .before .before .before .before in
+    let l = f .before .before in
+    let e = l .before .before in
+    let a = e .before .before .before .before .before .before .before .before .args in
     record {
-      loaded = record { small = c .before .before .before .before .before .load .ensures; valid = sym (c .before .before .before .before .before .before .before .before .is-valid .ensures) ∙ not-false _ (c .before .before .before .before .before .before .before .if1 .left) };
-      clear = sym (c .before .before .before .before .push-refusal .ensures (a .state .now) (a .out .now) (c .before .before .before .before .before .load .ensures) refl) ∙ ap foundOf (c .before .before .enum-told .given .1);
+      loaded = record { small = l .load .ensures; valid = sym (e .before .is-valid .ensures) ∙ not-false _ (e .if1 .left) };
+      clear = sym (f .push-refusal .ensures (a .state .now) (a .out .now) (l .load .ensures) refl) ∙ ap foundOf (c .before .before .enum-told .given .1);
+      layout = f .before .layout-of .ensures;
     }
 
 same-length-2 : tie.Need-same-length-2
@@ -63,10 +74,13 @@ same-length-4 c = search needs
 
 returns-3 : tie.Need-returns-3
 returns-3 c =
-    let a = c .before .before .before .before .before .before .before .before .before .before .before .before .before .args in
-    let f = c .before .before .push-refusal .result in
-    refused-push (argsOf (a .pcm .now) (a .meta .now) (a .out .now) (a .codes .now) (a .rate) (a .samples) (a .objects) (a .stride)) (a .state .now) (c .refusal2 .result) (foundOf f)
-    (sym (c .before .before .before .before .before .before .is-valid .ensures) ∙ not-false _ (c .before .before .before .before .before .if1 .left)) (c .before .before .push-refusal .ensures (a .state .now) (a .out .now) (c .before .before .before .load .ensures) refl) (not-clear f (c .before .match .keys2)) (c .refusal2 .ensures)
+    let f = c .before .before in
+    let l = f .before .before in
+    let e = l .before .before in
+    let a = e .before .before .before .before .before .before .before .before .args in
+    let x = f .push-refusal .result in
+    refused-push (argsOf (a .pcm .now) (a .meta .now) (a .out .now) (a .codes .now) (a .rate) (a .samples) (a .objects) (a .stride)) (a .state .now) (c .refusal2 .result) (foundOf x)
+    (sym (e .before .is-valid .ensures) ∙ not-false _ (e .if1 .left)) (f .push-refusal .ensures (a .state .now) (a .out .now) (l .load .ensures) refl) (not-clear x (c .before .match .keys2)) (c .refusal2 .ensures)
 
 pub push-spec : {M : Type 1} → statement M
 push-spec =
@@ -77,6 +91,7 @@ push-spec =
     same-length
     returns
     load-requires
+    layout-of-requires
     push-refusal-requires
     enum-told
     render-requires

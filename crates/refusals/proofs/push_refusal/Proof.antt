@@ -8,11 +8,10 @@ use Rattle.rules.specs.Refusals.{early, later, _then_, Found}
 use Rattle.rules.specs.Samples.{State}
 use Rattle.rules.specs.Calls.{sentOf}
 use Rattle.rules.proofs.Judged.{is-early, is-sized}
-use Rattle.refusals.specs.Found.{foundOf}
+use Rattle.refusals.specs.Found.{foundOf, argsWith}
 use Rattle.store.specs.Layout.{joined, decode}
 use Rattle.updates.proofs.Passed.{passes-all}
 use Rattle.claim.specs.Hall.{hall}
-use Rattle.rules.specs.Refusals.{argsOf}
 use Rattle.refusals.proofs.Cleared.{not-clear}
 use Rattle.refusals.proofs.First.{first-stops, then-second}
 use Rattle.refusals.proofs.Loaded.{loaded}
@@ -29,39 +28,32 @@ enum-told c = search needs
 returns : tie.Need-returns
 returns c b out e l =
     let a = c .before .before .before .before .before .args in
-    let args = argsOf (a .pcm .now) (a .meta .now) out (a .codes .now) (a .rate) (a .samples) (a .objects) (a .stride) in
+    let args = argsWith (a .pcm .now) (a .meta .now) out (a .codes .now) (a .n) in
     let x = c .before .refusal .result in
     let rest = later (sentOf hall (hall .updates (args .meta))) (args .objects) (args .codes) (args .samples) (args .rate) (decode b .rate) (hall .shape (decode b .meta)) in
     first-stops (foundOf x) rest (not-clear x (c .match .keys2))
     ∙ ap (λ (f : Found). f then rest) (c .before .refusal .ensures out l (decode b) (sym (ap (λ (r : State hall). r .position) (loaded b (a .s) e))))
 
-layout-of-requires : tie.Need-layout-of-requires
-layout-of-requires c κs = search needs
-
 refusal-requires-2 : tie.Need-refusal-requires-2
 refusal-requires-2 c κs =
-    let a = c .before .before .before .before .before .before .before .before .args in
+    let e = c .before .before .before in
+    let a = e .before .before .before .before .args in
+    let w = e .before .before .before .before .pre in
     let out = replicate {A = ℕ} (a .bytes) 0 in
-    let args = argsOf (a .pcm .now) (a .meta .now) out (a .codes .now) (a .rate) (a .samples) (a .objects) (a .stride) in
-    let x = is-early hall (joined (a .s) [] (λ k. [])) args (sym (c .before .before .before .before .refusal .ensures out (length-replicate (a .bytes) 0) (joined (a .s) [] (λ k. [])) refl) ∙ ap foundOf (c .before .before .enum-told .given .1)) in
-    (c .before .layout-of .ensures, passes-all (a .meta .now) (x .laidOut) (x .inRange) (λ k. omega (arith, c .before .before .before .before .before .before .shared-slice-known2 .given k)) (c .before .layout-of .result) (c .before .layout-of .ensures), is-sized args (x .sized) .codes, c .before .before .before .before .before .before .before .before .pre .0, c .before .before .before .before .before .before .before .before .pre .1)
+    let args = argsWith (a .pcm .now) (a .meta .now) out (a .codes .now) (a .n) in
+    let x = is-early hall (joined (a .s) [] (λ k. [])) args (sym (e .refusal .ensures out (length-replicate (a .bytes) 0) (joined (a .s) [] (λ k. [])) refl) ∙ ap foundOf (c .before .enum-told .given .1)) in
+    let whole = passes-all (a .meta .now) (x .laidOut) (x .inRange) (λ k. omega (arith, e .before .before .shared-slice-known2 .given k)) (a .l) (w .2) in
+    (w .2, whole, is-sized args (x .sized) .codes, w .0, w .1)
 
 returns-2 : tie.Need-returns-2
 returns-2 c b out e l =
-    let a = c .before .before .before .before .before .before .before .before .before .args in
-    let args = argsOf (a .pcm .now) (a .meta .now) out (a .codes .now) (a .rate) (a .samples) (a .objects) (a .stride) in
+    let f = c .before .before .before .before in
+    let a = f .before .before .before .before .args in
+    let args = argsWith (a .pcm .now) (a .meta .now) out (a .codes .now) (a .n) in
     let at : State hall → Found = λ r. later (sentOf hall (hall .updates (args .meta))) (args .objects) (args .codes) (args .samples) (args .rate) (r .rate) (hall .shape (r .meta)) in
     then-second (early hall (decode b) args) (at (decode b)) (foundOf (c .refusal2 .result))
-    (sym (c .before .before .before .before .before .refusal .ensures out l (decode b) (sym (ap (λ (r : State hall). r .position) (loaded b (a .s) e)))) ∙ ap foundOf (c .before .before .before .enum-told .given .1))
+    (sym (f .refusal .ensures out l (decode b) (sym (ap (λ (r : State hall). r .position) (loaded b (a .s) e)))) ∙ ap foundOf (c .before .before .enum-told .given .1))
     (c .refusal2 .ensures ∙ ap at (loaded b (a .s) e))
 
 pub push-refusal-spec : {M : Type 1} → statement M
-push-refusal-spec =
-    tie.close
-    (tie.spec
-    refusal-requires
-    enum-told
-    returns
-    layout-of-requires
-    refusal-requires-2
-    returns-2)
+push-refusal-spec = tie.close (tie.spec refusal-requires enum-told returns refusal-requires-2 returns-2)

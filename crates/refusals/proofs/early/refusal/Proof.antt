@@ -5,6 +5,7 @@ use mathlib.Core.List.{List}
 use lib.ListN.{length, take}
 use borrow.Author.Needs.{needs}
 use Rattle.rules.specs.Refusals.{Args, room}
+use Rattle.refusals.specs.Found.{argsWith}
 use Rattle.refusals.proofs.Tests.{failed, passed, Test, Hold, more, tests, refuses, refuses-none, pcm-samples}
 use Rattle.refusals.proofs.early.refusal.Statement.{statement}
 use Rattle.refusals.proofs.early.refusal.Tie as tie
@@ -12,9 +13,7 @@ use Rattle.refusals.proofs.early.refusal.Tie as tie
 -- ---- the tests, as the code makes them
 
 abbrev given : tie.Start → List ℕ → Args
-given s out =
-    let b = s .args in
-    record { pcm = b .pcm .now; meta = b .meta .now; out = out; codes = b .codes .now; rate = b .rate; samples = b .samples; objects = b .objects; stride = b .stride }
+given s out = let b = s .args in argsWith (b .pcm .now) (b .meta .now) out (b .codes .now) (b .n)
 
 abbrev testsOf : tie.Start → List ℕ → List Test
 testsOf s out = tests (s .args .position) (given s out)
@@ -35,14 +34,11 @@ from-3 c = from-2 (c .before .before)
 abbrev from-4 : tie.After-stays → tie.Start
 from-4 c = from-3 (c .before .before)
 
-abbrev from-5 : tie.After-layout-of → tie.Start
-from-5 c = from-4 (c .before .before)
-
 abbrev from-6 : tie.After-in-range → tie.Start
-from-6 c = from-5 (c .before .before .before)
+from-6 c = from-4 (c .before .before .before)
 
 held-1 : (c : tie.Else1) → Held 1 (from-1 (c .before))
-held-1 c out q = (ap (room (from-1 (c .before) .args .stride)) q ∙ passed (c .before .room .ensures) (c .if1 .left), tt)
+held-1 c out q = (ap (room (from-1 (c .before) .args .n .stride)) q ∙ passed (c .before .room .ensures) (c .if1 .left), tt)
 
 held-2 : (c : tie.Else2) → Held 2 (from-2 (c .before))
 held-2 c out q = more (testsOf (from-2 (c .before)) out) 1 (held-1 (c .before .before) out q) (passed (c .before .sized .ensures) (c .if2 .left))
@@ -53,8 +49,8 @@ held-3 c out q = more (testsOf (from-3 (c .before)) out) 2 (held-2 (c .before .b
 held-4 : (c : tie.Else4) → Held 4 (from-4 (c .before))
 held-4 c out q = more (testsOf (from-4 (c .before)) out) 3 (held-3 (c .before .before) out q) (passed (c .before .stays .ensures) (c .if4 .left))
 
-held-5 : (c : tie.Else5) → Held 5 (from-5 (c .before .before))
-held-5 c out q = more (testsOf (from-5 (c .before .before)) out) 4 (held-4 (c .before .before .before) out q) (passed (c .before .before .layout-of .ensures .fits) (c .if5 .left))
+held-5 : (c : tie.Else5) → Held 5 (from-4 (c .before .before))
+held-5 c out q = let s = from-4 (c .before .before) in more (testsOf s out) 4 (held-4 (c .before) out q) (passed (s .pre) (c .if5 .left))
 
 held-6 : (c : tie.Else6) → Held 6 (from-6 (c .before))
 held-6 c out q = more (testsOf (from-6 (c .before)) out) 5 (held-5 (c .before .before) out q) (passed (c .before .in-range .ensures) (c .if6 .left))
@@ -67,7 +63,7 @@ room-requires c κs = search needs
 returns : tie.Need-returns
 returns c out q r p =
     let s = from-1 (c .before) in
-    refuses (s .args .position) r p (given s out) 0 tt (ap (room (s .args .stride)) q ∙ failed (c .before .room .ensures) (c .if1 .taken))
+    refuses (s .args .position) r p (given s out) 0 tt (ap (room (s .args .n .stride)) q ∙ failed (c .before .room .ensures) (c .if1 .taken))
 
 sized-requires : tie.Need-sized-requires
 sized-requires c κs = search needs
@@ -93,13 +89,10 @@ returns-4 c out q r p =
     let s = from-4 (c .before) in
     refuses (s .args .position) r p (given s out) 3 (held-3 (c .before .before) out q) (failed (c .before .stays .ensures) (c .if4 .taken))
 
-layout-of-requires : tie.Need-layout-of-requires
-layout-of-requires c κs = search needs
-
 returns-5 : tie.Need-returns-5
 returns-5 c out q r p =
-    let s = from-5 (c .before .before) in
-    refuses (s .args .position) r p (given s out) 4 (held-4 (c .before .before .before) out q) (failed (c .before .before .layout-of .ensures .fits) (c .if5 .taken))
+    let s = from-4 (c .before .before) in
+    refuses (s .args .position) r p (given s out) 4 (held-4 (c .before) out q) (failed (s .pre) (c .if5 .taken))
 
 in-range-requires : tie.Need-in-range-requires
 in-range-requires c κs = search needs
@@ -136,7 +129,6 @@ refusal-spec =
     returns-3
     stays-requires
     returns-4
-    layout-of-requires
     returns-5
     in-range-requires
     returns-6

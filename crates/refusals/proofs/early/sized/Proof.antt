@@ -31,7 +31,7 @@ returns-4 c =
 -- after the four tests on counts
 counts : (c : tie.Else4) →
     let a = c .before .before .before .before .before .before .before .args in
-    (leb (a .samples) (a .stride) && leb (length (a .codes .now)) 18 && leb (a .objects) 16 && every (λ k. leb k 17) (a .codes .now)) ≡ true
+    (leb (a .n .samples) (a .n .stride) && leb (length (a .codes .now)) 18 && leb (a .n .objects) 16 && every (λ k. leb k 17) (a .codes .now)) ≡ true
 counts c =
     let l = c .before in
     let t = l .before in
@@ -65,6 +65,7 @@ sized-spec =
     returns-3
     codes-listed-requires
     returns-4
+    (λ c. search needs)
     add-channels
     pcm-bytes-requires
     returns-5
