@@ -14,3 +14,4 @@ pub mod Blocks
 pub mod Theorem
 pub mod Heard
 pub mod Players
+pub mod Marked

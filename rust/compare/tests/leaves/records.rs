@@ -2,6 +2,7 @@
 //! record by record. 2,000,000 lists: drawn ones, and drawn ones with up to three bytes changed, a
 //! record dropped, doubled or swapped, or the end cut off. The refusal of each is compared; of one
 //! in four that are laid out also every field of every record, and the order of the updates.
+//! And 119 lists with literal answers, sentence by sentence of document 01 (`records.txt`).
 
 use compare::probe::records;
 use compare::reading::{Update, read};
@@ -216,4 +217,38 @@ fn records_as_an_independent_reading_has_them() {
         answers[0], answers[5], answers[6]
     );
     assert!(answers[0] > 100_000 && answers[5] > 100_000 && answers[6] > 10_000);
+}
+
+// ---- document 01's format, sentence by sentence
+
+/// The bytes of a list in hexadecimal; `/` fills up a record of 40.
+fn bytes(text: &str) -> Vec<u8> {
+    let mut list = Vec::new();
+    for word in text.split_whitespace() {
+        if word == "/" {
+            list.resize(list.len().next_multiple_of(40), 0);
+            continue;
+        }
+        assert!(word.len().is_multiple_of(2), "{word}");
+        for at in (0..word.len()).step_by(2) {
+            list.push(u8::from_str_radix(&word[at..at + 2], 16).unwrap());
+        }
+    }
+    list
+}
+
+#[test]
+fn records_as_document_01_has_them() {
+    let lines = include_str!("records.txt").lines();
+    let mut answers = [0; 7];
+    for line in lines.filter(|line| !line.starts_with('#')) {
+        let (answer, text) = line.split_once(':').unwrap();
+        let answer = answer.parse().unwrap();
+        let list = bytes(text);
+        assert_eq!(records::refusal(&list), answer, "{line}");
+        let reading = read(&list).as_ref().map_or(5, |reading| reading.1);
+        assert_eq!(reading, answer, "the reading: {line}");
+        answers[answer as usize] += 1;
+    }
+    assert_eq!((answers[0], answers[5], answers[6]), (42, 56, 21));
 }

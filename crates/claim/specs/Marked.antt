@@ -41,15 +41,15 @@ abbrev -1·0 : Float
 
 -- ---- a row
 
-pub data Row : Type 0 where
+pub data Case : Type 0 where
   -- an object of size 0, where it is panned, and its gain: it is mixed with this coefficient on these channels, once on each, and on no other
-  panning : (place : Vec3) (gain coefficient : Float) (channels : List ℕ) → Row
+  panning : (place : Vec3) (gain coefficient : Float) (channels : List ℕ) → Case
   -- a block with this offset: whether the slot at this timecode applies it
-  block : (offset timecode : ℕ) (applies : Bool) → Row
+  block : (offset timecode : ℕ) (applies : Bool) → Case
   -- y to the power that a depth factor names
-  power : (depth : Depth) (y result : Float) → Row
+  power : (depth : Depth) (y result : Float) → Case
   -- a block of this peak, at this gain of the limiter: what each sample becomes
-  limiter : (peak gain : Float) (becomes : Float → Float) → Row
+  limiter : (peak gain : Float) (becomes : Float → Float) → Case
 
 -- ---- a block in time
 
@@ -90,16 +90,16 @@ pub record Limits (p g : Float) (f : Float → Float) : Type 0 where
   pub one : Places
   pub is : peakOf one ≡ p
 
--- ---- the proposition, and the rows
+-- ---- the proposition, and the cases
 
-abbrev pub Holds : Row → Type 0
+abbrev pub Holds : Case → Type 0
 Holds (panning p g k cs) = terms714 p g 0·0 ≡ map (λ c. term c k) cs
 Holds (block offset timecode applies) = objectAt offset timecode ≡ cond applies movedObject newSource
 Holds (power depth y r) = depthPower depth y ≡ r
 Holds (limiter p g f) = Limits p g f
 
-abbrev pub rows : List Row
-rows =
+abbrev pub cases : List Case
+cases =
     -- "(0, 0, 1): 1 on channel 2. With gain 0.25: 0.5."
     panning (vec3 0·0 0·0 1·0) 1·0 1·0 (2 ∷ []) ∷
     panning (vec3 0·0 0·0 1·0) 0·25 0·5 (2 ∷ []) ∷
