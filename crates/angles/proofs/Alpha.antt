@@ -16,8 +16,9 @@ use Rattle.ieee.proofs.Constants.{one-less}
 use Rattle.ieee.proofs.Digits.{Plus, plus-of, div-plus}
 use Rattle.rates.specs.Rates.{Listed}
 use Rattle.rates.specs.Sums.{angleOf}
-use Rattle.angles.specs.Angle.{w0, up, down, partial, sine}
+use Rattle.angles.specs.Angle.{w0, up, down, partial}
 use Rattle.angles.specs.Filter.{alphaOf}
+use Rattle.angles.specs.FiveTerms.{sine}
 use Rattle.angles.proofs.Partial.{Fraction, fraction}
 use Rattle.angles.proofs.Unique.{size-of}
 use Rattle.angles.proofs.Terms.{term-small, t₁, t₂, t₃, t₄, Falling, falling}

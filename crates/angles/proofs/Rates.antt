@@ -1,5 +1,5 @@
 -- At every rate that is accepted: what the code makes of the cut sums is the f32 meant, the sums of five terms round to it, and no other f32 is meant. Assumes nothing.
-use mathlib.Core.Path.{_≡_, refl, sym, ap, _∙_, subst}
+use mathlib.Core.Path.{_≡_, refl, sym, ap, ap₂, _∙_, subst}
 use mathlib.Core.Bool.{false}
 use Prim.Native.Nat.{ℕ, _+_, _*_, _/_, _^_, _≤_, _<_}
 use native.Mathlib.Nat.{lt-trans, lt-of-lt-of-le, mul-le-mul, pow-zero}
@@ -13,7 +13,10 @@ use Rattle.rates.specs.Rates.{Listed}
 use Rattle.rates.specs.Sums.{stepOf, angleOf, five, cosineSum, sineSum}
 use Rattle.rates.specs.Suffice as test
 use Rattle.rates.proofs.Every.{every-rate}
-use Rattle.angles.specs.Angle.{w0, up, down, cosine, sine, Meant}
+use Rattle.angles.specs.Angle.{w0, up, down, Meant}
+use Rattle.angles.specs.Filter.{coefficientsOf, LowpassAt}
+use Rattle.angles.specs.FiveTerms.{cosine, sine, coefficientsAt}
+use Rattle.angles.specs.declared.filter.Coefficients.{Coefficients}
 use Rattle.angles.proofs.Partial.{one-power}
 use Rattle.angles.proofs.Terms.{sum-less}
 use Rattle.angles.proofs.Enclosed.{Within, low, wide, low-large}
@@ -123,3 +126,10 @@ module _ {r : ℕ} (l : Listed r) where
 
   pub sine-only : {c : Float} → Meant 1 x c → c ≡ sine x
   sine-only {c} m = meant-unique 1 x c (sine x) (at-most-one l) m sine-meant
+
+  -- ---- so the low-pass's coefficients are one
+  pub lowpass-meant : LowpassAt r (coefficientsAt r)
+  lowpass-meant = record { cos = cosine x; sin = sine x; cosine = cosine-meant; sine = sine-meant; made = refl }
+
+  pub lowpass-only : {c : Coefficients} → LowpassAt r c → c ≡ coefficientsAt r
+  lowpass-only m = m .made ∙ ap₂ coefficientsOf (cosine-only (m .cosine)) (sine-only (m .sine))

@@ -4,7 +4,8 @@ use native.Mathlib.Nat.{le-trans, mul-le-mul-left}
 use native.Mathlib.Omega.{arith}
 use Rattle.ieee.specs.Units.{One}
 use Rattle.rates.specs.Rates.{Listed}
-use Rattle.angles.specs.Angle.{w0, cosine, sine}
+use Rattle.angles.specs.Angle.{w0}
+use Rattle.angles.specs.FiveTerms.{cosine, sine}
 use Rattle.angles.proofs.Made.{Made, made}
 pub use Rattle.angles.proofs.Versed.{C, v, whole}
 use Rattle.angles.proofs.Versed.{cosine-plus, v-some, v-few, v-high, v-low}

@@ -17,7 +17,8 @@ use Rattle.ieee.proofs.Closest.{rnd-closest}
 use Rattle.ieee.proofs.Digits.{Plus, plus-of, closest-most}
 use Rattle.rates.specs.Rates.{Listed}
 use Rattle.rates.specs.Sums.{angleOf}
-use Rattle.angles.specs.Angle.{w0, up, down, partial, cosine}
+use Rattle.angles.specs.Angle.{w0, up, down, partial}
+use Rattle.angles.specs.FiveTerms.{cosine}
 use Rattle.angles.proofs.Partial.{Fraction, fraction}
 use Rattle.angles.proofs.Unique.{size-of}
 use Rattle.angles.proofs.Terms.{term-small, t₁, t₂, t₃, t₄, Falling, falling}

@@ -13,8 +13,9 @@ use Rattle.words.specs.Words.{Bytes, floatAt, number, withNumber}
 use Rattle.ieee.specs.Units.{mag}
 use Rattle.ieee.specs.Small.{absolute, larger}
 use Rattle.roots.specs.Root.{root, rootUnits, floorRoot, digits}
-use Rattle.angles.specs.Angle.{down, up, partial, cosine, sine, w0}
+use Rattle.angles.specs.Angle.{down, up, partial, w0}
 use Rattle.angles.specs.Filter.{coefficientsOf}
+use Rattle.angles.specs.FiveTerms.{cosine, sine}
 use Rattle.lowpass.specs.Lowpass.{new}
 use Rattle.limiter.specs.Limiter.{lowered, blockPeak}
 use Rattle.beds.specs.Routes.{routeOf}

@@ -1,5 +1,5 @@
 -- At every rate that is accepted a new filter is calm for every bound on the samples, and stays so: so its outputs are at most twice the largest sample. Assumes nothing.
-use mathlib.Core.Path.{_≡_, refl, subst}
+use mathlib.Core.Path.{_≡_, refl, sym, ap, subst}
 use mathlib.Core.List.{List, [], _∷_, _++_}
 use Prim.Native.Nat.{ℕ, _+_, _*_, _^_, _≤_}
 use native.Mathlib.Nat.{le-trans, le-refl, le-max-left, le-max-right}
@@ -8,11 +8,14 @@ use lib.Ieee.{Float}
 use Rattle.ieee.specs.Units.{One, F32, mag}
 use Rattle.ieee.proofs.Digits.{Minus}
 use Rattle.ieee.proofs.Near.{plus-ratio, minus-ratio}
-use Rattle.angles.specs.Angle.{Listed, w0, cosine, sine}
-use Rattle.angles.specs.Filter.{coefficientsOf}
+use Rattle.angles.specs.Angle.{Listed}
+use Rattle.angles.specs.Filter.{coefficientsOf, LowpassAt}
+use Rattle.angles.specs.FiveTerms.{coefficientsAt}
+use Rattle.angles.specs.declared.filter.Coefficients.{Coefficients}
+use Rattle.angles.proofs.Rates.{lowpass-only}
 use Rattle.angles.proofs.Made.{one-24, Made}
 use Rattle.angles.proofs.Sizes.{Sized, sized, whole, coefficients-made}
-use Rattle.lowpass.specs.Lowpass.{BiquadLowpassState, new, next, filtered, afterAll}
+use Rattle.lowpass.specs.Lowpass.{BiquadLowpassState, fresh, new, next, filtered, afterAll}
 use Rattle.lowpass.specs.Bound.{Bounded, All, Range, largest, Twice}
 use Rattle.lowpass.proofs.Passing.{Passing}
 use Rattle.lowpass.proofs.Box as box
@@ -46,13 +49,18 @@ passing l w s m = record {
     even : (a u : ℕ) → a * (2 * u) ≡ 2 * a * u
     even a u = omega arith
 
-pub listed-passes : {rate : ℕ} → Listed rate → let c = coefficientsOf (cosine (w0 rate)) (sine (w0 rate)) in Passing rate (c .a1) (c .a2) (c .b0) (c .b1) (c .b2)
+pub listed-passes : {rate : ℕ} → Listed rate → let c = coefficientsAt rate in Passing rate (c .a1) (c .a2) (c .b0) (c .b1) (c .b2)
 listed-passes l = passing l (whole l) (sized l) (coefficients-made l)
 
 -- ---- a new filter
+-- its coefficients are those that document 01 means
+pub new-meant : {rate : ℕ} → Listed rate → {c : Coefficients} → LowpassAt rate c → new rate ≡ fresh c
+unfolding new
+new-meant l m = ap fresh (sym (lowpass-only l m))
+
 pub calm-listed : {rate : ℕ} → Listed rate → (X : ℕ) → Calm X (new rate)
 unfolding new
-calm-listed {rate} l X = calm-start rate X (coefficientsOf (cosine (w0 rate)) (sine (w0 rate))) (listed-passes l)
+calm-listed {rate} l X = calm-start rate X (coefficientsAt rate) (listed-passes l)
 
 -- samples of size at most X give outputs of size at most 2 X
 pub lowpass-bounded : {rate X : ℕ} → Listed rate → Range X → (xs : List Float) → All (Bounded X) xs → All (Bounded (2 * X)) (filtered (new rate) xs)

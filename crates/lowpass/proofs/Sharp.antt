@@ -5,8 +5,9 @@ use lib.Dec.{lit≤, lit<}
 use lib.Ieee.{Float, binary32, ofInt, ofBits, sub, mul, div}
 use Rattle.ieee.specs.Units.{mag}
 use Rattle.ieee.specs.Small.{absolute}
-use Rattle.angles.specs.Angle.{w0, cosine, sine}
+use Rattle.angles.specs.Angle.{w0}
 use Rattle.angles.specs.Filter.{coefficientsOf}
+use Rattle.angles.specs.FiveTerms.{cosine, sine}
 use Rattle.lowpass.specs.Lowpass.{new, afterAll}
 use Rattle.lowpass.specs.Bound.{Range, largest}
 

@@ -5,8 +5,7 @@ use mathlib.Core.Bool.{false}
 use Prim.Native.Nat.{ℕ}
 use lib.IntN.{pos}
 use lib.Ieee.{Float, fin, add, sub, mul, binary32}
-use Rattle.angles.specs.Angle.{w0, cosine, sine}
-use Rattle.angles.specs.Filter.{coefficientsOf}
+use Rattle.angles.specs.FiveTerms.{coefficientsAt}
 use Rattle.angles.specs.declared.filter.Coefficients.{Coefficients}
 pub use Rattle.lowpass.specs.declared.BiquadLowpassState.{BiquadLowpassState}
 
@@ -17,9 +16,9 @@ abbrev pub 0·0 : Float
 abbrev pub fresh : Coefficients → BiquadLowpassState
 fresh c = record { a1 = c .a1; a2 = c .a2; b0 = c .b0; b1 = c .b1; b2 = c .b2; x1 = 0·0; x2 = 0·0; y1 = 0·0; y2 = 0·0 }
 
--- Document 01, item 1: "`BiquadLowpassState::new` gives the coefficients from them", the cosine and the sine of w0
+-- Document 01, item 1: "`BiquadLowpassState::new` gives the coefficients from them", the cosine and the sine of w0: `LowpassAt` of angles/specs/Filter, by `new-meant` of proofs/Rates
 unfoldable pub new : ℕ → BiquadLowpassState
-new rate = fresh (coefficientsOf (cosine (w0 rate)) (sine (w0 rate)))
+new rate = fresh (coefficientsAt rate)
 
 -- b2 * x2 + b1 * x1 + b0 * x - a1 * y1 - a2 * y2, each operation rounded, from the left
 abbrev pub output : BiquadLowpassState → Float → Float

@@ -3,14 +3,14 @@ use angles::filter::Coefficients;
 ghost use mathlib.Core.Path.{_≡_};
 ghost use mathlib.Core.Bool.{cond};
 ghost use Rattle.rates.specs.Rates.{listed};
-ghost use Rattle.angles.specs.Angle.{cosine, sine, w0, Meant};
-ghost use Rattle.angles.specs.Filter.{coefficientsOf};
+ghost use Rattle.angles.specs.Angle.{w0, Meant};
+ghost use Rattle.angles.specs.Filter.{LowpassAt};
 ghost use Rattle.probes.specs.Taken.{zeroCoefficients, zeroTurn};
 
 // At a rate that is not listed, zeros.
 #[no_mangle]
 pub extern "C" fn probe_coefficients(rate: u32) -> Coefficients
-    ensures { λ r. ⌜ r ≡ cond (listed rate) (coefficientsOf (cosine (w0 rate)) (sine (w0 rate))) zeroCoefficients ⌝ }
+    ensures { λ r. ⌜ cond (listed rate) (LowpassAt rate r) (r ≡ zeroCoefficients) ⌝ }
 {
     match rate {
         8000..=192000 => angles::coefficients(rate),

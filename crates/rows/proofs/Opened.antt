@@ -6,6 +6,7 @@ use Rattle.ieee.specs.Small as small
 use Rattle.roots.specs.Root as roots
 use Rattle.angles.specs.Angle as angle
 use Rattle.angles.specs.Filter as filter
+use Rattle.angles.specs.FiveTerms as terms-of-angle
 use Rattle.vectors.specs.Vectors as vectors
 use Rattle.vectors.specs.Anchors as anchors
 use Rattle.vectors.specs.Target as target
@@ -55,7 +56,7 @@ unfoldable pub sound : Unit {0}
 unfolding
     routes.routeOf positions.positions positions.bedPosition terms.bedAdds matching.firstOf matching.matching
     choice.corner panning.panned panning.audible panning.paired panning.onChannel speakers.hall714
-    angle.cosine angle.sine angle.w0 filter.coefficientsOf lowpass.new limiter.lowered limiter.grown limiter.blockPeak
+    terms-of-angle.cosine terms-of-angle.sine angle.w0 filter.coefficientsOf lowpass.new limiter.lowered limiter.grown limiter.blockPeak
     mix.objectTerms mix.heard samples.pushed samples.flushed rules.written
 sound = tt
 
