@@ -1,7 +1,8 @@
 -- A slot keeps the ranges of the state. Assumes nothing.
 use Prim.Native.Nat.{ℕ, _≤_, _<_}
 use lib.Dec.{eqb}
-use Rattle.timed.specs.Slot.{InRange, active, updatedSources}
+use Rattle.timed.specs.Rules.{active}
+use Rattle.timed.specs.Slot.{InRange, updatedSources}
 use Rattle.timed.specs.State.{Timed, Within, noElement, elementOf, taken, timingOf, reachOf, slotOf, slotAt}
 use Rattle.timed.specs.declared.state.MetadataRendererState.{MetadataRendererState}
 use Rattle.timed.specs.declared.slot.Timing.{Timing}

@@ -1,14 +1,16 @@
 -- A slot keeps the ranges of an element's offsets, ramps and remaining ramp. Assumes nothing.
 use Prim.Native.Nat.{ℕ, _+_, _-_, _*_, _≤_, _<_}
-use mathlib.Core.Path.{_≡_, sym, subst}
+use mathlib.Core.Path.{_≡_, sym, _∙_, subst}
 use mathlib.Core.Bool.{Bool, true, false, cond}
 use mathlib.Core.List.{List}
 use lib.Dec.{T, ltb, leb}
 use lib.ListN.{getD}
 use native.Mathlib.Omega.{arith}
 use borrow.Author.Tests.{ltb-true, leb-false}
+use Rattle.timed.proofs.Shifted.{due-shifted, left-shifted, over-shifted, less-shifted}
 use Rattle.timed.proofs.Keeps.{times-in, cond-keeps, set-each}
-use Rattle.timed.specs.Slot.{Ramps, InRange, Work, middle, noBlock, due, blockApplied, blockAt, blocksApplied, rampApplied, updatedSources}
+use Rattle.timed.specs.Rules.{middle, noBlock, due, leftAfter, remainingOf, over}
+use Rattle.timed.specs.Slot.{Ramps, InRange, Work, blockApplied, blockAt, blocksApplied, rampApplied, updatedSources}
 use Rattle.timed.specs.declared.state.BlockState.{BlockState}
 use Rattle.timed.specs.declared.state.Track.{Track}
 use Rattle.timed.specs.declared.state.DynamicSourceState.{DynamicSourceState}
@@ -40,12 +42,12 @@ module _ (p : ℕ) (w : Timing) (r : Reach) (early : w .start ≤ p) where
   applied-ramps b k l d h =
       let x = getD (k .slot .schedule) b noBlock in
       let y : BlockState = record { offset = x .offset; ramp = x .ramp; used = true } in
-      let t = ltb-true (w .payload + x .offset) (w .start + 1048576) (both (x .used) (ltb (w .payload + x .offset) (w .start + 1048576)) d) in
+      let t = ltb-true (w .payload + x .offset) (w .start + 1048576) (both (x .used) (ltb (w .payload + x .offset) (w .start + 1048576)) (sym (due-shifted w x) ∙ d)) in
       record {
         offsets = set-each (λ i z. i < 8 → z .offset ≤ 2097152) (k .slot .schedule) b y noBlock (h .offsets b) (h .offsets);
         ramps = set-each (λ i z. i < 8 → z .ramp ≤ 2097152) (k .slot .schedule) b y noBlock (h .ramps b) (h .ramps);
-        most = most (x .ramp) (x .offset) (w .payload) (w .start) (h .ramps b l) t;
-        least = least p (x .ramp) (x .offset) (w .payload) (w .start) early;
+        most = rw (left-shifted w x) (most (x .ramp) (x .offset) (w .payload) (w .start) (h .ramps b l) t);
+        least = rw (left-shifted w x) (least p (x .ramp) (x .offset) (w .payload) (w .start) early);
       }
 
   pub blocks-ramps : (n : ℕ) (k : Work) → n ≤ 8 → InSlot p k → InSlot p (blocksApplied w r n k)
@@ -60,8 +62,10 @@ module _ (p : ℕ) (w : Timing) (r : Reach) (early : w .start ≤ p) where
 pub ramp-ramps : (p : ℕ) (before : List Track) (n : ℕ) (s : Slot) → Ramps p (s .schedule) (s .remaining) → Ramps p (rampApplied before n s .schedule) (rampApplied before n s .remaining)
 unfolding rampApplied
 ramp-ramps p before n s h =
-    cond-keeps (λ (x : Slot). Ramps p (x .schedule) (x .remaining)) (leb (s .remaining) middle) s _ (λ _. h)
-    (λ e. let g = leb-false (s .remaining) middle e in record { offsets = h .offsets; ramps = h .ramps; most = omega (arith, h .most); least = omega (arith, g) })
+    cond-keeps (λ (x : Slot). Ramps p (x .schedule) (x .remaining)) (over (remainingOf (s .remaining))) s _ (λ _. h)
+    (λ e.
+    let g = leb-false (s .remaining) middle (sym (over-shifted (s .remaining)) ∙ e) in
+    record { offsets = h .offsets; ramps = h .ramps; most = rw (less-shifted (s .remaining)) (omega (arith, h .most)); least = rw (less-shifted (s .remaining)) (omega (arith, g)) })
 
 -- ---- the element
 

@@ -7,7 +7,8 @@ use lib.ListN.{getD}
 use native.Mathlib.Omega.{arith}
 use borrow.Author.Tests.{eq-eqb, ne-eqb}
 use Rattle.timed.proofs.Keeps.{cond-keeps}
-use Rattle.timed.specs.Slot.{begins, active, updatedSources, IsUpdated}
+use Rattle.timed.specs.Rules.{begins, active}
+use Rattle.timed.specs.Slot.{updatedSources, IsUpdated}
 use Rattle.timed.specs.State.{Timed, noElement, taken, elementOf, timingOf, slotLeft, slotOf, slotAt, IsTimed}
 use Rattle.timed.specs.declared.state.ElementRendererState.{ElementRendererState}
 use Rattle.timed.specs.declared.state.MetadataRendererState.{MetadataRendererState}

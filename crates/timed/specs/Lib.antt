@@ -1,5 +1,7 @@
 pub mod Turns
 pub mod Infos
 pub mod Objects
+pub mod Rules
+pub mod Shifted
 pub mod Slot
 pub mod State

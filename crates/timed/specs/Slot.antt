@@ -1,16 +1,13 @@
--- A slot of an element: `update_sources`. Offsets and ramps are kept plus 2 ^ 20, a remaining ramp plus 2 ^ 47, so that none is below 0; the timecode is the slot's start less
--- the last applied update's stream position. Assumes nothing.
+-- A slot of an element: `update_sources`, by the rules of specs/Rules. Assumes nothing.
 use Prim.Native.Nat.{ℕ, _+_, _-_, _*_, _≤_, _<_}
 use mathlib.Core.Path.{_≡_}
 use mathlib.Core.Bool.{Bool, true, false, cond}
 use mathlib.Core.List.{List}
-use lib.Dec.{eqb, leb, ltb}
-use lib.IntN.{pos}
 use lib.ListN.{getD, set}
-use lib.Ieee.{Float, binary32, ofBits, ofInt, div}
-use Rattle.ieee.specs.Small.{smaller}
-use Rattle.vectors.specs.Vectors.{1·0}
+use lib.Ieee.{Float}
 use Rattle.timed.specs.Turns.{times}
+pub use Rattle.timed.specs.Rules.{middle, noBlock}
+use Rattle.timed.specs.Rules.{remainingOf, keptAs, due, leftAfter, over, share, slotLess}
 use Rattle.timed.specs.Objects.{movedAll, bedGains, rampedAll}
 use Rattle.timed.specs.declared.state.BlockState.{BlockState}
 use Rattle.timed.specs.declared.state.Track.{Track}
@@ -20,10 +17,6 @@ use Rattle.timed.specs.declared.slot.Timing.{Timing}
 use Rattle.timed.specs.declared.slot.Reach.{Reach}
 use Rattle.timed.specs.declared.slot.Slot.{Slot}
 use Rattle.timed.specs.declared.slot.Updated.{Updated}
-
--- the remaining ramp 0: 2 ^ 47
-abbrev pub middle : ℕ
-middle = 140737488355328
 
 -- "Stream positions lie from 0 to 2^40"
 pub record InTime (w : Timing) : Type 0 where
@@ -39,10 +32,6 @@ pub record Reaches (r : Reach) : Type 0 where
   pub near : r .beds ≤ 4096
   pub low : r .first ≤ 4096
 
--- what stands past a table's end
-abbrev pub noBlock : BlockState
-noBlock = record { offset = 0; ramp = 0; used = false }
-
 -- "an offset or ramp outside ±1,048,576" is refused; "a remaining ramp from -2^21 - 64 × the stream's position to 2^20"
 pub record Ramps (position : ℕ) (schedule : List BlockState) (remaining : ℕ) : Type 0 where
   pub offsets : (b : ℕ) → b < 8 → getD schedule b noBlock .offset ≤ 2097152
@@ -56,14 +45,6 @@ pub record InRange (position : ℕ) (e : ElementRendererState) : Type 0 where
   pub ramps : Ramps position (e .schedule) (e .remaining)
 
 -- ---- blocks
-
--- "A block is applied when the timecode is greater than its offset. That happens once per update."
-abbrev pub due : Timing → BlockState → Bool
-due w b = cond (b .used) false (ltb (w .payload + b .offset) (w .start + 1048576))
-
--- ramp - (timecode - offset)
-abbrev pub leftAfter : Timing → BlockState → ℕ
-leftAfter w b = middle + b .ramp + b .offset + w .payload - (w .start + 2097152)
 
 -- a slot in work, and the infos
 pub record Work : Type 0 where
@@ -81,11 +62,11 @@ blockApplied w r b k =
     let s = k .slot in
     let block = getD (s .schedule) b noBlock in
     let left = leftAfter w block in
-    let m = movedAll (leb left middle) (r .first + b) (r .count) (record { sources = s .sources; tracks = s .tracks }) (k .infos) in
+    let m = movedAll (over left) (r .first + b) (r .count) (record { sources = s .sources; tracks = s .tracks }) (k .infos) in
     record {
       slot = record {
         schedule = set (s .schedule) b (record { offset = block .offset; ramp = block .ramp; used = true });
-        remaining = left;
+        remaining = keptAs left;
         gains = bedGains (k .infos) (r .beds + b) (r .channels) (s .gains);
         sources = m .moving .sources;
         tracks = m .moving .tracks;
@@ -103,36 +84,20 @@ blocksApplied w r n k = times n 0 (blockAt w r) k
 
 -- ---- the ramp
 
-abbrev pub 64·0 : Float
-64·0 = ofBits binary32 0x42800000
-
--- "A ramp moves by 64 / remaining, at most 1"
-unfoldable pub share : ℕ → Float
-share remaining = smaller (div binary32 64·0 (ofInt binary32 (pos (remaining - middle)))) 1·0
-
 -- where a ramp remains, each object moves by its share, and 64 samples of the ramp are over; `before` has the flags of the element's previous slot
 unfoldable pub rampApplied : List Track → ℕ → Slot → Slot
-unfolding rampedAll share
+unfolding rampedAll
 rampApplied before n s =
-    cond (leb (s .remaining) middle) s
+    cond (over (remainingOf (s .remaining))) s
     (record {
       schedule = s .schedule;
-      remaining = s .remaining - 64;
+      remaining = keptAs (slotLess (remainingOf (s .remaining)));
       gains = s .gains;
-      sources = rampedAll (share (s .remaining)) before n (record { sources = s .sources; tracks = s .tracks }) .sources;
+      sources = rampedAll (share (remainingOf (s .remaining))) before n (record { sources = s .sources; tracks = s .tracks }) .sources;
       tracks = s .tracks;
     })
 
 -- ---- the element
-
--- "An element with no blocks, or a first offset below 0, does nothing."
-unfoldable pub active : ElementRendererState → Bool
-active e = cond (eqb (e .blocks) 0) false (leb 1048576 (getD (e .schedule) 0 noBlock .offset))
-
--- its "first block offset is from 0 up to the timecode"
-unfoldable pub begins : Timing → ElementRendererState → Bool
-unfolding active
-begins w e = cond (active e) (leb (w .payload + getD (e .schedule) 0 noBlock .offset) (w .start + 1048576)) false
 
 -- the element with the beds and objects that it moves, and the infos
 pub record Sourced : Type 0 where
@@ -144,7 +109,7 @@ pub record IsUpdated (a : Sourced) (u : Updated) (is : List ℕ) : Type 0 where
   pub infos : is ≡ a .infos
 
 unfoldable pub updatedSources : Timing → Reach → ElementRendererState → List Float → List DynamicSourceState → List ℕ → Sourced
-unfolding blocksApplied rampApplied
+unfolding due leftAfter remainingOf keptAs share blocksApplied rampApplied
 updatedSources w r e gains sources is =
     let k = blocksApplied w r (e .blocks) (record { slot = record { schedule = e .schedule; remaining = e .remaining; gains = gains; sources = sources; tracks = e .tracks }; infos = is }) in
     let s = rampApplied (e .tracks) (r .count) (k .slot) in

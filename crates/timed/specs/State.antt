@@ -5,7 +5,8 @@ use mathlib.Core.Bool.{cond}
 use mathlib.Core.List.{List, []}
 use lib.Dec.{eqb}
 use lib.ListN.{getD, set}
-use Rattle.timed.specs.Slot.{Sourced, InRange, active, begins, updatedSources}
+use Rattle.timed.specs.Rules.{active, begins}
+use Rattle.timed.specs.Slot.{Sourced, InRange, updatedSources}
 use Rattle.timed.specs.declared.state.ElementRendererState.{ElementRendererState}
 use Rattle.timed.specs.declared.state.MetadataRendererState.{MetadataRendererState}
 use Rattle.timed.specs.declared.slot.Timing.{Timing}

@@ -5,7 +5,8 @@
 ghost use mathlib.Core.Path.{_≡_};
 ghost use Prim.Native.Nat.{ℕ, _+_, _-_, _*_, _<_, _≤_};
 ghost use lib.ListN.{length};
-ghost use Rattle.timed.specs.Slot.{InTime, InRange, due, leftAfter, share, Reaches, IsWork, blockApplied, blocksApplied, rampApplied, begins, active, updatedSources, IsUpdated};
+ghost use Rattle.timed.specs.Rules.{remainingOf, keptAs, due, leftAfter, share, active, begins};
+ghost use Rattle.timed.specs.Slot.{InTime, InRange, Reaches, IsWork, blockApplied, blocksApplied, rampApplied, updatedSources, IsUpdated};
 use crate::objects;
 use crate::objects::Moving;
 use crate::state::BlockState;
@@ -42,7 +43,7 @@ impl BlockState {
     // The ramp that remains after the block, plus 2^47.
     fn left(self, when: Timing) -> u64
         requires { ⌜ InTime when ⌝ }
-        ensures { λ r. ⌜ r ≡ leftAfter when self ⌝ }
+        ensures { λ r. ⌜ r ≡ keptAs (leftAfter when self) ⌝ }
     {
         140737488355328 + self.ramp as u64 + self.offset as u64 + when.payload
             - (when.start + 2097152)
@@ -52,7 +53,7 @@ impl BlockState {
 // The share of a ramp that one slot takes.
 fn share(remaining: u64) -> f32
     requires { ⌜ (140737488355328 ≤ remaining) × (remaining ≤ 140737489403904) ⌝ }
-    ensures { λ r. ⌜ r ≡ share remaining ⌝ }
+    ensures { λ r. ⌜ r ≡ share (remainingOf remaining) ⌝ }
 {
     ieee::min(64.0 / ((remaining - 140737488355328) as f32), 1.0)
 }

@@ -6,7 +6,8 @@ use lib.ListN.{getD}
 use native.Mathlib.Omega.{arith}
 use Rattle.fields.specs.Update.{objects}
 use Rattle.records.specs.Laid.{elementAt}
-use Rattle.timed.specs.Slot.{InRange, middle, noBlock}
+use Rattle.timed.specs.Rules.{middle, noBlock}
+use Rattle.timed.specs.Slot.{InRange}
 use Rattle.timed.specs.State.{Timed, Within, noElement}
 use Rattle.timed.specs.declared.state.BlockState.{BlockState}
 use Rattle.timed.specs.declared.state.ElementRendererState.{ElementRendererState}

@@ -16,7 +16,7 @@ use Rattle.words.proofs.Numbers.{length-kept}
 use Rattle.vectors.specs.Vectors.{zeroVec3}
 use Rattle.fields.specs.declared.object.Info.{Info}
 use Rattle.timed.specs.Infos.{infoOf, flagOf, vecAt}
-use Rattle.timed.specs.Slot.{noBlock}
+use Rattle.timed.specs.Rules.{noBlock}
 use Rattle.timed.specs.Turns.{times}
 use Rattle.timed.specs.State.{Timed, elementOf}
 use Rattle.timed.specs.declared.state.BlockState.{BlockState}

@@ -8,7 +8,7 @@ use lib.ListN.{getD, set, replicate}
 use lib.Ieee.{Float, binary32, ofBits}
 use Rattle.vectors.specs.Vectors.{0·0, zeroVec3}
 use Rattle.timed.specs.Turns.{times}
-use Rattle.timed.specs.Slot.{middle}
+use Rattle.timed.specs.Rules.{middle}
 use Rattle.timed.specs.State.{Timed, noElement}
 use Rattle.timed.specs.declared.state.BlockState.{BlockState}
 use Rattle.timed.specs.declared.state.Track.{Track}

@@ -5,7 +5,7 @@ use mathlib.Core.Bool.{false}
 use lib.ListN.{length, getD, replicate}
 use Rattle.vectors.specs.Vectors.{zeroVec3}
 use Rattle.timed.specs.Infos.{infoOf, flagOf, vecAt}
-use Rattle.timed.specs.Slot.{middle, noBlock}
+use Rattle.timed.specs.Rules.{middle, noBlock}
 use Rattle.timed.specs.State.{Timed, elementOf}
 use Rattle.updates.specs.Said.{Update}
 use Rattle.updates.specs.Applied.{newTrack}

@@ -2,7 +2,8 @@
 use native.Mathlib.Omega.{arith}
 use borrow.Author.Needs.{needs}
 use Rattle.ieee.proofs.Constants.{in-float}
-use Rattle.timed.specs.Slot.{share}
+use Rattle.timed.specs.Rules.{share}
+use Rattle.timed.proofs.Shifted.{remaining-shifted}
 use Rattle.timed.proofs.slot.share.Statement.{statement}
 use Rattle.timed.proofs.slot.share.Tie as tie
 
@@ -17,7 +18,7 @@ min-requires c κs = search needs
 
 returns : tie.Need-returns
 unfolding share
-returns c = c .min .ensures
+returns c = rw (remaining-shifted (c .before .before .args .remaining) (c .before .before .pre .0)) (c .min .ensures)
 
 pub share-spec : {M : Type 1} → statement M
 share-spec = tie.close (tie.spec sub-min int-to-float-min min-requires returns)

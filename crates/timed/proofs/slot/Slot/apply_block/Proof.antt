@@ -2,6 +2,7 @@
 use native.Mathlib.Omega.{arith}
 use borrow.Author.Needs.{needs}
 use Rattle.timed.specs.Slot.{blockApplied}
+use Rattle.timed.proofs.Shifted.{left-shifted, left-over}
 use Rattle.timed.proofs.slot.Slot.apply_block.Statement.{statement}
 use Rattle.timed.proofs.slot.Slot.apply_block.Tie as tie
 
@@ -38,10 +39,10 @@ same-length c = search needs
 returns : tie.Need-returns
 unfolding blockApplied
 returns c =
-    record {
-      slot = rw (c .before .before .before .before .apply-block .ensures .objects, c .before .before .before .before .before .before .before .before .before .bed-gains .ensures, c .before .before .before .before .before .before .before .before .before .before .before .before .before .left .ensures);
-      infos = rw (c .before .before .before .before .apply-block .ensures .infos, c .before .before .before .before .before .before .before .before .before .before .before .before .before .left .ensures);
-    }
+    let m = c .before .before .before .before .apply-block in
+    let g = c .before .before .before .before .before .before .before .before .before .bed-gains in
+    let l = c .before .before .before .before .before .before .before .before .before .before .before .before .before .left in
+    record { slot = rw (m .ensures .objects, g .ensures, l .ensures, left-over, left-shifted); infos = rw (m .ensures .infos, l .ensures, left-over, left-shifted) }
 
 pub apply-block-spec : {M : Type 1} → statement M
 apply-block-spec =

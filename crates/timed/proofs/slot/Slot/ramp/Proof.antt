@@ -2,12 +2,13 @@
 use borrow.Author.Tests.{le-leb, lt-leb}
 use borrow.Author.Needs.{needs}
 use Rattle.timed.specs.Slot.{rampApplied}
+use Rattle.timed.proofs.Shifted.{over-shifted, less-shifted}
 use Rattle.timed.proofs.slot.Slot.ramp.Statement.{statement}
 use Rattle.timed.proofs.slot.Slot.ramp.Tie as tie
 
 returns : tie.Need-returns
 unfolding rampApplied
-returns c = rw (le-leb (c .before .args .self .remaining) 140737488355328 (c .if1 .taken))
+returns c = let n = c .before .args .self .remaining in rw (over-shifted n, le-leb n 140737488355328 (c .if1 .taken))
 
 share-requires : tie.Need-share-requires
 share-requires c κs = search needs
@@ -20,7 +21,9 @@ sub-t14 c = search needs
 
 returns-2 : tie.Need-returns-2
 unfolding rampApplied
-returns-2 c = rw (lt-leb (c .before .before .before .before .before .before .before .before .args .self .remaining) 140737488355328 (c .before .before .before .before .before .before .before .if1 .left), c .before .before .before .ramp .ensures, c .before .before .before .before .share .ensures)
+returns-2 c =
+    let n = c .before .before .before .before .before .before .before .before .args .self .remaining in
+    rw (over-shifted n, less-shifted n, lt-leb n 140737488355328 (c .before .before .before .before .before .before .before .if1 .left), c .before .before .before .ramp .ensures, c .before .before .before .before .share .ensures)
 
 pub ramp-spec : {M : Type 1} → statement M
 ramp-spec = tie.close (tie.spec returns share-requires ramp-requires sub-t14 returns-2)

@@ -1,6 +1,6 @@
 -- `timed::state::ElementRendererState::begins`: an element that does nothing does not begin. Assumes nothing.
 use borrow.Author.Needs.{needs}
-use Rattle.timed.specs.Slot.{begins}
+use Rattle.timed.proofs.Shifted.{active-shifted, begins-shifted}
 use Rattle.timed.proofs.state.ElementRendererState.begins.Statement.{statement}
 use Rattle.timed.proofs.state.ElementRendererState.begins.Tie as tie
 
@@ -20,12 +20,14 @@ add-result-2 : tie.Need-add-result-2
 add-result-2 c = search needs
 
 returns : tie.Need-returns
-unfolding begins
-returns c = rw (← c .before .before .before .before .before .before .active .ensures, c .before .before .before .before .before .if1 .taken)
+returns c =
+    let a = c .before .before .before .before .before .before in
+    rw (begins-shifted (a .before .args .self) (a .before .args .when), ← active-shifted (a .before .args .self), ← a .active .ensures, c .before .before .before .before .before .if1 .taken)
 
 returns-2 : tie.Need-returns-2
-unfolding begins
-returns-2 c = rw (← c .before .active .ensures, c .if1 .left)
+returns-2 c =
+    let a = c .before in
+    rw (begins-shifted (a .before .args .self) (a .before .args .when), ← active-shifted (a .before .args .self), ← a .active .ensures, c .if1 .left)
 
 pub begins-spec : {M : Type 1} → statement M
 begins-spec =
