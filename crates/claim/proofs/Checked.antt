@@ -27,7 +27,6 @@ use Rattle.records.specs.Laid.{laidOut, count, updateAt, elementAt, objectAt}
 use Rattle.records.specs.Ranges.{inRange}
 use Rattle.records.proofs.Reached.{whole-records, update-whole, update-is, element-whole, object-is}
 use Rattle.records.proofs.Meant.{all-within}
-use Rattle.timed.specs.Infos.{flagOf}
 use Rattle.updates.specs.Stored.{headOf}
 use Rattle.updates.specs.Whole.{WholeUpdate}
 use Rattle.updates.proofs.Passed.{passes}
@@ -58,7 +57,7 @@ checked meta b l f = each-all Checked (sentAt meta) (count meta) (λ i h. record
 -- ---- what is said of an info: its head, gain and size
 
 abbrev pub valueIn : ℕ → ℕ → ℕ → Maybe
-valueIn head bit w = cond (flagOf head bit) (Value (ofBits binary32 w)) Absent
+valueIn head bit w = cond (has head bit) (Value (ofBits binary32 w)) Absent
 
 abbrev pub SoundSaid : Said
 SoundSaid h g z = UpTo 8·0 (valueIn h 4 g) × UpTo 1·0 (valueIn h 32 z)

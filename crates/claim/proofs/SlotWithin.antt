@@ -12,7 +12,8 @@ use Rattle.words.specs.Words.{word, floatAt}
 use Rattle.vectors.specs.declared.Vec3.{Vec3}
 use Rattle.vectors.specs.declared.Maybe.the-variants.{Absent, Value}
 use Rattle.vectors.specs.Fit.{VecFits}
-use Rattle.timed.specs.Infos.{flagOf, headAt, maybeAt}
+use Rattle.vectors.specs.Head.{has}
+use Rattle.timed.specs.Infos.{headAt, maybeAt}
 use Rattle.timed.specs.Objects.{noSource, noTrack}
 use Rattle.timed.specs.Slot.{InRange}
 use Rattle.timed.specs.State.{Timed, elementOf, slotAt}
@@ -41,7 +42,7 @@ either-holds P false x h = tt
 -- whatever bytes say is an f32
 single-at : (is : List ℕ) (k bit at : ℕ) → Holds Single (maybeAt is k bit at)
 unfolding maybeAt floatAt
-single-at is k bit at = either-holds Single (flagOf (headAt is k) bit) (floatAt is (44 * k + at)) (ofBits-fits binary32 (word is (44 * k + at)))
+single-at is k bit at = either-holds Single (has (headAt is k) bit) (floatAt is (44 * k + at)) (ofBits-fits binary32 (word is (44 * k + at)))
 
 infos-single : (is : List ℕ) → InfosHave Single Single is
 infos-single is = record { gain = λ k. single-at is k 4 4; size = λ k. single-at is k 32 8 }

@@ -1,24 +1,17 @@
 -- An info says all that its object's record says. Assumes nothing.
-use Prim.Native.Nat.{ℕ, _+_, _*_, _/_, _%_, _≤_}
-use mathlib.Core.Path.{_≡_}
+use Prim.Native.Nat.{ℕ, _+_, _*_, _≤_}
+use mathlib.Core.Path.{_≡_, ap, _∙_}
 use mathlib.Core.Bool.{true, _&&_}
 use mathlib.Core.List.{List}
 use native.Mathlib.Omega.{arith}
 use lib.Dec.{eqb, leb}
 use borrow.Author.Tests.{leb-true}
 use Rattle.words.specs.Words.{floatAt}
+use Rattle.vectors.specs.Head.{Head}
+use Rattle.vectors.proofs.Heads.{head-reads-back}
 use Rattle.fields.specs.Bytes.{byte, kind}
-use Rattle.fields.specs.Object.{isObject, maybeOf, positionOf, depthOf, objectOf, infoOf, objectFrom, objectOfInfo}
+use Rattle.fields.specs.Object.{isObject, maybeOf, positionOf, headAt, objectOf, infoOf, objectFrom, objectOfInfo}
 use Rattle.fields.proofs.All.{and-left, and-right}
-
--- the three parts of a head
-record Head (f a d h : ℕ) : Type 0 where
-  flags : h % 256 ≡ f
-  anchor : h / 256 % 256 ≡ a
-  depth : h / 65536 ≡ d
-
-head : (f a d : ℕ) → f ≤ 63 → a ≤ 2 → Head f a d (f + a * 256 + d * 65536)
-head f a d x y = record { flags = omega arith; anchor = omega arith; depth = omega arith }
 
 module _ (m : List ℕ) (r : ℕ) (object : isObject m r ≡ true) where
   flags-few : byte m r 2 ≤ 63
@@ -29,7 +22,7 @@ module _ (m : List ℕ) (r : ℕ) (object : isObject m r ≡ true) where
   unfolding isObject
   anchor-listed = leb-true _ _ (and-right (eqb (kind m r) 4) _ (and-left _ _ (and-left _ _ (and-left _ _ (and-left _ _ object)))))
 
-  plain : objectFrom (byte m r 2) (byte m r 1) (depthOf (floatAt m (40 * r + 32))) (infoOf m r) ≡ objectOf m r
+  plain : objectFrom (headAt m r) (infoOf m r) ≡ objectOf m r
   unfolding floatAt maybeOf positionOf
   plain =
       let y : 40 * r + 8 + 4 ≡ 40 * r + 12 = omega arith in
@@ -37,6 +30,4 @@ module _ (m : List ℕ) (r : ℕ) (object : isObject m r ≡ true) where
       rw (y, z)
 
   pub info-says-all : objectOfInfo (infoOf m r) ≡ objectOf m r
-  info-says-all =
-      let h = head (byte m r 2) (byte m r 1) (depthOf (floatAt m (40 * r + 32))) flags-few anchor-listed in
-      rw (h .flags, h .anchor, h .depth) plain
+  info-says-all = ap (λ (h : Head). objectFrom h (infoOf m r)) (head-reads-back (headAt m r) (omega (arith, flags-few)) (omega (arith, anchor-listed))) ∙ plain

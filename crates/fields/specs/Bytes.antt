@@ -1,10 +1,11 @@
 -- Document 01, "What a call receives": "Metadata is records of 40 bytes, no header, little-endian; byte 0 is the kind, unnamed bytes are zero."
 -- Assumes nothing.
-use Prim.Native.Nat.{ℕ, zero, suc, _+_, _*_, _/_, _%_}
+use Prim.Native.Nat.{ℕ, zero, suc, _+_, _*_}
 use mathlib.Core.Bool.{Bool, true, _&&_}
 use mathlib.Core.List.{List}
 use lib.Dec.{eqb}
 use lib.ListN.{getD}
+pub use Rattle.vectors.specs.Head.{has}
 
 -- p holds of each number below n
 unfoldable pub all : (ℕ → Bool) → ℕ → Bool
@@ -21,7 +22,3 @@ kind m r = getD m (40 * r) 0
 -- the n bytes from `at` on are zero
 abbrev pub zeros : List ℕ → ℕ → ℕ → Bool
 zeros m at n = all (λ k. eqb (getD m (at + k) 0) 0) n
-
--- the flag that stands for `bit` in a byte of flags
-abbrev pub has : ℕ → ℕ → Bool
-has flags bit = eqb (flags / bit % 2) 1

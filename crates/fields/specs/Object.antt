@@ -1,6 +1,6 @@
 -- "4, object in a block: 1 anchor (0 room, 1 screen, 2 speaker); 2 flags (1 position valid, 2 differential, 4 gain, 8 position, 16 distance, 32 size
 -- present); f32 at 4 gain, 8, 12, 16 position, 20 distance, 24 size, 28 screen factor, 32 depth factor. An absent value is zero." Assumes nothing.
-use Prim.Native.Nat.{ℕ, _+_, _*_, _/_, _%_}
+use Prim.Native.Nat.{ℕ, _+_, _*_}
 use mathlib.Core.Bool.{Bool, true, false, _&&_, _||_, cond}
 use mathlib.Core.List.{List}
 use lib.Dec.{eqb, leb, ltb}
@@ -9,8 +9,7 @@ use lib.IntN.{pos, negsuc}
 use Rattle.words.specs.Words.{word, floatAt}
 use Rattle.vectors.specs.declared.Maybe.{Maybe}
 use Rattle.vectors.specs.declared.Maybe.the-variants.{Absent, Value}
-use Rattle.vectors.specs.declared.Anchor.{Anchor}
-use Rattle.vectors.specs.declared.Anchor.the-variants.{Room, Screen, Speaker}
+use Rattle.vectors.specs.Head.{Head, headWord, headIn, anchorOf}
 use Rattle.fields.specs.Bytes.{byte, kind, zeros, has}
 use Rattle.fields.specs.declared.object.Position.{Position}
 use Rattle.fields.specs.declared.object.Position.the-variants.{Same, At}
@@ -34,9 +33,6 @@ isObject m r =
     eqb (kind m r) 4 && leb (byte m r 1) 2 && leb (byte m r 2) 63 && eqb (byte m r 3) 0 && valuesFit m (40 * r) (byte m r 2) && zeros m (40 * r + 36) 4
 
 -- ---- its meaning
-
-abbrev pub anchorOf : ℕ → Anchor
-anchorOf n = cond (eqb n 0) Room (cond (eqb n 1) Screen Speaker)
 
 -- the value at a place that is present with `bit`
 unfoldable pub maybeOf : List ℕ → ℕ → ℕ → ℕ → Maybe
@@ -67,11 +63,14 @@ objectOf m r =
       depth = depthOf (floatAt m (40 * r + 32));
     }
 
--- the same as the state block keeps it: head (flags + 256 anchor + 65,536 depth) and the bits of each f32
+abbrev pub headAt : List ℕ → ℕ → Head
+headAt m r = record { flags = byte m r 2; anchor = byte m r 1; depth = depthOf (floatAt m (40 * r + 32)) }
+
+-- the same as the state block keeps it: the word of the head and the bits of each f32
 abbrev pub infoOf : List ℕ → ℕ → Info
 infoOf m r =
     record {
-      head = byte m r 2 + byte m r 1 * 256 + depthOf (floatAt m (40 * r + 32)) * 65536;
+      head = headWord (headAt m r);
       gain = word m (40 * r + 4);
       size = word m (40 * r + 24);
       distance = word m (40 * r + 20);
@@ -81,26 +80,26 @@ infoOf m r =
       z = word m (40 * r + 16);
     }
 
--- the object of an info, by its flags, its anchor and its depth
+-- the object of an info, by its head
 abbrev pub valueOf : ℕ → ℕ → ℕ → Maybe
 valueOf flags bit n = cond (has flags bit) (Value (ofBits binary32 n)) Absent
 
-abbrev pub objectFrom : ℕ → ℕ → ℕ → Info → Object
-objectFrom flags anchor depth i =
+abbrev pub objectFrom : Head → Info → Object
+objectFrom h i =
     record {
-      anchor = anchorOf anchor;
-      valid = has flags 1;
-      differential = has flags 2;
-      gain = valueOf flags 4 (i .gain);
-      position = cond (has flags 8) (At (record { x = ofBits binary32 (i .x); y = ofBits binary32 (i .y); z = ofBits binary32 (i .z) })) Same;
-      distance = valueOf flags 16 (i .distance);
-      size = valueOf flags 32 (i .size);
+      anchor = anchorOf (h .anchor);
+      valid = has (h .flags) 1;
+      differential = has (h .flags) 2;
+      gain = valueOf (h .flags) 4 (i .gain);
+      position = cond (has (h .flags) 8) (At (record { x = ofBits binary32 (i .x); y = ofBits binary32 (i .y); z = ofBits binary32 (i .z) })) Same;
+      distance = valueOf (h .flags) 16 (i .distance);
+      size = valueOf (h .flags) 32 (i .size);
       screen = ofBits binary32 (i .screen);
-      depth = depth;
+      depth = h .depth;
     }
 
 abbrev pub objectOfInfo : Info → Object
-objectOfInfo i = objectFrom (i .head % 256) (i .head / 256 % 256) (i .head / 65536) i
+objectOfInfo i = objectFrom (headIn (i .head)) i
 
 -- ---- refusal 6 does not arise
 

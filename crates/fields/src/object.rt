@@ -2,7 +2,9 @@
 ghost use mathlib.Core.Path.{_≡_};
 ghost use Prim.Native.Nat.{_+_, _*_, _<_, _≤_};
 ghost use lib.ListN.{length};
-ghost use Rattle.fields.specs.Object.{valueFits, valuesFit, isObject, anchorOf, maybeOf, positionOf, depthOf, objectOf, infoOf};
+ghost use Rattle.vectors.specs.Head.{anchorOf, headWord};
+ghost use Rattle.fields.specs.Object.{valueFits, valuesFit, isObject, maybeOf, positionOf, depthOf, objectOf, infoOf};
+ghost use Rattle.vectors.specs.Head.{anchorOf, headWord};
 ghost use Rattle.fields.specs.Object.{upTo, objectInRange};
 use crate::bytes::has;
 use crate::bytes::zeros;
@@ -200,8 +202,9 @@ pub struct Info {
     pub z: u32,
 }
 
+// The word of a head.
 fn head_of(flags: u8, anchor: u8, depth: u8) -> u32
-    ensures { λ r. ⌜ r ≡ flags + anchor * 256 + depth * 65536 ⌝ }
+    ensures { λ r. ⌜ r ≡ headWord (record { flags = flags; anchor = anchor; depth = depth }) ⌝ }
 {
     flags as u32 + (anchor as u32) * 256 + (depth as u32) * 65536
 }

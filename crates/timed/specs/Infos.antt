@@ -7,9 +7,8 @@ use lib.Dec.{eqb}
 use Rattle.words.specs.Words.{word, floatAt, withFloat}
 use Rattle.roots.specs.declared.Depth.{Depth}
 use Rattle.roots.specs.declared.Depth.the-variants.{Fourth, Half, One, Two}
+use Rattle.vectors.specs.Head.{headIn, anchorOf, has}
 use Rattle.vectors.specs.declared.Vec3.{Vec3}
-use Rattle.vectors.specs.declared.Anchor.{Anchor}
-use Rattle.vectors.specs.declared.Anchor.the-variants.{Room, Screen, Speaker}
 use Rattle.vectors.specs.declared.Maybe.{Maybe}
 use Rattle.vectors.specs.declared.Maybe.the-variants.{Absent, Value}
 use Rattle.vectors.specs.declared.BlockPosition.{BlockPosition}
@@ -18,24 +17,16 @@ use Rattle.vectors.specs.declared.BlockPosition.{BlockPosition}
 abbrev pub infoOf : ℕ → ℕ → ℕ → ℕ
 infoOf e o b = e * 256 + o * 8 + b
 
--- "1 anchor (0 room, 1 screen, 2 speaker)"
-abbrev pub anchorOf : ℕ → Anchor
-anchorOf n = cond (eqb n 0) Room (cond (eqb n 1) Screen Speaker)
-
 -- "y to the power 0.25, 0.5, 1 or 2": codes 0 to 3
 abbrev pub depthOf : ℕ → Depth
 depthOf n = cond (eqb n 0) Fourth (cond (eqb n 1) Half (cond (eqb n 2) One Two))
-
--- "2 flags (1 position valid, 2 differential, 4 gain, 8 position, 16 distance, 32 size present)"
-abbrev pub flagOf : ℕ → ℕ → Bool
-flagOf head bit = eqb (head / bit % 2) 1
 
 abbrev pub headAt : List ℕ → ℕ → ℕ
 headAt is k = word is (44 * k)
 
 -- the value at a place of info k, present with `bit`
 unfoldable pub maybeAt : List ℕ → ℕ → ℕ → ℕ → Maybe
-maybeAt is k bit at = cond (flagOf (headAt is k) bit) (Value (floatAt is (44 * k + at))) Absent
+maybeAt is k bit at = cond (has (headAt is k) bit) (Value (floatAt is (44 * k + at))) Absent
 
 unfoldable pub vecAt : List ℕ → ℕ → Vec3
 vecAt is at = record { x = floatAt is at; y = floatAt is (at + 4); z = floatAt is (at + 8) }
@@ -54,12 +45,12 @@ unfoldable pub blockPosition : List ℕ → ℕ → BlockPosition
 unfolding maybeAt vecAt
 blockPosition is k =
     record {
-      valid = flagOf (headAt is k) 1;
-      differential = flagOf (headAt is k) 2;
-      anchor = anchorOf (headAt is k / 256 % 256);
+      valid = has (headAt is k) 1;
+      differential = has (headAt is k) 2;
+      anchor = anchorOf (headIn (headAt is k) .anchor);
       position = vecAt is (44 * k + 20);
       last = vecAt is (44 * k + 32);
       distance = maybeAt is k 16 12;
       screen = floatAt is (44 * k + 16);
-      depth = depthOf (headAt is k / 65536);
+      depth = depthOf (headIn (headAt is k) .depth);
     }

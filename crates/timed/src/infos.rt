@@ -5,7 +5,8 @@
 ghost use mathlib.Core.Path.{_≡_};
 ghost use Prim.Native.Nat.{_+_, _*_, _<_, _≤_};
 ghost use lib.ListN.{length};
-ghost use Rattle.timed.specs.Infos.{anchorOf, depthOf, flagOf, maybeAt, vecAt, withVec, blockPosition};
+ghost use Rattle.vectors.specs.Head.{anchorOf, has};
+ghost use Rattle.timed.specs.Infos.{depthOf, maybeAt, vecAt, withVec, blockPosition};
 use roots::Depth;
 use vectors::Anchor;
 use vectors::BlockPosition;
@@ -36,7 +37,7 @@ fn depth_of(n: u32) -> Depth
 // Whether a head has the flag that stands for `bit`.
 fn has(head: u32, bit: u32) -> bool
     requires { ⌜ 0 < bit ⌝ }
-    ensures { λ r. ⌜ r ≡ flagOf head bit ⌝ }
+    ensures { λ r. ⌜ r ≡ has head bit ⌝ }
 {
     head / bit % 2 == 1
 }

@@ -15,7 +15,8 @@ use Rattle.words.proofs.Beside.{Kept, number-keeps, reads-before, reads-past}
 use Rattle.words.proofs.Numbers.{length-kept}
 use Rattle.vectors.specs.Vectors.{zeroVec3}
 use Rattle.fields.specs.declared.object.Info.{Info}
-use Rattle.timed.specs.Infos.{infoOf, flagOf, vecAt}
+use Rattle.vectors.specs.Head.{has}
+use Rattle.timed.specs.Infos.{infoOf, vecAt}
 use Rattle.timed.specs.Rules.{noBlock}
 use Rattle.timed.specs.Turns.{times}
 use Rattle.timed.specs.State.{Timed, elementOf}
@@ -74,7 +75,7 @@ origin-written s at l =
 
 record Origin (i : Info) (k : ℕ) (is : List ℕ) : Type 0 where
   long : length is ≡ 22528
-  position : flagOf (i .head) 8 ≡ false → vecAt is (44 * k + 20) ≡ zeroVec3
+  position : has (i .head) 8 ≡ false → vecAt is (44 * k + 20) ≡ zeroVec3
   last : vecAt is (44 * k + 32) ≡ zeroVec3
 
 origin-beside : {i : Info} {k : ℕ} {s t : List ℕ} {lo hi : ℕ} → Stored s t lo hi → (44 * k + 44 ≤ lo) ⊎ (hi ≤ 44 * k) → Origin i k s → Origin i k t
@@ -99,7 +100,7 @@ cleared-origin at s l =
     let n = three s at 0 0 0 .long in
     (vec-beside at (three b (at + 12) 0 0 0 .kept) (inl (omega arith)) ∙ origin-written s at (omega arith), origin-written b (at + 12) (omega arith))
 
-no-place : (i : Info) (at : ℕ) (s : List ℕ) → flagOf (i .head) 8 ≡ false → withPlace i at s ≡ s
+no-place : (i : Info) (at : ℕ) (s : List ℕ) → has (i .head) 8 ≡ false → withPlace i at s ≡ s
 unfolding withPlace
 no-place i at s e = rw e
 

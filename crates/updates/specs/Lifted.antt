@@ -4,7 +4,8 @@ use mathlib.Core.Path.{_≡_}
 use mathlib.Core.Bool.{false}
 use lib.ListN.{length, getD, replicate}
 use Rattle.vectors.specs.Vectors.{zeroVec3}
-use Rattle.timed.specs.Infos.{infoOf, flagOf, vecAt}
+use Rattle.vectors.specs.Head.{has}
+use Rattle.timed.specs.Infos.{infoOf, vecAt}
 use Rattle.timed.specs.Rules.{middle, noBlock}
 use Rattle.timed.specs.State.{Timed, elementOf}
 use Rattle.updates.specs.Said.{Update}
@@ -27,5 +28,5 @@ pub record Afresh (u : Update) (e : ℕ) (t : Timed) : Type 0 where
   pub tracks : elementOf (t .state) e .tracks ≡ replicate 16 newTrack
   pub remaining : elementOf (t .state) e .remaining ≡ middle
   pub unapplied : (b : ℕ) → b < u .element e .blocks → getD (elementOf (t .state) e .schedule) b noBlock .used ≡ false
-  pub position : (o b : ℕ) → o < u .objects → b < u .element e .blocks → flagOf (u .element e .info o b .head) 8 ≡ false → vecAt (t .infos) (44 * infoOf e o b + 20) ≡ zeroVec3
+  pub position : (o b : ℕ) → o < u .objects → b < u .element e .blocks → has (u .element e .info o b .head) 8 ≡ false → vecAt (t .infos) (44 * infoOf e o b + 20) ≡ zeroVec3
   pub last : (o b : ℕ) → o < u .objects → b < u .element e .blocks → vecAt (t .infos) (44 * infoOf e o b + 32) ≡ zeroVec3

@@ -1,9 +1,10 @@
 -- What an update makes of the infos: `apply_parsed_update` for each object in each block. An info is 44 bytes; see the specs of `timed`. Assumes nothing.
-use Prim.Native.Nat.{ℕ, _+_, _*_, _/_, _%_}
+use Prim.Native.Nat.{ℕ, _+_, _*_}
 use mathlib.Core.Bool.{Bool, cond}
 use mathlib.Core.List.{List}
-use lib.Dec.{eqb, ltb}
+use lib.Dec.{ltb}
 use Rattle.words.specs.Words.{withWord}
+use Rattle.vectors.specs.Head.{headIn, headWord, asSpeaker, has}
 use Rattle.timed.specs.Turns.{times}
 use Rattle.fields.specs.declared.object.Info.{Info}
 use Rattle.updates.specs.Said.{Element}
@@ -19,11 +20,11 @@ cleared fresh at is = cond fresh (withThree (withThree is at 0 0 0) (at + 12) 0 
 -- the position, where the record has one
 unfoldable pub withPlace : Info → ℕ → List ℕ → List ℕ
 unfolding withThree
-withPlace i at is = cond (eqb (i .head / 8 % 2) 1) (withThree is at (i .x) (i .y) (i .z)) is
+withPlace i at is = cond (has (i .head) 8) (withThree is at (i .x) (i .y) (i .z)) is
 
 -- the head; a bed or ISF object's anchor is speaker
 abbrev pub headOf : Bool → Info → ℕ
-headOf bed i = cond bed (i .head % 256 + 512 + i .head / 65536 * 65536) (i .head)
+headOf bed i = cond bed (headWord (asSpeaker (headIn (i .head)))) (i .head)
 
 -- head, gain, size, distance and screen factor, as the record has them
 unfoldable pub withHead : ℕ → Info → ℕ → List ℕ → List ℕ

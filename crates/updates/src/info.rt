@@ -3,7 +3,7 @@
 
 // One object in a block, stored as an info of 44 bytes: `apply_parsed_update`.
 ghost use mathlib.Core.Path.{_≡_};
-ghost use Prim.Native.Nat.{_+_, _*_, _/_, _%_, _≤_};
+ghost use Prim.Native.Nat.{_+_, _≤_};
 ghost use lib.ListN.{length};
 ghost use Rattle.updates.specs.Stored.{withThree, cleared, withPlace, headOf, withHead, withInfo};
 use fields::object::Info;

@@ -1,2 +1,3 @@
 pub mod Fitting
 pub mod Cases
+pub mod Heads

@@ -2,3 +2,4 @@ pub mod Vectors
 pub mod Anchors
 pub mod Target
 pub mod Fit
+pub mod Head
