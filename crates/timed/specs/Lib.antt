@@ -1,4 +1,5 @@
 pub mod Turns
+pub mod Sizes
 pub mod Infos
 pub mod Objects
 pub mod Rules

@@ -14,6 +14,7 @@ use Rattle.vectors.specs.declared.Placed.{Placed}
 use Rattle.vectors.specs.Vectors.{lerpVec3}
 use Rattle.vectors.specs.Target.{placed}
 use Rattle.timed.specs.Turns.{times}
+use Rattle.timed.specs.Sizes.{mostBlocks, positionByte, lastByte, infoAt}
 use Rattle.timed.specs.Infos.{gainAt, sizeAt, blockPosition, withVec}
 use Rattle.timed.specs.declared.state.DynamicSourceState.{DynamicSourceState}
 use Rattle.timed.specs.declared.state.Track.{Track}
@@ -55,7 +56,7 @@ afterMove arrived k s is b p =
         };
         track = record { now = b .valid; future = p .target };
       };
-      infos = withVec (withVec is (44 * k + 20) (p .position)) (44 * k + 32) (p .last);
+      infos = withVec (withVec is (infoAt k + positionByte) (p .position)) (infoAt k + lastByte) (p .last);
     }
 
 -- Info k for one object: gain and size where present; its target; the object put there where no ramp remains (`arrived`).
@@ -75,7 +76,7 @@ pub record Work : Type 0 where
 
 abbrev pub movedAt : Bool → ℕ → ℕ → Work → Work
 movedAt arrived first d w =
-    let a = moved arrived (first + 8 * d) (getD (w .moving .sources) d noSource) (w .infos) in
+    let a = moved arrived (first + mostBlocks * d) (getD (w .moving .sources) d noSource) (w .infos) in
     record {
       moving = record { sources = set (w .moving .sources) d (a .moved .source); tracks = set (w .moving .tracks) d (a .moved .track) };
       infos = a .infos;
@@ -91,7 +92,7 @@ pub record IsMovedAll (w : Work) (m : Moving) (is : List ℕ) : Type 0 where
   pub infos : is ≡ w .infos
 
 abbrev pub bedAt : List ℕ → ℕ → ℕ → List Float → List Float
-bedAt is first i gs = set gs i (orElse (gainAt is (first + 8 * i)) (getD gs i nan))
+bedAt is first i gs = set gs i (orElse (gainAt is (first + mostBlocks * i)) (getD gs i nan))
 
 -- the beds' gains, where present; the info of bed i is first + 8 i
 unfoldable pub bedGains : List ℕ → ℕ → ℕ → List Float → List Float

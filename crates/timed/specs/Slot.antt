@@ -6,6 +6,7 @@ use mathlib.Core.List.{List}
 use lib.ListN.{getD, set}
 use lib.Ieee.{Float}
 use Rattle.timed.specs.Turns.{times}
+use Rattle.timed.specs.Sizes.{mostBlocks, allInfos}
 pub use Rattle.timed.specs.Rules.{middle, noBlock}
 use Rattle.timed.specs.Rules.{remainingOf, keptAs, due, leftAfter, over, share, slotLess}
 use Rattle.timed.specs.Objects.{movedAll, bedGains, rampedAll}
@@ -27,21 +28,21 @@ pub record InTime (w : Timing) : Type 0 where
 pub record Reaches (r : Reach) : Type 0 where
   pub few : r .channels ≤ 18
   pub some : r .count ≤ 16
-  pub beds : (i : ℕ) → i < r .channels → r .beds + 8 * i + 8 ≤ 512
-  pub objects : (d : ℕ) → d < r .count → r .first + 8 * d + 8 ≤ 512
+  pub beds : (i : ℕ) → i < r .channels → r .beds + mostBlocks * i + mostBlocks ≤ allInfos
+  pub objects : (d : ℕ) → d < r .count → r .first + mostBlocks * d + mostBlocks ≤ allInfos
   pub near : r .beds ≤ 4096
   pub low : r .first ≤ 4096
 
 -- "an offset or ramp outside ±1,048,576" is refused; "a remaining ramp from -2^21 - 64 × the stream's position to 2^20"
 pub record Ramps (position : ℕ) (schedule : List BlockState) (remaining : ℕ) : Type 0 where
-  pub offsets : (b : ℕ) → b < 8 → getD schedule b noBlock .offset ≤ 2097152
-  pub ramps : (b : ℕ) → b < 8 → getD schedule b noBlock .ramp ≤ 2097152
+  pub offsets : (b : ℕ) → b < mostBlocks → getD schedule b noBlock .offset ≤ 2097152
+  pub ramps : (b : ℕ) → b < mostBlocks → getD schedule b noBlock .ramp ≤ 2097152
   pub most : remaining ≤ 140737489403904
   pub least : middle ≤ remaining + (2097152 + 64 * position)
 
 -- an element's ranges, at a stream position
 pub record InRange (position : ℕ) (e : ElementRendererState) : Type 0 where
-  pub blocks : e .blocks ≤ 8
+  pub blocks : e .blocks ≤ mostBlocks
   pub ramps : Ramps position (e .schedule) (e .remaining)
 
 -- ---- blocks

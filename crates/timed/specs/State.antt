@@ -5,6 +5,7 @@ use mathlib.Core.Bool.{cond}
 use mathlib.Core.List.{List, []}
 use lib.Dec.{eqb}
 use lib.ListN.{getD, set}
+use Rattle.timed.specs.Sizes.{mostElements, mostObjects, mostBlocks, elementInfos}
 use Rattle.timed.specs.Rules.{active, begins}
 use Rattle.timed.specs.Slot.{Sourced, InRange, updatedSources}
 use Rattle.timed.specs.declared.state.ElementRendererState.{ElementRendererState}
@@ -22,13 +23,13 @@ elementOf s i = getD (s .states) i noElement
 -- what a state holds at a stream position, as document 01's ranges have it
 pub record Within (position : ℕ) (s : MetadataRendererState) : Type 0 where
   pub payload : s .payload .0 ≤ 1099511627776
-  pub objects : s .objects ≤ 32
+  pub objects : s .objects ≤ mostObjects
   pub isf : s .isf ≤ 255
   pub dynamic : s .objects - s .isf ≤ 16
   pub beds : s .beds ≤ 18
   pub channels : s .beds ≤ s .objects
-  pub elements : s .elements ≤ 2
-  pub states : (i : ℕ) → i < 2 → InRange position (elementOf s i)
+  pub elements : s .elements ≤ mostElements
+  pub states : (i : ℕ) → i < mostElements → InRange position (elementOf s i)
 
 -- the state, and the infos
 pub record Timed : Type 0 where
@@ -47,7 +48,7 @@ taken w es (suc i) = cond (begins w (getD es i noElement)) i (taken w es i)
 
 -- where element i finds its infos
 abbrev pub reachOf : MetadataRendererState → ℕ → Reach
-reachOf s i = record { beds = i * 256; channels = s .beds; first = i * 256 + 8 * s .isf; count = s .objects - s .isf }
+reachOf s i = record { beds = i * elementInfos; channels = s .beds; first = i * elementInfos + mostBlocks * s .isf; count = s .objects - s .isf }
 
 -- what a slot that moved beds and objects leaves
 abbrev pub slotLeft : MetadataRendererState → ℕ → Sourced → Timed

@@ -1,17 +1,30 @@
 // SPDX-License-Identifier: Apache-2.0
 // Translated from libstarmine_ad render.rs; changed.
 
-// The object infos: 512 records of 44 bytes, info `element x 256 + object x 8 + block`. What an object in a block says, and what it keeps from update to update.
+// The object infos: what an object in a block says, and what it keeps from update to update. The numbers are those of specs/Sizes.antt.
 ghost use mathlib.Core.Path.{_≡_};
 ghost use Prim.Native.Nat.{_+_, _*_, _<_, _≤_};
 ghost use lib.ListN.{length};
 ghost use Rattle.vectors.specs.Head.{anchorOf, has};
+ghost use Rattle.timed.specs.Sizes.{allInfos, infoBytes, infoAt};
 ghost use Rattle.timed.specs.Infos.{depthOf, maybeAt, vecAt, withVec, blockPosition};
 use roots::Depth;
 use vectors::Anchor;
 use vectors::BlockPosition;
 use vectors::Maybe;
 use vectors::Vec3;
+
+// The infos of an object in an element, and those of the element.
+pub const BLOCKS: usize = 8;
+pub const ELEMENT_INFOS: usize = 256;
+// An info's bytes, and where its words stand after the head.
+pub const INFO_BYTES: usize = 44;
+pub const GAIN: usize = 4;
+pub const SIZE: usize = 8;
+pub const DISTANCE: usize = 12;
+pub const SCREEN: usize = 16;
+pub const POSITION: usize = 20;
+pub const LAST: usize = 32;
 
 fn anchor_of(n: u32) -> Anchor
     ensures { λ r. ⌜ r ≡ anchorOf n ⌝ }
@@ -44,12 +57,12 @@ fn has(head: u32, bit: u32) -> bool
 
 // The value at a place of an info that is present with `bit`.
 pub fn maybe_at(infos: &[u8], k: usize, bit: u32, at: usize) -> Maybe
-    requires { ⌜ (44 * k + 44 ≤ length (now infos)) × (at ≤ 40) × (k < 512) × (0 < bit) ⌝ }
+    requires { ⌜ (infoAt k + infoBytes ≤ length (now infos)) × (at ≤ 40) × (k < allInfos) × (0 < bit) ⌝ }
     ensures { λ r. ⌜ r ≡ maybeAt (now (infos .entry)) k bit at ⌝ }
 {
-    let head = words::u32_at(infos, 44 * k);
+    let head = words::u32_at(infos, INFO_BYTES * k);
     if has(head, bit) {
-        return Maybe::Value(words::f32_at(infos, 44 * k + at));
+        return Maybe::Value(words::f32_at(infos, INFO_BYTES * k + at));
     }
     Maybe::Absent
 }
@@ -77,14 +90,14 @@ pub fn put_vec(infos: &mut [u8], at: usize, v: Vec3)
 
 // What info k says of its object's position.
 pub fn block_position(infos: &[u8], k: usize) -> BlockPosition
-    requires { ⌜ (44 * k + 44 ≤ length (now infos)) × (k < 512) ⌝ }
+    requires { ⌜ (infoAt k + infoBytes ≤ length (now infos)) × (k < allInfos) ⌝ }
     ensures { λ r. ⌜ r ≡ blockPosition (now (infos .entry)) k ⌝ }
 {
-    let head = words::u32_at(infos, 44 * k);
-    let distance = maybe_at(infos, k, 16, 12);
-    let position = vec_at(infos, 44 * k + 20);
-    let last = vec_at(infos, 44 * k + 32);
-    let screen = words::f32_at(infos, 44 * k + 16);
+    let head = words::u32_at(infos, INFO_BYTES * k);
+    let distance = maybe_at(infos, k, 16, DISTANCE);
+    let position = vec_at(infos, INFO_BYTES * k + POSITION);
+    let last = vec_at(infos, INFO_BYTES * k + LAST);
+    let screen = words::f32_at(infos, INFO_BYTES * k + SCREEN);
     BlockPosition {
         valid: has(head, 1),
         differential: has(head, 2),

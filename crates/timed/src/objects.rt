@@ -5,8 +5,15 @@
 ghost use mathlib.Core.Path.{_≡_};
 ghost use Prim.Native.Nat.{ℕ, _+_, _*_, _<_, _≤_};
 ghost use lib.ListN.{length};
+ghost use Rattle.timed.specs.Sizes.{mostBlocks, allInfos, infoBytes, allBytes, infoAt};
 ghost use Rattle.timed.specs.Objects.{orElse, moved, IsMoved, movedAll, IsMovedAll, bedGains, ramped, rampedAll};
 use crate::infos;
+use crate::infos::BLOCKS;
+use crate::infos::GAIN;
+use crate::infos::INFO_BYTES;
+use crate::infos::LAST;
+use crate::infos::POSITION;
+use crate::infos::SIZE;
 use crate::state::DynamicSourceState;
 use crate::state::Track;
 use vectors::Maybe;
@@ -34,17 +41,17 @@ fn update_source_state(
     source: DynamicSourceState,
     arrived: bool,
 ) -> Moved
-    requires { ⌜ (44 * k + 44 ≤ length (now infos)) × (k < 512) ⌝ }
+    requires { ⌜ (infoAt k + infoBytes ≤ length (now infos)) × (k < allInfos) ⌝ }
     ensures { λ r. ⌜ IsMoved (moved arrived k source (now (infos .entry))) r (now (infos .exit)) ⌝ }
 {
-    let gain = or_else(infos::maybe_at(infos, k, 4, 4), source.gain);
-    let size = or_else(infos::maybe_at(infos, k, 32, 8), source.size);
+    let gain = or_else(infos::maybe_at(infos, k, 4, GAIN), source.gain);
+    let size = or_else(infos::maybe_at(infos, k, 32, SIZE), source.size);
     let here = source.place;
     let block = infos::block_position(infos, k);
     let to = vectors::update_source_position(block, here);
     let target = to.target;
-    infos::put_vec(infos, 44 * k + 20, to.position);
-    infos::put_vec(infos, 44 * k + 32, to.last);
+    infos::put_vec(infos, INFO_BYTES * k + POSITION, to.position);
+    infos::put_vec(infos, INFO_BYTES * k + LAST, to.last);
     let track = Track {
         now: block.valid,
         future: target,
@@ -82,14 +89,14 @@ pub struct Moving {
 impl Moving {
     // A block applied to `count` objects; the info of object d is `first` + 8 d.
     pub fn apply_block(self, infos: &mut [u8], first: usize, count: usize, arrived: bool) -> Moving
-        requires { ⌜ (length (now infos) ≡ 22528) × (count ≤ 16) × ((d : ℕ) → d < count → first + 8 * d < 512) ⌝ }
+        requires { ⌜ (length (now infos) ≡ allBytes) × (count ≤ 16) × ((d : ℕ) → d < count → first + mostBlocks * d < allInfos) ⌝ }
         ensures { λ r. ⌜ IsMovedAll (movedAll arrived first count self (now (infos .entry))) r (now (infos .exit)) ⌝ }
     {
         let mut next = self;
         let mut d = 0usize;
         while d < count {
             let source = next.sources[d];
-            let m = update_source_state(infos, first + 8 * d, source, arrived);
+            let m = update_source_state(infos, first + BLOCKS * d, source, arrived);
             let s = m.source;
             let t = m.track;
             next.sources[d] = s;
@@ -146,13 +153,13 @@ fn ramp_one(source: DynamicSourceState, track: Track, last: bool, t: f32) -> Dyn
 
 // The beds' gains after a block; the info of bed i is `first` + 8 i.
 pub fn bed_gains(gains: [f32; 18], infos: &[u8], first: usize, count: usize) -> [f32; 18]
-    requires { ⌜ (length (now infos) ≡ 22528) × (count ≤ 18) × ((d : ℕ) → d < count → first + 8 * d < 512) ⌝ }
+    requires { ⌜ (length (now infos) ≡ allBytes) × (count ≤ 18) × ((d : ℕ) → d < count → first + mostBlocks * d < allInfos) ⌝ }
     ensures { λ r. ⌜ r ≡ bedGains (now (infos .entry)) first count gains ⌝ }
 {
     let mut next = gains;
     let mut i = 0usize;
     while i < count {
-        next[i] = or_else(infos::maybe_at(infos, first + 8 * i, 4, 4), next[i]);
+        next[i] = or_else(infos::maybe_at(infos, first + BLOCKS * i, 4, GAIN), next[i]);
         i += 1;
     }
     next

@@ -5,6 +5,7 @@
 ghost use mathlib.Core.Path.{_≡_};
 ghost use Prim.Native.Nat.{ℕ, _+_, _-_, _*_, _<_, _≤_};
 ghost use lib.ListN.{length};
+ghost use Rattle.timed.specs.Sizes.{mostBlocks, allBytes};
 ghost use Rattle.timed.specs.Rules.{remainingOf, keptAs, due, leftAfter, share, active, begins};
 ghost use Rattle.timed.specs.Slot.{InTime, InRange, Reaches, IsWork, blockApplied, blocksApplied, rampApplied, updatedSources, IsUpdated};
 use crate::objects;
@@ -70,7 +71,7 @@ pub struct Slot {
 impl Slot {
     // Block b, applied.
     fn apply_block(self, infos: &mut [u8], b: usize, when: Timing, reach: Reach) -> Slot
-        requires { ⌜ (length (now infos) ≡ 22528) × (b < 8) × InTime when × Reaches reach ⌝ }
+        requires { ⌜ (length (now infos) ≡ allBytes) × (b < mostBlocks) × InTime when × Reaches reach ⌝ }
         ensures { λ r. ⌜ IsWork (blockApplied when reach b (record { slot = self; infos = now (infos .entry) })) r (now (infos .exit)) ⌝ }
     {
         let mut schedule = self.schedule;
@@ -108,7 +109,7 @@ impl Slot {
 
     // The first n blocks in order, each applied where it is due.
     fn apply_blocks(self, infos: &mut [u8], n: usize, when: Timing, reach: Reach) -> Slot
-        requires { ⌜ (length (now infos) ≡ 22528) × (n ≤ 8) × InTime when × Reaches reach ⌝ }
+        requires { ⌜ (length (now infos) ≡ allBytes) × (n ≤ mostBlocks) × InTime when × Reaches reach ⌝ }
         ensures { λ r. ⌜ IsWork (blocksApplied when reach n (record { slot = self; infos = now (infos .entry) })) r (now (infos .exit)) ⌝ }
     {
         let mut next = self;
@@ -194,7 +195,7 @@ impl ElementRendererState {
         gains: [f32; 18],
         sources: [DynamicSourceState; 16],
     ) -> Updated
-        requires { ⌜ (length (now infos) ≡ 22528) × InTime when × Reaches reach × InRange 1099511627776 self ⌝ }
+        requires { ⌜ (length (now infos) ≡ allBytes) × InTime when × Reaches reach × InRange 1099511627776 self ⌝ }
         ensures { λ r. ⌜ IsUpdated (updatedSources when reach self gains sources (now (infos .entry))) r (now (infos .exit)) ⌝ }
     {
         let schedule = self.schedule;

@@ -5,9 +5,12 @@
 ghost use mathlib.Core.Path.{_≡_};
 ghost use Prim.Native.Nat.{_+_, _<_, _≤_};
 ghost use lib.ListN.{length};
+ghost use Rattle.timed.specs.Sizes.{mostElements, allBytes};
 ghost use Rattle.timed.specs.Slot.{InTime};
 ghost use Rattle.timed.specs.State.{Within, IsTimed, taken, slotOf, slotAt};
 use crate::clock::StreamSample;
+use crate::infos::BLOCKS;
+use crate::infos::ELEMENT_INFOS;
 use crate::slot::Reach;
 use crate::slot::Timing;
 use crate::state;
@@ -16,7 +19,7 @@ use crate::state::MetadataRendererState;
 impl MetadataRendererState {
     // The last element whose first block offset is from 0 up to the timecode, else element 0.
     fn element_at(self, when: Timing) -> usize
-        requires { ⌜ (self .elements ≤ 2) × InTime when ⌝ }
+        requires { ⌜ (self .elements ≤ mostElements) × InTime when ⌝ }
         ensures { λ r. ⌜ r ≡ taken when (self .states) (self .elements) ⌝ }
     {
         let states = self.states;
@@ -36,13 +39,13 @@ impl MetadataRendererState {
 
     // A slot of element `index`.
     fn slot_of(self, infos: &mut [u8], index: usize, when: Timing) -> MetadataRendererState
-        requires { ⌜ (length (now infos) ≡ 22528) × (index < 2) × InTime when × Within 1099511627776 self ⌝ }
+        requires { ⌜ (length (now infos) ≡ allBytes) × (index < mostElements) × InTime when × Within 1099511627776 self ⌝ }
         ensures { λ r. ⌜ IsTimed (slotOf when index (record { state = self; infos = now (infos .entry) })) r (now (infos .exit)) ⌝ }
     {
         let reach = Reach {
-            beds: index * 256,
+            beds: index * ELEMENT_INFOS,
             channels: self.beds,
-            first: index * 256 + 8 * self.isf,
+            first: index * ELEMENT_INFOS + BLOCKS * self.isf,
             count: state::dynamic(self.objects, self.isf),
         };
         let mut states = self.states;
@@ -72,7 +75,7 @@ impl MetadataRendererState {
 
     // The slot that starts at a sample of the stream.
     pub fn update_timeslot(self, infos: &mut [u8], start: StreamSample) -> MetadataRendererState
-        requires { ⌜ (length (now infos) ≡ 22528) × (start .0 ≤ 1099511627776) × Within 1099511627776 self ⌝ }
+        requires { ⌜ (length (now infos) ≡ allBytes) × (start .0 ≤ 1099511627776) × Within 1099511627776 self ⌝ }
         ensures { λ r. ⌜ IsTimed (slotAt (start .0) (record { state = self; infos = now (infos .entry) })) r (now (infos .exit)) ⌝ }
     {
         if self.elements == 0 {

@@ -16,7 +16,8 @@ use Rattle.words.proofs.Numbers.{length-kept}
 use Rattle.vectors.specs.Vectors.{zeroVec3}
 use Rattle.fields.specs.declared.object.Info.{Info}
 use Rattle.vectors.specs.Head.{has}
-use Rattle.timed.specs.Infos.{infoOf, vecAt}
+use Rattle.timed.specs.Sizes.{infoOf}
+use Rattle.timed.specs.Infos.{vecAt}
 use Rattle.timed.specs.Rules.{noBlock}
 use Rattle.timed.specs.Turns.{times}
 use Rattle.timed.specs.State.{Timed, elementOf}

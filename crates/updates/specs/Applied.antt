@@ -8,6 +8,7 @@ use lib.ListN.{getD, set, replicate}
 use lib.Ieee.{Float, binary32, ofBits}
 use Rattle.vectors.specs.Vectors.{0·0, zeroVec3}
 use Rattle.timed.specs.Turns.{times}
+use Rattle.timed.specs.Sizes.{elementInfos}
 use Rattle.timed.specs.Rules.{middle}
 use Rattle.timed.specs.State.{Timed, noElement}
 use Rattle.timed.specs.declared.state.BlockState.{BlockState}
@@ -88,7 +89,7 @@ elementGiven same u e w =
     let kept = isKept same (s .blocks) (u .element e .blocks) in
     record {
       states = set (w .states) e (elementNext kept (u .objects - u .isf) (u .element e) s);
-      infos = objectsStored (not kept) (u .isf) (u .element e) (e * 256) (u .objects) (w .infos);
+      infos = objectsStored (not kept) (u .isf) (u .element e) (e * elementInfos) (u .objects) (w .infos);
     }
 
 -- the elements in order

@@ -5,7 +5,8 @@ use mathlib.Core.Bool.{false}
 use lib.ListN.{length, getD, replicate}
 use Rattle.vectors.specs.Vectors.{zeroVec3}
 use Rattle.vectors.specs.Head.{has}
-use Rattle.timed.specs.Infos.{infoOf, vecAt}
+use Rattle.timed.specs.Sizes.{mostElements, mostObjects, mostBlocks, allBytes, positionByte, lastByte, infoOf, infoAt}
+use Rattle.timed.specs.Infos.{vecAt}
 use Rattle.timed.specs.Rules.{middle, noBlock}
 use Rattle.timed.specs.State.{Timed, elementOf}
 use Rattle.updates.specs.Said.{Update}
@@ -13,12 +14,12 @@ use Rattle.updates.specs.Applied.{newTrack}
 
 -- What the limits of document 01 leave of a state and of an update: "2 elements, up to 8 blocks each", "up to 32 objects". Every block in range and every update that refusal 5 lets pass is so.
 pub record Fits (u : Update) (t : Timed) : Type 0 where
-  pub states : length (t .state .states) ≡ 2
-  pub schedules : (e : ℕ) → e < 2 → length (elementOf (t .state) e .schedule) ≡ 8
-  pub infos : length (t .infos) ≡ 22528
-  pub elements : u .elements ≤ 2
-  pub objects : u .objects ≤ 32
-  pub blocks : (e : ℕ) → e < u .elements → u .element e .blocks ≤ 8
+  pub states : length (t .state .states) ≡ mostElements
+  pub schedules : (e : ℕ) → e < mostElements → length (elementOf (t .state) e .schedule) ≡ mostBlocks
+  pub infos : length (t .infos) ≡ allBytes
+  pub elements : u .elements ≤ mostElements
+  pub objects : u .objects ≤ mostObjects
+  pub blocks : (e : ℕ) → e < u .elements → u .element e .blocks ≤ mostBlocks
 
 -- Element e of an update that has been applied "starts afresh ..: flags clear, targets at the origin, no ramp remaining". `newTrack` is a flag that is clear and a target at the origin;
 -- there are as many flags as the update has dynamic objects, and no block counts as applied. Of the positions that are stored from update to update none is left: where a record brings no
@@ -28,5 +29,5 @@ pub record Afresh (u : Update) (e : ℕ) (t : Timed) : Type 0 where
   pub tracks : elementOf (t .state) e .tracks ≡ replicate 16 newTrack
   pub remaining : elementOf (t .state) e .remaining ≡ middle
   pub unapplied : (b : ℕ) → b < u .element e .blocks → getD (elementOf (t .state) e .schedule) b noBlock .used ≡ false
-  pub position : (o b : ℕ) → o < u .objects → b < u .element e .blocks → has (u .element e .info o b .head) 8 ≡ false → vecAt (t .infos) (44 * infoOf e o b + 20) ≡ zeroVec3
-  pub last : (o b : ℕ) → o < u .objects → b < u .element e .blocks → vecAt (t .infos) (44 * infoOf e o b + 32) ≡ zeroVec3
+  pub position : (o b : ℕ) → o < u .objects → b < u .element e .blocks → has (u .element e .info o b .head) 8 ≡ false → vecAt (t .infos) (infoAt (infoOf e o b) + positionByte) ≡ zeroVec3
+  pub last : (o b : ℕ) → o < u .objects → b < u .element e .blocks → vecAt (t .infos) (infoAt (infoOf e o b) + lastByte) ≡ zeroVec3

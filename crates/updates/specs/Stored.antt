@@ -1,4 +1,4 @@
--- What an update makes of the infos: `apply_parsed_update` for each object in each block. An info is 44 bytes; see the specs of `timed`. Assumes nothing.
+-- What an update makes of the infos: `apply_parsed_update` for each object in each block. An info is as in timed/specs/Sizes. Assumes nothing.
 use Prim.Native.Nat.{ℕ, _+_, _*_}
 use mathlib.Core.Bool.{Bool, cond}
 use mathlib.Core.List.{List}
@@ -6,6 +6,7 @@ use lib.Dec.{ltb}
 use Rattle.words.specs.Words.{withWord}
 use Rattle.vectors.specs.Head.{headIn, headWord, asSpeaker, has}
 use Rattle.timed.specs.Turns.{times}
+use Rattle.timed.specs.Sizes.{mostBlocks, gainByte, sizeByte, distanceByte, screenByte, positionByte, infoAt}
 use Rattle.fields.specs.declared.object.Info.{Info}
 use Rattle.updates.specs.Said.{Element}
 
@@ -28,15 +29,15 @@ headOf bed i = cond bed (headWord (asSpeaker (headIn (i .head)))) (i .head)
 
 -- head, gain, size, distance and screen factor, as the record has them
 unfoldable pub withHead : ℕ → Info → ℕ → List ℕ → List ℕ
-withHead head i at is = withWord (withWord (withWord (withWord (withWord is at head) (at + 4) (i .gain)) (at + 8) (i .size)) (at + 12) (i .distance)) (at + 16) (i .screen)
+withHead head i at is = withWord (withWord (withWord (withWord (withWord is at head) (at + gainByte) (i .gain)) (at + sizeByte) (i .size)) (at + distanceByte) (i .distance)) (at + screenByte) (i .screen)
 
 -- the info at byte `at`
 unfoldable pub withInfo : Bool → Bool → Info → ℕ → List ℕ → List ℕ
 unfolding withHead cleared withPlace
-withInfo fresh bed i at is = withPlace i (at + 20) (cleared fresh (at + 20) (withHead (headOf bed i) i at is))
+withInfo fresh bed i at is = withPlace i (at + positionByte) (cleared fresh (at + positionByte) (withHead (headOf bed i) i at is))
 
 abbrev pub infoGiven : Bool → Bool → Element → ℕ → ℕ → ℕ → List ℕ → List ℕ
-infoGiven fresh bed x first o b is = withInfo fresh bed (x .info o b) (44 * (first + b)) is
+infoGiven fresh bed x first o b is = withInfo fresh bed (x .info o b) (infoAt (first + b)) is
 
 -- object o in each block; its infos are those from `first` on
 unfoldable pub objectStored : Bool → Bool → Element → ℕ → ℕ → List ℕ → List ℕ
@@ -44,7 +45,7 @@ unfolding times withInfo
 objectStored fresh bed x first o is = times (x .blocks) 0 (infoGiven fresh bed x first o) is
 
 abbrev pub objectGiven : Bool → ℕ → Element → ℕ → ℕ → List ℕ → List ℕ
-objectGiven fresh isf x first o is = objectStored fresh (ltb o isf) x (first + 8 * o) o is
+objectGiven fresh isf x first o is = objectStored fresh (ltb o isf) x (first + mostBlocks * o) o is
 
 -- n objects, the first `isf` of them beds or ISF; the infos are those from `first` on
 unfoldable pub objectsStored : Bool → ℕ → Element → ℕ → ℕ → List ℕ → List ℕ

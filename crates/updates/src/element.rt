@@ -6,6 +6,7 @@ ghost use mathlib.Core.Path.{_≡_};
 ghost use mathlib.Core.Bool.{not, cond};
 ghost use Prim.Native.Nat.{ℕ, _+_, _-_, _*_, _<_, _≤_};
 ghost use lib.ListN.{length, replicate};
+ghost use Rattle.timed.specs.Sizes.{mostObjects, mostBlocks, elementInfos, allInfos, allBytes};
 ghost use Rattle.fields.specs.Block.{blocks};
 ghost use Rattle.records.specs.Laid.{objectAt};
 ghost use Rattle.updates.specs.Whole.{WholeBlocks, WholeElement};
@@ -18,6 +19,8 @@ use fields::block::raised_block_at;
 use fields::object::info_at;
 use records::layout::block_place;
 use records::layout::object_place;
+use timed::infos::BLOCKS;
+use timed::infos::INFO_BYTES;
 use timed::state::BlockState;
 use timed::state::ElementRendererState;
 use timed::state::Track;
@@ -40,13 +43,13 @@ fn put_object(
     fresh: bool,
     bed: bool,
 )
-    requires { ⌜ (length (now infos) ≡ 22528) × (n ≡ blocks (now meta) p) × (n ≤ 8) × (first + 8 ≤ 512) × (o ≤ 32) × (40 * p + 40 ≤ length (now meta)) × ((b : ℕ) → b < n → 40 * objectAt (now meta) p (o * blocks (now meta) p + b) + 40 ≤ length (now meta)) ⌝ }
+    requires { ⌜ (length (now infos) ≡ allBytes) × (n ≡ blocks (now meta) p) × (n ≤ mostBlocks) × (first + mostBlocks ≤ allInfos) × (o ≤ mostObjects) × (40 * p + 40 ≤ length (now meta)) × ((b : ℕ) → b < n → 40 * objectAt (now meta) p (o * blocks (now meta) p + b) + 40 ≤ length (now meta)) ⌝ }
     ensures { λ _. ⌜ now (infos .exit) ≡ objectStored fresh bed (elementOf (now (meta .entry)) p) first o (now (infos .entry)) ⌝ }
 {
     let mut b = 0usize;
     while b < n {
         let i = info_at(meta, object_place(meta, p, o, b));
-        put_info(infos, 44 * (first + b), i, fresh, bed);
+        put_info(infos, INFO_BYTES * (first + b), i, fresh, bed);
         b += 1;
     }
 }
@@ -61,14 +64,14 @@ fn put_objects(
     counts: Counts,
     fresh: bool,
 )
-    requires { ⌜ (length (now infos) ≡ 22528) × (n ≡ blocks (now meta) p) × (first + 256 ≤ 512) × (counts .objects ≤ 32) × WholeElement (now meta) (counts .objects) p ⌝ }
+    requires { ⌜ (length (now infos) ≡ allBytes) × (n ≡ blocks (now meta) p) × (first + elementInfos ≤ allInfos) × (counts .objects ≤ mostObjects) × WholeElement (now meta) (counts .objects) p ⌝ }
     ensures { λ _. ⌜ now (infos .exit) ≡ objectsStored fresh (counts .isf) (elementOf (now (meta .entry)) p) first (counts .objects) (now (infos .entry)) ⌝ }
 {
     let objects = counts.objects;
     let isf = counts.isf;
     let mut o = 0usize;
     while o < objects {
-        put_object(infos, meta, p, n, first + 8 * o, o, fresh, o < isf);
+        put_object(infos, meta, p, n, first + BLOCKS * o, o, fresh, o < isf);
         o += 1;
     }
 }
@@ -162,7 +165,7 @@ pub fn apply_element(
     counts: Counts,
     same: bool,
 ) -> ElementRendererState
-    requires { ⌜ (length (now infos) ≡ 22528) × (first + 256 ≤ 512) × (counts .objects ≤ 32) × WholeElement (now meta) (counts .objects) p ⌝ }
+    requires { ⌜ (length (now infos) ≡ allBytes) × (first + elementInfos ≤ allInfos) × (counts .objects ≤ mostObjects) × WholeElement (now meta) (counts .objects) p ⌝ }
     ensures { λ r. ⌜ IsElement same counts (elementOf (now (meta .entry)) p) first element (now (infos .entry)) r (now (infos .exit)) ⌝ }
 {
     let n = blocks_at(meta, p);

@@ -1,12 +1,18 @@
 // SPDX-License-Identifier: Apache-2.0
 // Translated from libstarmine_ad render.rs; changed.
 
-// One object in a block, stored as an info of 44 bytes: `apply_parsed_update`.
+// One object in a block, stored as an info: `apply_parsed_update`.
 ghost use mathlib.Core.Path.{_≡_};
 ghost use Prim.Native.Nat.{_+_, _≤_};
 ghost use lib.ListN.{length};
+ghost use Rattle.timed.specs.Sizes.{infoBytes};
 ghost use Rattle.updates.specs.Stored.{withThree, cleared, withPlace, headOf, withHead, withInfo};
 use fields::object::Info;
+use timed::infos::DISTANCE;
+use timed::infos::GAIN;
+use timed::infos::POSITION;
+use timed::infos::SCREEN;
+use timed::infos::SIZE;
 
 fn put_three(infos: &mut [u8], at: usize, x: u32, y: u32, z: u32)
     requires { ⌜ at + 12 ≤ length (now infos) ⌝ }
@@ -53,18 +59,18 @@ fn put_head(infos: &mut [u8], at: usize, head: u32, i: Info)
     ensures { λ _. ⌜ now (infos .exit) ≡ withHead head i at (now (infos .entry)) ⌝ }
 {
     words::put_u32(infos, at, head);
-    words::put_u32(infos, at + 4, i.gain);
-    words::put_u32(infos, at + 8, i.size);
-    words::put_u32(infos, at + 12, i.distance);
-    words::put_u32(infos, at + 16, i.screen);
+    words::put_u32(infos, at + GAIN, i.gain);
+    words::put_u32(infos, at + SIZE, i.size);
+    words::put_u32(infos, at + DISTANCE, i.distance);
+    words::put_u32(infos, at + SCREEN, i.screen);
 }
 
 // The info at byte `at`: what the record says, and what is kept from update to update.
 pub fn put_info(infos: &mut [u8], at: usize, i: Info, fresh: bool, bed: bool)
-    requires { ⌜ at + 44 ≤ length (now infos) ⌝ }
+    requires { ⌜ at + infoBytes ≤ length (now infos) ⌝ }
     ensures { λ _. ⌜ now (infos .exit) ≡ withInfo fresh bed i at (now (infos .entry)) ⌝ }
 {
     put_head(infos, at, head_of(i, bed), i);
-    clear(infos, at + 20, fresh);
-    put_place(infos, at + 20, i);
+    clear(infos, at + POSITION, fresh);
+    put_place(infos, at + POSITION, i);
 }

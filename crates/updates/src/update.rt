@@ -8,6 +8,7 @@ ghost use Prim.Native.Nat.{_+_, _-_, _*_, _<_, _≤_};
 ghost use lib.Dec.{eqb};
 ghost use lib.ListN.{length};
 ghost use Rattle.fields.specs.Update.{elements};
+ghost use Rattle.timed.specs.Sizes.{allBytes};
 ghost use Rattle.timed.specs.State.{IsTimed};
 ghost use Rattle.updates.specs.Whole.{WholeUpdate};
 ghost use Rattle.updates.specs.Said.{updateOf};
@@ -17,6 +18,7 @@ use crate::element::apply_element;
 use fields::update::header_at;
 use records::layout::element_after;
 use timed::clock::StreamSample;
+use timed::infos::ELEMENT_INFOS;
 use timed::state;
 use timed::state::DynamicSourceState;
 use timed::state::ElementRendererState;
@@ -77,7 +79,7 @@ fn apply_elements(
     counts: Counts,
     same: bool,
 ) -> [ElementRendererState; 2]
-    requires { ⌜ (length (now infos) ≡ 22528) × (n ≡ elements (now meta) u) × IsCounts counts (updateOf (now meta) u) × WholeUpdate (now meta) u ⌝ }
+    requires { ⌜ (length (now infos) ≡ allBytes) × (n ≡ elements (now meta) u) × IsCounts counts (updateOf (now meta) u) × WholeUpdate (now meta) u ⌝ }
     ensures { λ r. ⌜ IsWork (elementsApplied same (updateOf (now (meta .entry)) u) states (now (infos .entry))) r (now (infos .exit)) ⌝ }
 {
     let mut next = states;
@@ -85,7 +87,7 @@ fn apply_elements(
     let mut e = 0usize;
     while e < n {
         let element = next[e];
-        let given = apply_element(element, infos, meta, p, e * 256, counts, same);
+        let given = apply_element(element, infos, meta, p, e * ELEMENT_INFOS, counts, same);
         next[e] = given;
         p = element_after(meta, counts.objects, p);
         e += 1;
@@ -114,7 +116,7 @@ pub fn apply_update(
     u: usize,
     at: StreamSample,
 ) -> MetadataRendererState
-    requires { ⌜ (length (now infos) ≡ 22528) × WholeUpdate (now meta) u ⌝ }
+    requires { ⌜ (length (now infos) ≡ allBytes) × WholeUpdate (now meta) u ⌝ }
     ensures { λ r. ⌜ IsTimed (applied (at .0) (updateOf (now (meta .entry)) u) (record { state = s; infos = now (infos .entry) })) r (now (infos .exit)) ⌝ }
 {
     let h = header_at(meta, u);
