@@ -19,7 +19,8 @@ use Rattle.panning.specs.Table.{between, 8·0}
 use Rattle.fields.specs.Bytes.{byte, kind, has}
 use Rattle.fields.specs.Update.{objects, bedOrIsf, beds, elements, code, countsFit, mostAt, codesFit, isUpdate}
 use Rattle.fields.specs.Block.{blocks}
-use Rattle.fields.specs.Object.{isObject, maybeOf, depthOf, objectOf, infoOf, upTo, objectInRange}
+use Rattle.fields.specs.Infos.{infoOf}
+use Rattle.fields.specs.Object.{isObject, maybeOf, depthOf, objectOf, upTo, objectInRange}
 use Rattle.fields.specs.declared.object.Info.{Info}
 use Rattle.fields.proofs.All.{and-left, and-right, all-at}
 use Rattle.records.specs.Runs.{each}

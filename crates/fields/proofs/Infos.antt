@@ -10,7 +10,8 @@ use Rattle.words.specs.Words.{floatAt}
 use Rattle.vectors.specs.Head.{Head}
 use Rattle.vectors.proofs.Heads.{head-reads-back}
 use Rattle.fields.specs.Bytes.{byte, kind}
-use Rattle.fields.specs.Object.{isObject, maybeOf, positionOf, headAt, objectOf, infoOf, objectFrom, objectOfInfo}
+use Rattle.fields.specs.Object.{isObject, maybeOf, positionOf, objectOf}
+use Rattle.fields.specs.Infos.{headAt, infoOf, objectFrom, objectOfInfo}
 use Rattle.fields.proofs.All.{and-left, and-right}
 
 module _ (m : List ℕ) (r : ℕ) (object : isObject m r ≡ true) where

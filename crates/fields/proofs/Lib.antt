@@ -1,3 +1,4 @@
 pub mod All
 pub mod Raised
 pub mod Infos
+pub mod Theorems

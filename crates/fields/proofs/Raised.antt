@@ -13,7 +13,8 @@ use mir.Val.{toZ}
 use mir.ValLaws.{toZ-pos, toZ-neg}
 use Rattle.words.specs.Words.{Bytes, long, signedAt}
 use Rattle.words.proofs.Small.{number-small}
-use Rattle.fields.specs.Block.{within, raised, raisedOf, blockOf, blockInRange}
+use Rattle.fields.specs.Block.{within, blockOf, blockInRange}
+use Rattle.fields.specs.Raised.{raised, raisedOf}
 
 -- what holds of the signed number z whose bits plus 2 ^ 20 are s
 record Shift (s : ℕ) (z : ℤ) : Type 0 where

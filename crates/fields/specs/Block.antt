@@ -1,14 +1,13 @@
 -- "2, element: 1 blocks." "3, block: 8-15 offset, 16-23 ramp, both signed 64-bit." Assumes nothing.
-use Prim.Native.Nat.{ℕ, _+_, _*_, _%_, _^_}
+use Prim.Native.Nat.{ℕ, _+_, _*_}
 use mathlib.Core.Bool.{Bool, _&&_}
 use mathlib.Core.List.{List}
 use lib.Dec.{eqb, leb}
 use lib.IntN.{ℤ, pos, negsuc}
 use lib.Signed.{leZ}
-use Rattle.words.specs.Words.{long, signedAt}
+use Rattle.words.specs.Words.{signedAt}
 use Rattle.fields.specs.Bytes.{byte, kind, zeros}
 use Rattle.fields.specs.declared.block.Block.{Block}
-use Rattle.fields.specs.declared.block.Raised.{Raised}
 
 abbrev pub blocks : List ℕ → ℕ → ℕ
 blocks m e = byte m e 1
@@ -31,10 +30,3 @@ within z = leZ (negsuc 1048575) z && leZ z (pos 1048576)
 -- refusal 6 does not arise: "an offset or ramp outside ±1,048,576"
 abbrev pub blockInRange : Block → Bool
 blockInRange b = within (b .offset) && within (b .ramp)
-
--- the signed number at a place plus 2 ^ 20, by its bits
-abbrev pub raised : List ℕ → ℕ → ℕ
-raised m at = (long m at + 1048576) % 2 ^ 64
-
-abbrev pub raisedOf : List ℕ → ℕ → Raised
-raisedOf m r = record { offset = raised m (40 * r + 8); ramp = raised m (40 * r + 16) }

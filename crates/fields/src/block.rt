@@ -2,7 +2,8 @@
 ghost use mathlib.Core.Path.{_≡_};
 ghost use Prim.Native.Nat.{_+_, _*_, _<_, _≤_};
 ghost use lib.ListN.{length};
-ghost use Rattle.fields.specs.Block.{blocks, isElement, isBlock, blockOf, within, blockInRange, raised, raisedOf};
+ghost use Rattle.fields.specs.Block.{blocks, isElement, isBlock, blockOf, within, blockInRange};
+ghost use Rattle.fields.specs.Raised.{raised, raisedOf};
 use crate::bytes::byte_at;
 use crate::bytes::zeros;
 

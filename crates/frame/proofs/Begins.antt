@@ -8,7 +8,8 @@ use native.Mathlib.Numerals.{add-one}
 use borrow.Author.Tests.{eq-eqb, ne-eqb}
 use lib.Dec.{T, eqb}
 use lib.ListN.{length, getD}
-use Rattle.timed.specs.State.{Timed, IsTimed, slotAt}
+use Rattle.timed.specs.State.{Timed, slotAt}
+use Rattle.timed.specs.Contracts.{IsTimed}
 use Rattle.timed.specs.declared.state.MetadataRendererState.{MetadataRendererState}
 use Rattle.timed.proofs.Kept as timed
 use Rattle.fields.specs.Update.{offset}

@@ -12,7 +12,7 @@ use Rattle.angles.specs.Angle.{Listed}
 use Rattle.angles.specs.Filter.{coefficientsOf, LowpassAt}
 use Rattle.angles.specs.FiveTerms.{coefficientsAt}
 use Rattle.angles.specs.declared.filter.Coefficients.{Coefficients}
-use Rattle.angles.proofs.Rates.{lowpass-only}
+use Rattle.angles.proofs.Theorems.{lowpass-only}
 use Rattle.angles.proofs.Made.{one-24, Made}
 use Rattle.angles.proofs.Sizes.{Sized, sized, whole, coefficients-made}
 use Rattle.lowpass.specs.Lowpass.{BiquadLowpassState, fresh, new, next, filtered, afterAll}

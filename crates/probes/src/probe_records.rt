@@ -8,7 +8,7 @@ ghost use Prim.Native.Nat.{_+_, _*_};
 ghost use lib.Dec.{leb, ltb};
 ghost use Rattle.fields.specs.Update.{offset, headerOf, code};
 ghost use Rattle.fields.specs.Block.{blocks, blockOf};
-ghost use Rattle.fields.specs.Object.{infoOf};
+ghost use Rattle.fields.specs.Infos.{infoOf};
 ghost use Rattle.records.specs.Laid.{updateAt, count, elementEnd, objectAt};
 ghost use Rattle.records.specs.Ranges.{refusal};
 ghost use Rattle.records.specs.Order.{next, FirstAt};

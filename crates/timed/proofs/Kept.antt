@@ -2,8 +2,9 @@
 use Prim.Native.Nat.{ℕ, _≤_, _<_}
 use lib.Dec.{eqb}
 use Rattle.timed.specs.Rules.{active}
-use Rattle.timed.specs.Slot.{InRange, updatedSources}
-use Rattle.timed.specs.State.{Timed, Within, noElement, elementOf, taken, timingOf, reachOf, slotOf, slotAt}
+use Rattle.timed.specs.Bounds.{InRange, Within}
+use Rattle.timed.specs.Slot.{updatedSources}
+use Rattle.timed.specs.State.{Timed, noElement, elementOf, taken, timingOf, reachOf, slotOf, slotAt}
 use Rattle.timed.specs.declared.state.MetadataRendererState.{MetadataRendererState}
 use Rattle.timed.specs.declared.slot.Timing.{Timing}
 use Rattle.timed.proofs.Keeps.{cond-keeps, set-each}

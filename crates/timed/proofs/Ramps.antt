@@ -10,7 +10,8 @@ use borrow.Author.Tests.{ltb-true, leb-false}
 use Rattle.timed.proofs.Shifted.{due-shifted, left-shifted, over-shifted, less-shifted}
 use Rattle.timed.proofs.Keeps.{times-in, cond-keeps, set-each}
 use Rattle.timed.specs.Rules.{middle, noBlock, due, leftAfter, remainingOf, over}
-use Rattle.timed.specs.Slot.{Ramps, InRange, Work, blockApplied, blockAt, blocksApplied, rampApplied, updatedSources}
+use Rattle.timed.specs.Bounds.{Ramps, InRange}
+use Rattle.timed.specs.Slot.{Work, blockApplied, blockAt, blocksApplied, rampApplied, updatedSources}
 use Rattle.timed.specs.declared.state.BlockState.{BlockState}
 use Rattle.timed.specs.declared.state.Track.{Track}
 use Rattle.timed.specs.declared.state.DynamicSourceState.{DynamicSourceState}

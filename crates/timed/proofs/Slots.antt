@@ -8,8 +8,9 @@ use native.Mathlib.Omega.{arith}
 use borrow.Author.Tests.{eq-eqb, ne-eqb}
 use Rattle.timed.proofs.Keeps.{cond-keeps}
 use Rattle.timed.specs.Rules.{begins, active}
-use Rattle.timed.specs.Slot.{updatedSources, IsUpdated}
-use Rattle.timed.specs.State.{Timed, noElement, taken, elementOf, timingOf, slotLeft, slotOf, slotAt, IsTimed}
+use Rattle.timed.specs.Slot.{updatedSources}
+use Rattle.timed.specs.Contracts.{IsUpdated, IsTimed}
+use Rattle.timed.specs.State.{Timed, noElement, taken, elementOf, timingOf, slotLeft, slotOf, slotAt}
 use Rattle.timed.specs.declared.state.ElementRendererState.{ElementRendererState}
 use Rattle.timed.specs.declared.state.MetadataRendererState.{MetadataRendererState}
 use Rattle.timed.specs.declared.slot.Timing.{Timing}

@@ -6,3 +6,5 @@ pub mod Rules
 pub mod Shifted
 pub mod Slot
 pub mod State
+pub mod Bounds
+pub mod Contracts

@@ -1,7 +1,6 @@
 -- What a block that is applied and a ramp do to beds and dynamic objects: `update_source_state`, `update_bed_source_state` and the loops of `update_sources` over objects.
 -- Assumes nothing.
 use Prim.Native.Nat.{ℕ, _+_, _*_}
-use mathlib.Core.Path.{_≡_}
 use mathlib.Core.Bool.{Bool, true, false, _&&_, _||_, cond}
 use mathlib.Core.List.{List}
 use lib.ListN.{getD, set}
@@ -65,10 +64,6 @@ unfoldable pub moved : Bool → ℕ → DynamicSourceState → List ℕ → Afte
 unfolding blockPosition
 moved arrived k s is = afterMove arrived k s is (blockPosition is k) (placed (blockPosition is k) (s .place))
 
-pub record IsMoved (a : After) (m : Moved) (is : List ℕ) : Type 0 where
-  pub object : m ≡ a .moved
-  pub infos : is ≡ a .infos
-
 -- the dynamic objects, and the infos
 pub record Work : Type 0 where
   pub moving : Moving
@@ -86,10 +81,6 @@ movedAt arrived first d w =
 unfoldable pub movedAll : Bool → ℕ → ℕ → Moving → List ℕ → Work
 unfolding times moved
 movedAll arrived first count m is = times count 0 (movedAt arrived first) (record { moving = m; infos = is })
-
-pub record IsMovedAll (w : Work) (m : Moving) (is : List ℕ) : Type 0 where
-  pub objects : m ≡ w .moving
-  pub infos : is ≡ w .infos
 
 abbrev pub bedAt : List ℕ → ℕ → ℕ → List Float → List Float
 bedAt is first i gs = set gs i (orElse (gainAt is (first + mostBlocks * i)) (getD gs i nan))

@@ -1,6 +1,7 @@
 -- Document 01, item 5, over signed numbers: the timecode, when a block is applied, what remains of its ramp, and which elements do anything. The state keeps offsets and ramps plus 2 ^ 20 and a
 -- remaining ramp plus 2 ^ 47, so that none is below 0; here each is the number that is meant. specs/Shifted says the same of the numbers that are kept. Assumes nothing.
 use Prim.Native.Nat.{ℕ}
+use mathlib.Core.List.{[]}
 use mathlib.Core.Bool.{Bool, false, not, _&&_, _||_}
 use lib.Dec.{eqb}
 use lib.IntN.{ℤ, pos, negsuc, _+ℤ_, _-ℤ_}
@@ -11,6 +12,7 @@ use Rattle.ieee.specs.Small.{smaller}
 use Rattle.vectors.specs.Vectors.{1·0}
 use Rattle.timed.specs.declared.state.BlockState.{BlockState}
 use Rattle.timed.specs.declared.state.ElementRendererState.{ElementRendererState}
+use Rattle.timed.specs.declared.state.MetadataRendererState.{MetadataRendererState}
 use Rattle.timed.specs.declared.slot.Timing.{Timing}
 
 -- ---- the numbers that are kept
@@ -44,6 +46,12 @@ keptAs z = natural (z +ℤ pos middle)
 -- what stands past a table's end
 abbrev pub noBlock : BlockState
 noBlock = record { offset = 0; ramp = 0; used = false }
+
+abbrev pub noElement : ElementRendererState
+noElement = record { blocks = 0; flags = 0; remaining = 0; schedule = []; tracks = [] }
+
+abbrev pub elementOf : MetadataRendererState → ℕ → ElementRendererState
+elementOf s i = getD (s .states) i noElement
 
 abbrev pub firstOffset : ElementRendererState → ℤ
 firstOffset e = offsetOf (getD (e .schedule) 0 noBlock)

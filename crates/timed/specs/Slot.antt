@@ -1,13 +1,12 @@
 -- A slot of an element: `update_sources`, by the rules of specs/Rules. Assumes nothing.
-use Prim.Native.Nat.{ℕ, _+_, _-_, _*_, _≤_, _<_}
-use mathlib.Core.Path.{_≡_}
-use mathlib.Core.Bool.{Bool, true, false, cond}
+use Prim.Native.Nat.{ℕ, _+_}
+use mathlib.Core.Bool.{true, cond}
 use mathlib.Core.List.{List}
 use lib.ListN.{getD, set}
 use lib.Ieee.{Float}
 use Rattle.timed.specs.Turns.{times}
-use Rattle.timed.specs.Sizes.{mostBlocks, allInfos}
 pub use Rattle.timed.specs.Rules.{middle, noBlock}
+pub use Rattle.timed.specs.Bounds.{InRange}
 use Rattle.timed.specs.Rules.{remainingOf, keptAs, due, leftAfter, over, share, slotLess}
 use Rattle.timed.specs.Objects.{movedAll, bedGains, rampedAll}
 use Rattle.timed.specs.declared.state.BlockState.{BlockState}
@@ -19,42 +18,12 @@ use Rattle.timed.specs.declared.slot.Reach.{Reach}
 use Rattle.timed.specs.declared.slot.Slot.{Slot}
 use Rattle.timed.specs.declared.slot.Updated.{Updated}
 
--- "Stream positions lie from 0 to 2^40"
-pub record InTime (w : Timing) : Type 0 where
-  pub start : w .start ≤ 1099511627776
-  pub payload : w .payload ≤ 1099511627776
-
--- every info that is reached is one of the 512
-pub record Reaches (r : Reach) : Type 0 where
-  pub few : r .channels ≤ 18
-  pub some : r .count ≤ 16
-  pub beds : (i : ℕ) → i < r .channels → r .beds + mostBlocks * i + mostBlocks ≤ allInfos
-  pub objects : (d : ℕ) → d < r .count → r .first + mostBlocks * d + mostBlocks ≤ allInfos
-  pub near : r .beds ≤ 4096
-  pub low : r .first ≤ 4096
-
--- "an offset or ramp outside ±1,048,576" is refused; "a remaining ramp from -2^21 - 64 × the stream's position to 2^20"
-pub record Ramps (position : ℕ) (schedule : List BlockState) (remaining : ℕ) : Type 0 where
-  pub offsets : (b : ℕ) → b < mostBlocks → getD schedule b noBlock .offset ≤ 2097152
-  pub ramps : (b : ℕ) → b < mostBlocks → getD schedule b noBlock .ramp ≤ 2097152
-  pub most : remaining ≤ 140737489403904
-  pub least : middle ≤ remaining + (2097152 + 64 * position)
-
--- an element's ranges, at a stream position
-pub record InRange (position : ℕ) (e : ElementRendererState) : Type 0 where
-  pub blocks : e .blocks ≤ mostBlocks
-  pub ramps : Ramps position (e .schedule) (e .remaining)
-
 -- ---- blocks
 
 -- a slot in work, and the infos
 pub record Work : Type 0 where
   pub slot : Slot
   pub infos : List ℕ
-
-pub record IsWork (w : Work) (s : Slot) (is : List ℕ) : Type 0 where
-  pub slot : s ≡ w .slot
-  pub infos : is ≡ w .infos
 
 -- block b, applied: it counts as used, its ramp remains, beds take its gains and objects its gains, sizes and targets
 unfoldable pub blockApplied : Timing → Reach → ℕ → Work → Work
@@ -104,10 +73,6 @@ rampApplied before n s =
 pub record Sourced : Type 0 where
   pub updated : Updated
   pub infos : List ℕ
-
-pub record IsUpdated (a : Sourced) (u : Updated) (is : List ℕ) : Type 0 where
-  pub updated : u ≡ a .updated
-  pub infos : is ≡ a .infos
 
 unfoldable pub updatedSources : Timing → Reach → ElementRendererState → List Float → List DynamicSourceState → List ℕ → Sourced
 unfolding due leftAfter remainingOf keptAs share blocksApplied rampApplied

@@ -1,44 +1,23 @@
 -- A slot of the whole state: `update_timeslot`. Assumes nothing.
-use Prim.Native.Nat.{ℕ, zero, suc, _+_, _-_, _*_, _≤_, _<_}
-use mathlib.Core.Path.{_≡_}
+use Prim.Native.Nat.{ℕ, zero, suc, _+_, _-_, _*_}
 use mathlib.Core.Bool.{cond}
-use mathlib.Core.List.{List, []}
+use mathlib.Core.List.{List}
 use lib.Dec.{eqb}
 use lib.ListN.{getD, set}
-use Rattle.timed.specs.Sizes.{mostElements, mostObjects, mostBlocks, elementInfos}
+use Rattle.timed.specs.Sizes.{mostBlocks, elementInfos}
+pub use Rattle.timed.specs.Rules.{noElement, elementOf}
 use Rattle.timed.specs.Rules.{active, begins}
-use Rattle.timed.specs.Slot.{Sourced, InRange, updatedSources}
+pub use Rattle.timed.specs.Bounds.{Within}
+use Rattle.timed.specs.Slot.{Sourced, updatedSources}
 use Rattle.timed.specs.declared.state.ElementRendererState.{ElementRendererState}
 use Rattle.timed.specs.declared.state.MetadataRendererState.{MetadataRendererState}
 use Rattle.timed.specs.declared.slot.Timing.{Timing}
 use Rattle.timed.specs.declared.slot.Reach.{Reach}
 
--- what stands past a table's end
-abbrev pub noElement : ElementRendererState
-noElement = record { blocks = 0; flags = 0; remaining = 0; schedule = []; tracks = [] }
-
-abbrev pub elementOf : MetadataRendererState → ℕ → ElementRendererState
-elementOf s i = getD (s .states) i noElement
-
--- what a state holds at a stream position, as document 01's ranges have it
-pub record Within (position : ℕ) (s : MetadataRendererState) : Type 0 where
-  pub payload : s .payload .0 ≤ 1099511627776
-  pub objects : s .objects ≤ mostObjects
-  pub isf : s .isf ≤ 255
-  pub dynamic : s .objects - s .isf ≤ 16
-  pub beds : s .beds ≤ 18
-  pub channels : s .beds ≤ s .objects
-  pub elements : s .elements ≤ mostElements
-  pub states : (i : ℕ) → i < mostElements → InRange position (elementOf s i)
-
 -- the state, and the infos
 pub record Timed : Type 0 where
   pub state : MetadataRendererState
   pub infos : List ℕ
-
-pub record IsTimed (t : Timed) (s : MetadataRendererState) (is : List ℕ) : Type 0 where
-  pub state : s ≡ t .state
-  pub infos : is ≡ t .infos
 
 -- Document 01, item 5: "take the last element whose first block offset is from 0 up to the timecode, ending the search there, else element 0"; i counts those not yet seen.
 unfoldable pub taken : Timing → List ElementRendererState → ℕ → ℕ

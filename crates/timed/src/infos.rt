@@ -16,14 +16,21 @@ use vectors::Vec3;
 
 // The infos of an object in an element, and those of the element.
 pub const BLOCKS: usize = 8;
+
 pub const ELEMENT_INFOS: usize = 256;
 // An info's bytes, and where its words stand after the head.
 pub const INFO_BYTES: usize = 44;
+
 pub const GAIN: usize = 4;
+
 pub const SIZE: usize = 8;
+
 pub const DISTANCE: usize = 12;
+
 pub const SCREEN: usize = 16;
+
 pub const POSITION: usize = 20;
+
 pub const LAST: usize = 32;
 
 fn anchor_of(n: u32) -> Anchor

@@ -9,7 +9,8 @@ use lib.ListN.{getD, set}
 use native.Mathlib.Numerals.{add-one}
 use native.Mathlib.Omega.{arith}
 use native.Mathlib.Nat.{mul-le-mul-right, suc-mul}
-use Rattle.timed.specs.State.{noElement, IsTimed}
+use Rattle.timed.specs.State.{noElement}
+use Rattle.timed.specs.Contracts.{IsTimed}
 use Rattle.timed.specs.declared.clock.StreamSample.{StreamSample}
 use Rattle.timed.specs.declared.state.DynamicSourceState.{DynamicSourceState}
 use Rattle.timed.specs.declared.state.MetadataRendererState.{MetadataRendererState}
@@ -19,7 +20,8 @@ use Rattle.fields.specs.declared.update.Header.{Header}
 use Rattle.records.specs.Laid.{elementAt, elementEnd}
 use Rattle.updates.specs.declared.element.Counts.{Counts}
 use Rattle.updates.specs.Said.{elementOf, updateOf}
-use Rattle.updates.specs.Applied.{Work, IsCounts, IsElement, IsWork, elementGiven, elementsApplied, codesGiven, nextGains, nextSources, applied}
+use Rattle.updates.specs.Contracts.{IsCounts, IsElement, IsWork}
+use Rattle.updates.specs.Applied.{Work, elementGiven, elementsApplied, codesGiven, nextGains, nextSources, applied}
 
 -- object o in block b is among n objects in k blocks each
 pub cell-below : (o n b k : ℕ) → o < n → b < k → o * k + b < n * k

@@ -18,11 +18,12 @@ use Rattle.fields.specs.declared.object.Info.{Info}
 use Rattle.vectors.specs.Head.{has}
 use Rattle.timed.specs.Sizes.{infoOf}
 use Rattle.timed.specs.Infos.{vecAt}
-use Rattle.timed.specs.Rules.{noBlock}
+use Rattle.timed.specs.Rules.{middle, noBlock}
 use Rattle.timed.specs.Turns.{times}
 use Rattle.timed.specs.State.{Timed, elementOf}
 use Rattle.timed.specs.declared.state.BlockState.{BlockState}
 use Rattle.timed.specs.declared.state.MetadataRendererState.{MetadataRendererState}
+use Rattle.timed.proofs.Theorems.{remaining-shifted}
 use Rattle.updates.specs.Said.{Element, Update}
 use Rattle.updates.specs.Stored.{withThree, cleared, withPlace, headOf, withHead, withInfo, infoGiven, objectStored, objectGiven, objectsStored}
 use Rattle.updates.specs.Applied.{Work, isSame, scheduled, elementNext, elementGiven, elementsApplied, applied}
@@ -69,8 +70,14 @@ origin-written s at l =
     let lb = length-kept a (at + 4) 4 0 in
     let kb = number-keeps a (at + 4) 4 0 in
     let kc = number-keeps b (at + 8) 4 0 in
-    rw (reads-before kc at 4 (omega arith), reads-before kb at 4 (omega arith), reads-back s at 4 0 (omega arith) (lit< tt),
-    reads-before kc (at + 4) 4 (omega arith), reads-back a (at + 4) 4 0 (omega arith) (lit< tt), reads-back b (at + 8) 4 0 (omega arith) (lit< tt))
+    rw (
+      reads-before kc at 4 (omega arith),
+      reads-before kb at 4 (omega arith),
+      reads-back s at 4 0 (omega arith) (lit< tt),
+      reads-before kc (at + 4) 4 (omega arith),
+      reads-back a (at + 4) 4 0 (omega arith) (lit< tt),
+      reads-back b (at + 8) 4 0 (omega arith) (lit< tt),
+    )
 
 -- ---- an info
 
@@ -187,11 +194,11 @@ lifted n u t f ne e l =
     let states = f .states in
     let x = element-at n u t e l (omega arith) in
     let o : (o b : ℕ) → o < u .objects → b < u .element e .blocks → Origin (u .element e .info o b) (infoOf e o b) (applied n u t .infos) = λ o b p q.
-        rw d (infos-origin u (record { states = t .state .states; infos = t .infos }) two (f .objects) (f .blocks) (f .infos) e o b l p q) in
+    rw d (infos-origin u (record { states = t .state .states; infos = t .infos }) two (f .objects) (f .blocks) (f .infos) e o b l p q) in
     record {
       flags = rw (x, d);
       tracks = rw (x, d);
-      remaining = rw (x, d);
+      remaining = rw (x, d) (remaining-shifted middle (omega arith));
       unapplied = λ b q. rw x (given-unapplied (u .element e) (elementOf (t .state) e .schedule) b (f .schedules e (omega arith)) (f .blocks e l) q);
       position = λ i b p q. o i b p q .position;
       last = λ i b p q. o i b p q .last;

@@ -8,7 +8,8 @@ use native.Mathlib.Omega.{arith}
 use borrow.Author.Tests.{leb-true}
 use Rattle.words.specs.Words.{Bytes}
 use Rattle.fields.specs.Update.{objects, elements}
-use Rattle.fields.specs.Block.{blocks, raisedOf}
+use Rattle.fields.specs.Block.{blocks}
+use Rattle.fields.specs.Raised.{raisedOf}
 use Rattle.fields.proofs.All.{and-left, and-right}
 use Rattle.fields.proofs.Raised.{raised-within}
 use Rattle.records.specs.Laid.{blockAt, elementAt, updateAt, laidOut, count}

@@ -1,6 +1,5 @@
 -- An applied update: `apply_update` and `apply_element`. Assumes nothing.
 use Prim.Native.Nat.{ℕ, _-_, _*_}
-use mathlib.Core.Path.{_≡_}
 use mathlib.Core.Bool.{Bool, true, false, not, _&&_, cond}
 use mathlib.Core.List.{List}
 use lib.Dec.{eqb}
@@ -16,7 +15,6 @@ use Rattle.timed.specs.declared.state.Track.{Track}
 use Rattle.timed.specs.declared.state.DynamicSourceState.{DynamicSourceState}
 use Rattle.timed.specs.declared.state.ElementRendererState.{ElementRendererState}
 use Rattle.timed.specs.declared.state.MetadataRendererState.{MetadataRendererState}
-use Rattle.updates.specs.declared.element.Counts.{Counts}
 use Rattle.updates.specs.Said.{Element, Update}
 use Rattle.updates.specs.Stored.{objectsStored}
 
@@ -71,17 +69,6 @@ pub record Work : Type 0 where
   pub states : List ElementRendererState
   pub infos : List ℕ
 
--- the counts of an update
-pub record IsCounts (c : Counts) (u : Update) : Type 0 where
-  pub objects : c .objects ≡ u .objects
-  pub isf : c .isf ≡ u .isf
-  pub dynamic : c .dynamic ≡ u .objects - u .isf
-
--- what an element at `s` becomes, and the infos from `first` on
-pub record IsElement (same : Bool) (c : Counts) (x : Element) (first : ℕ) (s : ElementRendererState) (is : List ℕ) (r : ElementRendererState) (out : List ℕ) : Type 0 where
-  pub element : r ≡ elementNext (isKept same (s .blocks) (x .blocks)) (c .dynamic) x s
-  pub infos : out ≡ objectsStored (not (isKept same (s .blocks) (x .blocks))) (c .isf) x first (c .objects) is
-
 unfoldable pub elementGiven : Bool → Update → ℕ → Work → Work
 unfolding elementNext objectsStored
 elementGiven same u e w =
@@ -96,10 +83,6 @@ elementGiven same u e w =
 unfoldable pub elementsApplied : Bool → Update → List ElementRendererState → List ℕ → Work
 unfolding times elementGiven
 elementsApplied same u states is = times (u .elements) 0 (elementGiven same u) (record { states = states; infos = is })
-
-pub record IsWork (w : Work) (es : List ElementRendererState) (is : List ℕ) : Type 0 where
-  pub states : es ≡ w .states
-  pub infos : is ≡ w .infos
 
 -- ---- the update
 

@@ -2,12 +2,13 @@
 use Prim.Native.Nat.{ℕ, _+_, _-_, _*_, _≤_, _<_}
 use mathlib.Core.Path.{_≡_}
 use mathlib.Core.Bool.{false}
+use lib.IntN.{pos}
 use lib.ListN.{length, getD, replicate}
 use Rattle.vectors.specs.Vectors.{zeroVec3}
 use Rattle.vectors.specs.Head.{has}
 use Rattle.timed.specs.Sizes.{mostElements, mostObjects, mostBlocks, allBytes, positionByte, lastByte, infoOf, infoAt}
 use Rattle.timed.specs.Infos.{vecAt}
-use Rattle.timed.specs.Rules.{middle, noBlock}
+use Rattle.timed.specs.Rules.{remainingOf, noBlock}
 use Rattle.timed.specs.State.{Timed, elementOf}
 use Rattle.updates.specs.Said.{Update}
 use Rattle.updates.specs.Applied.{newTrack}
@@ -27,7 +28,7 @@ pub record Fits (u : Update) (t : Timed) : Type 0 where
 pub record Afresh (u : Update) (e : ℕ) (t : Timed) : Type 0 where
   pub flags : elementOf (t .state) e .flags ≡ u .objects - u .isf
   pub tracks : elementOf (t .state) e .tracks ≡ replicate 16 newTrack
-  pub remaining : elementOf (t .state) e .remaining ≡ middle
+  pub remaining : remainingOf (elementOf (t .state) e .remaining) ≡ pos 0
   pub unapplied : (b : ℕ) → b < u .element e .blocks → getD (elementOf (t .state) e .schedule) b noBlock .used ≡ false
   pub position : (o b : ℕ) → o < u .objects → b < u .element e .blocks → has (u .element e .info o b .head) 8 ≡ false → vecAt (t .infos) (infoAt (infoOf e o b) + positionByte) ≡ zeroVec3
   pub last : (o b : ℕ) → o < u .objects → b < u .element e .blocks → vecAt (t .infos) (infoAt (infoOf e o b) + lastByte) ≡ zeroVec3

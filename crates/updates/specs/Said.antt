@@ -4,8 +4,9 @@ use mathlib.Core.List.{List}
 use Rattle.fields.specs.declared.block.Raised.{Raised}
 use Rattle.fields.specs.declared.object.Info.{Info}
 use Rattle.fields.specs.Update.{objects, bedOrIsf, beds, elements, code}
-use Rattle.fields.specs.Block.{blocks, raisedOf}
-use Rattle.fields.specs.Object.{infoOf}
+use Rattle.fields.specs.Block.{blocks}
+use Rattle.fields.specs.Raised.{raisedOf}
+use Rattle.fields.specs.Infos.{infoOf}
 use Rattle.records.specs.Laid.{blockAt, objectAt, elementAt}
 
 pub record Element : Type 0 where

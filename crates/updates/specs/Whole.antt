@@ -1,10 +1,11 @@
--- What is asked of the metadata of an update that is applied: its records stand in the list, its counts and blocks are within their limits. Records that refusals 5 and 6 let
+-- A reader may skip this file: what is asked of the metadata of an update that is applied: its records stand in the list, its counts and blocks are within their limits. Records that refusals 5 and 6 let
 -- pass are so. Assumes nothing.
 use Prim.Native.Nat.{ℕ, _+_, _-_, _*_, _≤_, _<_}
 use mathlib.Core.List.{List}
 use lib.ListN.{length, getD}
 use Rattle.fields.specs.Update.{objects, bedOrIsf, beds, elements}
-use Rattle.fields.specs.Block.{blocks, raised}
+use Rattle.fields.specs.Block.{blocks}
+use Rattle.fields.specs.Raised.{raised}
 use Rattle.records.specs.Laid.{blockAt, elementEnd, elementAt}
 
 -- the blocks of the element at record p

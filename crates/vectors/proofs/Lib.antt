@@ -1,3 +1,4 @@
 pub mod Fitting
 pub mod Cases
 pub mod Heads
+pub mod Theorems

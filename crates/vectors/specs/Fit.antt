@@ -1,4 +1,4 @@
--- Vectors whose components are values of f32. Assumes nothing.
+-- A reader may skip this file, which the proofs cite: vectors whose components are values of f32. Assumes nothing.
 use lib.Dec.{T}
 use lib.Ieee.{binary32, fits}
 use Rattle.vectors.specs.declared.Vec3.{Vec3}

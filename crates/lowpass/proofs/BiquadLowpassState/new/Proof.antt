@@ -2,7 +2,7 @@
 use mathlib.Core.Path.{ap}
 use borrow.Author.Needs.{needs}
 use lib.Ieee.{ofBits}
-use Rattle.angles.proofs.Rates.{lowpass-only}
+use Rattle.angles.proofs.Theorems.{lowpass-only}
 use Rattle.lowpass.specs.Lowpass.{fresh, new}
 use Rattle.lowpass.proofs.BiquadLowpassState.new.Statement.{statement}
 use Rattle.lowpass.proofs.BiquadLowpassState.new.Tie as tie

@@ -1,0 +1,14 @@
+-- What others may cite of this crate, a line each. Assumes nothing.
+
+-- the rules over signed numbers are those over the numbers as they are kept
+pub use Rattle.timed.proofs.Shifted.{due-shifted, left-shifted, left-over, over-shifted, less-shifted, remaining-shifted, active-shifted, begins-shifted}
+-- a remaining ramp is read back from how it is kept, and a kept one from the number that it is
+pub use Rattle.timed.proofs.Shifted.{remaining-reads-back, kept-reads-back}
+-- a signed number as a difference: sums, differences and comparisons
+pub use Rattle.timed.proofs.Differences.{Is, is-pos, is-less, is-plus, is-minus, is-natural, is-lt, is-le, is-one}
+-- a slot keeps the ranges of the state; a later stream position has wider ones
+pub use Rattle.timed.proofs.Kept.{slot-within, within-later}
+-- one turn more, and the last is over
+pub use Rattle.timed.proofs.Laws.{turn, ended}
+-- what every turn keeps, what both ways of a test keep, what holds of every entry of a table
+pub use Rattle.timed.proofs.Keeps.{times-in, times-keeps, cond-keeps, set-each, set-keeps}
