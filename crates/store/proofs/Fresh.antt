@@ -16,13 +16,15 @@ use Rattle.timed.specs.State.{noElement}
 use Rattle.timed.specs.declared.state.BlockState.{BlockState}
 use Rattle.timed.specs.declared.state.MetadataRendererState.{MetadataRendererState}
 use Rattle.rules.specs.Parts.{zeros, 0·0, 1·0}
-use Rattle.store.specs.Table.{each, bytesOf}
-use Rattle.store.specs.Fields.{sourceWords, blockWords, trackWords, elementWords, filterWords, clockWords, countWords, tableWords, smallWords}
+use Rattle.formats.specs.Format.{puts}
+use Rattle.store.specs.Bytes.{bytesOf}
+use Rattle.store.specs.Fields.{smallWords}
+use Rattle.store.specs.Places.{limiterGainAt, remainingIn, firstAt, secondAt, infosAt}
 use Rattle.store.specs.Layout.{size, small, rows, encode, still, noBlocks, blank, fresh, marked, filled}
 use Rattle.store.specs.Ranges.{leastFlags, headValid, headsValid}
 use Rattle.store.specs.Ranged.{Single, Singles, SourceSingles, TrackSingles, ElementRanged, StateRanged, InfosRanged, PlacesRanged, Ranged}
 use Rattle.store.proofs.Bytes.{written-front}
-use Rattle.store.proofs.Tables.{and-in}
+use Rattle.formats.proofs.Places.{and-in}
 
 -- ---- zeros
 
@@ -44,7 +46,8 @@ zero-heads : (n at k : ℕ) → T (headsValid (replicate n 0) at k)
 unfolding headsValid
 zero-heads n at zero = tt
 zero-heads n at (suc k) =
-    and-in (headValid (word (replicate n 0) at)) (headsValid (replicate n 0) (at + 44) k) (subst (λ (x : ℕ). T (headValid x)) (sym (zero-number n at 4)) tt) (zero-heads n (at + 44) k)
+    and-in (headValid (word (replicate n 0) at)) (headsValid (replicate n 0) (at + 44) k)
+    (subst (λ (x : ℕ). T (headValid x)) (sym (zero-number n at 4)) tt) (zero-heads n (at + 44) k)
 
 zero-words : (n : ℕ) → Words (replicate n 0)
 zero-words zero = tt
@@ -95,7 +98,8 @@ still-singles : Singles still
 still-singles = record { x = zero-single; y = zero-single; z = zero-single }
 
 blocks-ranged : ElementRanged 0 noBlocks
-blocks-ranged = record { flags = lit≤ tt; enough = lit≤ tt; schedule = refl; tracks = refl; targets = all-same TrackSingles 16 (record { now = false; future = still }) still-singles }
+blocks-ranged =
+    record { flags = lit≤ tt; enough = lit≤ tt; schedule = refl; tracks = refl; targets = all-same TrackSingles 16 (record { now = false; future = still }) still-singles }
 
 none-less : (i : ℕ) (s : MetadataRendererState) → s .elements ≡ 0 → leastFlags i s ≡ 0
 none-less i s e = let l : s .elements ≤ i = omega arith in rw (le-ltb i (s .elements) l)
@@ -119,9 +123,12 @@ state-fresh =
       gains = refl;
       beds = all-same Single 18 0·0 zero-single;
       sources = refl;
-      objects = all-same SourceSingles 16 (record { gain = 0·0; size = 0·0; place = still; placed = false }) (record { gain = zero-single; size = zero-single; place = still-singles });
+      objects =
+          all-same SourceSingles 16 (record { gain = 0·0; size = 0·0; place = still; placed = false }) (record { gain = zero-single; size = zero-single; place = still-singles });
       states = refl;
-      elements = λ i l. subst (ElementRanged (leastFlags i (blank .state))) (sym (element-fresh i l)) (subst (λ (n : ℕ). ElementRanged n noBlocks) (sym (none-less i (blank .state) refl)) blocks-ranged);
+      elements = λ i l.
+          subst (ElementRanged (leastFlags i (blank .state))) (sym (element-fresh i l))
+          (subst (λ (n : ℕ). ElementRanged n noBlocks) (sym (none-less i (blank .state) refl)) blocks-ranged);
     }
 
 pub fresh-ranged : Ranged fresh
@@ -133,7 +140,18 @@ fresh-ranged =
       position = lit≤ tt;
       start = lit≤ tt;
       gain = one-single;
-      filter = record { a1 = zero-single; a2 = zero-single; b0 = zero-single; b1 = zero-single; b2 = zero-single; x1 = zero-single; x2 = zero-single; y1 = zero-single; y2 = zero-single };
+      filter =
+          record {
+            a1 = zero-single;
+            a2 = zero-single;
+            b0 = zero-single;
+            b1 = zero-single;
+            b2 = zero-single;
+            x1 = zero-single;
+            x2 = zero-single;
+            y1 = zero-single;
+            y2 = zero-single;
+          };
       pending = lit< tt;
       idle = λ e. refl;
       state = state-fresh;
@@ -156,18 +174,20 @@ zero-rows (suc n) k l =
     ap₂ (λ (a b : List ℕ). a ++ b) (ap bytesOf z ∙ bytes-zero 64) (zero-rows n (suc k) (omega arith))
     ∙ replicate-append-replicate 256 (n * 256) 0 ∙ ap (λ (m : ℕ). replicate m 0) (let e : 256 + n * 256 ≡ suc n * 256 = omega arith in e)
 
-marked-front : (s t : List ℕ) → 1360 ≤ length s → marked (s ++ t) ≡ marked s ++ t
+marked-front : (s t : List ℕ) → infosAt ≤ length s → marked (s ++ t) ≡ marked s ++ t
 marked-front s t l =
-    let a = withWord s 24 0x3f80_0000 in
-    let b = withLong a 632 middle in
-    let la : length a ≡ length s = length-kept s 24 4 0x3f80_0000 in
-    let lb : length b ≡ length a = length-kept a 632 8 middle in
-    ap (λ (x : List ℕ). withLong (withLong x 632 middle) 1000 middle) (written-front s t 24 4 0x3f80_0000 (omega arith))
-    ∙ ap (λ (x : List ℕ). withLong x 1000 middle) (written-front a t 632 8 middle (omega arith))
-    ∙ written-front b t 1000 8 middle (omega arith)
+    let R = 4 * (firstAt + remainingIn) in
+    let Q = 4 * (secondAt + remainingIn) in
+    let a = withWord s (4 * limiterGainAt) 0x3f80_0000 in
+    let b = withLong a R middle in
+    let la : length a ≡ length s = length-kept s (4 * limiterGainAt) 4 0x3f80_0000 in
+    let lb : length b ≡ length a = length-kept a R 8 middle in
+    ap (λ (x : List ℕ). withLong (withLong x R middle) Q middle) (written-front s t (4 * limiterGainAt) 4 0x3f80_0000 (omega arith))
+    ∙ ap (λ (x : List ℕ). withLong x Q middle) (written-front a t R 8 middle (omega arith))
+    ∙ written-front b t Q 8 middle (omega arith)
 
-small-fresh : bytesOf (smallWords (small fresh)) ≡ marked (replicate 1360 0)
-unfolding bytesOf smallWords clockWords filterWords countWords tableWords elementWords sourceWords blockWords trackWords each blank withNumber toBits
+small-fresh : bytesOf (smallWords (small fresh)) ≡ marked (replicate infosAt 0)
+unfolding bytesOf smallWords puts blank withNumber toBits
 small-fresh = refl
 
 tail-fresh : (n m : ℕ) → n ≡ 22528 → m ≡ 12 → replicate n 0 ++ rows m 0 zeros ≡ replicate (n + m * 256) 0
@@ -177,8 +197,8 @@ pub encode-fresh : encode fresh ≡ filled
 unfolding encode blank filled
 encode-fresh =
     ap₂ (λ (a b : List ℕ). a ++ b) small-fresh (tail-fresh 22528 12 refl refl)
-    ∙ sym (marked-front (replicate 1360 0) (replicate 25600 0) (subst (λ (n : ℕ). 1360 ≤ n) (sym (length-replicate {A = ℕ} 1360 0)) (lit≤ tt)))
-    ∙ ap marked (replicate-append-replicate 1360 25600 0)
+    ∙ sym (marked-front (replicate infosAt 0) (replicate 25600 0) (subst (λ (n : ℕ). infosAt ≤ n) (sym (length-replicate {A = ℕ} infosAt 0)) (lit≤ tt)))
+    ∙ ap marked (replicate-append-replicate infosAt 25600 0)
 
 -- what reset writes
 pub refilled : (n : ℕ) → n ≡ size → marked (replicate n 0) ≡ encode fresh

@@ -1,103 +1,117 @@
--- Tables of entries: one law for every table. Assumes nothing.
-use mathlib.Core.Path.{_≡_, refl, sym, ap, ap₂, _∙_}
+-- What the tests of a block answer: of a table, column by column; of the fields; of the whole. Assumes nothing.
+use mathlib.Core.Path.{_≡_, refl, sym, ap, ap₂, subst, _∙_}
 use mathlib.Core.Bool.{Bool, true, false, _&&_}
-use mathlib.Core.List.{List, [], _∷_, _++_, append-assoc}
-use Prim.Native.Nat.{ℕ, zero, suc, _*_, _≤_, _<_}
-use native.Mathlib.Nat.{zero-mul}
+use mathlib.Core.List.{List}
+use Prim.Native.Nat.{ℕ, _+_, _≤_}
 use native.Mathlib.Omega.{arith}
-use lib.Dec.{T, leb, leb→le, le→leb}
-use lib.Ieee.Fits.{and-l, and-r}
-use lib.ListN.{length, getD, drop, length-append}
-use lib.Seq.{drop-at}
-use Rattle.ieee.specs.Bounds.{All}
-use Rattle.words.specs.Words.{Words}
-use Rattle.store.specs.Table.{each, table, atMost, every}
+use borrow.Author.Tests.{eq-eqb, ne-eqb}
+use lib.Dec.{T, eqb, leb}
+use lib.ListN.{length, getD}
+pub use Rattle.formats.proofs.Places.{and-in}
+use Rattle.words.specs.Words.{wordsAt}
+use Rattle.formats.specs.Numbers.{longOf}
+use Rattle.formats.specs.Format.{allAt, gets, u8To}
+use Rattle.formats.proofs.Loops.{all-same, all-both, all-any, and-true, and-false}
+use Rattle.store.specs.Fields.{longest, sourceFormat, blockFormat, trackFormat, elementFormat, tablesFormat, smallFormat, smallOf}
+use Rattle.store.specs.Places.{phaseAt, positionAt, startAt, pendingAt, objectsAt, isfAt, bedsAt, inUseAt, tablesAt, gainsAt, sourcesAt, placedIn, flagsIn, remainingIn, firstAt, secondAt}
+use Rattle.store.specs.Layout.{smallWidth, size, infosOf}
+use Rattle.store.specs.Ranges.{clockIn, countsIn, least, elementIn, related, smallValid, headsValid, valid}
+use Rattle.store.proofs.Back.{lawful-small}
 
--- ---- tests
+module _ (w : List ℕ) where
+  -- word j of an entry is at most a limit
+  abbrev pub most : ℕ → ℕ → ℕ → Bool
+  most j limit a = leb (getD w (a + j) 0) limit
 
-pub and-in : (a b : Bool) → T a → T b → T (a && b)
-and-in true b p q = q
-and-in false b p q = p
+  -- the same, at a place in another form
+  place : (limit : ℕ) {m n : ℕ} → m ≡ n → leb (getD w m 0) limit ≡ leb (getD w n 0) limit
+  place limit e = ap (λ (i : ℕ). leb (getD w i 0) limit) e
 
-pub every-in : (bs : List Bool) → All T bs → T (every bs)
-every-in [] h = tt
-every-in (b ∷ bs) h = and-in b (every bs) (h .0) (every-in bs (h .1))
+  pub codes-test : (n at : ℕ) → allAt (u8To 17 .test w) 1 n at ≡ allAt (most 0 17) 1 n at
+  codes-test = all-same 1 (u8To 17 .test w) (most 0 17) (λ a. place 17 (omega arith))
 
--- test i of those that all hold
-pub every-at : (bs : List Bool) → T (every bs) → (i : ℕ) → T (getD bs i true)
-every-at [] h i = tt
-every-at (b ∷ bs) h zero = and-l b (every bs) h
-every-at (b ∷ bs) h (suc i) = every-at bs (and-r b (every bs) h) i
+  pub sources-test : (n at : ℕ) → allAt (sourceFormat .test w) (sourceFormat .width) n at ≡ allAt (most placedIn 1) (sourceFormat .width) n at
+  sources-test = all-same (sourceFormat .width) (sourceFormat .test w) (most placedIn 1) (λ a. place 1 (omega arith))
 
--- ---- entries
+  pub tracks-test : (n at : ℕ) → allAt (trackFormat .test w) (trackFormat .width) n at ≡ allAt (most 0 1) (trackFormat .width) n at
+  tracks-test = all-same (trackFormat .width) (trackFormat .test w) (most 0 1) (λ a. and-true (leb (getD w a 0) 1) true refl ∙ place 1 (omega arith))
 
-pub words-append : (a b : List ℕ) → Words a → Words b → Words (a ++ b)
-words-append [] b p q = q
-words-append (x ∷ a) b p q = (p .0, words-append a b (p .1) q)
+  pub blocks-test : (n at : ℕ) → allAt (blockFormat .test w) 3 n at ≡ (allAt (most 0 2097152) 3 n at && (allAt (most 1 2097152) 3 n at && allAt (most 2 1) 3 n at))
+  blocks-test n at =
+      all-same 3 (blockFormat .test w) (λ a. most 0 2097152 a && (most 1 2097152 a && most 2 1 a))
+      (λ a. ap₂ _&&_ (place 2097152 (omega arith)) (ap (λ (x : Bool). leb (getD w (a + 1) 0) 2097152 && x) (place 1 (omega arith)))) n at
+      ∙ all-both 3 (most 0 2097152) (λ a. most 1 2097152 a && most 2 1 a) n at
+      ∙ ap (λ (x : Bool). allAt (most 0 2097152) 3 n at && x) (all-both 3 (most 1 2097152) (most 2 1) n at)
 
--- An entry in range P has k words, each below 2^32, and is read back from them, whatever follows.
-pub record Entry {A : Type 0} (P : A → Type 0) (k : ℕ) (f : A → List ℕ) (g : List ℕ → A) : Type 0 where
-  pub long : (x : A) → P x → length (f x) ≡ k
-  pub words : (x : A) → P x → Words (f x)
-  pub back : (x : A) → P x → (t : List ℕ) → g (f x ++ t) ≡ x
+  pub elements-test : (at : ℕ) → allAt (elementFormat .test w) (elementFormat .width) 2 at ≡ (elementFormat .test w at && elementFormat .test w (at + elementFormat .width))
+  unfolding allAt
+  elements-test at = ap (λ (x : Bool). elementFormat .test w at && x) (and-true (elementFormat .test w (at + elementFormat .width)) true refl)
 
--- n entries in range P
-pub record Full {A : Type 0} (P : A → Type 0) (n : ℕ) (xs : List A) : Type 0 where
-  pub count : length xs ≡ n
-  pub each : All P xs
+  pub tables-test : tablesFormat .test w tablesAt
+      ≡ (allAt (most 0 17) 1 18 tablesAt && (allAt (most placedIn 1) (sourceFormat .width) 16 sourcesAt && (elementFormat .test w firstAt && elementFormat .test w secondAt)))
+  tables-test =
+      λ i. codes-test 18 tablesAt i && (all-any 1 18 gainsAt i && (sources-test 16 sourcesAt i && elements-test firstAt i))
 
-module _ {A : Type 0} {P : A → Type 0} {k : ℕ} {f : A → List ℕ} {g : List ℕ → A} (e : Entry P k f g) where
-  each-long : (xs : List A) → All P xs → length (each f xs) ≡ length xs * k
-  unfolding each
-  each-long [] h = sym (zero-mul k)
-  each-long (x ∷ xs) h = length-append (f x) (each f xs) ∙ (let a = e .long x (h .0) in let b = each-long xs (h .1) in omega arith)
+  -- what the fields owe each other, from the words
+  pub related-words : related (smallOf w)
+      ≡ (clockIn (getD w 0 0) (getD w phaseAt 0) (longOf w positionAt) (longOf w startAt) (getD w pendingAt 0)
+      && (countsIn (getD w objectsAt 0) (getD w isfAt 0) (getD w bedsAt 0)
+      && (elementIn (longOf w positionAt) (least 0 (getD w inUseAt 0) (getD w objectsAt 0) (getD w isfAt 0)) (getD w (firstAt + flagsIn) 0) (longOf w (firstAt + remainingIn))
+      && elementIn (longOf w positionAt) (least 1 (getD w inUseAt 0) (getD w objectsAt 0) (getD w isfAt 0)) (getD w (secondAt + flagsIn) 0) (longOf w (secondAt + remainingIn)))))
+  unfolding smallOf gets
+  related-words = refl
 
-  each-words : (xs : List A) → All P xs → Words (each f xs)
-  unfolding each
-  each-words [] h = tt
-  each-words (x ∷ xs) h = words-append (f x) (each f xs) (e .words x (h .0)) (each-words xs (h .1))
+  -- the same, from what is computed one after the other
+  pub related-from : {position start i first j second : ℕ} {k n e f : Bool}
+      → position ≡ longOf w positionAt → start ≡ longOf w startAt
+      → i ≡ least 0 (getD w inUseAt 0) (getD w objectsAt 0) (getD w isfAt 0) → first ≡ longOf w (firstAt + remainingIn)
+      → j ≡ least 1 (getD w inUseAt 0) (getD w objectsAt 0) (getD w isfAt 0) → second ≡ longOf w (secondAt + remainingIn)
+      → k ≡ clockIn (getD w 0 0) (getD w phaseAt 0) position start (getD w pendingAt 0)
+      → n ≡ countsIn (getD w objectsAt 0) (getD w isfAt 0) (getD w bedsAt 0)
+      → e ≡ elementIn position i (getD w (firstAt + flagsIn) 0) first → f ≡ elementIn position j (getD w (secondAt + flagsIn) 0) second
+      → (k && (n && (e && f))) ≡ related (smallOf w)
+  related-from p s a x b y k n e f =
+      (λ t. k t && (n t && (e t && f t)))
+      ∙ (λ t. clockIn (getD w 0 0) (getD w phaseAt 0) (p t) (s t) (getD w pendingAt 0)
+      && (countsIn (getD w objectsAt 0) (getD w isfAt 0) (getD w bedsAt 0)
+      && (elementIn (p t) (a t) (getD w (firstAt + flagsIn) 0) (x t) && elementIn (p t) (b t) (getD w (secondAt + flagsIn) 0) (y t))))
+      ∙ sym related-words
 
-  each-back : (xs : List A) → All P xs → (t : List ℕ) → table g k (length xs) (each f xs ++ t) ≡ xs
-  unfolding each table
-  each-back [] h t = refl
-  each-back (x ∷ xs) h t =
-      rw (append-assoc (f x) (each f xs) t)
-      (ap₂ (λ (y : A) (ys : List A). y ∷ ys) (e .back x (h .0) (each f xs ++ t)) (rw (drop-at (f x) (each f xs ++ t) k (e .long x (h .0))) (each-back xs (h .1) t)))
+-- the numbers of two words, where each field is in its range
+pub record Longs (w : List ℕ) : Type 0 where
+  pub position : longOf w positionAt ≤ longest
+  pub start : longOf w startAt ≤ longest
+  pub first : longOf w (firstAt + remainingIn) ≤ 140737489403904
+  pub second : longOf w (secondAt + remainingIn) ≤ 140737489403904
 
-  -- a table is an entry of n * k words
-  pub entries : (n : ℕ) → Entry (Full P n) (n * k) (each f) (table g k n)
-  entries n =
-      record {
-        long = λ xs h. each-long xs (h .each) ∙ ap (λ (m : ℕ). m * k) (h .count);
-        words = λ xs h. each-words xs (h .each);
-        back = λ xs h t. ap (λ (m : ℕ). table g k m (each f xs ++ t)) (sym (h .count)) ∙ each-back xs (h .each) t;
-      }
+pub longs : (w : List ℕ) → smallFormat .test w 0 ≡ true → Longs w
+unfolding gets
+longs w e =
+    let h = lawful-small .within w 0 (subst T (sym e) tt) in
+    let (rate, (phase, (position, (start, rest)))) = h .0 in
+    let states = h .1 .1 .1 .1 .1 .each in
+    record { position = position; start = start; first = states .0 .0 .1 .1; second = states .1 .0 .0 .1 .1 }
 
--- ---- one word of each entry
+-- the small part, where its fields are in their ranges and where not
+pub fields-good : (w : List ℕ) → smallFormat .test w 0 ≡ true → smallValid w ≡ related (smallOf w)
+unfolding smallValid smallOf
+fields-good w e = ap (λ (x : Bool). x && related (smallFormat .get w 0)) e
 
-module _ {A : Type 0} (d : A) (p : A → ℕ) (limit j k : ℕ) where
-  -- entries whose field p is at most `limit`, where word j of an entry is p of it
-  pub at-most-in : {P : A → Type 0} {f : A → List ℕ} {g : List ℕ → A} → Entry P k f g → ((x : A) (t : List ℕ) → getD (f x ++ t) j 0 ≡ p x)
-      → (xs : List A) → All P xs → ((i : ℕ) → i < length xs → p (getD xs i d) ≤ limit) → (t : List ℕ) → T (atMost j k (length xs) limit (each f xs ++ t))
-  unfolding atMost each
-  at-most-in e same [] h low t = tt
-  at-most-in {f = f} e same (x ∷ xs) h low t =
-      rw (append-assoc (f x) (each f xs) t, drop-at (f x) (each f xs ++ t) k (e .long x (h .0)), same x (each f xs ++ t))
-      (and-in (leb (p x) limit) (atMost j k (length xs) limit (each f xs ++ t)) (le→leb (p x) limit (low 0 (omega arith))) (at-most-in e same xs (h .1) (λ i l. low (suc i) (omega arith)) t))
+pub fields-bad : (w : List ℕ) → smallFormat .test w 0 ≡ false → smallValid w ≡ false
+unfolding smallValid
+fields-bad w e = ap (λ (x : Bool). x && related (smallFormat .get w 0)) e
 
-  -- the same from the words, where p of what words hold is at most their word j
-  pub at-most-out : (g : List ℕ → A) → ((w : List ℕ) → getD w j 0 ≤ limit → p (g w) ≤ limit) → p d ≤ limit → (n : ℕ) (w : List ℕ) → T (atMost j k n limit w) → (i : ℕ) → p (getD (table g k n w) i d) ≤ limit
-  unfolding atMost table
-  at-most-out g same base zero w h i = base
-  at-most-out g same base (suc n) w h zero = same w (leb→le (getD w j 0) limit (and-l (leb (getD w j 0) limit) (atMost j k n limit (drop k w)) h))
-  at-most-out g same base (suc n) w h (suc i) = at-most-out g same base n (drop k w) (and-r (leb (getD w j 0) limit) (atMost j k n limit (drop k w)) h) i
+module _ (b : List ℕ) where
+  pub wrong-length : (length b ≡ size → ⊥) → valid b ≡ false
+  unfolding valid
+  wrong-length h = ap (λ (x : Bool). x && smallValid (wordsAt b 0 smallWidth) && headsValid (infosOf b) 0 512) (ne-eqb (length b) size h)
 
-pub table-long : {A : Type 0} (g : List ℕ → A) (k n : ℕ) (w : List ℕ) → length (table g k n w) ≡ n
-unfolding table
-table-long g k zero w = refl
-table-long g k (suc n) w = ap suc (table-long g k n (drop k w))
+  pub bad-heads : headsValid (infosOf b) 0 512 ≡ false → valid b ≡ false
+  unfolding valid
+  bad-heads e = and-false (eqb (length b) size && smallValid (wordsAt b 0 smallWidth)) (headsValid (infosOf b) 0 512) e
 
-pub table-all : {A : Type 0} (P : A → Type 0) (g : List ℕ → A) → ((w : List ℕ) → P (g w)) → (k n : ℕ) (w : List ℕ) → All P (table g k n w)
-unfolding table
-table-all P g h k zero w = tt
-table-all P g h k (suc n) w = (h w, table-all P g h k n (drop k w))
+  pub good-heads : length b ≡ size → headsValid (infosOf b) 0 512 ≡ true → valid b ≡ smallValid (wordsAt b 0 smallWidth)
+  unfolding valid
+  good-heads h e =
+      and-true (eqb (length b) size && smallValid (wordsAt b 0 smallWidth)) (headsValid (infosOf b) 0 512) e
+      ∙ ap (λ (x : Bool). x && smallValid (wordsAt b 0 smallWidth)) (eq-eqb (length b) size h)

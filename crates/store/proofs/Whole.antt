@@ -1,31 +1,32 @@
 -- A renderer in range is read back from its block, which is 26,960 bytes. Assumes nothing.
-use mathlib.Core.Path.{_≡_, refl, sym, ap, ap₂, _∙_}
-use mathlib.Core.Bool.{Bool, true, false, _||_}
+use mathlib.Core.Path.{_≡_, refl, sym, ap, ap₂, subst, _∙_}
+use mathlib.Core.Bool.{Bool, true, false, not, _&&_, _||_}
 use mathlib.Core.List.{List, [], _∷_, _++_}
-use Prim.Native.Nat.{ℕ, zero, suc, _+_, _*_, _<_, _≤_}
+use Prim.Native.Nat.{ℕ, zero, suc, _+_, _-_, _*_, _<_, _≤_}
 use native.Mathlib.Nat.{zero-add, add-zero}
 use native.Mathlib.Omega.{arith}
 use borrow.Author.Tests.{ltb-true, ltb-false}
-use lib.Dec.{T, eqb, ltb, leb, eqb→eq, leb→le, lit≤}
-use lib.Ieee.Fits.{and-r}
+use lib.Dec.{T, eqb, leb, ltb, eqb→eq, eqb-refl, le→leb, lit<, lit≤}
 use lib.ListN.{length, getD, drop, length-append, take-append-drop}
 use lib.Seq.{drop-at, take-at, drop-drop}
 use Rattle.ieee.specs.Bounds.{All}
 use Rattle.words.specs.Words.{Bytes, wordsAt, withWords}
-use Rattle.timed.specs.Slot.{InRange, noBlock}
+use Rattle.formats.proofs.Places.{and-in}
+use Rattle.timed.specs.Slot.{middle, InRange, noBlock}
 use Rattle.timed.specs.State.{Timed, noElement}
 use Rattle.timed.specs.State as timed
 use Rattle.timed.specs.declared.state.ElementRendererState.{ElementRendererState}
 use Rattle.timed.specs.declared.state.MetadataRendererState.{MetadataRendererState}
 use Rattle.rules.specs.Parts.{Places}
-use Rattle.rates.specs.Rates.{lowest, highest, listed}
 use Rattle.rules.specs.Samples.{Renderer}
-use Rattle.store.specs.Table.{bytesOf}
-use Rattle.store.specs.Fields.{smallWords, smallOf}
-use Rattle.store.specs.Layout.{size, small, joined, infosOf, placesOf, decode, rows, encode}
+use Rattle.store.specs.Bytes.{bytesOf}
+use Rattle.store.specs.Singles.{Brief}
+use Rattle.store.specs.Fields.{elementFormat, stateFormat, smallWords, smallOf}
+use Rattle.store.specs.Layout.{smallWidth, infosAt, placesAt, size, small, joined, infosOf, placesOf, decode, rows, encode}
+use Rattle.store.specs.Ranges.{clockIn, countsIn, leastFlags, related, elementRelated}
 use Rattle.store.specs.Ranged.{ElementRanged, StateRanged, PlacesRanged, Ranged}
 use Rattle.store.proofs.Bytes.{words-drop, bytes-length, bytes-bytes, bytes-back, stored}
-use Rattle.store.proofs.Back.{Brief, ElementFull, StateFull, SmallFull, small-long, small-words, small-back}
+use Rattle.store.proofs.Back.{SmallFull, small-long, small-words, small-back}
 
 -- ---- what is in range fits its words
 
@@ -33,68 +34,70 @@ pub all-at : {A : Type 0} (P : A → Type 0) (d : A) (xs : List A) → ((i : ℕ
 all-at P d [] h = tt
 all-at P d (x ∷ xs) h = (h 0 (omega arith), all-at P d xs (λ i l. h (suc i) (omega arith)))
 
-either : (a b : Bool) {n m : ℕ} → (T a → n ≤ m) → (T b → n ≤ m) → T (a || b) → n ≤ m
-either true b p q h = p tt
-either false b p q h = q h
-
-rate-most : (n : ℕ) → T (eqb n 0 || listed n) → n ≤ highest
-rate-most n = either (eqb n 0) (listed n) (λ h. let e = eqb→eq n 0 h in omega arith) (λ h. leb→le n highest (and-r (leb lowest n) (leb n highest) h))
-
-pub element-full : (position least : ℕ) (e : ElementRendererState) → InRange position e → ElementRanged least e → ElementFull e
-element-full position least e r h =
-    let a = r .blocks in
-    let b = h .flags in
-    let c = r .ramps .most in
+-- an element, the timed state and the small part, each in the form of its format
+element-full : (position least : ℕ) (e : ElementRendererState) → InRange position e → ElementRanged least e → elementFormat .In e
+element-full position least e r h = (
+  (r .blocks, (h .flags, r .ramps .most)),
+  (
     record {
-      blocks = omega arith;
-      flags = omega arith;
-      remaining = omega arith;
-      schedule = record { count = h .schedule; each = all-at Brief noBlock (e .schedule) (λ i l. let m = h .schedule in record { offset = r .ramps .offsets i (omega arith); ramp = r .ramps .ramps i (omega arith) }) };
-      tracks = record { count = h .tracks; each = h .targets };
-    }
+      count = h .schedule;
+      each = all-at Brief noBlock (e .schedule) (λ i l. let m = h .schedule in record { offset = r .ramps .offsets i (omega arith); ramp = r .ramps .ramps i (omega arith) });
+    },
+    record { count = h .tracks; each = h .targets },
+  ),
+)
 
-pub state-full : (position : ℕ) (s : MetadataRendererState) → StateRanged position s → StateFull s
+state-full : (position : ℕ) (s : MetadataRendererState) → StateRanged position s → stateFormat .In s
 state-full position s h =
-    let w = h .within in
-    let a = w .payload in
-    let b = w .objects in
-    let c = w .isf in
-    let d = w .beds in
-    let e = w .elements in
-    record {
-      payload = omega arith;
-      objects = omega arith;
-      isf = omega arith;
-      beds = omega arith;
-      elements = omega arith;
-      codes = record { count = h .codes; each = h .listed };
-      gains = record { count = h .gains; each = h .beds };
-      sources = record { count = h .sources; each = h .objects };
-      states = record {
-        count = h .states;
-        each = all-at ElementFull noElement (s .states) (λ i l.
-            let k : i < 2 = let m = h .states in omega arith in
-            element-full position _ (timed.elementOf s i) (w .states i k) (h .elements i k));
-      };
-    }
+    let w = h .within in (
+      (tt, (w .payload, (w .objects, (w .isf, (w .beds, w .elements))))),
+      (
+        record { count = h .codes; each = h .listed },
+        (
+          record { count = h .gains; each = h .beds },
+          (
+            record { count = h .sources; each = h .objects },
+            record {
+              count = h .states;
+              each = all-at (elementFormat .In) noElement (s .states) (λ i l.
+                  let k : i < 2 = let m = h .states in omega arith in
+                  element-full position _ (timed.elementOf s i) (w .states i k) (h .elements i k));
+            },
+          ),
+        ),
+      ),
+    )
+
+idle-test : (rate pending : ℕ) → (rate ≡ 0 → pending ≡ 0) → T (not (eqb rate 0) || eqb pending 0)
+idle-test rate pending h = by (eqb rate 0) refl
+  where
+    by : (b : Bool) → eqb rate 0 ≡ b → T (not b || eqb pending 0)
+    by true e = rw (h (eqb→eq rate 0 (subst T (sym e) tt))) (eqb-refl 0)
+    by false e = tt
+
+related-full : (r : Renderer Timed) → Ranged r → T (related (small r))
+related-full r h =
+    let w = h .state .within in
+    let m = r .meta .state in
+    let e : (i : ℕ) → i < 2 → T (elementRelated (small r) i) =
+    λ i l. and-in (leb (leastFlags i m) (timed.elementOf m i .flags)) (leb middle (timed.elementOf m i .remaining + (2097152 + 64 * r .position)))
+    (le→leb _ _ (h .state .elements i l .enough)) (le→leb _ _ (w .states i l .ramps .least)) in
+    let k : T (clockIn (r .rate) (r .phase) (r .position) (r .start) (r .pending)) =
+    and-in (leb (r .start + r .phase) (r .position)) (not (eqb (r .rate) 0) || eqb (r .pending) 0) (le→leb _ _ (h .start)) (idle-test (r .rate) (r .pending) (h .idle)) in
+    let n : T (countsIn (m .objects) (m .isf) (m .beds)) =
+    and-in (leb (m .objects - m .isf) 16) (leb (m .beds) (m .objects)) (le→leb _ _ (w .dynamic)) (le→leb _ _ (w .channels)) in
+    and-in (clockIn (r .rate) (r .phase) (r .position) (r .start) (r .pending))
+    (countsIn (m .objects) (m .isf) (m .beds) && (elementRelated (small r) 0 && elementRelated (small r) 1)) k
+    (and-in (countsIn (m .objects) (m .isf) (m .beds)) (elementRelated (small r) 0 && elementRelated (small r) 1) n
+    (and-in (elementRelated (small r) 0) (elementRelated (small r) 1) (e 0 (lit< tt)) (e 1 (lit< tt))))
 
 pub small-full : (r : Renderer Timed) → Ranged r → SmallFull (small r)
 small-full r h =
-    let a = rate-most (r .rate) (h .rate) in
-    let b = h .phase in
-    let c = h .position in
-    let d = h .start in
-    let e = h .pending in
-    record {
-      rate = omega arith;
-      phase = omega arith;
-      position = omega arith;
-      start = omega arith;
-      gain = h .gain;
-      filter = h .filter;
-      pending = omega arith;
-      state = state-full (r .position) (r .meta .state) (h .state);
-    }
+    let p = h .position in
+    let s = h .start in (
+      ((h .rate, (h .phase, (p, (omega arith, (h .gain, (h .filter, h .pending)))))), state-full (r .position) (r .meta .state) (h .state)),
+      related-full r h,
+    )
 
 -- ---- rows of places
 
@@ -112,7 +115,8 @@ module _ (p : Places) (h : PlacesRanged p) where
   unfolding rows
   rows-back zero k c l m = absurd (omega arith)
   rows-back (suc n) k zero l m =
-      ap (λ (w : ℕ). wordsAt (bytesOf (p k) ++ rows n (suc k) p) 0 w) (sym (h .lengths k (omega arith))) ∙ bytes-back (p k) (rows n (suc k) p) (h .words k (omega arith)) ∙ ap p (sym (add-zero k))
+      ap (λ (w : ℕ). wordsAt (bytesOf (p k) ++ rows n (suc k) p) 0 w) (sym (h .lengths k (omega arith)))
+      ∙ bytes-back (p k) (rows n (suc k) p) (h .words k (omega arith)) ∙ ap p (sym (add-zero k))
   rows-back (suc n) k (suc c) l m =
       let e : 256 * suc c ≡ 256 + 256 * c = omega arith in
       let f : suc k + c ≡ k + suc c = omega arith in
@@ -128,23 +132,23 @@ module _ (r : Renderer Timed) (h : Ranged r) where
   abbrev R : List ℕ
   R = rows 12 0 (r .places)
 
-  front-long : length (bytesOf W) ≡ 1360
+  front-long : length (bytesOf W) ≡ infosAt
   front-long = bytes-length W ∙ ap (λ (n : ℕ). 4 * n) (small-long (small r) (small-full r h))
 
-  pub words-back : wordsAt (encode r) 0 340 ≡ W
+  pub words-back : wordsAt (encode r) 0 smallWidth ≡ W
   unfolding encode
   words-back =
       ap (λ (n : ℕ). wordsAt (encode r) 0 n) (sym (small-long (small r) (small-full r h))) ∙ bytes-back W (r .meta .infos ++ R) (small-words (small r) (small-full r h))
 
-  rest-back : drop 1360 (encode r) ≡ r .meta .infos ++ R
+  rest-back : drop infosAt (encode r) ≡ r .meta .infos ++ R
   unfolding encode
-  rest-back = drop-at (bytesOf W) (r .meta .infos ++ R) 1360 front-long
+  rest-back = drop-at (bytesOf W) (r .meta .infos ++ R) infosAt front-long
 
   pub infos-back : infosOf (encode r) ≡ r .meta .infos
   infos-back = rw rest-back (take-at (r .meta .infos) R 22528 (h .infos .length))
 
-  rows-at : drop 23888 (encode r) ≡ R
-  rows-at = sym (drop-drop 22528 1360 (encode r)) ∙ rw rest-back (drop-at (r .meta .infos) R 22528 (h .infos .length))
+  rows-at : drop placesAt (encode r) ≡ R
+  rows-at = sym (drop-drop 22528 infosAt (encode r)) ∙ rw rest-back (drop-at (r .meta .infos) R 22528 (h .infos .length))
 
   place-back : (c : ℕ) → placesOf (encode r) c ≡ r .places c
   place-back c = by (ltb c 12) refl
@@ -152,7 +156,7 @@ module _ (r : Renderer Timed) (h : Ranged r) where
       by : (b : Bool) → ltb c 12 ≡ b → placesOf (encode r) c ≡ r .places c
       by true e =
           let l = ltb-true c 12 e in
-          rw (e, words-drop (encode r) 23888 (256 * c) 64, rows-at) (rows-back (r .places) (h .places) 12 0 c (lit≤ tt) l ∙ ap (r .places) (zero-add c))
+          rw (e, words-drop (encode r) placesAt (256 * c) 64, rows-at) (rows-back (r .places) (h .places) 12 0 c (lit≤ tt) l ∙ ap (r .places) (zero-add c))
       by false e = rw e (sym (h .places .none c (ltb-false c 12 e)))
 
   pub decode-encode : decode (encode r) ≡ r
@@ -162,7 +166,8 @@ module _ (r : Renderer Timed) (h : Ranged r) where
   pub encode-long : length (encode r) ≡ size
   unfolding encode
   encode-long =
-      length-append (bytesOf W) (r .meta .infos ++ R) ∙ ap₂ (λ (m n : ℕ). m + n) front-long (length-append (r .meta .infos) R ∙ ap₂ (λ (m n : ℕ). m + n) (h .infos .length) (rows-long (r .places) (h .places) 12 0 (lit≤ tt)))
+      length-append (bytesOf W) (r .meta .infos ++ R)
+      ∙ ap₂ (λ (m n : ℕ). m + n) front-long (length-append (r .meta .infos) R ∙ ap₂ (λ (m n : ℕ). m + n) (h .infos .length) (rows-long (r .places) (h .places) 12 0 (lit≤ tt)))
 
 -- ---- bytes
 
@@ -185,11 +190,11 @@ encode-bytes r h =
 -- ---- a block that was saved
 
 -- the small part of r stored into a block that has r's infos and places
-pub saved-encode : (b : List ℕ) (r : Renderer Timed) → length b ≡ size → length (smallWords (small r)) ≡ 340 → infosOf b ≡ r .meta .infos → drop 23888 b ≡ rows 12 0 (r .places)
+pub saved-encode : (b : List ℕ) (r : Renderer Timed) → length b ≡ size → length (smallWords (small r)) ≡ smallWidth → infosOf b ≡ r .meta .infos → drop placesAt b ≡ rows 12 0 (r .places)
     → withWords b 0 (smallWords (small r)) ≡ encode r
 unfolding encode
 saved-encode b r l n i p =
     let w = smallWords (small r) in
-    let t : drop 1360 b ≡ r .meta .infos ++ rows 12 0 (r .places) =
-    sym (take-append-drop 22528 (drop 1360 b)) ∙ ap₂ (λ (x y : List ℕ). x ++ y) i (drop-drop 22528 1360 b ∙ p) in
+    let t : drop infosAt b ≡ r .meta .infos ++ rows 12 0 (r .places) =
+    sym (take-append-drop 22528 (drop infosAt b)) ∙ ap₂ (λ (x y : List ℕ). x ++ y) i (drop-drop 22528 infosAt b ∙ p) in
     stored w b (omega arith) ∙ ap (λ (k : ℕ). bytesOf w ++ drop (4 * k) b) n ∙ ap (λ (x : List ℕ). bytesOf w ++ x) t

@@ -1,113 +1,138 @@
--- The words of the small part, 340 in all, and the fields that they hold. Assumes nothing.
-use Prim.Native.Nat.{ℕ, _%_}
-use mathlib.Core.List.{List, [], _∷_, _++_}
-use lib.ListN.{getD, drop}
+-- The small part of the state block: each struct's format. Its places, its words, what words say and the range of each field follow from these. Assumes nothing.
+use Prim.Native.Nat.{ℕ}
+use mathlib.Core.Bool.{Bool, _||_}
+use mathlib.Core.List.{List}
+use lib.Dec.{eqb}
 use lib.Ieee.{Float}
+use Rattle.formats.specs.Format.{Format, u32Where, u32To, u32Below, usizeTo, u8To, flag, float, u64To, _⊗_, array, struct, ranged}
+use Rattle.vectors.specs.declared.Vec3.{Vec3}
 use Rattle.lowpass.specs.declared.BiquadLowpassState.{BiquadLowpassState}
+use Rattle.timed.specs.declared.clock.StreamSample.{StreamSample}
 use Rattle.timed.specs.declared.state.BlockState.{BlockState}
 use Rattle.timed.specs.declared.state.Track.{Track}
 use Rattle.timed.specs.declared.state.DynamicSourceState.{DynamicSourceState}
 use Rattle.timed.specs.declared.state.ElementRendererState.{ElementRendererState}
 use Rattle.timed.specs.declared.state.MetadataRendererState.{MetadataRendererState}
+use Rattle.rules.specs.Refusals.{listed}
 use Rattle.store.specs.declared.Small.{Small}
-use Rattle.store.specs.Table.{low, high, longOf, bit, flagOf, bits, floatOf, each, table}
+use Rattle.store.specs.Singles.{Singles, FilterSingles, SourceSingles, TrackSingles, Brief}
+
+-- 2^40
+abbrev pub longest : ℕ
+longest = 1099511627776
 
 -- ---- entries of tables
 
--- a bed code; a bed gain
-abbrev pub codeWords : ℕ → List ℕ
-codeWords c = c ∷ []
+abbrev pub vecFormat : Format Vec3
+vecFormat = ranged Singles (struct (λ v. (v .x, (v .y, v .z))) (λ (x, (y, z)). record { x = x; y = y; z = z }) (float ⊗ float ⊗ float))
 
-abbrev pub codeOf : List ℕ → ℕ
-codeOf w = getD w 0 0 % 256
-
-abbrev pub gainWords : Float → List ℕ
-gainWords x = bits x ∷ []
-
-abbrev pub gainOf : List ℕ → Float
-gainOf w = floatOf w 0
-
--- a dynamic object: gain, size, x, y, z, placed
-unfoldable pub sourceWords : DynamicSourceState → List ℕ
-sourceWords s = bits (s .gain) ∷ bits (s .size) ∷ bits (s .place .x) ∷ bits (s .place .y) ∷ bits (s .place .z) ∷ bit (s .placed) ∷ []
-
-unfoldable pub sourceOf : List ℕ → DynamicSourceState
-sourceOf w = record { gain = floatOf w 0; size = floatOf w 1; place = record { x = floatOf w 2; y = floatOf w 3; z = floatOf w 4 }; placed = flagOf w 5 }
+-- a dynamic object
+abbrev pub sourceFormat : Format DynamicSourceState
+sourceFormat =
+    ranged SourceSingles
+    (struct
+    (λ s. (s .gain, (s .size, (s .place, s .placed))))
+    (λ (gain, (size, (place, placed))). record { gain = gain; size = size; place = place; placed = placed })
+    (float ⊗ float ⊗ vecFormat ⊗ flag))
 
 -- a block: offset and ramp, each plus 2^20, and whether it was applied
-unfoldable pub blockWords : BlockState → List ℕ
-blockWords b = b .offset ∷ b .ramp ∷ bit (b .used) ∷ []
+abbrev pub blockFormat : Format BlockState
+blockFormat =
+    ranged Brief
+    (struct (λ b. (b .offset, (b .ramp, b .used))) (λ (offset, (ramp, used)). record { offset = offset; ramp = ramp; used = used }) (u32To 2097152 ⊗ u32To 2097152 ⊗ flag))
 
-unfoldable pub blockOf : List ℕ → BlockState
-blockOf w = record { offset = getD w 0 0; ramp = getD w 1 0; used = flagOf w 2 }
+-- whether an object moves, and its target
+abbrev pub trackFormat : Format Track
+trackFormat = ranged TrackSingles (struct (λ t. (t .now, t .future)) (λ (now, future). record { now = now; future = future }) (flag ⊗ vecFormat))
 
--- whether an object moves, and its target x, y, z
-unfoldable pub trackWords : Track → List ℕ
-trackWords t = bit (t .now) ∷ bits (t .future .x) ∷ bits (t .future .y) ∷ bits (t .future .z) ∷ []
+-- an element: blocks, flags, remaining ramp plus 2^47; its tables
+abbrev pub elementHead : ElementRendererState → ℕ × (ℕ × ℕ)
+elementHead e = (e .blocks, (e .flags, e .remaining))
 
-unfoldable pub trackOf : List ℕ → Track
-trackOf w = record { now = flagOf w 0; future = record { x = floatOf w 1; y = floatOf w 2; z = floatOf w 3 } }
+abbrev pub headFormat : Format (ℕ × (ℕ × ℕ))
+headFormat = usizeTo 8 ⊗ usizeTo 16 ⊗ u64To 140737489403904
 
--- an element: blocks, flags, remaining ramp plus 2^47 (two words), 8 blocks, 16 tracks
-unfoldable pub elementWords : ElementRendererState → List ℕ
-elementWords e = low (e .blocks) ∷ low (e .flags) ∷ low (e .remaining) ∷ high (e .remaining) ∷ (each blockWords (e .schedule) ++ each trackWords (e .tracks))
-
-unfoldable pub elementOf : List ℕ → ElementRendererState
-elementOf w =
-    record { blocks = getD w 0 0; flags = getD w 1 0; remaining = longOf w 2; schedule = table blockOf 3 8 (drop 4 w); tracks = table trackOf 4 16 (drop 28 w) }
+abbrev pub elementFormat : Format ElementRendererState
+elementFormat =
+    struct
+    (λ e. (elementHead e, (e .schedule, e .tracks)))
+    (λ ((blocks, (flags, remaining)), (schedule, tracks)). record { blocks = blocks; flags = flags; remaining = remaining; schedule = schedule; tracks = tracks })
+    (headFormat ⊗ array 8 blockFormat ⊗ array 16 trackFormat)
 
 -- ---- the small part
 
 -- five coefficients, then four past values
-unfoldable pub filterWords : BiquadLowpassState → List ℕ
-filterWords f = bits (f .a1) ∷ bits (f .a2) ∷ bits (f .b0) ∷ bits (f .b1) ∷ bits (f .b2) ∷ bits (f .x1) ∷ bits (f .x2) ∷ bits (f .y1) ∷ bits (f .y2) ∷ []
+abbrev pub filterFormat : Format BiquadLowpassState
+filterFormat =
+    ranged FilterSingles
+    (struct
+    (λ f. (f .a1, (f .a2, (f .b0, (f .b1, (f .b2, (f .x1, (f .x2, (f .y1, f .y2)))))))))
+    (λ (a1, (a2, (b0, (b1, (b2, (x1, (x2, (y1, y2)))))))). record { a1 = a1; a2 = a2; b0 = b0; b1 = b1; b2 = b2; x1 = x1; x2 = x2; y1 = y1; y2 = y2 })
+    (float ⊗ float ⊗ float ⊗ float ⊗ float ⊗ float ⊗ float ⊗ float ⊗ float))
 
-unfoldable pub filterOf : List ℕ → BiquadLowpassState
-filterOf w =
-    record { a1 = floatOf w 0; a2 = floatOf w 1; b0 = floatOf w 2; b1 = floatOf w 3; b2 = floatOf w 4; x1 = floatOf w 5; x2 = floatOf w 6; y1 = floatOf w 7; y2 = floatOf w 8 }
+abbrev pub payloadFormat : Format StreamSample
+payloadFormat = struct (λ p. p .0) (λ n. record { 0 = n }) (u64To longest)
 
--- rate, phase, position, slot start, limiter gain, low-pass, pending: 17 words
-unfoldable pub clockWords : Small → List ℕ
-unfolding filterWords
-clockWords s =
-    s .rate ∷ s .phase ∷ low (s .position) ∷ high (s .position) ∷ low (s .start) ∷ high (s .start) ∷ bits (s .gain) ∷ (filterWords (s .filter) ++ (s .pending ∷ []))
+-- initialized, the last applied update's position, objects, isf, beds, elements
+abbrev pub Counts : Type 0
+Counts = Bool × (StreamSample × (ℕ × (ℕ × (ℕ × ℕ))))
 
--- initialized, the last applied update's position, objects, isf, beds, elements: 7 words
-unfoldable pub countWords : MetadataRendererState → List ℕ
-countWords s =
-    bit (s .initialized) ∷ low (s .payload .0) ∷ high (s .payload .0) ∷ low (s .objects) ∷ low (s .isf) ∷ low (s .beds) ∷ low (s .elements) ∷ []
+abbrev pub countsOf : MetadataRendererState → Counts
+countsOf s = (s .initialized, (s .payload, (s .objects, (s .isf, (s .beds, s .elements)))))
 
--- 18 codes, 18 bed gains, 16 sources, 2 elements: 316 words
-unfoldable pub tableWords : MetadataRendererState → List ℕ
-tableWords s = each codeWords (s .codes) ++ (each gainWords (s .gains) ++ (each sourceWords (s .sources) ++ each elementWords (s .states)))
+abbrev pub countsFormat : Format Counts
+countsFormat = flag ⊗ payloadFormat ⊗ usizeTo 32 ⊗ usizeTo 255 ⊗ usizeTo 18 ⊗ usizeTo 2
+
+-- bed codes and gains, sources, elements
+abbrev pub Tables : Type 0
+Tables = List ℕ × (List Float × (List DynamicSourceState × List ElementRendererState))
+
+abbrev pub tablesOf : MetadataRendererState → Tables
+tablesOf s = (s .codes, (s .gains, (s .sources, s .states)))
+
+abbrev pub tablesFormat : Format Tables
+tablesFormat = array 18 (u8To 17) ⊗ array 18 float ⊗ array 16 sourceFormat ⊗ array 2 elementFormat
+
+abbrev pub stateFormat : Format MetadataRendererState
+stateFormat =
+    struct
+    (λ s. (countsOf s, tablesOf s))
+    (λ ((initialized, (payload, (objects, (isf, (beds, elements))))), (codes, (gains, (sources, states)))).
+    record {
+      initialized = initialized;
+      payload = payload;
+      objects = objects;
+      isf = isf;
+      beds = beds;
+      elements = elements;
+      codes = codes;
+      gains = gains;
+      states = states;
+      sources = sources;
+    })
+    (countsFormat ⊗ tablesFormat)
+
+-- rate (0: no frame yet), phase, position, slot start, limiter gain, low-pass, pending
+abbrev pub Clock : Type 0
+Clock = ℕ × (ℕ × (ℕ × (ℕ × (Float × (BiquadLowpassState × ℕ)))))
+
+abbrev pub clockOf : Small → Clock
+clockOf s = (s .rate, (s .phase, (s .position, (s .start, (s .gain, (s .filter, s .pending))))))
+
+abbrev pub clockFormat : Format Clock
+clockFormat = u32Where (λ n. eqb n 0 || listed n) ⊗ u32Below 64 ⊗ u64To longest ⊗ u64To longest ⊗ float ⊗ filterFormat ⊗ u32Below 64
+
+-- each field in its own range
+abbrev pub smallFormat : Format Small
+smallFormat =
+    struct
+    (λ s. (clockOf s, s .state))
+    (λ ((rate, (phase, (position, (start, (gain, (filter, pending)))))), state).
+    record { rate = rate; phase = phase; position = position; start = start; gain = gain; filter = filter; pending = pending; state = state })
+    (clockFormat ⊗ stateFormat)
 
 unfoldable pub smallWords : Small → List ℕ
-smallWords s = clockWords s ++ (countWords (s .state) ++ tableWords (s .state))
-
-unfoldable pub stateOf : List ℕ → MetadataRendererState
-stateOf w =
-    record {
-      initialized = flagOf w 0;
-      payload = record { 0 = longOf w 1 };
-      objects = getD w 3 0;
-      isf = getD w 4 0;
-      beds = getD w 5 0;
-      elements = getD w 6 0;
-      codes = table codeOf 1 18 (drop 7 w);
-      gains = table gainOf 1 18 (drop 25 w);
-      sources = table sourceOf 6 16 (drop 43 w);
-      states = table elementOf 92 2 (drop 139 w);
-    }
+smallWords = smallFormat .put
 
 unfoldable pub smallOf : List ℕ → Small
-smallOf w =
-    record {
-      rate = getD w 0 0;
-      phase = getD w 1 0;
-      position = longOf w 2;
-      start = longOf w 4;
-      gain = floatOf w 6;
-      filter = filterOf (drop 7 w);
-      pending = getD w 16 0;
-      state = stateOf (drop 17 w);
-    }
+smallOf w = smallFormat .get w 0

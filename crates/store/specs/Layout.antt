@@ -12,11 +12,10 @@ use Rattle.timed.specs.declared.state.ElementRendererState.{ElementRendererStat
 use Rattle.rules.specs.Parts.{0·0, 1·0, Places, zeros}
 use Rattle.rules.specs.Samples.{Renderer, idle}
 use Rattle.store.specs.declared.Small.{Small}
-use Rattle.store.specs.Table.{bytesOf}
+use Rattle.store.specs.Bytes.{bytesOf}
 use Rattle.store.specs.Fields.{smallWords, smallOf}
-
-abbrev pub size : ℕ
-size = 26960
+use Rattle.store.specs.Places.{limiterGainAt, remainingIn, firstAt, secondAt}
+pub use Rattle.store.specs.Places.{smallWidth, infosAt, placesAt, size}
 
 -- ---- a renderer's parts
 
@@ -42,14 +41,14 @@ joined s is ps =
 -- ---- from a block and to a block
 
 abbrev pub infosOf : List ℕ → List ℕ
-infosOf b = take 22528 (drop 1360 b)
+infosOf b = take 22528 (drop infosAt b)
 
 abbrev pub placesOf : List ℕ → Places
-placesOf b c = cond (ltb c 12) (wordsAt b (23888 + 256 * c) 64) []
+placesOf b c = cond (ltb c 12) (wordsAt b (placesAt + 256 * c) 64) []
 
 unfoldable pub decode : List ℕ → Renderer Timed
 unfolding smallOf
-decode b = joined (smallOf (wordsAt b 0 340)) (infosOf b) (placesOf b)
+decode b = joined (smallOf (wordsAt b 0 smallWidth)) (infosOf b) (placesOf b)
 
 -- n rows from row c on
 unfoldable pub rows : ℕ → ℕ → Places → List ℕ
@@ -101,7 +100,7 @@ fresh = record { rate = 0; position = 0; phase = 0; start = 0; gain = 1·0; filt
 
 -- its block: zeros, but for the limiter gain 1.0 and the two remaining ramps 0, which stand plus 2^47
 abbrev pub marked : List ℕ → List ℕ
-marked s = withLong (withLong (withWord s 24 0x3f80_0000) 632 middle) 1000 middle
+marked s = withLong (withLong (withWord s (4 * limiterGainAt) 0x3f80_0000) (4 * (firstAt + remainingIn)) middle) (4 * (secondAt + remainingIn)) middle
 
 unfoldable pub filled : List ℕ
 filled = marked (replicate size 0)

@@ -3,20 +3,28 @@ ghost use mathlib.Core.Path.{_≡_};
 ghost use lib.ListN.{length, replicate};
 ghost use Rattle.words.specs.Words.{wordsAt};
 ghost use Rattle.store.specs.Fields.{smallOf};
-ghost use Rattle.store.specs.Layout.{size, encode, fresh};
+ghost use Rattle.store.specs.Layout.{smallWidth, size, encode, fresh};
 use lowpass::BiquadLowpassState;
 use timed::state::MetadataRendererState;
 
+pub mod places;
 pub mod ranges;
 pub mod read;
 pub mod write;
 
-// Bytes of a block, and where its infos and its places begin.
-pub const SIZE: usize = 26960;
+// Where a block's infos and its places begin, and its bytes.
+pub const INFOS: usize = 4 * places::WORDS;
 
-pub const INFOS: usize = 1360;
+pub const PLACES: usize = INFOS + 512 * 44;
 
-pub const PLACES: usize = 23888;
+pub const SIZE: usize = PLACES + 12 * 256;
+
+// What reset leaves other than zeros.
+const LIMITER_GAIN: usize = 4 * places::LIMITER_GAIN;
+
+const FIRST_RAMP: usize = 4 * places::FIRST_RAMP;
+
+const SECOND_RAMP: usize = 4 * places::SECOND_RAMP;
 
 // The part of a renderer that goes from call to call by value: the clock, the limiter's gain, the low-pass, the number of pending samples, the timed state.
 pub struct Small {
@@ -33,9 +41,9 @@ pub struct Small {
 // The small part of a block.
 pub fn load(state: &[u8]) -> Small
     requires { ⌜ length (now state) ≡ size ⌝ }
-    ensures { λ r. ⌜ r ≡ smallOf (wordsAt (now (state .entry)) 0 340) ⌝ }
+    ensures { λ r. ⌜ r ≡ smallOf (wordsAt (now (state .entry)) 0 smallWidth) ⌝ }
 {
-    let mut w = [0u32; 340];
+    let mut w = [0u32; places::WORDS];
     words::get_words(state, 0, &mut w);
     read::small(&w)
 }
@@ -56,7 +64,7 @@ pub fn reset(state: &mut [u8])
     ensures { λ _. ⌜ now (state .exit) ≡ encode fresh ⌝ }
 {
     zeros(state);
-    words::put_u32(state, 24, 0x3f80_0000);
-    words::put_u64(state, 632, 140737488355328);
-    words::put_u64(state, 1000, 140737488355328);
+    words::put_u32(state, LIMITER_GAIN, 0x3f80_0000);
+    words::put_u64(state, FIRST_RAMP, 140737488355328);
+    words::put_u64(state, SECOND_RAMP, 140737488355328);
 }

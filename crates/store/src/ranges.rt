@@ -1,21 +1,24 @@
 // The ranges of a block's fields.
 ghost use mathlib.Core.Path.{_≡_};
 ghost use Prim.Native.Nat.{_+_, _*_, _≤_, _<_};
-ghost use mathlib.Core.Bool.{not, _||_};
-ghost use lib.Dec.{eqb};
-ghost use lib.ListN.{length, drop};
+ghost use mathlib.Core.Bool.{true, not, _||_};
+ghost use lib.Dec.{eqb, leb};
+ghost use lib.ListN.{length, getD};
 ghost use Rattle.rules.specs.Refusals as refusals;
-ghost use Rattle.store.specs.Table.{atMost, every};
-ghost use Rattle.store.specs.Ranges.{longest, clockIn, countsIn, least, elementIn, fieldTests};
-ghost use Rattle.store.specs.Fields.{smallOf};
-ghost use Rattle.store.specs.Ranges.{partTests, wordTests, smallValid, headsValid, valid};
+ghost use Rattle.formats.specs.Format.{allAt};
+ghost use Rattle.store.specs.Fields.{longest, elementFormat, countsFormat, tablesFormat, clockFormat, smallFormat, smallOf};
+ghost use Rattle.store.specs.Places.{stateAt, tablesAt, smallWidth};
+ghost use Rattle.store.specs.Ranges as ranges;
+ghost use Rattle.store.specs.Ranges.{clockIn, countsIn, least, elementIn, smallValid, headsValid, valid};
+use crate::places;
+use crate::places::Words;
 use crate::read;
 use timed::state;
 
 // Whether word j of each of n entries of k words, from word `at` on, is at most `limit`.
-fn at_most(w: &[u32; 340], at: usize, j: usize, k: usize, n: usize, limit: u32) -> bool
-    requires { ⌜ (at + j + k * n ≤ 340) × (j < k) ⌝ }
-    ensures { λ r. ⌜ r ≡ atMost j k n limit (drop at (now (w .entry))) ⌝ }
+fn at_most(w: &Words, at: usize, j: usize, k: usize, n: usize, limit: u32) -> bool
+    requires { ⌜ (at + j + k * n ≤ smallWidth) × (j < k) ⌝ }
+    ensures { λ r. ⌜ r ≡ allAt (λ a. leb (getD (now (w .entry)) (a + j) 0) limit) k n at ⌝ }
 {
     let mut p = at + j;
     let mut i = 0usize;
@@ -62,6 +65,64 @@ fn rate_valid(rate: u32) -> bool
     angles::listed(rate)
 }
 
+// ---- each field by itself
+
+fn clock_fields(w: &Words) -> bool
+    ensures { λ r. ⌜ r ≡ clockFormat .test (now (w .entry)) 0 ⌝ }
+{
+    rate_valid(w[places::RATE])
+        & ((w[places::PHASE] < 64)
+            & ((read::long(w, places::POSITION) <= 1099511627776)
+                & ((read::long(w, places::START) <= 1099511627776) & (w[places::PENDING] < 64))))
+}
+
+fn counts_fields(w: &Words) -> bool
+    ensures { λ r. ⌜ r ≡ countsFormat .test (now (w .entry)) stateAt ⌝ }
+{
+    (w[places::INITIALIZED] <= 1)
+        & ((read::long(w, places::PAYLOAD) <= 1099511627776)
+            & ((w[places::OBJECTS] <= 32)
+                & ((w[places::ISF] <= 255) & ((w[places::BEDS] <= 18) & (w[places::IN_USE] <= 2)))))
+}
+
+// The element whose words start at `at`.
+fn element_fields(w: &Words, at: usize) -> bool
+    requires { ⌜ at + elementFormat .width ≤ smallWidth ⌝ }
+    ensures { λ r. ⌜ r ≡ elementFormat .test (now (w .entry)) at ⌝ }
+{
+    let flags = at + 1;
+    let remaining = flags + 1;
+    let blocks = at + places::HEAD;
+    let rows = blocks + places::SCHEDULE;
+    let head = (w[at] <= 8) & ((w[flags] <= 16) & (read::long(w, remaining) <= 140737489403904));
+    let offsets = at_most(w, blocks, 0, places::BLOCK, 8, 2097152);
+    let ramps = at_most(w, blocks, 1, places::BLOCK, 8, 2097152);
+    let used = at_most(w, blocks, 2, places::BLOCK, 8, 1);
+    let now = at_most(w, rows, 0, places::TRACK, 16, 1);
+    head & ((offsets & (ramps & used)) & now)
+}
+
+fn tables_fields(w: &Words) -> bool
+    ensures { λ r. ⌜ r ≡ tablesFormat .test (now (w .entry)) tablesAt ⌝ }
+{
+    let codes = at_most(w, places::CODES, 0, 1, 18, 17);
+    let placed = at_most(w, places::SOURCES, places::PLACED, places::SOURCE, 16, 1);
+    let first = element_fields(w, places::FIRST);
+    let second = element_fields(w, places::SECOND);
+    codes & (placed & (first & second))
+}
+
+fn fields_valid(w: &Words) -> bool
+    ensures { λ r. ⌜ r ≡ smallFormat .test (now (w .entry)) 0 ⌝ }
+{
+    let clock = clock_fields(w);
+    let counts = counts_fields(w);
+    let tables = tables_fields(w);
+    clock & (counts & tables)
+}
+
+// ---- what fields owe each other
+
 // Nothing pending without a rate.
 fn idle_valid(rate: u32, pending: u32) -> bool
     ensures { λ r. ⌜ r ≡ (not (eqb rate 0) || eqb pending 0) ⌝ }
@@ -72,60 +133,19 @@ fn idle_valid(rate: u32, pending: u32) -> bool
     pending == 0
 }
 
-// The clock and what is pending.
 fn clock_valid(rate: u32, phase: u32, position: u64, start: u64, pending: u32) -> bool
-    ensures { λ r. ⌜ r ≡ every (clockIn rate phase position start pending) ⌝ }
+    requires { ⌜ start ≤ longest ⌝ }
+    ensures { λ r. ⌜ r ≡ clockIn rate phase position start pending ⌝ }
 {
-    if !rate_valid(rate) {
-        return false;
-    }
-    if phase >= 64 {
-        return false;
-    }
-    if position > 1099511627776 {
-        return false;
-    }
-    if start > position {
-        return false;
-    }
-    if start + phase as u64 > position {
-        return false;
-    }
-    if pending >= 64 {
-        return false;
-    }
-    if !idle_valid(rate, pending) {
-        return false;
-    }
-    true
+    let idle = idle_valid(rate, pending);
+    (start + phase as u64 <= position) & idle
 }
 
-// The last applied update's position and counts.
-fn counts_valid(payload: u64, objects: u32, isf: u32, beds: u32, elements: u32) -> bool
-    ensures { λ r. ⌜ r ≡ every (countsIn payload objects isf beds elements) ⌝ }
+fn counts_valid(objects: u32, isf: u32, beds: u32) -> bool
+    ensures { λ r. ⌜ r ≡ countsIn objects isf beds ⌝ }
 {
-    if payload > 1099511627776 {
-        return false;
-    }
-    if objects > 32 {
-        return false;
-    }
-    if isf > 255 {
-        return false;
-    }
-    if state::dynamic(objects as usize, isf as usize) > 16 {
-        return false;
-    }
-    if beds > 18 {
-        return false;
-    }
-    if beds > objects {
-        return false;
-    }
-    if elements > 2 {
-        return false;
-    }
-    true
+    let dynamic = state::dynamic(objects as usize, isf as usize);
+    (dynamic <= 16) & (beds <= objects)
 }
 
 // How many flags element i must have.
@@ -138,127 +158,66 @@ fn least_flags(i: u32, elements: u32, objects: u32, isf: u32) -> usize
     0
 }
 
-// An element's counts and its remaining ramp, at a stream position; `least` is how many flags it must have.
-fn element_valid(position: u64, least: usize, blocks: u32, flags: u32, remaining: u64) -> bool
-    requires { ⌜ position ≤ longest ⌝ }
-    ensures { λ r. ⌜ r ≡ every (elementIn position least blocks flags remaining) ⌝ }
+// An element's flags and its remaining ramp, at a stream position; `least` is how many flags it must have.
+fn element_valid(position: u64, least: usize, flags: u32, remaining: u64) -> bool
+    requires { ⌜ (position ≤ longest) × (remaining ≤ 140737489403904) ⌝ }
+    ensures { λ r. ⌜ r ≡ elementIn position least flags remaining ⌝ }
 {
-    if blocks > 8 {
-        return false;
-    }
-    if flags > 16 {
-        return false;
-    }
-    if (flags as usize) < least {
-        return false;
-    }
-    if remaining > 140737489403904 {
-        return false;
-    }
-    if remaining + (2097152 + 64 * position) < 140737488355328 {
-        return false;
-    }
-    true
+    (least <= flags as usize) & (140737488355328 <= remaining + (2097152 + 64 * position))
 }
 
-// Every field of the small part that its record tells, from the words alone: the record need not be made.
-fn fields_valid(w: &[u32; 340]) -> bool
-    ensures { λ r. ⌜ r ≡ every (fieldTests (smallOf (now (w .entry)))) ⌝ }
+fn related(w: &Words) -> bool
+    requires { ⌜ smallFormat .test (now w) 0 ≡ true ⌝ }
+    ensures { λ r. ⌜ r ≡ ranges.related (smallOf (now (w .entry))) ⌝ }
 {
-    let position = read::long(w, 2);
-    let start = read::long(w, 4);
-    let payload = read::long(w, 18);
-    let first = read::long(w, 158);
-    let second = read::long(w, 250);
-    if !clock_valid(w[0], w[1], position, start, w[16]) {
-        return false;
-    }
-    if !counts_valid(payload, w[20], w[21], w[22], w[23]) {
-        return false;
-    }
-    if !element_valid(
+    let position = read::long(w, places::POSITION);
+    let start = read::long(w, places::START);
+    let clock = clock_valid(
+        w[places::RATE],
+        w[places::PHASE],
         position,
-        least_flags(0, w[23], w[20], w[21]),
-        w[156],
-        w[157],
-        first,
-    ) {
-        return false;
-    }
-    if !element_valid(
+        start,
+        w[places::PENDING],
+    );
+    let objects = w[places::OBJECTS];
+    let isf = w[places::ISF];
+    let elements = w[places::IN_USE];
+    let counts = counts_valid(objects, isf, w[places::BEDS]);
+    let first = element_valid(
         position,
-        least_flags(1, w[23], w[20], w[21]),
-        w[248],
-        w[249],
-        second,
-    ) {
-        return false;
-    }
-    true
+        least_flags(0, elements, objects, isf),
+        w[places::FIRST_FLAGS],
+        read::long(w, places::FIRST_RAMP),
+    );
+    let second = element_valid(
+        position,
+        least_flags(1, elements, objects, isf),
+        w[places::SECOND_FLAGS],
+        read::long(w, places::SECOND_RAMP),
+    );
+    clock & (counts & (first & second))
 }
 
-// The tables of the element whose words start at `at`.
-fn parts_valid(w: &[u32; 340], at: usize) -> bool
-    requires { ⌜ at + 92 ≤ 340 ⌝ }
-    ensures { λ r. ⌜ r ≡ every (partTests (drop at (now (w .entry)))) ⌝ }
-{
-    if !at_most(w, at + 4, 0, 3, 8, 2097152) {
-        return false;
-    }
-    if !at_most(w, at + 4, 1, 3, 8, 2097152) {
-        return false;
-    }
-    if !at_most(w, at + 4, 2, 3, 8, 1) {
-        return false;
-    }
-    if !at_most(w, at + 28, 0, 4, 16, 1) {
-        return false;
-    }
-    true
-}
-
-// Flags, codes, offsets and ramps.
-fn words_valid(w: &[u32; 340]) -> bool
-    ensures { λ r. ⌜ r ≡ every (wordTests (now (w .entry))) ⌝ }
-{
-    if w[17] > 1 {
-        return false;
-    }
-    if !at_most(w, 24, 0, 1, 18, 17) {
-        return false;
-    }
-    if !at_most(w, 60, 5, 6, 16, 1) {
-        return false;
-    }
-    if !parts_valid(w, 156) {
-        return false;
-    }
-    if !parts_valid(w, 248) {
-        return false;
-    }
-    true
-}
-
-fn small_valid(w: &[u32; 340]) -> bool
+fn small_valid(w: &Words) -> bool
     ensures { λ r. ⌜ r ≡ smallValid (now (w .entry)) ⌝ }
 {
-    if !words_valid(w) {
+    if !fields_valid(w) {
         return false;
     }
-    fields_valid(w)
+    related(w)
 }
 
 // Whether a block has the right length and every field in its range.
 pub fn is_valid(state: &[u8]) -> bool
     ensures { λ r. ⌜ r ≡ valid (now (state .entry)) ⌝ }
 {
-    if state.len() != 26960 {
+    if state.len() != crate::SIZE {
         return false;
     }
-    if !heads_valid(&state[1360..23888]) {
+    if !heads_valid(&state[crate::INFOS..crate::PLACES]) {
         return false;
     }
-    let mut w = [0u32; 340];
+    let mut w = [0u32; places::WORDS];
     words::get_words(state, 0, &mut w);
     small_valid(&w)
 }

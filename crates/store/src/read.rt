@@ -1,10 +1,14 @@
-// The small part's fields from its words.
+// The small part's fields from its words. Each place is the place before plus that field's width.
 ghost use mathlib.Core.Path.{_≡_};
-ghost use Prim.Native.Nat.{_+_, _*_, _≤_, _<_};
-ghost use lib.ListN.{drop};
-ghost use Rattle.store.specs.Table.{floatOf, longOf, table};
-ghost use Rattle.store.specs.Fields.{codeOf, gainOf, sourceOf, blockOf, trackOf, elementOf, filterOf, stateOf, smallOf};
+ghost use Prim.Native.Nat.{_+_, _≤_, _<_};
+ghost use Rattle.formats.specs.Numbers.{floatOf, longOf};
+ghost use Rattle.formats.specs.Format.{u8To, array};
+ghost use Rattle.formats.specs.Format as format;
+ghost use Rattle.store.specs.Fields.{vecFormat, sourceFormat, blockFormat, trackFormat, elementFormat, filterFormat, stateFormat, smallOf};
+ghost use Rattle.store.specs.Places.{stateAt, smallWidth};
 use crate::Small;
+use crate::places;
+use crate::places::Words;
 use lowpass::BiquadLowpassState;
 use timed::clock::StreamSample;
 use timed::state::BlockState;
@@ -14,73 +18,74 @@ use timed::state::MetadataRendererState;
 use timed::state::Track;
 use vectors::Vec3;
 
-fn wide(n: u32) -> usize
+fn count(n: u32) -> usize
     ensures { λ r. ⌜ r ≡ n ⌝ }
 {
     n as usize
 }
 
 // The float at a word.
-fn float(w: &[u32; 340], at: usize) -> f32
-    requires { ⌜ at < 340 ⌝ }
+fn float(w: &Words, at: usize) -> f32
+    requires { ⌜ at < smallWidth ⌝ }
     ensures { λ r. ⌜ r ≡ floatOf (now (w .entry)) at ⌝ }
 {
     words::f32_of(w[at])
 }
 
-fn joined(low: u32, high: u32) -> u64
-    ensures { λ r. ⌜ r ≡ low + high * 4294967296 ⌝ }
-{
-    low as u64 + (high as u64) * 4294967296
-}
-
 // A number of two words, the low one first.
-pub fn long(w: &[u32; 340], at: usize) -> u64
-    requires { ⌜ at + 1 < 340 ⌝ }
+pub fn long(w: &Words, at: usize) -> u64
+    requires { ⌜ at + 1 < smallWidth ⌝ }
     ensures { λ r. ⌜ r ≡ longOf (now (w .entry)) at ⌝ }
 {
-    joined(w[at], w[at + 1])
+    formats::joined(w[at], w[at + 1])
 }
 
-fn vec(w: &[u32; 340], at: usize) -> Vec3
-    requires { ⌜ at + 2 < 340 ⌝ }
-    ensures { λ r. ⌜ r ≡ record { x = floatOf (now (w .entry)) at; y = floatOf (now (w .entry)) (at + 1); z = floatOf (now (w .entry)) (at + 2) } ⌝ }
+fn vec(w: &Words, at: usize) -> Vec3
+    requires { ⌜ at + vecFormat .width ≤ smallWidth ⌝ }
+    ensures { λ r. ⌜ vecFormat .Reads (now (w .entry)) at r ⌝ }
 {
+    let y = at + 1;
+    let z = y + 1;
     Vec3 {
         x: float(w, at),
-        y: float(w, at + 1),
-        z: float(w, at + 2),
+        y: float(w, y),
+        z: float(w, z),
     }
 }
 
 // ---- entries of tables
 
-fn source(w: &[u32; 340], at: usize) -> DynamicSourceState
-    requires { ⌜ at + 6 ≤ 340 ⌝ }
-    ensures { λ r. ⌜ r ≡ sourceOf (drop at (now (w .entry))) ⌝ }
+fn source(w: &Words, at: usize) -> DynamicSourceState
+    requires { ⌜ at + sourceFormat .width ≤ smallWidth ⌝ }
+    ensures { λ r. ⌜ sourceFormat .Reads (now (w .entry)) at r ⌝ }
 {
+    let size = at + 1;
+    let place = size + 1;
+    let placed = place + places::VEC;
     DynamicSourceState {
         gain: float(w, at),
-        size: float(w, at + 1),
-        place: vec(w, at + 2),
-        placed: w[at + 5] == 1,
+        size: float(w, size),
+        place: vec(w, place),
+        placed: w[placed] == 1,
     }
 }
 
-fn block(w: &[u32; 340], at: usize) -> BlockState
-    requires { ⌜ at + 3 ≤ 340 ⌝ }
-    ensures { λ r. ⌜ r ≡ blockOf (drop at (now (w .entry))) ⌝ }
+fn block(w: &Words, at: usize) -> BlockState
+    requires { ⌜ at + blockFormat .width ≤ smallWidth ⌝ }
+    ensures { λ r. ⌜ blockFormat .Reads (now (w .entry)) at r ⌝ }
 {
+    let ramp = at + 1;
+    let used = ramp + 1;
     BlockState {
         offset: w[at],
-        ramp: w[at + 1],
-        used: w[at + 2] == 1,
+        ramp: w[ramp],
+        used: w[used] == 1,
     }
 }
 
-fn track(w: &[u32; 340], at: usize) -> Track
-    requires { ⌜ at + 4 ≤ 340 ⌝ }
-    ensures { λ r. ⌜ r ≡ trackOf (drop at (now (w .entry))) ⌝ }
+fn track(w: &Words, at: usize) -> Track
+    requires { ⌜ at + trackFormat .width ≤ smallWidth ⌝ }
+    ensures { λ r. ⌜ trackFormat .Reads (now (w .entry)) at r ⌝ }
 {
     Track {
         now: w[at] == 1,
@@ -90,9 +95,9 @@ fn track(w: &[u32; 340], at: usize) -> Track
 
 // ---- tables
 
-fn codes(w: &[u32; 340], at: usize) -> [u8; 18]
-    requires { ⌜ at + 18 ≤ 340 ⌝ }
-    ensures { λ r. ⌜ r ≡ table codeOf 1 18 (drop at (now (w .entry))) ⌝ }
+fn codes(w: &Words, at: usize) -> [u8; 18]
+    requires { ⌜ at + 18 ≤ smallWidth ⌝ }
+    ensures { λ r. ⌜ r ≡ array 18 (u8To 17) .get (now (w .entry)) at ⌝ }
 {
     let mut a = [0u8; 18];
     let mut i = 0usize;
@@ -103,74 +108,74 @@ fn codes(w: &[u32; 340], at: usize) -> [u8; 18]
     a
 }
 
-fn gains(w: &[u32; 340], at: usize) -> [f32; 18]
-    requires { ⌜ at + 18 ≤ 340 ⌝ }
-    ensures { λ r. ⌜ r ≡ table gainOf 1 18 (drop at (now (w .entry))) ⌝ }
+fn gains(w: &Words, at: usize) -> [f32; 18]
+    requires { ⌜ at + 18 ≤ smallWidth ⌝ }
+    ensures { λ r. ⌜ r ≡ array 18 format.float .get (now (w .entry)) at ⌝ }
 {
     let mut a = [0.0f32; 18];
-    let mut i = 0usize;
-    while i < 18 {
-        a[i] = float(w, at + i);
-        i += 1;
-    }
+    formats::floats(w, at, &mut a);
     a
 }
 
-fn sources(w: &[u32; 340], at: usize) -> [DynamicSourceState; 16]
-    requires { ⌜ at + 96 ≤ 340 ⌝ }
-    ensures { λ r. ⌜ r ≡ table sourceOf 6 16 (drop at (now (w .entry))) ⌝ }
+fn sources(w: &Words, at: usize) -> [DynamicSourceState; 16]
+    requires { ⌜ at + array 16 sourceFormat .width ≤ smallWidth ⌝ }
+    ensures { λ r. ⌜ r ≡ array 16 sourceFormat .get (now (w .entry)) at ⌝ }
 {
     let first = source(w, at);
     let mut a = [first; 16];
     let mut i = 0usize;
     while i < 16 {
-        let x = source(w, at + 6 * i);
+        let x = source(w, at + places::SOURCE * i);
         a[i] = x;
         i += 1;
     }
     a
 }
 
-fn schedule(w: &[u32; 340], at: usize) -> [BlockState; 8]
-    requires { ⌜ at + 24 ≤ 340 ⌝ }
-    ensures { λ r. ⌜ r ≡ table blockOf 3 8 (drop at (now (w .entry))) ⌝ }
+fn schedule(w: &Words, at: usize) -> [BlockState; 8]
+    requires { ⌜ at + array 8 blockFormat .width ≤ smallWidth ⌝ }
+    ensures { λ r. ⌜ r ≡ array 8 blockFormat .get (now (w .entry)) at ⌝ }
 {
     let first = block(w, at);
     let mut a = [first; 8];
     let mut i = 0usize;
     while i < 8 {
-        let x = block(w, at + 3 * i);
+        let x = block(w, at + places::BLOCK * i);
         a[i] = x;
         i += 1;
     }
     a
 }
 
-fn tracks(w: &[u32; 340], at: usize) -> [Track; 16]
-    requires { ⌜ at + 64 ≤ 340 ⌝ }
-    ensures { λ r. ⌜ r ≡ table trackOf 4 16 (drop at (now (w .entry))) ⌝ }
+fn tracks(w: &Words, at: usize) -> [Track; 16]
+    requires { ⌜ at + array 16 trackFormat .width ≤ smallWidth ⌝ }
+    ensures { λ r. ⌜ r ≡ array 16 trackFormat .get (now (w .entry)) at ⌝ }
 {
     let first = track(w, at);
     let mut a = [first; 16];
     let mut i = 0usize;
     while i < 16 {
-        let x = track(w, at + 4 * i);
+        let x = track(w, at + places::TRACK * i);
         a[i] = x;
         i += 1;
     }
     a
 }
 
-fn element(w: &[u32; 340], at: usize) -> ElementRendererState
-    requires { ⌜ at + 92 ≤ 340 ⌝ }
-    ensures { λ r. ⌜ r ≡ elementOf (drop at (now (w .entry))) ⌝ }
+fn element(w: &Words, at: usize) -> ElementRendererState
+    requires { ⌜ at + elementFormat .width ≤ smallWidth ⌝ }
+    ensures { λ r. ⌜ elementFormat .Reads (now (w .entry)) at r ⌝ }
 {
-    let schedule = schedule(w, at + 4);
-    let tracks = tracks(w, at + 28);
+    let flags = at + 1;
+    let remaining = flags + 1;
+    let blocks = at + places::HEAD;
+    let rows = blocks + places::SCHEDULE;
+    let schedule = schedule(w, blocks);
+    let tracks = tracks(w, rows);
     ElementRendererState {
-        blocks: wide(w[at]),
-        flags: wide(w[at + 1]),
-        remaining: long(w, at + 2),
+        blocks: count(w[at]),
+        flags: count(w[flags]),
+        remaining: long(w, remaining),
         schedule: schedule,
         tracks: tracks,
     }
@@ -178,39 +183,48 @@ fn element(w: &[u32; 340], at: usize) -> ElementRendererState
 
 // ---- the whole
 
-fn filter(w: &[u32; 340]) -> BiquadLowpassState
-    ensures { λ r. ⌜ r ≡ filterOf (drop 7 (now (w .entry))) ⌝ }
+fn filter(w: &Words, at: usize) -> BiquadLowpassState
+    requires { ⌜ at + filterFormat .width ≤ smallWidth ⌝ }
+    ensures { λ r. ⌜ filterFormat .Reads (now (w .entry)) at r ⌝ }
 {
+    let a2 = at + 1;
+    let b0 = a2 + 1;
+    let b1 = b0 + 1;
+    let b2 = b1 + 1;
+    let x1 = b2 + 1;
+    let x2 = x1 + 1;
+    let y1 = x2 + 1;
+    let y2 = y1 + 1;
     BiquadLowpassState {
-        a1: float(w, 7),
-        a2: float(w, 8),
-        b0: float(w, 9),
-        b1: float(w, 10),
-        b2: float(w, 11),
-        x1: float(w, 12),
-        x2: float(w, 13),
-        y1: float(w, 14),
-        y2: float(w, 15),
+        a1: float(w, at),
+        a2: float(w, a2),
+        b0: float(w, b0),
+        b1: float(w, b1),
+        b2: float(w, b2),
+        x1: float(w, x1),
+        x2: float(w, x2),
+        y1: float(w, y1),
+        y2: float(w, y2),
     }
 }
 
-fn state(w: &[u32; 340]) -> MetadataRendererState
-    ensures { λ r. ⌜ r ≡ stateOf (drop 17 (now (w .entry))) ⌝ }
+fn state(w: &Words) -> MetadataRendererState
+    ensures { λ r. ⌜ stateFormat .Reads (now (w .entry)) stateAt r ⌝ }
 {
-    let codes = codes(w, 24);
-    let gains = gains(w, 42);
-    let sources = sources(w, 60);
-    let first = element(w, 156);
-    let second = element(w, 248);
+    let codes = codes(w, places::CODES);
+    let gains = gains(w, places::GAINS);
+    let sources = sources(w, places::SOURCES);
+    let first = element(w, places::FIRST);
+    let second = element(w, places::SECOND);
     let states = [first, second];
-    let payload = StreamSample(long(w, 18));
+    let payload = StreamSample(long(w, places::PAYLOAD));
     MetadataRendererState {
-        initialized: w[17] == 1,
+        initialized: w[places::INITIALIZED] == 1,
         payload: payload,
-        objects: wide(w[20]),
-        isf: wide(w[21]),
-        beds: wide(w[22]),
-        elements: wide(w[23]),
+        objects: count(w[places::OBJECTS]),
+        isf: count(w[places::ISF]),
+        beds: count(w[places::BEDS]),
+        elements: count(w[places::IN_USE]),
         codes: codes,
         gains: gains,
         states: states,
@@ -219,19 +233,19 @@ fn state(w: &[u32; 340]) -> MetadataRendererState
 }
 
 // The small part from its words.
-pub fn small(w: &[u32; 340]) -> Small
+pub fn small(w: &Words) -> Small
     ensures { λ r. ⌜ r ≡ smallOf (now (w .entry)) ⌝ }
 {
-    let filter = filter(w);
+    let filter = filter(w, places::LOWPASS);
     let state = state(w);
     Small {
-        rate: w[0],
-        phase: w[1],
-        position: long(w, 2),
-        start: long(w, 4),
-        gain: float(w, 6),
+        rate: w[places::RATE],
+        phase: w[places::PHASE],
+        position: long(w, places::POSITION),
+        start: long(w, places::START),
+        gain: float(w, places::LIMITER_GAIN),
         filter: filter,
-        pending: w[16],
+        pending: w[places::PENDING],
         state: state,
     }
 }

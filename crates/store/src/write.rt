@@ -1,189 +1,115 @@
 // The small part's fields as words in a block.
 ghost use mathlib.Core.Path.{_≡_};
-ghost use Prim.Native.Nat.{_+_, _≤_};
-ghost use mathlib.Core.List.{_++_};
+ghost use Prim.Native.Nat.{_+_, _*_, _≤_};
 ghost use lib.ListN.{length};
 ghost use Rattle.words.specs.Words.{withWords};
-ghost use Rattle.store.specs.Layout.{size};
-ghost use Rattle.store.specs.Table as table;
-ghost use Rattle.store.specs.Table.{each};
-ghost use Rattle.store.specs.Fields.{codeWords, gainWords, sourceWords, blockWords, trackWords, elementWords};
-ghost use Rattle.store.specs.Fields.{filterWords, clockWords, countWords, smallWords};
+ghost use Rattle.formats.specs.Format.{u8To, float, array};
+ghost use Rattle.store.specs.Places.{stateAt, size};
+ghost use Rattle.store.specs.Fields.{sourceFormat, blockFormat, trackFormat, headFormat, elementFormat, countsFormat, stateFormat, clockFormat};
+ghost use Rattle.store.specs.Fields.{elementHead, countsOf, clockOf, smallWords};
 use crate::Small;
-use lowpass::BiquadLowpassState;
+use crate::places;
 use timed::state::BlockState;
 use timed::state::DynamicSourceState;
 use timed::state::ElementRendererState;
 use timed::state::MetadataRendererState;
 use timed::state::Track;
 
-fn bit(b: bool) -> u32
-    ensures { λ r. ⌜ r ≡ table.bit b ⌝ }
-{
-    if b {
-        return 1;
-    }
-    0
-}
+// Widths of entries, and where the parts of the timed state start, in bytes.
+const SOURCE: usize = 4 * places::SOURCE;
 
-// The low word of a number, and the high one.
-fn low(n: u64) -> u32
-    ensures { λ r. ⌜ r ≡ table.low n ⌝ }
-{
-    (n % 4294967296) as u32
-}
+const BLOCK: usize = 4 * places::BLOCK;
 
-fn high(n: u64) -> u32
-    ensures { λ r. ⌜ r ≡ table.high n ⌝ }
-{
-    (n / 4294967296 % 4294967296) as u32
-}
+const TRACK: usize = 4 * places::TRACK;
 
-fn count(n: usize) -> u32
-    ensures { λ r. ⌜ r ≡ table.low n ⌝ }
-{
-    (n % 4294967296) as u32
-}
+const HEAD: usize = 4 * places::HEAD;
 
-// ---- entries of tables
+const SCHEDULE: usize = 4 * places::SCHEDULE;
 
-fn put_code(s: &mut [u8], at: usize, code: u8)
-    requires { ⌜ at + 4 ≤ length (now s) ⌝ }
-    ensures { λ _. ⌜ now (s .exit) ≡ withWords (now (s .entry)) at (codeWords code) ⌝ }
-{
-    words::put_u32(s, at, code as u32);
-}
+const STATE: usize = 4 * places::CLOCK;
 
-fn put_gain(s: &mut [u8], at: usize, x: f32)
-    requires { ⌜ at + 4 ≤ length (now s) ⌝ }
-    ensures { λ _. ⌜ now (s .exit) ≡ withWords (now (s .entry)) at (gainWords x) ⌝ }
-{
-    words::put_u32(s, at, words::bits_of(x));
-}
+const CODES: usize = 4 * places::CODES;
 
-fn put_source(s: &mut [u8], at: usize, x: DynamicSourceState)
-    requires { ⌜ at + 24 ≤ length (now s) ⌝ }
-    ensures { λ _. ⌜ now (s .exit) ≡ withWords (now (s .entry)) at (sourceWords x) ⌝ }
+const GAINS: usize = 4 * places::GAINS;
+
+const SOURCES: usize = 4 * places::SOURCES;
+
+const FIRST: usize = 4 * places::FIRST;
+
+const SECOND: usize = 4 * places::SECOND;
+
+// ---- the words of a struct
+
+fn source_words(x: DynamicSourceState) -> [u32; places::SOURCE]
+    ensures { λ r. ⌜ sourceFormat .Spells r 0 x ⌝ }
 {
     let place = x.place;
-    let w = [
+    [
         words::bits_of(x.gain),
         words::bits_of(x.size),
         words::bits_of(place.x),
         words::bits_of(place.y),
         words::bits_of(place.z),
-        bit(x.placed),
-    ];
-    words::put_words(s, at, &w);
+        formats::bit(x.placed),
+    ]
 }
 
-fn put_block(s: &mut [u8], at: usize, x: BlockState)
-    requires { ⌜ at + 12 ≤ length (now s) ⌝ }
-    ensures { λ _. ⌜ now (s .exit) ≡ withWords (now (s .entry)) at (blockWords x) ⌝ }
+fn block_words(x: BlockState) -> [u32; places::BLOCK]
+    ensures { λ r. ⌜ blockFormat .Spells r 0 x ⌝ }
 {
-    let w = [x.offset, x.ramp, bit(x.used)];
-    words::put_words(s, at, &w);
+    [x.offset, x.ramp, formats::bit(x.used)]
 }
 
-fn put_track(s: &mut [u8], at: usize, x: Track)
-    requires { ⌜ at + 16 ≤ length (now s) ⌝ }
-    ensures { λ _. ⌜ now (s .exit) ≡ withWords (now (s .entry)) at (trackWords x) ⌝ }
+fn track_words(x: Track) -> [u32; places::TRACK]
+    ensures { λ r. ⌜ trackFormat .Spells r 0 x ⌝ }
 {
     let future = x.future;
-    let w = [
-        bit(x.now),
+    [
+        formats::bit(x.now),
         words::bits_of(future.x),
         words::bits_of(future.y),
         words::bits_of(future.z),
-    ];
-    words::put_words(s, at, &w);
+    ]
 }
 
-// ---- tables
-
-fn put_codes(s: &mut [u8], at: usize, xs: [u8; 18])
-    requires { ⌜ at + 72 ≤ length (now s) ⌝ }
-    ensures { λ _. ⌜ now (s .exit) ≡ withWords (now (s .entry)) at (each codeWords xs) ⌝ }
+fn head_words(x: ElementRendererState) -> [u32; places::HEAD]
+    ensures { λ r. ⌜ headFormat .Spells r 0 (elementHead x) ⌝ }
 {
-    let mut i = 0usize;
-    while i < 18 {
-        put_code(s, at + 4 * i, xs[i]);
-        i += 1;
-    }
+    [
+        formats::count(x.blocks),
+        formats::count(x.flags),
+        formats::low(x.remaining),
+        formats::high(x.remaining),
+    ]
 }
 
-fn put_gains(s: &mut [u8], at: usize, xs: [f32; 18])
-    requires { ⌜ at + 72 ≤ length (now s) ⌝ }
-    ensures { λ _. ⌜ now (s .exit) ≡ withWords (now (s .entry)) at (each gainWords xs) ⌝ }
+fn counts_words(x: MetadataRendererState) -> [u32; places::COUNTS]
+    ensures { λ r. ⌜ countsFormat .Spells r 0 (countsOf x) ⌝ }
 {
-    let mut i = 0usize;
-    while i < 18 {
-        put_gain(s, at + 4 * i, xs[i]);
-        i += 1;
-    }
+    let payload = x.payload;
+    [
+        formats::bit(x.initialized),
+        formats::low(payload.0),
+        formats::high(payload.0),
+        formats::count(x.objects),
+        formats::count(x.isf),
+        formats::count(x.beds),
+        formats::count(x.elements),
+    ]
 }
 
-fn put_sources(s: &mut [u8], at: usize, xs: [DynamicSourceState; 16])
-    requires { ⌜ at + 384 ≤ length (now s) ⌝ }
-    ensures { λ _. ⌜ now (s .exit) ≡ withWords (now (s .entry)) at (each sourceWords xs) ⌝ }
+fn clock_words(x: Small) -> [u32; places::CLOCK]
+    ensures { λ r. ⌜ clockFormat .Spells r 0 (clockOf x) ⌝ }
 {
-    let mut i = 0usize;
-    while i < 16 {
-        let x = xs[i];
-        put_source(s, at + 24 * i, x);
-        i += 1;
-    }
-}
-
-fn put_schedule(s: &mut [u8], at: usize, xs: [BlockState; 8])
-    requires { ⌜ at + 96 ≤ length (now s) ⌝ }
-    ensures { λ _. ⌜ now (s .exit) ≡ withWords (now (s .entry)) at (each blockWords xs) ⌝ }
-{
-    let mut i = 0usize;
-    while i < 8 {
-        let x = xs[i];
-        put_block(s, at + 12 * i, x);
-        i += 1;
-    }
-}
-
-fn put_tracks(s: &mut [u8], at: usize, xs: [Track; 16])
-    requires { ⌜ at + 256 ≤ length (now s) ⌝ }
-    ensures { λ _. ⌜ now (s .exit) ≡ withWords (now (s .entry)) at (each trackWords xs) ⌝ }
-{
-    let mut i = 0usize;
-    while i < 16 {
-        let x = xs[i];
-        put_track(s, at + 16 * i, x);
-        i += 1;
-    }
-}
-
-// ---- the whole
-
-// An element has 92 words.
-fn put_element(s: &mut [u8], at: usize, x: ElementRendererState)
-    requires { ⌜ at + 368 ≤ length (now s) ⌝ }
-    ensures { λ _. ⌜ (now (s .exit) ≡ withWords (now (s .entry)) at (elementWords x)) × (length (elementWords x) ≡ 92) ⌝ }
-{
-    let w = [
-        count(x.blocks),
-        count(x.flags),
-        low(x.remaining),
-        high(x.remaining),
-    ];
-    words::put_words(s, at, &w);
-    let schedule = x.schedule;
-    put_schedule(s, at + 16, schedule);
-    let tracks = x.tracks;
-    put_tracks(s, at + 112, tracks);
-}
-
-fn put_filter(s: &mut [u8], at: usize, f: BiquadLowpassState)
-    requires { ⌜ at + 36 ≤ length (now s) ⌝ }
-    ensures { λ _. ⌜ now (s .exit) ≡ withWords (now (s .entry)) at (filterWords f) ⌝ }
-{
-    let w = [
+    let f = x.filter;
+    [
+        x.rate,
+        x.phase,
+        formats::low(x.position),
+        formats::high(x.position),
+        formats::low(x.start),
+        formats::high(x.start),
+        words::bits_of(x.gain),
         words::bits_of(f.a1),
         words::bits_of(f.a2),
         words::bits_of(f.b0),
@@ -193,64 +119,102 @@ fn put_filter(s: &mut [u8], at: usize, f: BiquadLowpassState)
         words::bits_of(f.x2),
         words::bits_of(f.y1),
         words::bits_of(f.y2),
-    ];
+        x.pending,
+    ]
+}
+
+// ---- tables
+
+fn put_codes(s: &mut [u8], at: usize, xs: [u8; 18])
+    requires { ⌜ at + 72 ≤ length (now s) ⌝ }
+    ensures { λ _. ⌜ now (s .exit) ≡ withWords (now (s .entry)) at (array 18 (u8To 17) .put xs) ⌝ }
+{
+    let mut i = 0usize;
+    while i < 18 {
+        words::put_u32(s, at + 4 * i, xs[i] as u32);
+        i += 1;
+    }
+}
+
+fn put_gains(s: &mut [u8], at: usize, xs: [f32; 18])
+    requires { ⌜ at + 72 ≤ length (now s) ⌝ }
+    ensures { λ _. ⌜ now (s .exit) ≡ withWords (now (s .entry)) at (array 18 float .put xs) ⌝ }
+{
+    formats::put_floats(s, at, &xs);
+}
+
+fn put_sources(s: &mut [u8], at: usize, xs: [DynamicSourceState; 16])
+    requires { ⌜ at + 4 * array 16 sourceFormat .width ≤ length (now s) ⌝ }
+    ensures { λ _. ⌜ now (s .exit) ≡ withWords (now (s .entry)) at (array 16 sourceFormat .put xs) ⌝ }
+{
+    let mut i = 0usize;
+    while i < 16 {
+        let x = xs[i];
+        let w = source_words(x);
+        words::put_words(s, at + SOURCE * i, &w);
+        i += 1;
+    }
+}
+
+fn put_schedule(s: &mut [u8], at: usize, xs: [BlockState; 8])
+    requires { ⌜ at + 4 * array 8 blockFormat .width ≤ length (now s) ⌝ }
+    ensures { λ _. ⌜ now (s .exit) ≡ withWords (now (s .entry)) at (array 8 blockFormat .put xs) ⌝ }
+{
+    let mut i = 0usize;
+    while i < 8 {
+        let x = xs[i];
+        let w = block_words(x);
+        words::put_words(s, at + BLOCK * i, &w);
+        i += 1;
+    }
+}
+
+fn put_tracks(s: &mut [u8], at: usize, xs: [Track; 16])
+    requires { ⌜ at + 4 * array 16 trackFormat .width ≤ length (now s) ⌝ }
+    ensures { λ _. ⌜ now (s .exit) ≡ withWords (now (s .entry)) at (array 16 trackFormat .put xs) ⌝ }
+{
+    let mut i = 0usize;
+    while i < 16 {
+        let x = xs[i];
+        let w = track_words(x);
+        words::put_words(s, at + TRACK * i, &w);
+        i += 1;
+    }
+}
+
+// ---- the whole
+
+fn put_element(s: &mut [u8], at: usize, x: ElementRendererState)
+    requires { ⌜ at + 4 * elementFormat .width ≤ length (now s) ⌝ }
+    ensures { λ _. ⌜ now (s .exit) ≡ withWords (now (s .entry)) at (elementFormat .put x) ⌝ }
+{
+    let w = head_words(x);
     words::put_words(s, at, &w);
+    let blocks = at + HEAD;
+    let rows = blocks + SCHEDULE;
+    let schedule = x.schedule;
+    put_schedule(s, blocks, schedule);
+    let tracks = x.tracks;
+    put_tracks(s, rows, tracks);
 }
 
-fn put_clock(s: &mut [u8], x: Small)
-    requires { ⌜ 68 ≤ length (now s) ⌝ }
-    ensures { λ _. ⌜ now (s .exit) ≡ withWords (now (s .entry)) 0 (clockWords x) ⌝ }
+fn put_state(s: &mut [u8], x: MetadataRendererState)
+    requires { ⌜ length (now s) ≡ size ⌝ }
+    ensures { λ _. ⌜ now (s .exit) ≡ withWords (now (s .entry)) (4 * stateAt) (stateFormat .put x) ⌝ }
 {
-    let w = [
-        x.rate,
-        x.phase,
-        low(x.position),
-        high(x.position),
-        low(x.start),
-        high(x.start),
-        words::bits_of(x.gain),
-    ];
-    words::put_words(s, 0, &w);
-    let filter = x.filter;
-    put_filter(s, 28, filter);
-    words::put_u32(s, 64, x.pending);
-}
-
-fn put_counts(s: &mut [u8], at: usize, x: MetadataRendererState)
-    requires { ⌜ at + 28 ≤ length (now s) ⌝ }
-    ensures { λ _. ⌜ now (s .exit) ≡ withWords (now (s .entry)) at (countWords x) ⌝ }
-{
-    let payload = x.payload;
-    let w = [
-        bit(x.initialized),
-        low(payload.0),
-        high(payload.0),
-        count(x.objects),
-        count(x.isf),
-        count(x.beds),
-        count(x.elements),
-    ];
-    words::put_words(s, at, &w);
-}
-
-fn put_tables(
-    s: &mut [u8],
-    at: usize,
-    codes: [u8; 18],
-    gains: [f32; 18],
-    sources: [DynamicSourceState; 16],
-    states: [ElementRendererState; 2],
-)
-    requires { ⌜ at + 1264 ≤ length (now s) ⌝ }
-    ensures { λ _. ⌜ now (s .exit) ≡ withWords (now (s .entry)) at (each codeWords codes ++ (each gainWords gains ++ (each sourceWords sources ++ each elementWords states))) ⌝ }
-{
-    put_codes(s, at, codes);
-    put_gains(s, at + 72, gains);
-    put_sources(s, at + 144, sources);
+    let w = counts_words(x);
+    words::put_words(s, STATE, &w);
+    let codes = x.codes;
+    put_codes(s, CODES, codes);
+    let gains = x.gains;
+    put_gains(s, GAINS, gains);
+    let sources = x.sources;
+    put_sources(s, SOURCES, sources);
+    let states = x.states;
     let first = states[0];
-    put_element(s, at + 528, first);
+    put_element(s, FIRST, first);
     let second = states[1];
-    put_element(s, at + 896, second);
+    put_element(s, SECOND, second);
 }
 
 // The small part of a block, whole; the rest of the block is kept.
@@ -258,12 +222,8 @@ pub fn save(state: &mut [u8], x: Small)
     requires { ⌜ length (now state) ≡ size ⌝ }
     ensures { λ _. ⌜ now (state .exit) ≡ withWords (now (state .entry)) 0 (smallWords x) ⌝ }
 {
-    put_clock(state, x);
+    let w = clock_words(x);
+    words::put_words(state, 0, &w);
     let timed = x.state;
-    put_counts(state, 68, timed);
-    let codes = timed.codes;
-    let gains = timed.gains;
-    let sources = timed.sources;
-    let states = timed.states;
-    put_tables(state, 96, codes, gains, sources, states);
+    put_state(state, timed);
 }

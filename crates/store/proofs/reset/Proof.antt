@@ -2,10 +2,11 @@
 use borrow.Author.Needs.{needs}
 use mathlib.Core.Path.{ap, _∙_}
 use mathlib.Core.List.{List}
-use Prim.Native.Nat.{ℕ}
+use Prim.Native.Nat.{ℕ, _+_, _*_}
 use lib.ListN.{length}
 use Rattle.words.specs.Words.{withWord, withLong}
 use Rattle.timed.specs.Slot.{middle}
+use Rattle.store.specs.Places.{limiterGainAt, remainingIn, firstAt, secondAt}
 use Rattle.store.proofs.Fresh.{refilled}
 use Rattle.store.proofs.reset.Statement.{statement}
 use Rattle.store.proofs.reset.Tie as tie
@@ -33,7 +34,9 @@ returns c =
     let z = u .before .before .before .before in
     let s = z .before .before .before in
     p .put-u642 .ensures
-    ∙ ap (λ (x : List ℕ). withLong x 1000 middle) (q .put-u64 .ensures ∙ ap (λ (x : List ℕ). withLong x 632 middle) (u .put-u32 .ensures ∙ ap (λ (x : List ℕ). withWord x 24 0x3f80_0000) (z .zeros .ensures)))
+    ∙ ap (λ (x : List ℕ). withLong x (4 * (secondAt + remainingIn)) middle)
+    (q .put-u64 .ensures ∙ ap (λ (x : List ℕ). withLong x (4 * (firstAt + remainingIn)) middle)
+    (u .put-u32 .ensures ∙ ap (λ (x : List ℕ). withWord x (4 * limiterGainAt) 0x3f80_0000) (z .zeros .ensures)))
     ∙ refilled (length (s .args .state .now)) (s .pre)
 
 pub reset-spec : {M : Type 1} → statement M

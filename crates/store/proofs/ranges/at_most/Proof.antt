@@ -7,14 +7,15 @@ use native.Mathlib.Nat.{mul-zero, add-zero, sub-zero}
 use native.Mathlib.Omega.{arith}
 use borrow.Author.Tests.{le-leb, lt-leb}
 use lib.Dec.{leb}
-use lib.ListN.{getD, drop}
-use Rattle.store.specs.Table.{atMost}
-use Rattle.store.proofs.Loops.{room, at-most-step, at-most-stop}
+use lib.ListN.{getD}
+use Rattle.formats.specs.Format.{allAt}
+use Rattle.formats.proofs.Loops.{room, all-step, all-stop, all-done}
+use Rattle.store.proofs.Tables.{most}
 use Rattle.store.proofs.ranges.at_most.Statement.{statement}
 use Rattle.store.proofs.ranges.at_most.Tie as tie
 
 abbrev Inv-loop : tie.InvT-loop
-Inv-loop w at j k n limit p₀ i₀ p i = (i ≤ n) × (p ≡ at + j + k * i) × (atMost j k n limit (drop at w) ≡ atMost j k (n - i) limit (drop (at + k * i) w))
+Inv-loop w at j k n limit p₀ i₀ p i = (i ≤ n) × (p ≡ at + j + k * i) × (allAt (most w j limit) k n at ≡ allAt (most w j limit) k (n - i) (at + k * i))
 
 abbrev μ-loop : tie.MeasureT-loop
 μ-loop w at j k n limit p₀ i₀ p i = n - i
@@ -36,8 +37,9 @@ returns c =
     let t = c .before .before in
     let l = t .before .loop in
     let a = t .before .before .args in
-    let e : leb (getD (a .w .now) (a .at + a .j + a .k * l .i) 0) (a .limit) ≡ false = rw (← l .inv .1) (lt-leb _ _ (c .if1 .taken)) in
-    sym (l .inv .2 ∙ at-most-stop (a .j) (a .k) (a .limit) (a .w .now) (a .at) (l .i) (a .n) (t .loop-test .taken) e)
+    let p : l .p ≡ a .at + a .k * l .i + a .j = omega arith in
+    let e : most (a .w .now) (a .j) (a .limit) (a .at + a .k * l .i) ≡ false = rw (← p) (lt-leb _ _ (c .if1 .taken)) in
+    sym (l .inv .2 ∙ all-stop (a .k) (most (a .w .now) (a .j) (a .limit)) (a .at) (l .i) (a .n) (t .loop-test .taken) e)
 
 add-i : tie.Need-add-i Inv-loop μ-loop
 add-i c = search needs
@@ -53,16 +55,15 @@ loop-again c =
     let t = c .before .before in
     let l = t .before .loop in
     let a = t .before .before .args in
-    let e : leb (getD (a .w .now) (a .at + a .j + a .k * l .i) 0) (a .limit) ≡ true = rw (← l .inv .1) (le-leb _ _ (c .if1 .left)) in
-    (omega arith, omega arith, l .inv .2 ∙ at-most-step (a .j) (a .k) (a .limit) (a .w .now) (a .at) (l .i) (a .n) (t .loop-test .taken) e)
+    let p : l .p ≡ a .at + a .k * l .i + a .j = omega arith in
+    let e : most (a .w .now) (a .j) (a .limit) (a .at + a .k * l .i) ≡ true = rw (← p) (le-leb _ _ (c .if1 .left)) in
+    (omega arith, omega arith, l .inv .2 ∙ all-step (a .k) (most (a .w .now) (a .j) (a .limit)) (a .at) (l .i) (a .n) (t .loop-test .taken) e)
 
 returns-2 : tie.Need-returns-2 Inv-loop μ-loop
-unfolding atMost
 returns-2 c =
     let l = c .before .loop in
     let a = c .before .before .args in
-    let e : a .n - l .i ≡ 0 = omega arith in
-    sym (l .inv .2 ∙ ap (λ (m : ℕ). atMost (a .j) (a .k) m (a .limit) (drop (a .at + a .k * l .i) (a .w .now))) e)
+    sym (l .inv .2 ∙ all-done (a .k) (most (a .w .now) (a .j) (a .limit)) (a .at) (l .i) (a .n) (omega arith))
 
 pub at-most-spec : {M : Type 1} → statement M
 at-most-spec =

@@ -3,7 +3,7 @@ use borrow.Author.Needs.{needs}
 use mathlib.Core.Path.{sym, ap, _∙_}
 use borrow.Author.Tests.{not-true, not-false}
 use Rattle.store.specs.Ranges.{smallValid}
-use Rattle.store.proofs.Answers.{wrong-length, bad-heads, good-heads}
+use Rattle.store.proofs.Tables.{wrong-length, bad-heads, good-heads}
 use Rattle.store.proofs.ranges.is_valid.Statement.{statement}
 use Rattle.store.proofs.ranges.is_valid.Tie as tie
 
@@ -37,7 +37,9 @@ small-valid-requires c κs = search needs
 returns-3 : tie.Need-returns-3
 returns-3 c =
     c .small-valid .ensures ∙ ap smallValid (c .before .before .before .get-words .ensures)
-    ∙ sym (good-heads (c .before .before .before .before .before .before .before .before .before .before .args .state .now) (c .before .before .before .before .before .before .before .before .if1 .left) (sym (c .before .before .before .before .before .before .heads-valid .ensures) ∙ not-false _ (c .before .before .before .before .before .if2 .left)))
+    ∙ sym (good-heads (c .before .before .before .before .before .before .before .before .before .before .args .state .now)
+    (c .before .before .before .before .before .before .before .before .if1 .left)
+    (sym (c .before .before .before .before .before .before .heads-valid .ensures) ∙ not-false _ (c .before .before .before .before .before .if2 .left)))
 
 pub is-valid-spec : {M : Type 1} → statement M
 is-valid-spec =

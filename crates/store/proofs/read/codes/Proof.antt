@@ -1,23 +1,22 @@
 -- The entries before `i` are read. Assumes nothing.
 use borrow.Author.Needs.{needs}
-use mathlib.Core.Path.{_≡_, refl, ap}
-use Prim.Native.Nat.{ℕ, _+_, _-_, _≤_, _<_, _%_}
+use mathlib.Core.Path.{_≡_, refl, ap, _∙_}
+use Prim.Native.Nat.{ℕ, _+_, _-_, _*_, _%_, _≤_, _<_}
 use native.Mathlib.Omega.{arith}
-use lib.ListN.{length, getD, take, drop, length-set}
-use Rattle.store.specs.Table.{table}
-use Rattle.store.proofs.Loops.{table-filled, table-full, word-at}
-use Rattle.store.specs.Fields.{codeOf}
+use lib.ListN.{length, getD, take, length-set}
+use Rattle.formats.specs.Format.{gets, array, u8To}
+use Rattle.formats.proofs.Loops.{gets-filled, gets-full}
 use Rattle.store.proofs.read.codes.Statement.{statement}
 use Rattle.store.proofs.read.codes.Tie as tie
 
 abbrev Inv-loop : tie.InvT-loop
-Inv-loop w at a₀ i₀ a i = (i ≤ 18) × (length a ≡ 18) × (take i a ≡ table codeOf 1 i (drop at w))
+Inv-loop w at a₀ i₀ a i = (i ≤ 18) × (length a ≡ 18) × (take i a ≡ array i (u8To 17) .get w at)
 
 abbrev μ-loop : tie.MeasureT-loop
 μ-loop w at a₀ i₀ a i = 18 - i
 
 loop-holds : tie.Need-loop-holds Inv-loop μ-loop
-unfolding table
+unfolding gets
 loop-holds c = (omega arith, refl, refl)
 
 add-a : tie.Need-add-a Inv-loop μ-loop
@@ -46,13 +45,18 @@ loop-again c =
     let l = c .before .before .loop in
     let a = c .before .before .before .args in
     let h : l .i < length (l .a) = omega arith in
-    (omega arith, simp length-set (omega arith), table-filled codeOf 1 (a .at) (l .i) (a .w .now) (l .a) (getD (a .w .now) (a .at + l .i) 0 % 256) h (l .inv .2) (ap (λ (q : ℕ). q % 256) (word-at (a .w .now) (a .at) (l .i))))
+    let e : a .at + l .i ≡ a .at + 1 * l .i = omega arith in (
+      omega arith,
+      simp length-set (omega arith),
+      gets-filled ((u8To 17) .get (a .w .now)) 1 (a .at) (l .i) (l .a) (getD (a .w .now) (a .at + l .i) 0 % 256) h (l .inv .2)
+          (ap ((u8To 17) .get (a .w .now)) e),
+    )
 
 returns : tie.Need-returns Inv-loop μ-loop
 returns c =
     let l = c .before .loop in
     let a = c .before .before .args in
-    table-full codeOf 1 18 (l .i) (drop (a .at) (a .w .now)) (l .a) (l .inv .1) (omega arith) (omega arith) (l .inv .2)
+    gets-full ((u8To 17) .get (a .w .now)) 1 (a .at) 18 (l .i) (l .a) (l .inv .1) (omega arith) (omega arith) (l .inv .2)
 
 pub codes-spec : {M : Type 1} → statement M
 codes-spec =

@@ -1,9 +1,31 @@
--- Nine floats. Assumes nothing.
+-- Field by field. Assumes nothing.
 use borrow.Author.Needs.{needs}
-use lib.Seq.{getD-drop}
-use Rattle.store.specs.Fields.{filterOf}
 use Rattle.store.proofs.read.filter.Statement.{statement}
 use Rattle.store.proofs.read.filter.Tie as tie
+
+add-a2 : tie.Need-add-a2
+add-a2 c = search needs
+
+add-b0 : tie.Need-add-b0
+add-b0 c = search needs
+
+add-b1 : tie.Need-add-b1
+add-b1 c = search needs
+
+add-b2 : tie.Need-add-b2
+add-b2 c = search needs
+
+add-x1 : tie.Need-add-x1
+add-x1 c = search needs
+
+add-x2 : tie.Need-add-x2
+add-x2 c = search needs
+
+add-y1 : tie.Need-add-y1
+add-y1 c = search needs
+
+add-y2 : tie.Need-add-y2
+add-y2 c = search needs
 
 float-requires : tie.Need-float-requires
 float-requires c κs = search needs
@@ -33,16 +55,33 @@ float-requires-9 : tie.Need-float-requires-9
 float-requires-9 c κs = search needs
 
 returns : tie.Need-returns
-unfolding filterOf
 returns c =
-    let b = c .before .before .before .before in
-    let a = b .before .before .before .before in
-    simp (a .float .ensures, b .before .before .before .float2 .ensures, b .before .before .float3 .ensures, b .before .float4 .ensures, b .float5 .ensures, c .before .before .before .float6 .ensures, c .before .before .float7 .ensures, c .before .float8 .ensures, c .float9 .ensures, getD-drop)
+    let h = c .before in
+    let g = h .before in
+    let f = g .before in
+    let e = f .before in
+    let d = e .before in
+    let b = d .before in
+    let a = b .before in (
+      a .before .float .ensures,
+      (
+        a .float2 .ensures,
+        (b .float3 .ensures, (d .float4 .ensures, (e .float5 .ensures, (f .float6 .ensures, (g .float7 .ensures, (h .float8 .ensures, c .float9 .ensures)))))),
+      ),
+    )
 
 pub filter-spec : {M : Type 1} → statement M
 filter-spec =
     tie.close
     (tie.spec
+    add-a2
+    add-b0
+    add-b1
+    add-b2
+    add-x1
+    add-x2
+    add-y1
+    add-y2
     float-requires
     float-requires-2
     float-requires-3

@@ -1,17 +1,18 @@
 -- The entries before `i` are read. Assumes nothing.
 use borrow.Author.Needs.{needs}
 use mathlib.Core.Path.{_≡_, refl}
-use Prim.Native.Nat.{_-_, _≤_, _<_}
+use Prim.Native.Nat.{_+_, _-_, _*_, _≤_, _<_}
 use native.Mathlib.Omega.{arith}
-use lib.ListN.{length, take, drop, length-set}
-use Rattle.store.specs.Table.{table}
-use Rattle.store.proofs.Loops.{table-filled, table-full}
-use Rattle.store.specs.Fields.{blockOf}
+use lib.ListN.{length, take, length-set}
+use Rattle.formats.specs.Format.{gets, array}
+use Rattle.formats.proofs.Loops.{gets-filled, gets-full}
+use Rattle.store.specs.Fields.{blockFormat}
+use Rattle.store.proofs.Back.{lawful-block}
 use Rattle.store.proofs.read.schedule.Statement.{statement}
 use Rattle.store.proofs.read.schedule.Tie as tie
 
 abbrev Inv-loop : tie.InvT-loop
-Inv-loop w at a₀ i₀ a i = (i ≤ 8) × (length a ≡ 8) × (take i a ≡ table blockOf 3 i (drop at w))
+Inv-loop w at a₀ i₀ a i = (i ≤ 8) × (length a ≡ 8) × (take i a ≡ array i blockFormat .get w at)
 
 abbrev μ-loop : tie.MeasureT-loop
 μ-loop w at a₀ i₀ a i = 8 - i
@@ -20,7 +21,7 @@ block-requires : tie.Need-block-requires Inv-loop μ-loop
 block-requires c κs = search needs
 
 loop-holds : tie.Need-loop-holds Inv-loop μ-loop
-unfolding table
+unfolding gets
 loop-holds c = (omega arith, refl, refl)
 
 mul-block : tie.Need-mul-block Inv-loop μ-loop
@@ -48,14 +49,19 @@ loop-again : tie.Need-loop-again Inv-loop μ-loop
 loop-again c =
     let l = c .before .before .loop in
     let a = c .before .before .before .before .args in
-    let h : l .i < length (l .a) = omega arith in
-    (omega arith, simp length-set (omega arith), table-filled blockOf 3 (a .at) (l .i) (a .w .now) (l .a) (c .block2 .result) h (l .inv .2) (c .block2 .ensures))
+    let w = a .w .now in
+    let h : l .i < length (l .a) = omega arith in (
+      omega arith,
+      simp length-set (omega arith),
+      gets-filled (blockFormat .get w) (blockFormat .width) (a .at) (l .i) (l .a) (c .block2 .result) h (l .inv .2)
+          (lawful-block .reads w (a .at + blockFormat .width * l .i) (c .block2 .result) (c .block2 .ensures)),
+    )
 
 returns : tie.Need-returns Inv-loop μ-loop
 returns c =
     let l = c .before .loop in
     let a = c .before .before .before .args in
-    table-full blockOf 3 8 (l .i) (drop (a .at) (a .w .now)) (l .a) (l .inv .1) (omega arith) (omega arith) (l .inv .2)
+    gets-full (blockFormat .get (a .w .now)) (blockFormat .width) (a .at) 8 (l .i) (l .a) (l .inv .1) (omega arith) (omega arith) (l .inv .2)
 
 pub schedule-spec : {M : Type 1} → statement M
 schedule-spec =

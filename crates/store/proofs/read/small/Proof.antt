@@ -1,6 +1,8 @@
--- Word by word. Assumes nothing.
+-- Field by field. Assumes nothing.
 use borrow.Author.Needs.{needs}
+use mathlib.Core.Path.{refl}
 use Rattle.store.specs.Fields.{smallOf}
+use Rattle.store.proofs.Back.{lawful-small}
 use Rattle.store.proofs.read.small.Statement.{statement}
 use Rattle.store.proofs.read.small.Tie as tie
 
@@ -31,10 +33,13 @@ element-copy-out-t15 c = search needs
 returns : tie.Need-returns
 unfolding smallOf
 returns c =
-    let f = c .before in
-    let l = f .before in
-    let s = l .before .before .before .before in
-    simp (f .float .ensures, l .long2 .ensures, l .before .long .ensures, s .state .ensures, s .before .filter .ensures)
+    let g = c .before in
+    let b = g .before in
+    let a = b .before in
+    let s = a .before .before .before in
+    let f = s .before in
+    let w = f .before .args .w .now in
+    lawful-small .reads w 0 _ ((refl, (refl, (a .long .ensures, (b .long2 .ensures, (g .float .ensures, (f .filter .ensures, refl)))))), s .state .ensures)
 
 pub small-spec : {M : Type 1} → statement M
 small-spec =

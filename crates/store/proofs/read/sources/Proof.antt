@@ -1,17 +1,18 @@
 -- The entries before `i` are read. Assumes nothing.
 use borrow.Author.Needs.{needs}
 use mathlib.Core.Path.{_≡_, refl}
-use Prim.Native.Nat.{_-_, _≤_, _<_}
+use Prim.Native.Nat.{_+_, _-_, _*_, _≤_, _<_}
 use native.Mathlib.Omega.{arith}
-use lib.ListN.{length, take, drop, length-set}
-use Rattle.store.specs.Table.{table}
-use Rattle.store.proofs.Loops.{table-filled, table-full}
-use Rattle.store.specs.Fields.{sourceOf}
+use lib.ListN.{length, take, length-set}
+use Rattle.formats.specs.Format.{gets, array}
+use Rattle.formats.proofs.Loops.{gets-filled, gets-full}
+use Rattle.store.specs.Fields.{sourceFormat}
+use Rattle.store.proofs.Back.{lawful-source}
 use Rattle.store.proofs.read.sources.Statement.{statement}
 use Rattle.store.proofs.read.sources.Tie as tie
 
 abbrev Inv-loop : tie.InvT-loop
-Inv-loop w at a₀ i₀ a i = (i ≤ 16) × (length a ≡ 16) × (take i a ≡ table sourceOf 6 i (drop at w))
+Inv-loop w at a₀ i₀ a i = (i ≤ 16) × (length a ≡ 16) × (take i a ≡ array i sourceFormat .get w at)
 
 abbrev μ-loop : tie.MeasureT-loop
 μ-loop w at a₀ i₀ a i = 16 - i
@@ -20,7 +21,7 @@ source-requires : tie.Need-source-requires Inv-loop μ-loop
 source-requires c κs = search needs
 
 loop-holds : tie.Need-loop-holds Inv-loop μ-loop
-unfolding table
+unfolding gets
 loop-holds c = (omega arith, refl, refl)
 
 mul-source : tie.Need-mul-source Inv-loop μ-loop
@@ -48,14 +49,19 @@ loop-again : tie.Need-loop-again Inv-loop μ-loop
 loop-again c =
     let l = c .before .before .loop in
     let a = c .before .before .before .before .args in
-    let h : l .i < length (l .a) = omega arith in
-    (omega arith, simp length-set (omega arith), table-filled sourceOf 6 (a .at) (l .i) (a .w .now) (l .a) (c .source2 .result) h (l .inv .2) (c .source2 .ensures))
+    let w = a .w .now in
+    let h : l .i < length (l .a) = omega arith in (
+      omega arith,
+      simp length-set (omega arith),
+      gets-filled (sourceFormat .get w) (sourceFormat .width) (a .at) (l .i) (l .a) (c .source2 .result) h (l .inv .2)
+          (lawful-source .reads w (a .at + sourceFormat .width * l .i) (c .source2 .result) (c .source2 .ensures)),
+    )
 
 returns : tie.Need-returns Inv-loop μ-loop
 returns c =
     let l = c .before .loop in
     let a = c .before .before .before .args in
-    table-full sourceOf 6 16 (l .i) (drop (a .at) (a .w .now)) (l .a) (l .inv .1) (omega arith) (omega arith) (l .inv .2)
+    gets-full (sourceFormat .get (a .w .now)) (sourceFormat .width) (a .at) 16 (l .i) (l .a) (l .inv .1) (omega arith) (omega arith) (l .inv .2)
 
 pub sources-spec : {M : Type 1} → statement M
 sources-spec =

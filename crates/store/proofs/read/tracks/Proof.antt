@@ -1,17 +1,18 @@
 -- The entries before `i` are read. Assumes nothing.
 use borrow.Author.Needs.{needs}
 use mathlib.Core.Path.{_≡_, refl}
-use Prim.Native.Nat.{_-_, _≤_, _<_}
+use Prim.Native.Nat.{_+_, _-_, _*_, _≤_, _<_}
 use native.Mathlib.Omega.{arith}
-use lib.ListN.{length, take, drop, length-set}
-use Rattle.store.specs.Table.{table}
-use Rattle.store.proofs.Loops.{table-filled, table-full}
-use Rattle.store.specs.Fields.{trackOf}
+use lib.ListN.{length, take, length-set}
+use Rattle.formats.specs.Format.{gets, array}
+use Rattle.formats.proofs.Loops.{gets-filled, gets-full}
+use Rattle.store.specs.Fields.{trackFormat}
+use Rattle.store.proofs.Back.{lawful-track}
 use Rattle.store.proofs.read.tracks.Statement.{statement}
 use Rattle.store.proofs.read.tracks.Tie as tie
 
 abbrev Inv-loop : tie.InvT-loop
-Inv-loop w at a₀ i₀ a i = (i ≤ 16) × (length a ≡ 16) × (take i a ≡ table trackOf 4 i (drop at w))
+Inv-loop w at a₀ i₀ a i = (i ≤ 16) × (length a ≡ 16) × (take i a ≡ array i trackFormat .get w at)
 
 abbrev μ-loop : tie.MeasureT-loop
 μ-loop w at a₀ i₀ a i = 16 - i
@@ -20,7 +21,7 @@ track-requires : tie.Need-track-requires Inv-loop μ-loop
 track-requires c κs = search needs
 
 loop-holds : tie.Need-loop-holds Inv-loop μ-loop
-unfolding table
+unfolding gets
 loop-holds c = (omega arith, refl, refl)
 
 mul-track : tie.Need-mul-track Inv-loop μ-loop
@@ -48,14 +49,19 @@ loop-again : tie.Need-loop-again Inv-loop μ-loop
 loop-again c =
     let l = c .before .before .loop in
     let a = c .before .before .before .before .args in
-    let h : l .i < length (l .a) = omega arith in
-    (omega arith, simp length-set (omega arith), table-filled trackOf 4 (a .at) (l .i) (a .w .now) (l .a) (c .track2 .result) h (l .inv .2) (c .track2 .ensures))
+    let w = a .w .now in
+    let h : l .i < length (l .a) = omega arith in (
+      omega arith,
+      simp length-set (omega arith),
+      gets-filled (trackFormat .get w) (trackFormat .width) (a .at) (l .i) (l .a) (c .track2 .result) h (l .inv .2)
+          (lawful-track .reads w (a .at + trackFormat .width * l .i) (c .track2 .result) (c .track2 .ensures)),
+    )
 
 returns : tie.Need-returns Inv-loop μ-loop
 returns c =
     let l = c .before .loop in
     let a = c .before .before .before .args in
-    table-full trackOf 4 16 (l .i) (drop (a .at) (a .w .now)) (l .a) (l .inv .1) (omega arith) (omega arith) (l .inv .2)
+    gets-full (trackFormat .get (a .w .now)) (trackFormat .width) (a .at) 16 (l .i) (l .a) (l .inv .1) (omega arith) (omega arith) (l .inv .2)
 
 pub tracks-spec : {M : Type 1} → statement M
 tracks-spec =

@@ -1,39 +1,41 @@
 -- The entries before `i` are stored. Assumes nothing.
 use borrow.Author.Needs.{needs}
-use mathlib.Core.Path.{_≡_, refl, ap, _∙_}
-use mathlib.Core.List.{List}
-use Prim.Native.Nat.{ℕ, _+_, _-_, _*_, _≤_, _<_}
+use mathlib.Core.Path.{_≡_, refl, sym}
+use mathlib.Core.List.{[], _∷_}
+use Prim.Native.Nat.{_+_, _-_, _*_, _≤_, _<_}
 use native.Mathlib.Omega.{arith}
-use lib.ListN.{length, take}
-use lib.Seq.{take-all}
+use lib.Dec.{lit<}
+use lib.ListN.{length, getD}
 use Rattle.words.specs.Words.{withWords}
-use Rattle.store.specs.Table.{each}
-use Rattle.store.proofs.Stores.{store-turn}
-use Rattle.store.specs.Fields.{codeWords}
+use Rattle.formats.specs.Format.{array, u8To}
+use Rattle.formats.proofs.Word.{lawful-u8-to}
+use Rattle.formats.proofs.Loops.{store-turn, store-none, store-all}
 use Rattle.store.proofs.write.put_codes.Statement.{statement}
 use Rattle.store.proofs.write.put_codes.Tie as tie
 
 abbrev Inv-loop : tie.InvT-loop
-Inv-loop s₀ at xs i₀ s i = (i ≤ 18) × (length s ≡ length s₀) × (s ≡ withWords s₀ at (each codeWords (take i xs)))
+Inv-loop s₀ at xs i₀ s i = (i ≤ 18) × (length s ≡ length s₀) × (s ≡ withWords s₀ at (array i (u8To 17) .put xs))
 
 abbrev μ-loop : tie.MeasureT-loop
 μ-loop s₀ at xs i₀ s i = 18 - i
 
 loop-holds : tie.Need-loop-holds Inv-loop μ-loop
-unfolding each
-loop-holds c = (omega arith, refl, refl)
+loop-holds c = let a = c .before .args in (omega arith, refl, store-none (u8To 17) (lawful-u8-to 17 (lit< tt)) (a .s .now) (a .at) (a .t3))
 
-mul-put-code : tie.Need-mul-put-code Inv-loop μ-loop
-mul-put-code c = search needs
+mul-put-u32 : tie.Need-mul-put-u32 Inv-loop μ-loop
+mul-put-u32 c = search needs
 
-add-put-code : tie.Need-add-put-code Inv-loop μ-loop
-add-put-code c = search needs
+add-put-u32 : tie.Need-add-put-u32 Inv-loop μ-loop
+add-put-u32 c = search needs
 
-array-read-put-code : tie.Need-array-read-put-code Inv-loop μ-loop
-array-read-put-code c = search needs
+array-read-put-u32 : tie.Need-array-read-put-u32 Inv-loop μ-loop
+array-read-put-u32 c = search needs
 
-put-code-requires : tie.Need-put-code-requires Inv-loop μ-loop
-put-code-requires c κs = search needs
+cast-put-u32 : tie.Need-cast-put-u32 Inv-loop μ-loop
+cast-put-u32 c = search needs
+
+put-u32-requires : tie.Need-put-u32-requires Inv-loop μ-loop
+put-u32-requires c κs = search needs
 
 add-i : tie.Need-add-i Inv-loop μ-loop
 add-i c = search needs
@@ -47,7 +49,8 @@ loop-again c =
     let l = p .before .before .before .loop in
     let a = p .before .before .before .before .before .args in
     let h : l .i < length (a .t3) = omega arith in
-    let q = store-turn codeWords 1 (λ y. refl) 0 (a .s .now) (l .s) (p .put-code .last .0) (a .at) (l .i) (a .at + 4 * l .i) (a .t3) h (omega arith) (l .inv .2) (p .put-code .ensures) in
+    let q = store-turn (u8To 17) (lawful-u8-to 17 (lit< tt)) 0 (a .s .now) (l .s) (p .put-u32 .last .0) (a .at) (l .i) (a .at + 4 * l .i)
+    (a .t3) (getD (a .t3) (l .i) 0 ∷ []) h (omega arith) refl refl (l .inv .2) (p .put-u32 .ensures) in
     (omega arith, q .0, q .1)
 
 same-length : tie.Need-same-length Inv-loop μ-loop
@@ -57,8 +60,7 @@ returns : tie.Need-returns Inv-loop μ-loop
 returns c =
     let l = c .before .loop in
     let a = c .before .before .before .args in
-    let h : length (a .t3) ≤ l .i = omega arith in
-    l .inv .2 ∙ ap (λ (t : List ℕ). withWords (a .s .now) (a .at) (each codeWords t)) (take-all (l .i) (a .t3) h)
+    store-all (u8To 17) (lawful-u8-to 17 (lit< tt)) (a .s .now) (l .s) (a .at) 18 (l .i) (a .t3) (omega arith) (omega arith) (l .inv .2)
 
 pub put-codes-spec : {M : Type 1} → statement M
 put-codes-spec =
@@ -67,10 +69,11 @@ put-codes-spec =
     Inv-loop
     μ-loop
     loop-holds
-    mul-put-code
-    add-put-code
-    array-read-put-code
-    put-code-requires
+    mul-put-u32
+    add-put-u32
+    array-read-put-u32
+    cast-put-u32
+    put-u32-requires
     add-i
     loop-less
     loop-again

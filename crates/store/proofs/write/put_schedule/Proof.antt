@@ -1,29 +1,26 @@
 -- The entries before `i` are stored. Assumes nothing.
 use borrow.Author.Needs.{needs}
-use mathlib.Core.Path.{_≡_, refl, ap, _∙_}
-use mathlib.Core.List.{List}
+use mathlib.Core.Path.{_≡_, refl, sym}
 use Prim.Native.Nat.{_+_, _-_, _*_, _≤_, _<_}
 use native.Mathlib.Omega.{arith}
-use lib.ListN.{length, take}
-use lib.Seq.{take-all}
+use lib.ListN.{length}
 use Rattle.words.specs.Words.{withWords}
-use Rattle.store.specs.Table.{each}
-use Rattle.store.proofs.Stores.{store-turn}
-use Rattle.store.specs.Fields.{blockWords}
+use Rattle.formats.specs.Format.{array}
+use Rattle.formats.proofs.Loops.{store-turn, store-none, store-all}
 use Rattle.timed.specs.Slot.{noBlock}
-use Rattle.timed.specs.declared.state.BlockState.{BlockState}
+use Rattle.store.specs.Fields.{blockFormat}
+use Rattle.store.proofs.Back.{lawful-block}
 use Rattle.store.proofs.write.put_schedule.Statement.{statement}
 use Rattle.store.proofs.write.put_schedule.Tie as tie
 
 abbrev Inv-loop : tie.InvT-loop
-Inv-loop s₀ at xs i₀ s i = (i ≤ 8) × (length s ≡ length s₀) × (s ≡ withWords s₀ at (each blockWords (take i xs)))
+Inv-loop s₀ at xs i₀ s i = (i ≤ 8) × (length s ≡ length s₀) × (s ≡ withWords s₀ at (array i blockFormat .put xs))
 
 abbrev μ-loop : tie.MeasureT-loop
 μ-loop s₀ at xs i₀ s i = 8 - i
 
 loop-holds : tie.Need-loop-holds Inv-loop μ-loop
-unfolding each
-loop-holds c = (omega arith, refl, refl)
+loop-holds c = let a = c .before .args in (omega arith, refl, store-none blockFormat lawful-block (a .s .now) (a .at) (a .t3))
 
 mul-x : tie.Need-mul-x Inv-loop μ-loop
 mul-x c = search needs
@@ -31,14 +28,20 @@ mul-x c = search needs
 array-copy-out-x : tie.Need-array-copy-out-x Inv-loop μ-loop
 array-copy-out-x c = search needs
 
-mul-put-block : tie.Need-mul-put-block Inv-loop μ-loop
-mul-put-block c = search needs
+block-words-requires : tie.Need-block-words-requires Inv-loop μ-loop
+block-words-requires c κs = search needs
 
-add-put-block : tie.Need-add-put-block Inv-loop μ-loop
-add-put-block c = search needs
+mul-put-words : tie.Need-mul-put-words Inv-loop μ-loop
+mul-put-words c = search needs
 
-put-block-requires : tie.Need-put-block-requires Inv-loop μ-loop
-put-block-requires c κs = search needs
+add-put-words : tie.Need-add-put-words Inv-loop μ-loop
+add-put-words c = search needs
+
+slice-aggregate-put-words : tie.Need-slice-aggregate-put-words Inv-loop μ-loop
+slice-aggregate-put-words c = search needs
+
+put-words-requires : tie.Need-put-words-requires Inv-loop μ-loop
+put-words-requires c κs = search needs
 
 add-i : tie.Need-add-i Inv-loop μ-loop
 add-i c = search needs
@@ -47,13 +50,14 @@ loop-less : tie.Need-loop-less Inv-loop μ-loop
 loop-less c = search needs
 
 loop-again : tie.Need-loop-again Inv-loop μ-loop
-unfolding blockWords
 loop-again c =
     let p = c .before .before in
-    let l = p .before .before .before .before .loop in
-    let a = p .before .before .before .before .before .before .args in
+    let w = p .before .before .before in
+    let l = w .before .before .before .loop in
+    let a = w .before .before .before .before .before .args in
     let h : l .i < length (a .t3) = omega arith in
-    let q = store-turn blockWords 3 (λ y. refl) noBlock (a .s .now) (l .s) (p .put-block .last .0) (a .at) (l .i) (a .at + 12 * l .i) (a .t3) h (omega arith) (l .inv .2) (p .put-block .ensures) in
+    let q = store-turn blockFormat lawful-block noBlock (a .s .now) (l .s) (p .put-words .last .0) (a .at) (l .i) (a .at + 4 * blockFormat .width * l .i)
+    (a .t3) (w .block-words .result) h (omega arith) (search needs) (w .block-words .ensures) (l .inv .2) (p .put-words .ensures) in
     (omega arith, q .0, q .1)
 
 same-length : tie.Need-same-length Inv-loop μ-loop
@@ -63,8 +67,7 @@ returns : tie.Need-returns Inv-loop μ-loop
 returns c =
     let l = c .before .loop in
     let a = c .before .before .before .args in
-    let h : length (a .t3) ≤ l .i = omega arith in
-    l .inv .2 ∙ ap (λ (t : List BlockState). withWords (a .s .now) (a .at) (each blockWords t)) (take-all (l .i) (a .t3) h)
+    store-all blockFormat lawful-block (a .s .now) (l .s) (a .at) 8 (l .i) (a .t3) (omega arith) (omega arith) (l .inv .2)
 
 pub put-schedule-spec : {M : Type 1} → statement M
 put-schedule-spec =
@@ -75,9 +78,11 @@ put-schedule-spec =
     loop-holds
     mul-x
     array-copy-out-x
-    mul-put-block
-    add-put-block
-    put-block-requires
+    block-words-requires
+    mul-put-words
+    add-put-words
+    slice-aggregate-put-words
+    put-words-requires
     add-i
     loop-less
     loop-again

@@ -1,29 +1,26 @@
 -- The entries before `i` are stored. Assumes nothing.
 use borrow.Author.Needs.{needs}
-use mathlib.Core.Path.{_≡_, refl, ap, _∙_}
-use mathlib.Core.List.{List}
+use mathlib.Core.Path.{_≡_, refl, sym}
 use Prim.Native.Nat.{_+_, _-_, _*_, _≤_, _<_}
 use native.Mathlib.Omega.{arith}
-use lib.ListN.{length, take}
-use lib.Seq.{take-all}
+use lib.ListN.{length}
 use Rattle.words.specs.Words.{withWords}
-use Rattle.store.specs.Table.{each}
-use Rattle.store.proofs.Stores.{store-turn}
-use Rattle.store.specs.Fields.{sourceWords}
+use Rattle.formats.specs.Format.{array}
+use Rattle.formats.proofs.Loops.{store-turn, store-none, store-all}
 use Rattle.timed.specs.Objects.{noSource}
-use Rattle.timed.specs.declared.state.DynamicSourceState.{DynamicSourceState}
+use Rattle.store.specs.Fields.{sourceFormat}
+use Rattle.store.proofs.Back.{lawful-source}
 use Rattle.store.proofs.write.put_sources.Statement.{statement}
 use Rattle.store.proofs.write.put_sources.Tie as tie
 
 abbrev Inv-loop : tie.InvT-loop
-Inv-loop s₀ at xs i₀ s i = (i ≤ 16) × (length s ≡ length s₀) × (s ≡ withWords s₀ at (each sourceWords (take i xs)))
+Inv-loop s₀ at xs i₀ s i = (i ≤ 16) × (length s ≡ length s₀) × (s ≡ withWords s₀ at (array i sourceFormat .put xs))
 
 abbrev μ-loop : tie.MeasureT-loop
 μ-loop s₀ at xs i₀ s i = 16 - i
 
 loop-holds : tie.Need-loop-holds Inv-loop μ-loop
-unfolding each
-loop-holds c = (omega arith, refl, refl)
+loop-holds c = let a = c .before .args in (omega arith, refl, store-none sourceFormat lawful-source (a .s .now) (a .at) (a .t3))
 
 mul-x : tie.Need-mul-x Inv-loop μ-loop
 mul-x c = search needs
@@ -31,14 +28,20 @@ mul-x c = search needs
 array-copy-out-x : tie.Need-array-copy-out-x Inv-loop μ-loop
 array-copy-out-x c = search needs
 
-mul-put-source : tie.Need-mul-put-source Inv-loop μ-loop
-mul-put-source c = search needs
+source-words-requires : tie.Need-source-words-requires Inv-loop μ-loop
+source-words-requires c κs = search needs
 
-add-put-source : tie.Need-add-put-source Inv-loop μ-loop
-add-put-source c = search needs
+mul-put-words : tie.Need-mul-put-words Inv-loop μ-loop
+mul-put-words c = search needs
 
-put-source-requires : tie.Need-put-source-requires Inv-loop μ-loop
-put-source-requires c κs = search needs
+add-put-words : tie.Need-add-put-words Inv-loop μ-loop
+add-put-words c = search needs
+
+slice-aggregate-put-words : tie.Need-slice-aggregate-put-words Inv-loop μ-loop
+slice-aggregate-put-words c = search needs
+
+put-words-requires : tie.Need-put-words-requires Inv-loop μ-loop
+put-words-requires c κs = search needs
 
 add-i : tie.Need-add-i Inv-loop μ-loop
 add-i c = search needs
@@ -47,13 +50,14 @@ loop-less : tie.Need-loop-less Inv-loop μ-loop
 loop-less c = search needs
 
 loop-again : tie.Need-loop-again Inv-loop μ-loop
-unfolding sourceWords
 loop-again c =
     let p = c .before .before in
-    let l = p .before .before .before .before .loop in
-    let a = p .before .before .before .before .before .before .args in
+    let w = p .before .before .before in
+    let l = w .before .before .before .loop in
+    let a = w .before .before .before .before .before .args in
     let h : l .i < length (a .t3) = omega arith in
-    let q = store-turn sourceWords 6 (λ y. refl) noSource (a .s .now) (l .s) (p .put-source .last .0) (a .at) (l .i) (a .at + 24 * l .i) (a .t3) h (omega arith) (l .inv .2) (p .put-source .ensures) in
+    let q = store-turn sourceFormat lawful-source noSource (a .s .now) (l .s) (p .put-words .last .0) (a .at) (l .i) (a .at + 4 * sourceFormat .width * l .i)
+    (a .t3) (w .source-words .result) h (omega arith) (search needs) (w .source-words .ensures) (l .inv .2) (p .put-words .ensures) in
     (omega arith, q .0, q .1)
 
 same-length : tie.Need-same-length Inv-loop μ-loop
@@ -63,8 +67,7 @@ returns : tie.Need-returns Inv-loop μ-loop
 returns c =
     let l = c .before .loop in
     let a = c .before .before .before .args in
-    let h : length (a .t3) ≤ l .i = omega arith in
-    l .inv .2 ∙ ap (λ (t : List DynamicSourceState). withWords (a .s .now) (a .at) (each sourceWords t)) (take-all (l .i) (a .t3) h)
+    store-all sourceFormat lawful-source (a .s .now) (l .s) (a .at) 16 (l .i) (a .t3) (omega arith) (omega arith) (l .inv .2)
 
 pub put-sources-spec : {M : Type 1} → statement M
 put-sources-spec =
@@ -75,9 +78,11 @@ put-sources-spec =
     loop-holds
     mul-x
     array-copy-out-x
-    mul-put-source
-    add-put-source
-    put-source-requires
+    source-words-requires
+    mul-put-words
+    add-put-words
+    slice-aggregate-put-words
+    put-words-requires
     add-i
     loop-less
     loop-again

@@ -1,0 +1,87 @@
+-- The counts, and one table after the other. Assumes nothing.
+use borrow.Author.Needs.{needs}
+use mathlib.Core.Path.{_≡_, ap, _∙_}
+use mathlib.Core.List.{List}
+use Prim.Native.Nat.{ℕ, _*_}
+use lib.ListN.{length, getD}
+use Rattle.words.specs.Words.{withWords}
+use Rattle.formats.specs.Format.{u8To, float, array}
+use Rattle.formats.proofs.Places.{spelled}
+use Rattle.timed.specs.State.{noElement}
+use Rattle.store.specs.Fields.{sourceFormat, elementFormat, countsOf, countsFormat}
+use Rattle.store.specs.Places.{stateAt, tablesAt, gainsAt, sourcesAt, firstAt, secondAt}
+use Rattle.store.proofs.Back.{lawful-counts}
+use Rattle.store.proofs.Stores.{state-stored}
+use Rattle.store.proofs.write.put_state.Statement.{statement}
+use Rattle.store.proofs.write.put_state.Tie as tie
+
+counts-words-requires : tie.Need-counts-words-requires
+counts-words-requires c κs = search needs
+
+slice-aggregate-put-words : tie.Need-slice-aggregate-put-words
+slice-aggregate-put-words c = search needs
+
+put-words-requires : tie.Need-put-words-requires
+put-words-requires c κs = search needs
+
+put-codes-requires : tie.Need-put-codes-requires
+put-codes-requires c κs = search needs
+
+put-gains-requires : tie.Need-put-gains-requires
+put-gains-requires c κs = search needs
+
+put-sources-requires : tie.Need-put-sources-requires
+put-sources-requires c κs = search needs
+
+array-copy-out-first : tie.Need-array-copy-out-first
+array-copy-out-first c = search needs
+
+put-element-requires : tie.Need-put-element-requires
+put-element-requires c κs = search needs
+
+array-copy-out-second : tie.Need-array-copy-out-second
+array-copy-out-second c = search needs
+
+put-element-requires-2 : tie.Need-put-element-requires-2
+put-element-requires-2 c κs = search needs
+
+same-length : tie.Need-same-length
+same-length c = search needs
+
+returns : tie.Need-returns
+returns c =
+    let e2 = c .before .before in
+    let e1 = e2 .before .before .before .before .before in
+    let s = e1 .before .before .before .before .before .before in
+    let g = s .before .before .before .before .before in
+    let k = g .before .before .before .before .before in
+    let p = k .before .before .before .before .before in
+    let h = p .before .before .before in
+    let a = h .before .before .args in
+    let n : length (h .counts-words .result) ≡ countsFormat .width = search needs in
+    let e : ℕ → List ℕ = λ i. elementFormat .put (getD (a .x .states) i noElement) in
+    e2 .put-element2 .ensures
+    ∙ ap (λ (t : List ℕ). withWords t (4 * secondAt) (e 1)) (e1 .put-element .ensures
+    ∙ ap (λ (t : List ℕ). withWords t (4 * firstAt) (e 0)) (s .put-sources .ensures
+    ∙ ap (λ (t : List ℕ). withWords t (4 * sourcesAt) (array 16 sourceFormat .put (a .x .sources))) (g .put-gains .ensures
+    ∙ ap (λ (t : List ℕ). withWords t (4 * gainsAt) (array 18 float .put (a .x .gains))) (k .put-codes .ensures
+    ∙ ap (λ (t : List ℕ). withWords t (4 * tablesAt) (array 18 (u8To 17) .put (a .x .codes))) (p .put-words .ensures
+    ∙ ap (withWords (a .s .now) (4 * stateAt)) (spelled countsFormat lawful-counts (countsOf (a .x)) (h .counts-words .result) n (h .counts-words .ensures)))))))
+    ∙ state-stored (a .s .now) (a .x)
+
+pub put-state-spec : {M : Type 1} → statement M
+put-state-spec =
+    tie.close
+    (tie.spec
+    counts-words-requires
+    slice-aggregate-put-words
+    put-words-requires
+    put-codes-requires
+    put-gains-requires
+    put-sources-requires
+    array-copy-out-first
+    put-element-requires
+    array-copy-out-second
+    put-element-requires-2
+    same-length
+    returns)
