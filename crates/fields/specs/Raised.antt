@@ -1,5 +1,5 @@
--- A reader may skip this file: a block's numbers plus 2 ^ 20, as the state keeps them. `raised-is` of proofs/Raised: within ±2 ^ 20 it is that sum; `raised-within`: it is at most 2 ^ 21
--- exactly if the number is within. Assumes nothing.
+-- A reader may skip this file: a block's numbers plus 2 ^ 20, as the state keeps them. `raised-is` of proofs/Raised: within ±2 ^ 20 it is that sum; `raised-within`: it is at
+-- most 2 ^ 21 exactly if the number is within. Assumes nothing.
 use Prim.Native.Nat.{ℕ, _+_, _*_, _%_, _^_}
 use mathlib.Core.List.{List}
 use Rattle.words.specs.Words.{long}

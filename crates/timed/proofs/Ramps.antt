@@ -66,7 +66,12 @@ ramp-ramps p before n s h =
     cond-keeps (λ (x : Slot). Ramps p (x .schedule) (x .remaining)) (over (remainingOf (s .remaining))) s _ (λ _. h)
     (λ e.
     let g = leb-false (s .remaining) middle (sym (over-shifted (s .remaining)) ∙ e) in
-    record { offsets = h .offsets; ramps = h .ramps; most = rw (less-shifted (s .remaining)) (omega (arith, h .most)); least = rw (less-shifted (s .remaining)) (omega (arith, g)) })
+    record {
+      offsets = h .offsets;
+      ramps = h .ramps;
+      most = rw (less-shifted (s .remaining)) (omega (arith, h .most));
+      least = rw (less-shifted (s .remaining)) (omega (arith, g));
+    })
 
 -- ---- the element
 

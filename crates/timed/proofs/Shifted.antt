@@ -36,7 +36,8 @@ over-shifted n = over-is (remainingOf n) n M (remaining-is n) ∙ (let e : n + M
 
 pub less-shifted : (n : ℕ) → keptAs (slotLess (remainingOf n)) ≡ n - 64
 less-shifted n =
-    kept-is (slotLess (remainingOf n)) (n + 0) (M + 64) (is-minus (remainingOf n) (pos 64) n M 64 0 (remaining-is n) (is-pos 64)) ∙ (let e : n + 0 + M - (M + 64) ≡ n - 64 = omega arith in e)
+    kept-is (slotLess (remainingOf n)) (n + 0) (M + 64) (is-minus (remainingOf n) (pos 64) n M 64 0 (remaining-is n) (is-pos 64))
+    ∙ (let e : n + 0 + M - (M + 64) ≡ n - 64 = omega arith in e)
 
 -- where a ramp remains
 pub remaining-shifted : (n : ℕ) → middle ≤ n → remainingOf n ≡ pos (n - middle)
@@ -132,6 +133,7 @@ module _ (e : ElementRendererState) where
       chain true h = h ∙ rw turn
       chain false h = refl
 
-      by : (n : Bool) {s t u : Bool} → s ≡ u → t ≡ leb (o + w .payload) (w .start + 1048576) → (not n && s && t) ≡ cond (cond n false u) (leb (w .payload + o) (w .start + 1048576)) false
+      by : (n : Bool) {s t u : Bool} → s ≡ u → t ≡ leb (o + w .payload) (w .start + 1048576)
+          → (not n && s && t) ≡ cond (cond n false u) (leb (w .payload + o) (w .start + 1048576)) false
       by true h k = refl
       by false {s} {t} h k = rw (← h) (chain s k)

@@ -1,5 +1,5 @@
--- A reader may skip this file: what the code asks of its arguments, so that nothing wraps and every info that is reached is one. These follow from document 01's ranges of a state block, which
--- stand in the specs of `store`. Assumes nothing.
+-- A reader may skip this file: what the code asks of its arguments, so that nothing wraps and every info that is reached is one. These follow from document 01's ranges of a
+-- state block, which stand in the specs of `store`. Assumes nothing.
 use Prim.Native.Nat.{ℕ, _+_, _-_, _*_, _≤_, _<_}
 use mathlib.Core.List.{List}
 use lib.ListN.{getD}

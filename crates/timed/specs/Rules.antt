@@ -1,5 +1,6 @@
--- Document 01, item 5, over signed numbers: the timecode, when a block is applied, what remains of its ramp, and which elements do anything. The state keeps offsets and ramps plus 2 ^ 20 and a
--- remaining ramp plus 2 ^ 47, so that none is below 0; here each is the number that is meant. specs/Shifted says the same of the numbers that are kept. Assumes nothing.
+-- Document 01, item 5, over signed numbers: the timecode, when a block is applied, what remains of its ramp, and which elements do anything. The state keeps offsets and ramps
+-- plus 2 ^ 20 and a remaining ramp plus 2 ^ 47, so that none is below 0; here each is the number that is meant. specs/Shifted says the same of the numbers that are kept.
+-- Assumes nothing.
 use Prim.Native.Nat.{ℕ}
 use mathlib.Core.List.{[]}
 use mathlib.Core.Bool.{Bool, false, not, _&&_, _||_}

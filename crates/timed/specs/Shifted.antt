@@ -1,5 +1,5 @@
--- A reader may skip this file: the rules of specs/Rules over the numbers as they are kept, which are not below 0, in the code's shape. `due-shifted`, `left-shifted`, `over-shifted`,
--- `less-shifted`, `active-shifted` and `begins-shifted` of proofs/Shifted: they are the same, for every state. Assumes nothing.
+-- A reader may skip this file: the rules of specs/Rules over the numbers as they are kept, which are not below 0, in the code's shape. `due-shifted`, `left-shifted`,
+-- `over-shifted`, `less-shifted`, `active-shifted` and `begins-shifted` of proofs/Shifted: they are the same, for every state. Assumes nothing.
 use Prim.Native.Nat.{ℕ, _+_, _-_}
 use mathlib.Core.Bool.{Bool, false, cond}
 use lib.Dec.{eqb, leb, ltb}

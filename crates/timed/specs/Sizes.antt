@@ -1,5 +1,5 @@
--- The numbers of the infos, in document 01's limits: "An update has up to 32 objects in all, .. 2 elements, 8 blocks each". Each object in each block of each element has an info, a record of
--- eleven words: head, gain, size, distance, screen factor, position (x, y, z), last absolute position (x, y, z). Assumes nothing.
+-- The numbers of the infos, in document 01's limits: "An update has up to 32 objects in all, .. 2 elements, 8 blocks each". Each object in each block of each element has an
+-- info, a record of eleven words: head, gain, size, distance, screen factor, position (x, y, z), last absolute position (x, y, z). Assumes nothing.
 use Prim.Native.Nat.{ℕ, _+_, _*_}
 
 abbrev pub mostElements : ℕ

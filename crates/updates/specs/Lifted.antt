@@ -30,5 +30,6 @@ pub record Afresh (u : Update) (e : ℕ) (t : Timed) : Type 0 where
   pub tracks : elementOf (t .state) e .tracks ≡ replicate 16 newTrack
   pub remaining : remainingOf (elementOf (t .state) e .remaining) ≡ pos 0
   pub unapplied : (b : ℕ) → b < u .element e .blocks → getD (elementOf (t .state) e .schedule) b noBlock .used ≡ false
-  pub position : (o b : ℕ) → o < u .objects → b < u .element e .blocks → has (u .element e .info o b .head) 8 ≡ false → vecAt (t .infos) (infoAt (infoOf e o b) + positionByte) ≡ zeroVec3
+  pub position : (o b : ℕ) → o < u .objects → b < u .element e .blocks
+      → has (u .element e .info o b .head) 8 ≡ false → vecAt (t .infos) (infoAt (infoOf e o b) + positionByte) ≡ zeroVec3
   pub last : (o b : ℕ) → o < u .objects → b < u .element e .blocks → vecAt (t .infos) (infoAt (infoOf e o b) + lastByte) ≡ zeroVec3

@@ -29,7 +29,9 @@ headOf bed i = cond bed (headWord (asSpeaker (headIn (i .head)))) (i .head)
 
 -- head, gain, size, distance and screen factor, as the record has them
 unfoldable pub withHead : ℕ → Info → ℕ → List ℕ → List ℕ
-withHead head i at is = withWord (withWord (withWord (withWord (withWord is at head) (at + gainByte) (i .gain)) (at + sizeByte) (i .size)) (at + distanceByte) (i .distance)) (at + screenByte) (i .screen)
+withHead head i at is =
+    withWord (withWord (withWord (withWord (withWord is at head) (at + gainByte) (i .gain)) (at + sizeByte) (i .size)) (at + distanceByte) (i .distance)) (at + screenByte)
+    (i .screen)
 
 -- the info at byte `at`
 unfoldable pub withInfo : Bool → Bool → Info → ℕ → List ℕ → List ℕ

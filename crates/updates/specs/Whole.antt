@@ -1,5 +1,5 @@
--- A reader may skip this file: what is asked of the metadata of an update that is applied: its records stand in the list, its counts and blocks are within their limits. Records that refusals 5 and 6 let
--- pass are so. Assumes nothing.
+-- A reader may skip this file: what is asked of the metadata of an update that is applied: its records stand in the list, its counts and blocks are within their limits. Records
+-- that refusals 5 and 6 let pass are so. Assumes nothing.
 use Prim.Native.Nat.{ℕ, _+_, _-_, _*_, _≤_, _<_}
 use mathlib.Core.List.{List}
 use lib.ListN.{length, getD}

@@ -22,8 +22,8 @@ pub record Head : Type 0 where
   pub anchor : ℕ
   pub depth : ℕ
 
--- The word of a head: its lowest byte has the flags, the next the anchor, what is above the depth. proofs/Heads: a head is read back, a word is written back, and `has` of the word is
--- `has` of its flags.
+-- The word of a head: its lowest byte has the flags, the next the anchor, what is above the depth. proofs/Heads: a head is read back, a word is written back, and `has` of the
+-- word is `has` of its flags.
 abbrev pub headWord : Head → ℕ
 headWord h = h .flags + h .anchor * 256 + h .depth * 65536
 

@@ -23,7 +23,13 @@ returns-2 : tie.Need-returns-2
 unfolding rampApplied
 returns-2 c =
     let n = c .before .before .before .before .before .before .before .before .args .self .remaining in
-    rw (over-shifted n, less-shifted n, lt-leb n 140737488355328 (c .before .before .before .before .before .before .before .if1 .left), c .before .before .before .ramp .ensures, c .before .before .before .before .share .ensures)
+    rw (
+      over-shifted n,
+      less-shifted n,
+      lt-leb n 140737488355328 (c .before .before .before .before .before .before .before .if1 .left),
+      c .before .before .before .ramp .ensures,
+      c .before .before .before .before .share .ensures,
+    )
 
 pub ramp-spec : {M : Type 1} → statement M
 ramp-spec = tie.close (tie.spec returns share-requires ramp-requires sub-t14 returns-2)

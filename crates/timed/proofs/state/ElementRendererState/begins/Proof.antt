@@ -22,7 +22,8 @@ add-result-2 c = search needs
 returns : tie.Need-returns
 returns c =
     let a = c .before .before .before .before .before .before in
-    rw (begins-shifted (a .before .args .self) (a .before .args .when), ← active-shifted (a .before .args .self), ← a .active .ensures, c .before .before .before .before .before .if1 .taken)
+    let e = a .before .args .self in
+    rw (begins-shifted e (a .before .args .when), ← active-shifted e, ← a .active .ensures, c .before .before .before .before .before .if1 .taken)
 
 returns-2 : tie.Need-returns-2
 returns-2 c =
