@@ -18,9 +18,11 @@ is-clear-requires c κs = search needs
 
 returns : tie.Need-returns
 returns c =
-    let s = c .before .before .before .before .before in
-    start-stops (now (s .args .meta)) (s .args .l) (s .pre .0) (s .args .n .objects) (now (s .args .codes)) (s .args .n .samples) (s .args .n .rate) (s .args .rate-before) (shapeOf (s .args .state))
-    (c .before .before .start-refusal .result) (c .before .before .start-refusal .ensures) (sym (c .before .is-clear .ensures) ∙ not-true _ (c .if1 .taken))
+    let b = c .before .before in
+    let s = b .before .before .before in
+    let a = s .args in
+    start-stops (now (a .meta)) (a .l) (s .pre .0) (a .n .objects) (now (a .codes)) (a .n .samples) (a .n .rate) (a .rate-before) (shapeOf (a .state))
+    (b .start-refusal .result) (b .start-refusal .ensures) (sym (c .before .is-clear .ensures) ∙ not-true _ (c .if1 .taken))
 
 counts-refusal-requires : tie.Need-counts-refusal-requires
 counts-refusal-requires c κs = search needs
@@ -30,17 +32,26 @@ is-clear-requires-2 c κs = search needs
 
 returns-2 : tie.Need-returns-2
 returns-2 c =
-    let s = c .before .before .before .before .before .before .before .before in
-    counts-stops (now (s .args .meta)) (s .args .l) (s .pre .0) (s .args .n .objects) (now (s .args .codes)) (s .args .n .samples) (s .args .n .rate) (s .args .rate-before) (shapeOf (s .args .state))
-    (c .before .before .before .before .before .start-refusal .result) (c .before .before .before .before .before .start-refusal .ensures) (sym (c .before .before .before .before .is-clear .ensures) ∙ not-false _ (c .before .before .before .if1 .left))
-    (c .before .before .counts-refusal .result) (c .before .before .counts-refusal .ensures) (sym (c .before .is-clear2 .ensures) ∙ not-true _ (c .if2 .taken))
+    let k = c .before .before in
+    let f = k .before in
+    let b = f .before .before in
+    let s = b .before .before .before in
+    let a = s .args in
+    counts-stops (now (a .meta)) (a .l) (s .pre .0) (a .n .objects) (now (a .codes)) (a .n .samples) (a .n .rate) (a .rate-before) (shapeOf (a .state))
+    (b .start-refusal .result) (b .start-refusal .ensures) (sym (f .before .is-clear .ensures) ∙ not-false _ (f .if1 .left))
+    (k .counts-refusal .result) (k .counts-refusal .ensures) (sym (c .before .is-clear2 .ensures) ∙ not-true _ (c .if2 .taken))
 
 returns-3 : tie.Need-returns-3
 returns-3 c =
-    let s = c .before .before .before .before .before .before .before .before .before in
-    zero-stops (now (s .args .meta)) (s .args .l) (s .pre .0) (s .args .n .objects) (now (s .args .codes)) (s .args .n .samples) (s .args .n .rate) (s .args .rate-before) (shapeOf (s .args .state))
-    (c .before .before .before .before .before .before .start-refusal .result) (c .before .before .before .before .before .before .start-refusal .ensures) (sym (c .before .before .before .before .before .is-clear .ensures) ∙ not-false _ (c .before .before .before .before .if1 .left))
-    (c .before .before .before .counts-refusal .result) (c .before .before .before .counts-refusal .ensures) (sym (c .before .before .is-clear2 .ensures) ∙ not-false _ (c .before .if2 .left))
+    let e = c .before in
+    let k = e .before .before in
+    let f = k .before in
+    let b = f .before .before in
+    let s = b .before .before .before in
+    let a = s .args in
+    zero-stops (now (a .meta)) (a .l) (s .pre .0) (a .n .objects) (now (a .codes)) (a .n .samples) (a .n .rate) (a .rate-before) (shapeOf (a .state))
+    (b .start-refusal .result) (b .start-refusal .ensures) (sym (f .before .is-clear .ensures) ∙ not-false _ (f .if1 .left))
+    (k .counts-refusal .result) (k .counts-refusal .ensures) (sym (e .before .is-clear2 .ensures) ∙ not-false _ (e .if2 .left))
     (c .if3 .taken)
 
 present-of-requires : tie.Need-present-of-requires
@@ -57,12 +68,19 @@ is-clear-requires-3 c κs = search needs
 
 returns-4 : tie.Need-returns-4
 returns-4 c =
-    let s = c .before .before .before .before .before .before .before .before .before .before .before .before .before .before in
-    objects-stop (now (s .args .meta)) (s .args .l) (s .pre .0) (s .args .n .objects) (now (s .args .codes)) (s .args .n .samples) (s .args .n .rate) (s .args .rate-before) (shapeOf (s .args .state))
-    (c .before .before .before .before .before .before .before .before .before .before .before .start-refusal .result) (c .before .before .before .before .before .before .before .before .before .before .before .start-refusal .ensures) (sym (c .before .before .before .before .before .before .before .before .before .before .is-clear .ensures) ∙ not-false _ (c .before .before .before .before .before .before .before .before .before .if1 .left))
-    (c .before .before .before .before .before .before .before .before .counts-refusal .result) (c .before .before .before .before .before .before .before .before .counts-refusal .ensures) (sym (c .before .before .before .before .before .before .before .is-clear2 .ensures) ∙ not-false _ (c .before .before .before .before .before .before .if2 .left))
-    (c .before .before .before .before .before .if3 .left) (c .before .before .before .before .present-of .result) (c .before .before .before .present-after .result) (ap presentShape (c .before .before .before .before .present-of .ensures)) (c .before .before .before .present-after .ensures)
-    (c .before .before .objects-refusal .result) (c .before .before .objects-refusal .ensures) (sym (c .before .is-clear3 .ensures) ∙ not-true _ (c .if4 .taken))
+    let o = c .before .before in
+    let p = o .before .before in
+    let e = p .before .before in
+    let k = e .before .before in
+    let f = k .before in
+    let b = f .before .before in
+    let s = b .before .before .before in
+    let a = s .args in
+    objects-stop (now (a .meta)) (a .l) (s .pre .0) (a .n .objects) (now (a .codes)) (a .n .samples) (a .n .rate) (a .rate-before) (shapeOf (a .state))
+    (b .start-refusal .result) (b .start-refusal .ensures) (sym (f .before .is-clear .ensures) ∙ not-false _ (f .if1 .left))
+    (k .counts-refusal .result) (k .counts-refusal .ensures) (sym (e .before .is-clear2 .ensures) ∙ not-false _ (e .if2 .left))
+    (p .before .if3 .left) (p .present-of .result) (o .before .present-after .result) (ap presentShape (p .present-of .ensures)) (o .before .present-after .ensures)
+    (o .objects-refusal .result) (o .objects-refusal .ensures) (sym (c .before .is-clear3 .ensures) ∙ not-true _ (c .if4 .taken))
 
 walk-refusal-requires : tie.Need-walk-refusal-requires
 walk-refusal-requires c κs = let beds = ap (λ (p : Present). p .beds) (c .before .before .before .before .before .present-of .ensures) in search needs
@@ -70,12 +88,19 @@ walk-refusal-requires c κs = let beds = ap (λ (p : Present). p .beds) (c .befo
 returns-5 : tie.Need-returns-5
 returns-5 c =
     let d = c .before .before in
-    let s = d .before .before .before .before .before .before .before .before .before .before .before .before .before .before in
-    walk-is (now (s .args .meta)) (s .args .l) (s .pre .0) (s .args .n .objects) (now (s .args .codes)) (s .args .n .samples) (s .args .n .rate) (s .args .rate-before) (shapeOf (s .args .state))
-    (d .before .before .before .before .before .before .before .before .before .before .before .start-refusal .result) (d .before .before .before .before .before .before .before .before .before .before .before .start-refusal .ensures) (sym (d .before .before .before .before .before .before .before .before .before .before .is-clear .ensures) ∙ not-false _ (d .before .before .before .before .before .before .before .before .before .if1 .left))
-    (d .before .before .before .before .before .before .before .before .counts-refusal .result) (d .before .before .before .before .before .before .before .before .counts-refusal .ensures) (sym (d .before .before .before .before .before .before .before .is-clear2 .ensures) ∙ not-false _ (d .before .before .before .before .before .before .if2 .left))
-    (d .before .before .before .before .before .if3 .left) (d .before .before .before .before .present-of .result) (d .before .before .before .present-after .result) (ap presentShape (d .before .before .before .before .present-of .ensures)) (d .before .before .before .present-after .ensures)
-    (d .before .before .objects-refusal .result) (d .before .before .objects-refusal .ensures) (sym (d .before .is-clear3 .ensures) ∙ not-false _ (d .if4 .left))
+    let o = d .before .before in
+    let p = o .before .before in
+    let e = p .before .before in
+    let k = e .before .before in
+    let f = k .before in
+    let b = f .before .before in
+    let s = b .before .before .before in
+    let a = s .args in
+    walk-is (now (a .meta)) (a .l) (s .pre .0) (a .n .objects) (now (a .codes)) (a .n .samples) (a .n .rate) (a .rate-before) (shapeOf (a .state))
+    (b .start-refusal .result) (b .start-refusal .ensures) (sym (f .before .is-clear .ensures) ∙ not-false _ (f .if1 .left))
+    (k .counts-refusal .result) (k .counts-refusal .ensures) (sym (e .before .is-clear2 .ensures) ∙ not-false _ (e .if2 .left))
+    (p .before .if3 .left) (p .present-of .result) (o .before .present-after .result) (ap presentShape (p .present-of .ensures)) (o .before .present-after .ensures)
+    (o .objects-refusal .result) (o .objects-refusal .ensures) (sym (d .before .is-clear3 .ensures) ∙ not-false _ (d .if4 .left))
     (c .walk-refusal .result) (rw (c .before .wide .ensures) at (c .walk-refusal .ensures))
 
 pub refusal-spec : {M : Type 1} → statement M
