@@ -8,12 +8,14 @@ ghost use mathlib.Core.List.{List};
 ghost use Prim.Native.Nat.{ℕ, _+_, _≤_};
 ghost use lib.Dec.{leb};
 ghost use lib.ListN.{length};
+ghost use Rattle.formats.specs.Areas.{rowPlaces, placeCount};
 ghost use Rattle.claim.specs.Hall.{Sent};
 ghost use Rattle.render.specs.Sources.{Framed, bedsOf, sourcesOf};
 ghost use Rattle.render.specs.Run.{momentAt, Passed};
 ghost use Rattle.store.specs.Layout.{size};
 ghost use Rattle.frame.specs.Held.{IsNext};
 ghost use Rattle.frame.specs.Pass.{CanPass, Laid, passedClock, frameOf, settled};
+use formats::areas;
 use lowpass::BiquadLowpassState;
 use store::Small;
 use timed::state::MetadataRendererState;
@@ -37,7 +39,7 @@ fn mix(
     t: usize,
     k: usize,
 ) -> BiquadLowpassState
-    requires { ⌜ Framed (now pcm) (length (now codes) + objects) n t k × (length (now rows) ≡ 768) × (length (now codes) ≤ 18) × (m .beds ≤ 18) × (objects ≤ 16) ⌝ }
+    requires { ⌜ Framed (now pcm) (length (now codes) + objects) n t k × (length (now rows) ≡ placeCount) × (length (now codes) ≤ 18) × (m .beds ≤ 18) × (objects ≤ 16) ⌝ }
     ensures { λ r. ⌜ Passed (momentAt (bedsOf (cond (m .initialized) (m .beds) 0) (m .codes) (m .gains)) (sourcesOf (cond (m .initialized) objects 0) (m .sources)) (now (codes .entry)) (now (pcm .entry)) n) filter t k (now (rows .exit)) r ⌝ }
 {
     let wanted = m.codes;
@@ -63,7 +65,7 @@ fn mix(
 
 // The rows' first k places behind the pending samples of the block.
 fn lay(state: &mut [u8], rows: &[f32], pending: usize, k: usize)
-    requires { ⌜ (length (now state) ≡ size) × (length (now rows) ≡ 768) × (pending + k ≤ 64) ⌝ }
+    requires { ⌜ (length (now state) ≡ size) × (length (now rows) ≡ placeCount) × (pending + k ≤ rowPlaces) ⌝ }
     ensures { λ _. ⌜ Laid (now (rows .entry)) pending k (now (state .entry)) (now (state .exit)) ⌝ }
 {
     let start = store::PLACES;
@@ -131,7 +133,7 @@ pub fn pass(
     requires { ⌜ CanPass s (now state) (now pcm) (now codes) objects n t k ⌝ }
     ensures { λ r. ⌜ ((rate : ℕ) (us : List Sent) → IsNext (settled (frameOf rate us (now (codes .entry)) objects (now (pcm .entry)) n) t k s (now (state .entry))) (now (state .entry)) r (now (state .exit))) ⌝ }
 {
-    let mut rows = [0.0f32; 768];
+    let mut rows = [0.0f32; areas::PLACE_COUNT];
     let m = s.state;
     let before = s.filter;
     let filter = mix(m, before, &mut rows, pcm, codes, objects, n, t, k);

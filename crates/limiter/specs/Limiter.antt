@@ -7,6 +7,7 @@ use lib.IntN.{pos, negsuc}
 use lib.ListN.{length, take, drop}
 use lib.Ieee.{Float, fin, binary32, add, mul, div, lt, ofInt}
 use Rattle.ieee.specs.Small.{absolute, larger}
+use Rattle.formats.specs.Areas.{rowPlaces}
 
 abbrev pub 0·0 : Float
 0·0 = fin false 0 (pos 0)
@@ -53,12 +54,12 @@ scaledBlock g (c ∷ cs) = scaled g c ∷ scaledBlock g cs
 abbrev pub blockGain : Float → List (List Float) → Float
 blockGain g cs = lowered (blockPeak 0·0 cs) g
 
--- ---- the block in memory: channel after channel, 64 places each, of which the first n are used
+-- ---- the block in memory: a row of places for each channel, of which the first n are used
 unfoldable pub channels : ℕ → ℕ → List Float → List (List Float)
 channels zero n xs = []
-channels (suc k) n xs = take n xs ∷ channels k n (drop 64 xs)
+channels (suc k) n xs = take n xs ∷ channels k n (drop rowPlaces xs)
 
 -- the block with the first places of each channel written anew
 unfoldable pub laid : List (List Float) → List Float → List Float
 laid [] xs = xs
-laid (c ∷ cs) xs = c ++ (take (64 - length c) (drop (length c) xs) ++ laid cs (drop 64 xs))
+laid (c ∷ cs) xs = c ++ (take (rowPlaces - length c) (drop (length c) xs) ++ laid cs (drop rowPlaces xs))

@@ -8,10 +8,12 @@ ghost use mathlib.Core.Path.{_≡_};
 ghost use Prim.Native.Nat.{_+_, _*_, _≤_};
 ghost use lib.ListN.{length};
 ghost use Rattle.ieee.specs.Small.{absolute, larger};
+ghost use Rattle.formats.specs.Areas.{rowCount, rowPlaces, placeCount};
 ghost use Rattle.limiter.specs.Level.{Level};
 ghost use Rattle.limiter.specs.Limiter.{0·0, 1·0, peakFrom, peak, lowered, grown};
 ghost use Rattle.limiter.specs.Limiter.{blockPeak, channels};
 ghost use Rattle.limiter.specs.Places.{Room, Given};
+use formats::areas;
 
 pub struct Limiter {
     pub gain: f32,
@@ -62,16 +64,16 @@ pub fn max_abs_slice(samples: &[f32]) -> f32
 
 // The peak of a block: twelve channels of 64 places, `samples` of each in use.
 fn block_peak(block: &[f32], samples: usize) -> f32
-    requires { ⌜ (length (now block) ≡ 768) × (samples ≤ 64) ⌝ }
-    ensures { λ r. ⌜ r ≡ blockPeak 0·0 (channels 12 samples (now (block .entry))) ⌝ }
+    requires { ⌜ (length (now block) ≡ placeCount) × (samples ≤ rowPlaces) ⌝ }
+    ensures { λ r. ⌜ r ≡ blockPeak 0·0 (channels rowCount samples (now (block .entry))) ⌝ }
 {
     let mut max: f32 = 0.0;
     let mut at: usize = 0;
-    let mut left: usize = 12;
+    let mut left: usize = areas::ROW_COUNT;
     while left > 0 {
         let end = at + samples;
         max = raise(max, max_abs_slice(&block[at..end]));
-        at += 64;
+        at += areas::ROW_PLACES;
         left -= 1;
     }
     max
@@ -120,7 +122,7 @@ impl Limiter {
         requires { ⌜ Room (now places) samples rate (now out) step to ⌝ }
         ensures { λ r. ⌜ Given (self .gain) samples rate (now (places .entry)) step to (now (out .entry)) (r .gain) (now (out .exit)) ⌝ }
     {
-        let mut block = [0.0f32; 768];
+        let mut block = [0.0f32; areas::PLACE_COUNT];
         places::load_block(places, samples, &mut block);
         let scaling = self.lower(block_peak(&block, samples));
         places::store_block(&block, samples, scaling.gain, out, step, to);

@@ -5,8 +5,10 @@
 ghost use mathlib.Core.Path.{_≡_};
 ghost use Prim.Native.Nat.{_+_, _*_, _≤_};
 ghost use lib.ListN.{length};
+ghost use Rattle.formats.specs.Areas.{rowCount, rowPlaces, placeCount, placesBytes};
 ghost use Rattle.limiter.specs.Limiter.{scaled, scaledBlock, channels, laid};
 ghost use Rattle.limiter.specs.Places.{floatsAt, withFloats, channelsAt, withChannels};
+use formats::areas;
 
 // The floats from `at` on, as many as `samples` has.
 pub fn load_samples(places: &[u8], at: usize, samples: &mut [f32])
@@ -34,33 +36,33 @@ pub fn scale_slice_into(samples: &[f32], gain: f32, out: &mut [u8])
 
 // The places of a state block, `samples` of each channel, in a block of floats.
 pub fn load_block(places: &[u8], samples: usize, block: &mut [f32])
-    requires { ⌜ (length (now places) ≡ 3072) × (length (now block) ≡ 768) × (samples ≤ 64) ⌝ }
-    ensures { λ _. ⌜ now (block .exit) ≡ laid (channelsAt 12 samples (now (places .entry)) 0) (now (block .entry)) ⌝ }
+    requires { ⌜ (length (now places) ≡ placesBytes) × (length (now block) ≡ placeCount) × (samples ≤ rowPlaces) ⌝ }
+    ensures { λ _. ⌜ now (block .exit) ≡ laid (channelsAt rowCount samples (now (places .entry)) 0) (now (block .entry)) ⌝ }
 {
     let mut at: usize = 0;
-    let mut left: usize = 12;
+    let mut left: usize = areas::ROW_COUNT;
     while left > 0 {
         let end = at + samples;
         load_samples(places, 4 * at, &mut block[at..end]);
-        at += 64;
+        at += areas::ROW_PLACES;
         left -= 1;
     }
 }
 
 // The block times the gain, channel c at `to` + c x `step`.
 pub fn store_block(block: &[f32], samples: usize, gain: f32, out: &mut [u8], step: usize, to: usize)
-    requires { ⌜ (length (now block) ≡ 768) × (samples ≤ 64) × (to + 4 * samples ≤ step) × (12 * step ≤ length (now out)) ⌝ }
-    ensures { λ _. ⌜ now (out .exit) ≡ withChannels (scaledBlock gain (channels 12 samples (now (block .entry)))) step to (now (out .entry)) ⌝ }
+    requires { ⌜ (length (now block) ≡ placeCount) × (samples ≤ rowPlaces) × (to + 4 * samples ≤ step) × (rowCount * step ≤ length (now out)) ⌝ }
+    ensures { λ _. ⌜ now (out .exit) ≡ withChannels (scaledBlock gain (channels rowCount samples (now (block .entry)))) step to (now (out .entry)) ⌝ }
 {
     let mut at: usize = 0;
     let mut base: usize = 0;
-    let mut unscaled: usize = 12;
+    let mut unscaled: usize = areas::ROW_COUNT;
     while unscaled > 0 {
         let end = at + samples;
         let from = base + to;
         let until = from + 4 * samples;
         scale_slice_into(&block[at..end], gain, &mut out[from..until]);
-        at += 64;
+        at += areas::ROW_PLACES;
         base += step;
         unscaled -= 1;
     }

@@ -4,14 +4,15 @@ use mathlib.Core.Path.{_≡_}
 use mathlib.Core.List.{List, [], _∷_}
 use lib.ListN.{length, getD}
 use lib.Ieee.{Float}
+use Rattle.formats.specs.Areas.{rowPlaces, placeCount}
 use Rattle.mixing.specs.Mixing.{mixedFull}
 use Rattle.mixing.specs.Part.{onPart}
 use Rattle.panning.specs.Terms.{Term}
 
 -- at most a row of samples, and all rows
 pub record Sized (xs os : List Float) : Type 0 where
-  pub short : length xs ≤ 64
-  pub whole : length os ≡ 768
+  pub short : length xs ≤ rowPlaces
+  pub whole : length os ≡ placeCount
 
 -- the channels are among the twelve
 abbrev pub Inside : List ℕ → Type 0
@@ -24,7 +25,7 @@ upFrom c (suc n) = c ∷ upFrom (suc c) n
 
 -- the samples times a term's coefficient, added to its channel's row
 unfoldable pub mixedTerm : List Float → Term → List Float → List Float
-mixedTerm xs t os = onPart (mixedFull xs (t .coefficient)) (64 * t .channel) (length xs) os
+mixedTerm xs t os = onPart (mixedFull xs (t .coefficient)) (rowPlaces * t .channel) (length xs) os
 
 -- one term after another
 abbrev pub mixedTerms : List Float → List Term → List Float → List Float

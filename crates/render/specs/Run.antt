@@ -4,6 +4,7 @@ use mathlib.Core.Path.{_≡_}
 use mathlib.Core.List.{List, [], _∷_, _++_}
 use lib.ListN.{length, getD, take, drop}
 use lib.Ieee.{Float, nan}
+use Rattle.formats.specs.Areas.{rowCount, rowPlaces, placeCount}
 use Rattle.rules.specs.Parts.{0·0}
 use Rattle.rules.specs.Leaves.{Source, Bed}
 use Rattle.lowpass.specs.Lowpass.{next}
@@ -29,9 +30,9 @@ column m c t (suc k) = heard (m t) c ∷ column m c (suc t) k
 
 -- Twelve rows of 64 places, row c from place 64 × c on: each starts with its column, and +0.0 follows.
 pub record Heard (m : ℕ → Moment) (t k : ℕ) (rows : List Float) : Type 0 where
-  pub whole : length rows ≡ 768
-  pub columns : (c : ℕ) → c < 12 → take k (drop (64 * c) rows) ≡ column m c t k
-  pub rest : (c i : ℕ) → c < 12 → k ≤ i → i < 64 → getD rows (64 * c + i) nan ≡ 0·0
+  pub whole : length rows ≡ placeCount
+  pub columns : (c : ℕ) → c < rowCount → take k (drop (rowPlaces * c) rows) ≡ column m c t k
+  pub rest : (c i : ℕ) → c < rowCount → k ≤ i → i < rowPlaces → getD rows (rowPlaces * c + i) nan ≡ 0·0
 
 -- ---- with the low-pass
 
@@ -47,7 +48,7 @@ rowRun m low c t (suc k) = row (m t) low c ++ rowRun m (next low (fed (m t))) c 
 
 -- What a run leaves: the rows, each with +0.0 past its k samples, and the filter.
 pub record Passed (m : ℕ → Moment) (low : BiquadLowpassState) (t k : ℕ) (rows : List Float) (after : BiquadLowpassState) : Type 0 where
-  pub whole : length rows ≡ 768
-  pub columns : (c : ℕ) → c < 12 → take k (drop (64 * c) rows) ≡ rowRun m low c t k
-  pub rest : (c i : ℕ) → c < 12 → k ≤ i → i < 64 → getD rows (64 * c + i) nan ≡ 0·0
+  pub whole : length rows ≡ placeCount
+  pub columns : (c : ℕ) → c < rowCount → take k (drop (rowPlaces * c) rows) ≡ rowRun m low c t k
+  pub rest : (c i : ℕ) → c < rowCount → k ≤ i → i < rowPlaces → getD rows (rowPlaces * c + i) nan ≡ 0·0
   pub filter : after ≡ filterAfter m low t k

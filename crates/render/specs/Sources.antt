@@ -3,6 +3,7 @@ use Prim.Native.Nat.{ℕ, suc, _+_, _*_, _≤_}
 use mathlib.Core.List.{List, [], _∷_, map}
 use lib.ListN.{length, take}
 use lib.Ieee.{Float}
+use Rattle.formats.specs.Areas.{rowPlaces}
 use Rattle.mixing.specs.Samples.{samples, Plain}
 use Rattle.beds.specs.declared.Route.{Route}
 use Rattle.beds.specs.declared.Route.the-variants.{Bass, Folded, Direct, Unsupported}
@@ -57,7 +58,7 @@ pub record Framed (pcm : List ℕ) (m n t k : ℕ) : Type 0 where
   pub room : 4 * (m * n) ≤ length pcm
   pub plain : Plain pcm 0 (m * n)
   pub span : t + k ≤ n
-  pub short : k ≤ 64
+  pub short : k ≤ rowPlaces
 
 -- k samples of channel i, from t on
 pub record Reached (pcm : List ℕ) (i n t k : ℕ) : Type 0 where

@@ -1,9 +1,11 @@
-// The rows of a run in the places of a state block: 64 words a channel, channel after channel.
+// The rows of a run in the places of a state block: a row for each channel.
 ghost use mathlib.Core.Path.{_≡_};
 ghost use Prim.Native.Nat.{_+_, _*_, _≤_};
 ghost use lib.ListN.{length};
+ghost use Rattle.formats.specs.Areas.{rowCount, rowPlaces, rowBytes, placeCount, placesBytes};
 ghost use Rattle.limiter.specs.Limiter.{channels};
 ghost use Rattle.limiter.specs.Places.{withFloats, withChannels};
+use formats::areas;
 
 // The samples written from `at` on.
 fn store_samples(samples: &[f32], places: &mut [u8], at: usize)
@@ -19,17 +21,17 @@ fn store_samples(samples: &[f32], places: &mut [u8], at: usize)
 
 // The first k places of each row behind the pending samples of its channel.
 pub fn append_rows(rows: &[f32], places: &mut [u8], pending: usize, k: usize)
-    requires { ⌜ (length (now rows) ≡ 768) × (length (now places) ≡ 3072) × (pending + k ≤ 64) ⌝ }
-    ensures { λ _. ⌜ now (places .exit) ≡ withChannels (channels 12 k (now (rows .entry))) 256 (4 * pending) (now (places .entry)) ⌝ }
+    requires { ⌜ (length (now rows) ≡ placeCount) × (length (now places) ≡ placesBytes) × (pending + k ≤ rowPlaces) ⌝ }
+    ensures { λ _. ⌜ now (places .exit) ≡ withChannels (channels rowCount k (now (rows .entry))) rowBytes (4 * pending) (now (places .entry)) ⌝ }
 {
     let mut from = 0usize;
     let mut to = 4 * pending;
-    let mut left = 12usize;
+    let mut left = areas::ROW_COUNT;
     while left > 0 {
         let end = from + k;
         store_samples(&rows[from..end], places, to);
-        from += 64;
-        to += 256;
+        from += areas::ROW_PLACES;
+        to += areas::ROW_BYTES;
         left -= 1;
     }
 }

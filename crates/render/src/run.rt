@@ -5,6 +5,7 @@
 ghost use mathlib.Core.Path.{_≡_};
 ghost use Prim.Native.Nat.{_+_, _≤_};
 ghost use lib.ListN.{length, take, drop, replicate};
+ghost use Rattle.formats.specs.Areas.{rowPlaces, placeCount};
 ghost use Rattle.mixing.specs.Part.{onPart};
 ghost use Rattle.lowpass.specs.Lowpass.{filtered, afterAll};
 ghost use Rattle.rules.specs.Parts.{0·0};
@@ -37,7 +38,7 @@ pub fn mix_run(
     t: usize,
     k: usize,
 )
-    requires { ⌜ Framed (now pcm) (length (now codes) + objects) n t k × (length (now rows) ≡ 768) × (length (now codes) ≤ 18) × (beds ≤ 18) × (objects ≤ 16) ⌝ }
+    requires { ⌜ Framed (now pcm) (length (now codes) + objects) n t k × (length (now rows) ≡ placeCount) × (length (now codes) ≤ 18) × (beds ≤ 18) × (objects ≤ 16) ⌝ }
     ensures { λ _. ⌜ Heard (momentAt (bedsOf beds wanted gains) (sourcesOf objects sources) (now (codes .entry)) (now (pcm .entry)) n) t k (now (rows .exit)) ⌝ }
 {
     clear(rows);
@@ -47,7 +48,7 @@ pub fn mix_run(
 
 // The bass row through the low-pass: the part of its samples is lent.
 fn filter_bass(rows: &mut [f32], filter: BiquadLowpassState, k: usize) -> BiquadLowpassState
-    requires { ⌜ (length (now rows) ≡ 768) × (k ≤ 64) ⌝ }
+    requires { ⌜ (length (now rows) ≡ placeCount) × (k ≤ rowPlaces) ⌝ }
     ensures { λ r. ⌜ (r ≡ afterAll filter (take k (drop 192 (now (rows .entry))))) × (now (rows .exit) ≡ onPart (filtered filter) 192 k (now (rows .entry))) ⌝ }
 {
     let start = 192usize;
@@ -70,7 +71,7 @@ pub fn pass_run(
     k: usize,
     filter: BiquadLowpassState,
 ) -> BiquadLowpassState
-    requires { ⌜ Framed (now pcm) (length (now codes) + objects) n t k × (length (now rows) ≡ 768) × (length (now codes) ≤ 18) × (beds ≤ 18) × (objects ≤ 16) ⌝ }
+    requires { ⌜ Framed (now pcm) (length (now codes) + objects) n t k × (length (now rows) ≡ placeCount) × (length (now codes) ≤ 18) × (beds ≤ 18) × (objects ≤ 16) ⌝ }
     ensures { λ r. ⌜ Passed (momentAt (bedsOf beds wanted gains) (sourcesOf objects sources) (now (codes .entry)) (now (pcm .entry)) n) filter t k (now (rows .exit)) r ⌝ }
 {
     mix_run(

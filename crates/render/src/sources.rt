@@ -5,19 +5,21 @@
 ghost use mathlib.Core.Path.{_≡_};
 ghost use Prim.Native.Nat.{_+_, _-_, _<_, _≤_};
 ghost use lib.ListN.{length, replicate};
+ghost use Rattle.formats.specs.Areas.{rowPlaces, placeCount};
 ghost use Rattle.beds.specs.Matching.{matching};
 ghost use Rattle.rules.specs.Parts.{0·0};
 ghost use Rattle.rules.specs.Mix.{objectTerms};
 ghost use Rattle.render.specs.Rows.{Sized, mixedTerms};
 ghost use Rattle.render.specs.Sources.{Framed, Reached, bed, bedTerms, bedsOf, sourceOf, sourcesOf, channelRow, mixedFound, mixedBeds, mixedObjects};
+use formats::areas;
 use beds::Found;
 use beds::Route;
 use timed::state::DynamicSourceState;
 
-fn silence() -> [f32; 64]
-    ensures { λ r. ⌜ r ≡ replicate 64 0·0 ⌝ }
+fn silence() -> [f32; areas::ROW_PLACES]
+    ensures { λ r. ⌜ r ≡ replicate rowPlaces 0·0 ⌝ }
 {
-    [0.0; 64]
+    [0.0; areas::ROW_PLACES]
 }
 
 // The run's samples of channel i, from t on, as many as `row` has.
@@ -64,7 +66,7 @@ fn mix_bed(
     t: usize,
     k: usize,
 )
-    requires { ⌜ Framed (now pcm) (length (now codes)) n t k × (length (now rows) ≡ 768) ⌝ }
+    requires { ⌜ Framed (now pcm) (length (now codes)) n t k × (length (now rows) ≡ placeCount) ⌝ }
     ensures { λ _. ⌜ now (rows .exit) ≡ mixedFound (now (pcm .entry)) n t k (bedTerms (bed code gain)) (matching code (now (codes .entry))) (now (rows .entry)) ⌝ }
 {
     let found = beds::find_matching_input_bed_channel(code, codes);
@@ -86,7 +88,7 @@ fn mix_source(
     t: usize,
     k: usize,
 )
-    requires { ⌜ Reached (now pcm) i n t k × (k ≤ 64) × (length (now rows) ≡ 768) ⌝ }
+    requires { ⌜ Reached (now pcm) i n t k × (k ≤ rowPlaces) × (length (now rows) ≡ placeCount) ⌝ }
     ensures { λ _. ⌜ now (rows .exit) ≡ mixedTerms (channelRow (now (pcm .entry)) n t k i) (objectTerms (sourceOf source)) (now (rows .entry)) ⌝ }
 {
     let mut row = silence();
@@ -107,7 +109,7 @@ pub fn mix_beds(
     t: usize,
     k: usize,
 )
-    requires { ⌜ Framed (now pcm) (length (now codes)) n t k × (length (now rows) ≡ 768) × (count ≤ 18) ⌝ }
+    requires { ⌜ Framed (now pcm) (length (now codes)) n t k × (length (now rows) ≡ placeCount) × (count ≤ 18) ⌝ }
     ensures { λ _. ⌜ now (rows .exit) ≡ mixedBeds (now (pcm .entry)) n t k (now (codes .entry)) (bedsOf count wanted gains) (now (rows .entry)) ⌝ }
 {
     let mut j = 0usize;
@@ -128,7 +130,7 @@ pub fn mix_sources(
     t: usize,
     k: usize,
 )
-    requires { ⌜ Framed (now pcm) (first + count) n t k × (length (now rows) ≡ 768) × (first ≤ 18) × (count ≤ 16) ⌝ }
+    requires { ⌜ Framed (now pcm) (first + count) n t k × (length (now rows) ≡ placeCount) × (first ≤ 18) × (count ≤ 16) ⌝ }
     ensures { λ _. ⌜ now (rows .exit) ≡ mixedObjects (now (pcm .entry)) n t k first (sourcesOf count sources) (now (rows .entry)) ⌝ }
 {
     let mut object = 0usize;

@@ -7,6 +7,7 @@ ghost use Prim.Native.Nat.{_-_, _<_, _≤_};
 ghost use Rattle.panning.specs.Hall.{fullRange, terms714};
 ghost use Rattle.panning.specs.Terms.{term, paired, spread};
 ghost use Rattle.render.specs.Rows.{Sized, Inside, upFrom, mixedTerm, mixedTerms};
+use formats::areas;
 use vectors::Vec3;
 
 // One term: the row's part from its start is lent.
@@ -14,7 +15,7 @@ pub fn mix_term(rows: &mut [f32], samples: &[f32], channel: usize, gain: f32)
     requires { ⌜ Sized (now samples) (now rows) × (channel < 12) ⌝ }
     ensures { λ _. ⌜ now (rows .exit) ≡ mixedTerm (now (samples .entry)) (term channel gain) (now (rows .entry)) ⌝ }
 {
-    mixing::mix_segment(samples, rows, 64 * channel, gain);
+    mixing::mix_segment(samples, rows, areas::ROW_PLACES * channel, gain);
 }
 
 // The same gain on the channels of a range.

@@ -5,6 +5,7 @@ use mathlib.Core.List.{List, [], _++_}
 use lib.Dec.{ltb}
 use lib.ListN.{take, drop, replicate}
 use Rattle.words.specs.Words.{wordsAt, withWord, withLong}
+use Rattle.formats.specs.Areas.{infosBytes, rowCount, rowPlaces, rowBytes}
 use Rattle.vectors.specs.declared.Vec3.{Vec3}
 use Rattle.timed.specs.Slot.{middle}
 use Rattle.timed.specs.State.{Timed}
@@ -41,10 +42,10 @@ joined s is ps =
 -- ---- from a block and to a block
 
 abbrev pub infosOf : List ℕ → List ℕ
-infosOf b = take 22528 (drop infosAt b)
+infosOf b = take infosBytes (drop infosAt b)
 
 abbrev pub placesOf : List ℕ → Places
-placesOf b c = cond (ltb c 12) (wordsAt b (placesAt + 256 * c) 64) []
+placesOf b c = cond (ltb c rowCount) (wordsAt b (placesAt + rowBytes * c) rowPlaces) []
 
 unfoldable pub decode : List ℕ → Renderer Timed
 unfolding smallOf
@@ -58,7 +59,7 @@ rows (suc n) c p = bytesOf (p c) ++ rows n (suc c) p
 
 unfoldable pub encode : Renderer Timed → List ℕ
 unfolding smallWords bytesOf rows
-encode r = bytesOf (smallWords (small r)) ++ (r .meta .infos ++ rows 12 0 (r .places))
+encode r = bytesOf (smallWords (small r)) ++ (r .meta .infos ++ rows rowCount 0 (r .places))
 
 -- ---- a fresh renderer
 
@@ -91,7 +92,7 @@ blank =
         states = replicate 2 noBlocks;
         sources = replicate 16 (record { gain = 0·0; size = 0·0; place = still; placed = false });
       };
-      infos = replicate 22528 0;
+      infos = replicate infosBytes 0;
     }
 
 -- what a block that reset has filled decodes to; `fresh` of the rules, with `blank`

@@ -1,5 +1,6 @@
 -- Where each field stands, worked out from the widths of those before it. Assumes nothing.
 use Prim.Native.Nat.{ℕ, _+_, _*_}
+use Rattle.formats.specs.Areas.{infosBytes, placesBytes}
 use Rattle.formats.specs.Format.{u8To, float, array}
 use Rattle.store.specs.Fields.{vecFormat, sourceFormat, elementFormat, filterFormat, countsFormat, clockFormat, smallFormat}
 
@@ -75,7 +76,7 @@ abbrev pub infosAt : ℕ
 infosAt = 4 * smallWidth
 
 abbrev pub placesAt : ℕ
-placesAt = infosAt + 22528
+placesAt = infosAt + infosBytes
 
 abbrev pub size : ℕ
-size = placesAt + 3072
+size = placesAt + placesBytes

@@ -7,6 +7,7 @@ use mathlib.Core.List.{List}
 use lib.Dec.{eqb, leb, ltb}
 use lib.ListN.{length}
 use Rattle.words.specs.Words.{word, wordsAt}
+use Rattle.formats.specs.Areas.{infoCount, infoBytes}
 use Rattle.formats.specs.Format.{Format, such}
 use Rattle.timed.specs.Slot.{middle}
 use Rattle.timed.specs.State.{elementOf}
@@ -58,9 +59,9 @@ headValid h = ltb h 262144 && ltb (h % 256) 64 && ltb (h / 256 % 256) 3
 -- the heads of n infos from `at` on
 unfoldable pub headsValid : List ℕ → ℕ → ℕ → Bool
 headsValid is at zero = true
-headsValid is at (suc n) = headValid (word is at) && headsValid is (at + 44) n
+headsValid is at (suc n) = headValid (word is at) && headsValid is (at + infoBytes) n
 
 -- "a state block of wrong length, or with a field outside its range": refusal 1
 unfoldable pub valid : List ℕ → Bool
 unfolding smallValid headsValid
-valid b = eqb (length b) size && smallValid (wordsAt b 0 smallWidth) && headsValid (infosOf b) 0 512
+valid b = eqb (length b) size && smallValid (wordsAt b 0 smallWidth) && headsValid (infosOf b) 0 infoCount

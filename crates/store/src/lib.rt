@@ -4,6 +4,7 @@ ghost use lib.ListN.{length, replicate};
 ghost use Rattle.words.specs.Words.{wordsAt};
 ghost use Rattle.store.specs.Fields.{smallOf};
 ghost use Rattle.store.specs.Layout.{smallWidth, size, encode, fresh};
+use formats::areas;
 use lowpass::BiquadLowpassState;
 use timed::state::MetadataRendererState;
 
@@ -15,9 +16,9 @@ pub mod write;
 // Where a block's infos and its places begin, and its bytes.
 pub const INFOS: usize = 4 * places::WORDS;
 
-pub const PLACES: usize = INFOS + 512 * 44;
+pub const PLACES: usize = INFOS + areas::INFOS_BYTES;
 
-pub const SIZE: usize = PLACES + 12 * 256;
+pub const SIZE: usize = PLACES + areas::PLACES_BYTES;
 
 // What reset leaves other than zeros.
 const LIMITER_GAIN: usize = 4 * places::LIMITER_GAIN;

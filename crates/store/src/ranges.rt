@@ -5,6 +5,7 @@ ghost use mathlib.Core.Bool.{true, not, _||_};
 ghost use lib.Dec.{eqb, leb};
 ghost use lib.ListN.{length, getD};
 ghost use Rattle.rules.specs.Refusals as refusals;
+ghost use Rattle.formats.specs.Areas.{infoCount, infosBytes};
 ghost use Rattle.formats.specs.Format.{allAt};
 ghost use Rattle.store.specs.Fields.{longest, elementFormat, countsFormat, tablesFormat, clockFormat, smallFormat, smallOf};
 ghost use Rattle.store.specs.Places.{stateAt, tablesAt, smallWidth};
@@ -13,6 +14,7 @@ ghost use Rattle.store.specs.Ranges.{clockIn, countsIn, least, elementIn
 use crate::places;
 use crate::places::Words;
 use crate::read;
+use formats::areas;
 use timed::state;
 
 // Whether word j of each of n entries of k words, from word `at` on, is at most `limit`.
@@ -32,17 +34,17 @@ fn at_most(w: &Words, at: usize, j: usize, k: usize, n: usize, limit: u32) -> bo
     true
 }
 
-// The heads of 512 infos (flags + 256 anchor + 65,536 depth), with no branch a head: an OR is below a power of two where every term is.
+// The heads of the infos (flags + 256 anchor + 65,536 depth), with no branch a head: an OR is below a power of two where every term is.
 // The anchors go in plus 1, in the second byte: all are below 3 where those are below 4.
 fn heads_valid(infos: &[u8]) -> bool
-    requires { ⌜ length (now infos) ≡ 22528 ⌝ }
-    ensures { λ r. ⌜ r ≡ headsValid (now (infos .entry)) 0 512 ⌝ }
+    requires { ⌜ length (now infos) ≡ infosBytes ⌝ }
+    ensures { λ r. ⌜ r ≡ headsValid (now (infos .entry)) 0 infoCount ⌝ }
 {
     let mut heads = 0u32;
     let mut anchors = 0u32;
     let mut k = 0usize;
-    while k < 512 {
-        let h = words::u32_at(infos, 44 * k);
+    while k < areas::INFO_COUNT {
+        let h = words::u32_at(infos, areas::INFO_BYTES * k);
         heads |= h;
         anchors |= h % 65536 + 256;
         k += 1;

@@ -1,0 +1,29 @@
+-- The areas of the state block behind the small part, which stay bytes: the object infos, and the places of pending samples, a row for each channel. Assumes nothing.
+use Prim.Native.Nat.{ℕ, _*_}
+
+-- infos, and how many bytes one has
+abbrev pub infoCount : ℕ
+infoCount = 512
+
+abbrev pub infoBytes : ℕ
+infoBytes = 44
+
+abbrev pub infosBytes : ℕ
+infosBytes = infoCount * infoBytes
+
+-- rows, and the places and bytes of one
+abbrev pub rowCount : ℕ
+rowCount = 12
+
+abbrev pub rowPlaces : ℕ
+rowPlaces = 64
+
+abbrev pub rowBytes : ℕ
+rowBytes = 4 * rowPlaces
+
+-- the places of all rows, and their bytes
+abbrev pub placeCount : ℕ
+placeCount = rowCount * rowPlaces
+
+abbrev pub placesBytes : ℕ
+placesBytes = rowCount * rowBytes
