@@ -129,7 +129,7 @@ module _ {r : ℕ} (l : Listed r) where
 
   -- ---- so the low-pass's coefficients are one
   pub lowpass-meant : LowpassAt r (coefficientsAt r)
-  lowpass-meant = record { cos = cosine x; sin = sine x; cosine = cosine-meant; sine = sine-meant; made = refl }
+  lowpass-meant = record { cos = cosine x; sin = sine x; cos-meant = cosine-meant; sin-meant = sine-meant; made = refl }
 
   pub lowpass-only : {c : Coefficients} → LowpassAt r c → c ≡ coefficientsAt r
-  lowpass-only m = m .made ∙ ap₂ coefficientsOf (cosine-only (m .cosine)) (sine-only (m .sine))
+  lowpass-only m = m .made ∙ ap₂ coefficientsOf (cosine-only (m .cos-meant)) (sine-only (m .sin-meant))

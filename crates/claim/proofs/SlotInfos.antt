@@ -16,7 +16,7 @@ use Rattle.vectors.specs.declared.Vec3.{Vec3}
 use Rattle.timed.specs.Infos.{withVec}
 use Rattle.timed.specs.Objects.{moved, movedAt, movedAll}
 use Rattle.timed.specs.Objects as objects
-use Rattle.timed.specs.Rules.{noBlock, due, leftAfter, over, active}
+use Rattle.timed.specs.Rules.{noBlock, due, leftAfter, rampOver, active}
 use Rattle.timed.specs.Slot.{Work, blockApplied, blockAt, blocksApplied, updatedSources}
 use Rattle.timed.specs.State.{Timed, elementOf, timingOf, reachOf, taken, slotOf, slotAt}
 use Rattle.timed.specs.declared.state.DynamicSourceState.{DynamicSourceState}
@@ -117,7 +117,7 @@ pub applied-like : (w : Timing) (r : Reach) (b : ℕ) (k : Work) → Like (k .in
 unfolding blockApplied
 applied-like w r b k =
     let s = k .slot in
-    moved-all-like (over (leftAfter w (getD (s .schedule) b noBlock))) (r .first + b) (r .count) (record { sources = s .sources; tracks = s .tracks }) (k .infos)
+    moved-all-like (rampOver (leftAfter w (getD (s .schedule) b noBlock))) (r .first + b) (r .count) (record { sources = s .sources; tracks = s .tracks }) (k .infos)
 
 pub blocks-like : (w : Timing) (r : Reach) (n : ℕ) (k : Work) → Like (k .infos) (blocksApplied w r n k .infos)
 unfolding blocksApplied

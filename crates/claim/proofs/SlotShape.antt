@@ -9,7 +9,7 @@ use lib.Ieee.{Float, nan}
 use Rattle.timed.specs.Infos.{gainAt}
 use Rattle.timed.specs.Objects.{noSource, noTrack, orElse, moved, movedAt, movedAll, bedAt, bedGains, ramped, rampedAt, rampedAll}
 use Rattle.timed.specs.Objects as objects
-use Rattle.timed.specs.Rules.{noBlock, remainingOf, due, leftAfter, over, share, active}
+use Rattle.timed.specs.Rules.{noBlock, remainingOf, due, leftAfter, rampOver, share, active}
 use Rattle.timed.specs.Slot.{Work, blockApplied, blockAt, blocksApplied, rampApplied, updatedSources}
 use Rattle.timed.specs.State.{Timed, noElement, elementOf, timingOf, reachOf, taken, slotOf, slotAt}
 use Rattle.timed.specs.declared.state.Track.{Track}
@@ -89,7 +89,7 @@ unfolding blockApplied
 applied-long w r b k =
     let s = k .slot in
     let x = getD (s .schedule) b noBlock in
-    let m = moved-all-long (over (leftAfter w x)) (r .first + b) (r .count) (record { sources = s .sources; tracks = s .tracks }) (k .infos) in
+    let m = moved-all-long (rampOver (leftAfter w x)) (r .first + b) (r .count) (record { sources = s .sources; tracks = s .tracks }) (k .infos) in
     record {
       schedule = length-set (s .schedule) b (record { offset = x .offset; ramp = x .ramp; used = true });
       gains = bed-gains-long (k .infos) (r .beds + b) (r .channels) (s .gains);
@@ -107,7 +107,7 @@ blocks-long w r n k =
 ramp-long : (before : List Track) (n : ℕ) (s : Slot) → Long s (rampApplied before n s)
 unfolding rampApplied
 ramp-long before n s =
-    cond-keeps (Long s) (over (remainingOf (s .remaining))) s _ (λ _. long-refl s)
+    cond-keeps (Long s) (rampOver (remainingOf (s .remaining))) s _ (λ _. long-refl s)
     (λ _. record {
       schedule = refl;
       gains = refl;

@@ -10,7 +10,7 @@ use lib.ListN.{length, getD, length-set, List·getD-eq-default}
 use lib.Ieee.{Float, nan}
 use Rattle.vectors.specs.Fit.{VecFits}
 use Rattle.timed.specs.Objects.{noSource, noTrack}
-use Rattle.timed.specs.Rules.{noBlock, remainingOf, due, leftAfter, over, share, active}
+use Rattle.timed.specs.Rules.{noBlock, remainingOf, due, leftAfter, rampOver, share, active}
 use Rattle.timed.specs.Slot.{Work, blockApplied, blockAt, blocksApplied, rampApplied, updatedSources}
 use Rattle.timed.specs.State.{Timed, noElement, elementOf, timingOf, reachOf, taken, slotOf, slotAt}
 use Rattle.timed.specs.declared.state.Track.{Track}
@@ -48,7 +48,7 @@ module _ (G Z : Float → Type 0) where
     applied-has b k h =
         let s = k .slot in
         let left = leftAfter w (getD (s .schedule) b noBlock) in
-        let m = moved-all-has G Z (over left) (r .first + b) (r .count) (record { sources = s .sources; tracks = s .tracks }) (k .infos) some (h .slot .moving) (h .infos) in
+        let m = moved-all-has G Z (rampOver left) (r .first + b) (r .count) (record { sources = s .sources; tracks = s .tracks }) (k .infos) some (h .slot .moving) (h .infos) in
         record {
           slot = record { gains = bed-gains-have G Z (k .infos) (r .beds + b) (r .channels) (s .gains) few (h .infos) (h .slot .gains); moving = record { sources = m .sources; targets = m .targets } };
           infos = like-has (applied-like w r b k) (h .infos);
@@ -64,7 +64,7 @@ module _ (G Z : Float → Type 0) where
   ramp-has : (before : List Track) (n : ℕ) (s : Slot) → n ≤ 16 → SlotHas G Z s → SlotHas G Z (rampApplied before n s)
   unfolding rampApplied
   ramp-has before n s l h =
-      cond-keeps (SlotHas G Z) (over (remainingOf (s .remaining))) s _ (λ _. h)
+      cond-keeps (SlotHas G Z) (rampOver (remainingOf (s .remaining))) s _ (λ _. h)
       (λ _.
       let m = ramped-all-has G Z (share (remainingOf (s .remaining))) before n (record { sources = s .sources; tracks = s .tracks }) l (h .moving) in
       record { gains = h .gains; moving = record { sources = m .sources; targets = h .moving .targets } })

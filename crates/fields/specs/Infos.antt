@@ -13,14 +13,14 @@ use Rattle.fields.specs.declared.object.Position.the-variants.{Same, At}
 use Rattle.fields.specs.declared.object.Object.{Object}
 use Rattle.fields.specs.declared.object.Info.{Info}
 
-abbrev pub headAt : List ℕ → ℕ → Head
-headAt m r = record { flags = byte m r 2; anchor = byte m r 1; depth = depthOf (floatAt m (40 * r + 32)) }
+abbrev pub headSaid : List ℕ → ℕ → Head
+headSaid m r = record { flags = byte m r 2; anchor = byte m r 1; depth = depthOf (floatAt m (40 * r + 32)) }
 
 -- the word of the head, and the bits of each f32
 abbrev pub infoOf : List ℕ → ℕ → Info
 infoOf m r =
     record {
-      head = headWord (headAt m r);
+      head = headWord (headSaid m r);
       gain = word m (40 * r + 4);
       size = word m (40 * r + 24);
       distance = word m (40 * r + 20);

@@ -9,7 +9,7 @@ use native.Mathlib.Omega.{arith}
 use borrow.Author.Tests.{ltb-true, leb-false}
 use Rattle.timed.proofs.Shifted.{due-shifted, left-shifted, over-shifted, less-shifted}
 use Rattle.timed.proofs.Keeps.{times-in, cond-keeps, set-each}
-use Rattle.timed.specs.Rules.{middle, noBlock, due, leftAfter, remainingOf, over}
+use Rattle.timed.specs.Rules.{middle, noBlock, due, leftAfter, remainingOf, rampOver}
 use Rattle.timed.specs.Bounds.{Ramps, InRange}
 use Rattle.timed.specs.Slot.{Work, blockApplied, blockAt, blocksApplied, rampApplied, updatedSources}
 use Rattle.timed.specs.declared.state.BlockState.{BlockState}
@@ -63,7 +63,7 @@ module _ (p : ℕ) (w : Timing) (r : Reach) (early : w .start ≤ p) where
 pub ramp-ramps : (p : ℕ) (before : List Track) (n : ℕ) (s : Slot) → Ramps p (s .schedule) (s .remaining) → Ramps p (rampApplied before n s .schedule) (rampApplied before n s .remaining)
 unfolding rampApplied
 ramp-ramps p before n s h =
-    cond-keeps (λ (x : Slot). Ramps p (x .schedule) (x .remaining)) (over (remainingOf (s .remaining))) s _ (λ _. h)
+    cond-keeps (λ (x : Slot). Ramps p (x .schedule) (x .remaining)) (rampOver (remainingOf (s .remaining))) s _ (λ _. h)
     (λ e.
     let g = leb-false (s .remaining) middle (sym (over-shifted (s .remaining)) ∙ e) in
     record {

@@ -8,7 +8,7 @@ use lib.IntN.{ℤ, pos, negsuc, _+ℤ_, _-ℤ_}
 use lib.Signed.{ltZ, leZ}
 use lib.ListN.{getD}
 use borrow.Author.Tests.{ltb-true, ltb-false, lt-ltb, le-ltb, le-leb, lt-leb, leb-true}
-use Rattle.timed.specs.Rules.{middle, noBlock, offsetOf, rampOf, remainingOf, keptAs, timecode, due, leftAfter, over, slotLess, firstOffset, active, begins}
+use Rattle.timed.specs.Rules.{middle, noBlock, offsetOf, rampOf, remainingOf, keptAs, timecode, due, leftAfter, rampOver, slotLess, firstOffset, active, begins}
 use Rattle.timed.specs.Shifted.{dueShifted, leftShifted, activeShifted, beginsShifted}
 use Rattle.timed.specs.declared.state.BlockState.{BlockState}
 use Rattle.timed.specs.declared.state.ElementRendererState.{ElementRendererState}
@@ -20,7 +20,7 @@ use Rattle.timed.proofs.Differences.{Is, ltb-same, leb-same, is-pos, is
 abbrev M : ℕ
 M = 140737488355328
 
-over-is : (z : ℤ) (a b : ℕ) → Is z a b → over z ≡ leb (a + M - b) M
+over-is : (z : ℤ) (a b : ℕ) → Is z a b → rampOver z ≡ leb (a + M - b) M
 over-is z a b h = is-le z (pos 0) a b 0 0 h (is-pos 0) ∙ leb-same (a + 0) (0 + b) (a + M - b) M (λ l. omega arith) (λ l. omega arith)
 
 kept-is : (z : ℤ) (a b : ℕ) → Is z a b → keptAs z ≡ a + M - b
@@ -31,7 +31,7 @@ remaining-is : (n : ℕ) → Is (remainingOf n) n M
 unfolding remainingOf
 remaining-is n = is-less n M
 
-pub over-shifted : (n : ℕ) → over (remainingOf n) ≡ leb n middle
+pub over-shifted : (n : ℕ) → rampOver (remainingOf n) ≡ leb n middle
 over-shifted n = over-is (remainingOf n) n M (remaining-is n) ∙ (let e : n + M - M ≡ n = omega arith in rw e)
 
 pub less-shifted : (n : ℕ) → keptAs (slotLess (remainingOf n)) ≡ n - 64
@@ -92,7 +92,7 @@ module _ (w : Timing) (b : BlockState) where
   pub left-shifted : keptAs (leftAfter w b) ≡ leftShifted w b
   left-shifted = kept-is (leftAfter w b) _ _ left-is ∙ same-sum
 
-  pub left-over : over (leftAfter w b) ≡ leb (leftShifted w b) middle
+  pub left-over : rampOver (leftAfter w b) ≡ leb (leftShifted w b) middle
   left-over = over-is (leftAfter w b) _ _ left-is ∙ ap (λ (n : ℕ). leb n M) same-sum
 
 -- ---- elements

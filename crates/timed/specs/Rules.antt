@@ -74,8 +74,8 @@ leftAfter w b = rampOf b -ℤ (timecode w -ℤ offsetOf b)
 -- ---- the ramp
 
 -- no ramp remains
-abbrev pub over : ℤ → Bool
-over remaining = leZ remaining (pos 0)
+abbrev pub rampOver : ℤ → Bool
+rampOver remaining = leZ remaining (pos 0)
 
 abbrev pub 64·0 : Float
 64·0 = ofBits binary32 0x42800000

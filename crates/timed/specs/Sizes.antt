@@ -50,8 +50,8 @@ lastByte = 32
 -- ---- where an info is
 
 -- the info of object o in block b of element e
-abbrev pub infoOf : ℕ → ℕ → ℕ → ℕ
-infoOf e o b = e * elementInfos + o * mostBlocks + b
+abbrev pub infoNumber : ℕ → ℕ → ℕ → ℕ
+infoNumber e o b = e * elementInfos + o * mostBlocks + b
 
 -- the byte at which info k starts
 abbrev pub infoAt : ℕ → ℕ

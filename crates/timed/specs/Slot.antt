@@ -7,7 +7,7 @@ use lib.Ieee.{Float}
 use Rattle.timed.specs.Turns.{times}
 pub use Rattle.timed.specs.Rules.{middle, noBlock}
 pub use Rattle.timed.specs.Bounds.{InRange}
-use Rattle.timed.specs.Rules.{remainingOf, keptAs, due, leftAfter, over, share, slotLess}
+use Rattle.timed.specs.Rules.{remainingOf, keptAs, due, leftAfter, rampOver, share, slotLess}
 use Rattle.timed.specs.Objects.{movedAll, bedGains, rampedAll}
 use Rattle.timed.specs.declared.state.BlockState.{BlockState}
 use Rattle.timed.specs.declared.state.Track.{Track}
@@ -32,7 +32,7 @@ blockApplied w r b k =
     let s = k .slot in
     let block = getD (s .schedule) b noBlock in
     let left = leftAfter w block in
-    let m = movedAll (over left) (r .first + b) (r .count) (record { sources = s .sources; tracks = s .tracks }) (k .infos) in
+    let m = movedAll (rampOver left) (r .first + b) (r .count) (record { sources = s .sources; tracks = s .tracks }) (k .infos) in
     record {
       slot = record {
         schedule = set (s .schedule) b (record { offset = block .offset; ramp = block .ramp; used = true });
@@ -58,7 +58,7 @@ blocksApplied w r n k = times n 0 (blockAt w r) k
 unfoldable pub rampApplied : List Track → ℕ → Slot → Slot
 unfolding rampedAll
 rampApplied before n s =
-    cond (over (remainingOf (s .remaining))) s
+    cond (rampOver (remainingOf (s .remaining))) s
     (record {
       schedule = s .schedule;
       remaining = keptAs (slotLess (remainingOf (s .remaining)));

@@ -16,7 +16,7 @@ use Rattle.words.proofs.Numbers.{length-kept}
 use Rattle.vectors.specs.Vectors.{zeroVec3}
 use Rattle.fields.specs.declared.object.Info.{Info}
 use Rattle.vectors.specs.Head.{has}
-use Rattle.timed.specs.Sizes.{infoOf}
+use Rattle.timed.specs.Sizes.{infoNumber}
 use Rattle.timed.specs.Infos.{vecAt}
 use Rattle.timed.specs.Rules.{middle, noBlock}
 use Rattle.timed.specs.Turns.{times}
@@ -162,10 +162,10 @@ objects-origin isf x first n o b s most all few l m h =
     l s h
 
 infos-origin : (u : Update) (w : Work) → u .elements ≤ 2 → u .objects ≤ 32 → ((e : ℕ) → e < u .elements → u .element e .blocks ≤ 8) → Long (w .infos) → (e o b : ℕ) → e < u .elements →
-    o < u .objects → b < u .element e .blocks → Origin (u .element e .info o b) (infoOf e o b) (times (u .elements) 0 (elementGiven false u) w .infos)
+    o < u .objects → b < u .element e .blocks → Origin (u .element e .info o b) (infoNumber e o b) (times (u .elements) 0 (elementGiven false u) w .infos)
 unfolding elementGiven
 infos-origin u w two most few h e o b le lo lb =
-    let same : e * 256 + 8 * o + b ≡ infoOf e o b = omega arith in
+    let same : e * 256 + 8 * o + b ≡ infoNumber e o b = omega arith in
     subst (λ (k : ℕ). Origin (u .element e .info o b) k (times (u .elements) 0 (elementGiven false u) w .infos)) same
     (made (λ (v : Work). Long (v .infos)) (λ (v : Work). Origin (u .element e .info o b) (e * 256 + 8 * o + b) (v .infos)) (elementGiven false u) (u .elements) e
     (λ j v q i. objects-stored true (u .isf) (u .element j) (j * 256) (u .objects) (v .infos) (few j q) most .long ∙ i)
@@ -193,7 +193,7 @@ lifted n u t f ne e l =
     let two = f .elements in
     let states = f .states in
     let x = element-at n u t e l (omega arith) in
-    let o : (o b : ℕ) → o < u .objects → b < u .element e .blocks → Origin (u .element e .info o b) (infoOf e o b) (applied n u t .infos) = λ o b p q.
+    let o : (o b : ℕ) → o < u .objects → b < u .element e .blocks → Origin (u .element e .info o b) (infoNumber e o b) (applied n u t .infos) = λ o b p q.
     rw d (infos-origin u (record { states = t .state .states; infos = t .infos }) two (f .objects) (f .blocks) (f .infos) e o b l p q) in
     record {
       flags = rw (x, d);

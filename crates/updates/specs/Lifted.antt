@@ -6,7 +6,7 @@ use lib.IntN.{pos}
 use lib.ListN.{length, getD, replicate}
 use Rattle.vectors.specs.Vectors.{zeroVec3}
 use Rattle.vectors.specs.Head.{has}
-use Rattle.timed.specs.Sizes.{mostElements, mostObjects, mostBlocks, allBytes, positionByte, lastByte, infoOf, infoAt}
+use Rattle.timed.specs.Sizes.{mostElements, mostObjects, mostBlocks, allBytes, positionByte, lastByte, infoNumber, infoAt}
 use Rattle.timed.specs.Infos.{vecAt}
 use Rattle.timed.specs.Rules.{remainingOf, noBlock}
 use Rattle.timed.specs.State.{Timed, elementOf}
@@ -31,5 +31,5 @@ pub record Afresh (u : Update) (e : ℕ) (t : Timed) : Type 0 where
   pub remaining : remainingOf (elementOf (t .state) e .remaining) ≡ pos 0
   pub unapplied : (b : ℕ) → b < u .element e .blocks → getD (elementOf (t .state) e .schedule) b noBlock .used ≡ false
   pub position : (o b : ℕ) → o < u .objects → b < u .element e .blocks
-      → has (u .element e .info o b .head) 8 ≡ false → vecAt (t .infos) (infoAt (infoOf e o b) + positionByte) ≡ zeroVec3
-  pub last : (o b : ℕ) → o < u .objects → b < u .element e .blocks → vecAt (t .infos) (infoAt (infoOf e o b) + lastByte) ≡ zeroVec3
+      → has (u .element e .info o b .head) 8 ≡ false → vecAt (t .infos) (infoAt (infoNumber e o b) + positionByte) ≡ zeroVec3
+  pub last : (o b : ℕ) → o < u .objects → b < u .element e .blocks → vecAt (t .infos) (infoAt (infoNumber e o b) + lastByte) ≡ zeroVec3
