@@ -16,7 +16,7 @@ use Rattle.ieee.proofs.Constants.{one-less}
 use Rattle.ieee.proofs.Digits.{Plus, plus-of, div-plus}
 use Rattle.rates.specs.Rates.{Listed}
 use Rattle.rates.specs.Sums.{angleOf}
-use Rattle.angles.specs.Angle.{w0, up, down, partial}
+use Rattle.angles.specs.Angle.{w0, numeratorAt, down, partial}
 use Rattle.angles.specs.Filter.{alphaOf}
 use Rattle.angles.specs.FiveTerms.{sine}
 use Rattle.angles.proofs.Partial.{Fraction, fraction}
@@ -53,7 +53,7 @@ unfolding One
 one-large = lit≤ tt
 
 -- ---- the errors: S is p / q, rounded, where p / q lies from b to h steps of 2 ^ -60; a is S by d, rounded
-sine-error : (S p q b h z : ℕ) → 0 < q → Within b h p q → ieee.Within (16777216 * (S * q)) (16777216 * (p * (2 ^ 60 * z))) (p * (2 ^ 60 * z) + 8388608 * q)
+sine-error : (S p q b h z : ℕ) → 0 < q → Within b h p q → ieee.DifferBy (16777216 * (S * q)) (16777216 * (p * (2 ^ 60 * z))) (p * (2 ^ 60 * z) + 8388608 * q)
     → (16777216 * S ≤ 16777217 * (h * z) + 8388608) × (16777215 * (b * z) ≤ 16777216 * S + 8388608)
 sine-error S p q b h z Q w n = (
   le-of-mul-le-mul-right (over (p * 2 ^ 60 * z) (mul-le-mul-right z (w .below)) (turn (n .above))) Q,
@@ -72,7 +72,7 @@ sine-error S p q b h z Q w n = (
     under : (x : ℕ) → b * q * z ≤ x → 16777215 * x ≤ 16777216 * (S * q) + 8388608 * q → 16777215 * (b * z) * q ≤ (16777216 * S + 8388608) * q
     under x e f = omega arith
 
-alpha-error : (a d S o : ℕ) → 0 < o → 8388608 * d ≡ 11863283 * o → ieee.Within (16777216 * (a * d)) (16777216 * (S * o)) (S * o + 8388608 * d)
+alpha-error : (a d S o : ℕ) → 0 < o → 8388608 * d ≡ 11863283 * o → ieee.DifferBy (16777216 * (a * d)) (16777216 * (S * o)) (S * o + 8388608 * d)
     → (23726566 * a ≤ 16777217 * S + 11863283) × (16777215 * S ≤ 23726566 * a + 11863283)
 alpha-error a d S o O e n = (le-of-mul-le-mul-right (over (n .above)) O, le-of-mul-le-mul-right (under (n .below)) O)
   where
@@ -96,7 +96,7 @@ module _ {r : ℕ} (l : Listed r) where
   t = w * 2 ^ 28
 
   abbrev p : ℕ
-  p = up 1 (num x) (den x) 4
+  p = numeratorAt 1 (num x) (den x) 4
 
   abbrev q : ℕ
   q = down 1 (den x) 4
@@ -133,7 +133,7 @@ module _ {r : ℕ} (l : Listed r) where
   S-near : (16777216 * S ≤ 16777217 * (h * 2 ^ 89) + 8388608) × (16777215 * (b * 2 ^ 89) ≤ 16777216 * S + 8388608)
   S-near =
       sine-error S p q b h (2 ^ 89) (below-one .some) (sine-within l)
-      (subst (λ (o : ℕ). ieee.Within (16777216 * (S * q)) (16777216 * (p * o)) (p * o + 8388608 * q)) one-60 (rnd-near (p * One) q (below-one .some)))
+      (subst (λ (o : ℕ). ieee.DifferBy (16777216 * (S * q)) (16777216 * (p * o)) (p * o + 8388608 * q)) one-60 (rnd-near (p * One) q (below-one .some)))
 
   S-high : S * r ≤ 754 * One
   S-high =

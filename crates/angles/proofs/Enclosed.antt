@@ -5,8 +5,8 @@ use Prim.Native.Nat.{ℕ, suc, _+_, _-_, _*_, _%_, _^_, _≤_, _<_}
 use native.Mathlib.Nat.{le-trans, le-of-eq, mul-le-mul-right, le-of-mul-le-mul-right}
 use native.Mathlib.Omega.{arith}
 use lib.Pow.{pow-pos}
-use Rattle.rates.specs.Sums.{term}
-use Rattle.angles.specs.Angle.{grown, up, down}
+use Rattle.rates.specs.Sums.{nextTerm}
+use Rattle.angles.specs.Angle.{nextDivisor, numeratorAt, down}
 use Rattle.angles.proofs.Partial.{factor-pos, T-next, taken, plus}
 use Rattle.angles.proofs.Terms.{low-term, high-term, by, t₁, t₂, t₃, t₄, sum, Falling, falling}
 
@@ -37,7 +37,7 @@ module _ (s a c w : ℕ) (small : a ≤ c) (some : 0 < c) (at : a * 2 ^ 32 ≡ w
 
   -- the exact sum and the exact term to the power s + 2 * k, times 2 ^ 60 and over D k
   abbrev U : ℕ → ℕ
-  U k = up s a c k * 2 ^ 60
+  U k = numeratorAt s a c k * 2 ^ 60
 
   abbrev T : ℕ → ℕ
   T k = a ^ (s + 2 * k) * 2 ^ 60
@@ -61,11 +61,11 @@ module _ (s a c w : ℕ) (small : a ≤ c) (some : 0 < c) (at : a * 2 ^ 32 ≡ w
       go : (t : ℕ) → t * (a * a) * 2 ^ 60 * 2 ^ 64 ≡ t * 2 ^ 60 * (a * a * 2 ^ 64)
       go t = omega arith
 
-  next : (k t : ℕ) → Held k t → Held (suc k) (term y t (by s k))
+  next : (k t : ℕ) → Held k t → Held (suc k) (nextTerm y t (by s k))
   unfolding down
   next k t h = record {
-    least = le-of-mul-le-mul-right (under (term y t (by s k)) (T k) (T (suc k)) (D k) y (by s k) (next-is k) (low-term y t (by s k)) (h .least)) (pow-pos 64);
-    most = le-of-mul-le-mul-right (over (term y t (by s k)) (T k) (T (suc k)) (D k) y (by s k) (next-is k) (high-term y t (by s k) few (factor-pos s k)) (h .most)) (pow-pos 64);
+    least = le-of-mul-le-mul-right (under (nextTerm y t (by s k)) (T k) (T (suc k)) (D k) y (by s k) (next-is k) (low-term y t (by s k)) (h .least)) (pow-pos 64);
+    most = le-of-mul-le-mul-right (over (nextTerm y t (by s k)) (T k) (T (suc k)) (D k) y (by s k) (next-is k) (high-term y t (by s k) few (factor-pos s k)) (h .most)) (pow-pos 64);
   }
     where
       under : (u T T' D y n : ℕ) → T' * 2 ^ 64 ≡ T * (y * (c * c)) → u * (2 ^ 64 * n) ≤ y * t → t * D ≤ T → u * (D * (c * c * n)) * 2 ^ 64 ≤ T' * 2 ^ 64
@@ -84,8 +84,8 @@ module _ (s a c w : ℕ) (small : a ≤ c) (some : 0 < c) (at : a * 2 ^ 32 ≡ w
   less : (k t : ℕ) {p n p' n' : ℕ} → k % 2 ≡ 0 → Held (suc k) t → Summed k p n p' n' → Summed (suc k) p (n + (t + 2)) p' (n' + t)
   unfolding down
   less k t {p} {n} {p'} {n'} e h i =
-      let G = grown s c k in
-      let u : U (suc k) + T (suc k) ≡ U k * G = go (up s a c (suc k)) (a ^ (s + 2 * suc k)) (up s a c k) G (ap (λ (x : ℕ). x * 2 ^ 60) (taken s a c small some k e)) in
+      let G = nextDivisor s c k in
+      let u : U (suc k) + T (suc k) ≡ U k * G = go (numeratorAt s a c (suc k)) (a ^ (s + 2 * suc k)) (numeratorAt s a c k) G (ap (λ (x : ℕ). x * 2 ^ 60) (taken s a c small some k e)) in
       record {
         above = under (U k) (U (suc k)) (T (suc k)) (D k) G u (h .most) (mul-le-mul-right G (i .above));
         below = over (U k) (U (suc k)) (T (suc k)) (D k) G u (h .least) (mul-le-mul-right G (i .below));
@@ -103,8 +103,8 @@ module _ (s a c w : ℕ) (small : a ≤ c) (some : 0 < c) (at : a * 2 ^ 32 ≡ w
   more : (k t : ℕ) {p n p' n' : ℕ} → (k % 2 ≡ 0 → ⊥) → Held (suc k) t → Summed k p n p' n' → Summed (suc k) (p + t) n (p' + (t + 2)) n'
   unfolding down
   more k t {p} {n} {p'} {n'} e h i =
-      let G = grown s c k in
-      let u : U (suc k) ≡ U k * G + T (suc k) = go (up s a c (suc k)) (a ^ (s + 2 * suc k)) (up s a c k) G (ap (λ (x : ℕ). x * 2 ^ 60) (plus s a c small some k e)) in
+      let G = nextDivisor s c k in
+      let u : U (suc k) ≡ U k * G + T (suc k) = go (numeratorAt s a c (suc k)) (a ^ (s + 2 * suc k)) (numeratorAt s a c k) G (ap (λ (x : ℕ). x * 2 ^ 60) (plus s a c small some k e)) in
       record {
         above = under (U k) (U (suc k)) (T (suc k)) (D k) G u (h .least) (mul-le-mul-right G (i .above));
         below = over (U k) (U (suc k)) (T (suc k)) (D k) G u (h .most) (mul-le-mul-right G (i .below));
@@ -119,7 +119,7 @@ module _ (s a c w : ℕ) (small : a ≤ c) (some : 0 < c) (at : a * 2 ^ 32 ≡ w
       over : (u v T d g : ℕ) → v ≡ u * g + T → T ≤ (t + 2) * (d * g) → (u + n' * d) * g ≤ p' * d * g → v + n' * (d * g) ≤ (p' + (t + 2)) * (d * g)
       over u v T d g e h i = omega arith
 
-  within : {k p n p' n' l h : ℕ} → Summed k p n p' n' → l + n ≤ p → p' ≤ h + n' → Within l h (up s a c k) (D k)
+  within : {k p n p' n' l h : ℕ} → Summed k p n p' n' → l + n ≤ p → p' ≤ h + n' → Within l h (numeratorAt s a c k) (D k)
   within {k} {p} {n} {p'} {n'} {l} {h} i e f = record {
     above = under (U k) (D k) (i .above) (mul-le-mul-right (D k) e);
     below = over (U k) (D k) (i .below) (mul-le-mul-right (D k) f);
@@ -158,7 +158,7 @@ module _ (s a c w : ℕ) (small : a ≤ c) (some : 0 < c) (at : a * 2 ^ 32 ≡ w
         two t = omega arith
 
     summed₀ : Summed 0 t 0 t 0
-    unfolding up down
+    unfolding numeratorAt down
     summed₀ = record { above = go (c ^ s) (le-of-eq first); below = back (c ^ s) (le-of-eq (sym first)) }
       where
         go : (d : ℕ) {x y : ℕ} → x ≤ y → x ≤ y + 0 * d
@@ -183,7 +183,7 @@ module _ (s a c w : ℕ) (small : a ≤ c) (some : 0 < c) (at : a * 2 ^ 32 ≡ w
     summed₄ = more 3 u₄ (λ e. omega (arith, e)) (next 3 u₃ held₃) summed₃
 
     module _ (positive : 0 < low s w t) where
-      pub four : Within (low s w t) (low s w t + wide s w t) (up s a c 3) (down s c 3)
+      pub four : Within (low s w t) (low s w t + wide s w t) (numeratorAt s a c 3) (down s c 3)
       four = within summed₃ (start t u₁ u₂ u₃ positive) (end t u₁ u₂ u₃ u₄ positive)
         where
           start : (t u v x : ℕ) → 0 < t + v - (u + x + 4) → t + v - (u + x + 4) + (0 + (u + 2) + (x + 2)) ≤ t + v
@@ -192,7 +192,7 @@ module _ (s a c w : ℕ) (small : a ≤ c) (some : 0 < c) (at : a * 2 ^ 32 ≡ w
           end : (t u v x y : ℕ) → 0 < t + v - (u + x + 4) → t + (v + 2) ≤ t + v - (u + x + 4) + (y + 8) + (0 + u + x)
           end t u v x y h = omega arith
 
-      pub five : Within (low s w t) (low s w t + wide s w t) (up s a c 4) (down s c 4)
+      pub five : Within (low s w t) (low s w t + wide s w t) (numeratorAt s a c 4) (down s c 4)
       five = within summed₄ (start t u₁ u₂ u₃ u₄ positive) (end t u₁ u₂ u₃ u₄ positive)
         where
           start : (t u v x y : ℕ) → 0 < t + v - (u + x + 4) → t + v - (u + x + 4) + (0 + (u + 2) + (x + 2)) ≤ t + v + y

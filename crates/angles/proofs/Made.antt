@@ -12,7 +12,7 @@ use lib.Ieee.{Float, nan, inf, fin, binary32, fits, add, sub, mul}
 use lib.Ieee.Nearest.{closest}
 use Rattle.ieee.specs.Small.{absolute}
 use Rattle.ieee.specs.Units.{One, Top, mag}
-use Rattle.ieee.specs.Nearest.{Within}
+use Rattle.ieee.specs.Nearest.{DifferBy}
 use Rattle.ieee.proofs.Grid.{rnd, rnd-ge, rnd-le, rnd-near, rnd-grid, grid-at, grid-pow, closest-near}
 use Rattle.ieee.proofs.Closest.{grid-multiple}
 use Rattle.ieee.proofs.Value.{one-pos, one-grid}
@@ -91,11 +91,11 @@ pub record Made (cos sin : Float) (C v a : ℕ) : Type 0 where
   pub a2-is : Plus (mul binary32 (sub binary32 (fin false 1 (pos 0)) (alphaOf sin)) (divisorOf sin)) (α * 2 ^ 125)
   pub b1-is : Plus (b1Of cos sin) (β₁ * 2 ^ 101)
   pub b2-is : Plus (b2Of cos sin) (β₂ * 2 ^ 101)
-  pub p-near : Within (2 * (p * 2 ^ 126)) (2 * (One + a)) (2 ^ 126)
-  pub δ-near : Within (2 * (δ * p)) 281474976710656 p
-  pub both-near : Within (2 * p + μ) 33554432 1
-  pub A-near : Within (2 * (A * 16777216)) (2 * (C * δ)) 16777216
-  pub α-near : Within (2 * (α * 16777216)) (2 * (μ * δ)) 16777216
+  pub p-near : DifferBy (2 * (p * 2 ^ 126)) (2 * (One + a)) (2 ^ 126)
+  pub δ-near : DifferBy (2 * (δ * p)) 281474976710656 p
+  pub both-near : DifferBy (2 * p + μ) 33554432 1
+  pub A-near : DifferBy (2 * (A * 16777216)) (2 * (C * δ)) 16777216
+  pub α-near : DifferBy (2 * (α * 16777216)) (2 * (μ * δ)) 16777216
   pub δ-many : δ ≤ 16777216
   pub β₁-above : 16777216 * (1 * β₁) ≤ 16777217 * (v * δ) + 1
   pub β₂-above : 16777216 * (2 * β₂) ≤ 16777217 * β₁ + 1
@@ -219,7 +219,7 @@ module _ (cos sin : Float) (C v a : ℕ) (cosine : Plus cos (C * 2 ^ 125)) (alph
       (kept (One - a) 1 (One - a) U 125 (lit< tt) (pow-pos 125) (sym (mul-one ((One - a) * U))) (le-trans (lit≤ tt) rest-least) (lt-of-le-of-lt rest-most (lit< tt)) (lit≤ tt))
 
   -- the two of them: their errors are at most three halves of 2 ^ -24, and 2 p + μ is whole
-  both-near : Within (2 * p + μ) 33554432 1
+  both-near : DifferBy (2 * p + μ) 33554432 1
   both-near =
       let i = closest-near (One + a) W (pow-pos 126) in
       let j = closest-near (One - a) U (pow-pos 125) in

@@ -8,7 +8,7 @@ use native.Mathlib.Nat.{mul-one, one-mul, mul-le-mul, mul-le-mul-left, mul-le-mu
 use native.Mathlib.Omega.{arith}
 use borrow.Author.Tests.{eq-eqb, ne-eqb}
 use lib.Pow.{pow-add}
-use Rattle.angles.specs.Angle.{grown, up, down}
+use Rattle.angles.specs.Angle.{nextDivisor, numeratorAt, down}
 
 -- p / q is at most 1
 pub record Fraction (p q : ℕ) : Type 0 where
@@ -27,13 +27,13 @@ factor-pos s k = mul-pos (some (s + 2 * k) 0) (some (s + 2 * k) 1)
 
 module _ (s a c : ℕ) (small : a ≤ c) (some : 0 < c) where
   abbrev pub U : ℕ → ℕ
-  U k = up s a c k
+  U k = numeratorAt s a c k
 
   abbrev pub D : ℕ → ℕ
   D k = down s c k
 
   abbrev pub G : ℕ → ℕ
-  G k = grown s c k
+  G k = nextDivisor s c k
 
   -- the last term is T k / D k
   abbrev pub T : ℕ → ℕ
@@ -65,11 +65,11 @@ module _ (s a c : ℕ) (small : a ≤ c) (some : 0 < c) where
 
   -- ---- one term more, taken away after an even number of terms and added after an odd one
   minus : (k : ℕ) → k % 2 ≡ 0 → U (suc k) ≡ U k * G k - T (suc k)
-  unfolding up
+  unfolding numeratorAt
   minus k e = ap (λ (t : Bool). cond t (U k * G k - a ^ (s + 2 * k + 2)) (U k * G k + a ^ (s + 2 * k + 2))) (eq-eqb (k % 2) 0 e) ∙ ap (λ (x : ℕ). U k * G k - a ^ x) (two k)
 
   pub plus : (k : ℕ) → (k % 2 ≡ 0 → ⊥) → U (suc k) ≡ U k * G k + T (suc k)
-  unfolding up
+  unfolding numeratorAt
   plus k e = ap (λ (t : Bool). cond t (U k * G k - a ^ (s + 2 * k + 2)) (U k * G k + a ^ (s + 2 * k + 2))) (ne-eqb (k % 2) 0 e) ∙ ap (λ (x : ℕ). U k * G k + a ^ x) (two k)
 
   turn : (k : ℕ) → k % 2 ≡ 0 → suc k % 2 ≡ 0 → ⊥
@@ -80,7 +80,7 @@ module _ (s a c : ℕ) (small : a ≤ c) (some : 0 < c) where
 
   -- an even sum holds its last term
   holds : (k : ℕ) → k % 2 ≡ 0 → T k ≤ U k
-  unfolding up
+  unfolding numeratorAt
   holds zero e = le-of-eq (ap (λ (x : ℕ). a ^ x) (none s))
     where
       none : (s : ℕ) → s + 2 * 0 ≡ s
@@ -128,7 +128,7 @@ module _ (s a c : ℕ) (small : a ≤ c) (some : 0 < c) where
 
   -- ---- all are at most 1
   most : (k : ℕ) → (U k ≤ D k) × (U (suc k) ≤ D (suc k))
-  unfolding up down
+  unfolding numeratorAt down
   most zero = (pow-le-pow-left small s, le-trans (le-of-eq (minus 0 refl)) (le-trans (fewer (U 0 * G 0) (T 1)) (mul-le-mul-right (G 0) (pow-le-pow-left small s))))
     where
       fewer : (x y : ℕ) → x - y ≤ x

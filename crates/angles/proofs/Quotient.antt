@@ -14,7 +14,7 @@ use lib.Ieee.{Float, fin, binary32, ofBits, ofInt, mul, div, round, fits}
 use lib.Ieee.Nearest.{closest}
 use lib.Ieee.Positive.{num, den}
 use Rattle.ieee.specs.Units.{One, mag, P}
-use Rattle.ieee.specs.Nearest.{Within}
+use Rattle.ieee.specs.Nearest.{DifferBy}
 use Rattle.ieee.proofs.Grid.{closest-near}
 use Rattle.ieee.proofs.Grid.{le-or-lt}
 use Rattle.ieee.proofs.Value.{one-pos, shape}
@@ -109,11 +109,11 @@ module _ {r : ℕ} (l : Listed r) where
       (mul-assoc (num x) (2 ^ 32) (2 ^ 117) ∙ shape x (w0-is .f32) .value ∙ ap (λ (y : ℕ). y * den x) m ∙ mul-right-comm (angleOf r) (2 ^ 117) (den x))
 
   -- ---- its size
-  nearby : Within (2 * (angleOf r * r)) 6476658114560 386048
+  nearby : DifferBy (2 * (angleOf r * r)) 6476658114560 386048
   unfolding angleOf
   nearby = go (closest 3238329057280 (r * s)) s (σ .near) (closest-near 3238329057280 (r * s) (mul-pos r-pos s-pos))
     where
-      go : (q s : ℕ) → r * s ≤ 386048 → Within (2 * (q * (r * s))) (2 * 3238329057280) (r * s) → Within (2 * (q * s * r)) 6476658114560 386048
+      go : (q s : ℕ) → r * s ≤ 386048 → DifferBy (2 * (q * (r * s))) (2 * 3238329057280) (r * s) → DifferBy (2 * (q * s * r)) 6476658114560 386048
       go q s l w = record { above = omega (arith, w .above); below = omega (arith, w .below) }
 
   pub angle-top : angleOf r * r ≤ 3238329250304

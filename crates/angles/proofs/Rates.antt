@@ -13,7 +13,7 @@ use Rattle.rates.specs.Rates.{Listed}
 use Rattle.rates.specs.Sums.{stepOf, angleOf, five, cosineSum, sineSum}
 use Rattle.rates.specs.Suffice as test
 use Rattle.rates.proofs.Every.{every-rate}
-use Rattle.angles.specs.Angle.{w0, up, down, Meant}
+use Rattle.angles.specs.Angle.{w0, numeratorAt, down, Meant}
 use Rattle.angles.specs.Filter.{coefficientsOf, LowpassAt}
 use Rattle.angles.specs.FiveTerms.{cosine, sine, coefficientsAt}
 use Rattle.angles.specs.declared.filter.Coefficients.{Coefficients}
@@ -43,11 +43,11 @@ module _ {r : ℕ} (l : Listed r) where
   abbrev y : ℕ
   y = w * w
 
-  tests : T (test.alike y (2 ^ 60) 2 12 30 56 (2 ^ 35)) × T (test.alike y (w * 2 ^ 28) 6 20 42 72 (s * 2 ^ 26))
+  tests : T (test.roundAlike y (2 ^ 60) 2 12 30 56 (2 ^ 35)) × T (test.roundAlike y (w * 2 ^ 28) 6 20 42 72 (s * 2 ^ 26))
   unfolding angleOf
   tests =
-      let a = test.alike y (2 ^ 60) 2 12 30 56 (2 ^ 35) in
-      let b = test.alike y (w * 2 ^ 28) 6 20 42 72 (s * 2 ^ 26) in
+      let a = test.roundAlike y (2 ^ 60) 2 12 30 56 (2 ^ 35) in
+      let b = test.roundAlike y (w * 2 ^ 28) 6 20 42 72 (s * 2 ^ 26) in
       (and-l a b (every-rate r l), and-r a b (every-rate r l))
 
   -- ---- the first terms are exact
@@ -83,10 +83,10 @@ module _ {r : ℕ} (l : Listed r) where
   sine-large : 16777216 * (s * 2 ^ 26) ≤ low 1 w (w * 2 ^ 28)
   sine-large = low-large 1 w (w * 2 ^ 28) (s * 2 ^ 26) (square-small l) (omega (arith, s-pos l)) (omega (arith, angle-large l))
 
-  pub cosine-within : Within (low 0 w (2 ^ 60)) (low 0 w (2 ^ 60) + wide 0 w (2 ^ 60)) (up 0 (num x) (den x) 4) (down 0 (den x) 4)
+  pub cosine-within : Within (low 0 w (2 ^ 60)) (low 0 w (2 ^ 60) + wide 0 w (2 ^ 60)) (numeratorAt 0 (num x) (den x) 4) (down 0 (den x) 4)
   cosine-within = enclosed.five 0 (num x) (den x) w (at-most-one l) (den-pos x) (fraction l) (square-small l) (2 ^ 60) cosine-first (lt-of-lt-of-le (lit< tt) cosine-large)
 
-  pub sine-within : Within (low 1 w (w * 2 ^ 28)) (low 1 w (w * 2 ^ 28) + wide 1 w (w * 2 ^ 28)) (up 1 (num x) (den x) 4) (down 1 (den x) 4)
+  pub sine-within : Within (low 1 w (w * 2 ^ 28)) (low 1 w (w * 2 ^ 28) + wide 1 w (w * 2 ^ 28)) (numeratorAt 1 (num x) (den x) 4) (down 1 (den x) 4)
   sine-within =
       enclosed.five 1 (num x) (den x) w (at-most-one l) (den-pos x) (fraction l) (square-small l) (w * 2 ^ 28) sine-first (lt-of-lt-of-le (omega (arith, s-pos l)) sine-large)
 

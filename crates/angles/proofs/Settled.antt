@@ -14,7 +14,7 @@ use Rattle.ieee.specs.Units.{One}
 use Rattle.ieee.proofs.Closest.{InCell, same-cell}
 use Rattle.ieee.proofs.Unique.{unique}
 use Rattle.rates.specs.Suffice.{inside}
-use Rattle.angles.specs.Angle.{up, down, partial, Meant}
+use Rattle.angles.specs.Angle.{numeratorAt, down, partial, Meant}
 use Rattle.angles.proofs.Partial.{Fraction, fraction, D-pos}
 use Rattle.angles.proofs.Unique.{size-of}
 use Rattle.angles.proofs.Terms.{sum}
@@ -108,9 +108,9 @@ module _ (s w t i : ℕ) (x : Float) (small : num x ≤ den x) (at : num x * 2 ^
       between : (low s w t ≤ n) × (n < low s w t + wide s w t)
       between = subst (λ (k : ℕ). (low s w t ≤ k) × (k < low s w t + wide s w t)) (sym e) (enclosed.cut s (num x) (den x) w small (den-pos x) at few t first positive)
 
-      one : (k : ℕ) → Within (low s w t) (low s w t + wide s w t) (up s (num x) (den x) k) (down s (den x) k) → partial s x k ≡ round binary32 false (2 * (n / 2 ^ 13) + 1) (2 ^ 48)
+      one : (k : ℕ) → Within (low s w t) (low s w t + wide s w t) (numeratorAt s (num x) (den x) k) (down s (den x) k) → partial s x k ≡ round binary32 false (2 * (n / 2 ^ 13) + 1) (2 ^ 48)
       one k v =
-          alike (low s w t / g) (13 + i + 89) (up s (num x) (den x) k) (down s (den x) k) (2 * (n / 2 ^ 13) + 1) (2 ^ 48) (le-div-iff-mul-le g-pos .1 large)
+          alike (low s w t / g) (13 + i + 89) (numeratorAt s (num x) (den x) k) (down s (den x) k) (2 * (n / 2 ^ 13) + 1) (2 ^ 48) (le-div-iff-mul-le g-pos .1 large)
           (fraction s (num x) (den x) small (den-pos x) k) (record { some = pow-pos 48; most = omega arith })
-          (exact-cell (low s w t) (wide s w t) g i g-is test (up s (num x) (den x) k) (down s (den x) k) (D-pos s (num x) (den x) small (den-pos x) k) v)
+          (exact-cell (low s w t) (wide s w t) g i g-is test (numeratorAt s (num x) (den x) k) (down s (den x) k) (D-pos s (num x) (den x) small (den-pos x) k) v)
           (cut-cell (low s w t) (wide s w t) g i g-is test n (between .0) (between .1))

@@ -12,7 +12,7 @@ use Rattle.ieee.proofs.Grid.{rnd, rnd-mono, rnd-le}
 use Rattle.ieee.proofs.Value.{Is, rounded, one-grid}
 use Rattle.ieee.proofs.Constants.{one-less}
 use Rattle.ieee.proofs.Unique.{unique}
-use Rattle.angles.specs.Angle.{up, down, partial, Meant}
+use Rattle.angles.specs.Angle.{numeratorAt, down, partial, Meant}
 use Rattle.angles.proofs.Partial.{Fraction, fraction, nested}
 
 -- ---- what lies between two fractions that round to r rounds to r
@@ -38,16 +38,16 @@ squeeze p q p' q' p'' q'' {r} f f' f'' a b e e'' =
 -- ---- once two neighbours round to r, the next does
 module _ (s a c : ℕ) (small : a ≤ c) (some : 0 < c) where
   abbrev R : ℕ → Float
-  R k = round binary32 false (up s a c k) (down s c k)
+  R k = round binary32 false (numeratorAt s a c k) (down s c k)
 
   step : (k : ℕ) {r : Float} → R k ≡ r → R (suc k) ≡ r → R (suc (suc k)) ≡ r
   step k e e' =
-      let f : (k : ℕ) → Fraction (up s a c k) (down s c k) = fraction s a c small some in
+      let f : (k : ℕ) → Fraction (numeratorAt s a c k) (down s c k) = fraction s a c small some in
       let k₁ = suc k in
       let k₂ = suc k₁ in
       elim (nested s a c small some k) [
-        | inl b ↦ squeeze (up s a c k₁) (down s c k₁) (up s a c k₂) (down s c k₂) (up s a c k) (down s c k) (f k₁) (f k₂) (f k) (b .0) (b .1) e' e
-        | inr b ↦ squeeze (up s a c k) (down s c k) (up s a c k₂) (down s c k₂) (up s a c k₁) (down s c k₁) (f k) (f k₂) (f k₁) (b .0) (b .1) e e'
+        | inl b ↦ squeeze (numeratorAt s a c k₁) (down s c k₁) (numeratorAt s a c k₂) (down s c k₂) (numeratorAt s a c k) (down s c k) (f k₁) (f k₂) (f k) (b .0) (b .1) e' e
+        | inr b ↦ squeeze (numeratorAt s a c k) (down s c k) (numeratorAt s a c k₂) (down s c k₂) (numeratorAt s a c k₁) (down s c k₁) (f k) (f k₂) (f k₁) (b .0) (b .1) e e'
       ]
 
   later : (j k : ℕ) {r : Float} → k ≤ j → R k ≡ r → R (suc k) ≡ r → (R j ≡ r) × (R (suc j) ≡ r)

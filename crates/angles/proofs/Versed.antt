@@ -17,7 +17,7 @@ use Rattle.ieee.proofs.Closest.{rnd-closest}
 use Rattle.ieee.proofs.Digits.{Plus, plus-of, closest-most}
 use Rattle.rates.specs.Rates.{Listed}
 use Rattle.rates.specs.Sums.{angleOf}
-use Rattle.angles.specs.Angle.{w0, up, down, partial}
+use Rattle.angles.specs.Angle.{w0, numeratorAt, down, partial}
 use Rattle.angles.specs.FiveTerms.{cosine}
 use Rattle.angles.proofs.Partial.{Fraction, fraction}
 use Rattle.angles.proofs.Unique.{size-of}
@@ -28,7 +28,7 @@ use Rattle.angles.proofs.Rates.{y-large, cosine-within}
 use Rattle.angles.proofs.Made.{one-24}
 
 -- ---- C is nearest to 2 ^ 24 p / q, and p / q lies from b to h steps of 2 ^ -60
-in-steps : (C p q b h : ℕ) → 0 < q → Within b h p q → ieee.Within (2 * (C * q)) (2 * (p * 16777216)) q → (2 * (C * 2 ^ 36) ≤ 2 * h + 2 ^ 36) × (2 * b ≤ 2 * (C * 2 ^ 36) + 2 ^ 36)
+in-steps : (C p q b h : ℕ) → 0 < q → Within b h p q → ieee.DifferBy (2 * (C * q)) (2 * (p * 16777216)) q → (2 * (C * 2 ^ 36) ≤ 2 * h + 2 ^ 36) × (2 * b ≤ 2 * (C * 2 ^ 36) + 2 ^ 36)
 in-steps C p q b h Q w n = (le-of-mul-le-mul-right (over (w .below) (n .above)) Q, le-of-mul-le-mul-right (under (w .above) (n .below)) Q)
   where
     over : p * 2 ^ 60 ≤ h * q → 2 * (C * q) ≤ 2 * (p * 16777216) + q → 2 * (C * 2 ^ 36) * q ≤ (2 * h + 2 ^ 36) * q
@@ -54,7 +54,7 @@ module _ {r : ℕ} (l : Listed r) where
   x = w0 r
 
   abbrev p : ℕ
-  p = up 0 (num x) (den x) 4
+  p = numeratorAt 0 (num x) (den x) 4
 
   abbrev q : ℕ
   q = down 0 (den x) 4

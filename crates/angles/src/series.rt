@@ -6,7 +6,7 @@ ghost use Prim.Native.Nat.{_+_, _*_, _/_, _^_, _<_, _≤_};
 ghost use lib.Ieee.{binary32, round};
 ghost use lib.Ieee.Nearest as ieee;
 ghost use Rattle.rates.specs.Rates.{Listed};
-ghost use Rattle.rates.specs.Sums.{stepOf, angleOf, term, five};
+ghost use Rattle.rates.specs.Sums.{stepOf, angleOf, nextTerm, five};
 
 // The last digit of the angle's 24, in steps.
 fn step_of(rate: u64) -> u64
@@ -67,7 +67,7 @@ fn high_product(a: u64, b: u64) -> u64
 // The term after t: times the angle's square y, by n.
 fn next_term(y: u64, t: u64, n: u64) -> u64
     requires { ⌜ (y < 2 ^ 58) × (t ≤ 2 ^ 60) × (0 < n) ⌝ }
-    ensures { λ r. ⌜ (r ≡ term y t n) × (r ≤ t) ⌝ }
+    ensures { λ r. ⌜ (r ≡ nextTerm y t n) × (r ≤ t) ⌝ }
 {
     high_product(y, t) / n
 }

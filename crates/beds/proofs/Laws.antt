@@ -11,7 +11,7 @@ use lib.ListN.{length, getD, drop}
 use lib.Seq.{drop-cons}
 use Rattle.beds.specs.declared.Found.{Found}
 use Rattle.beds.specs.declared.Found.the-variants.{At, Nothing}
-use Rattle.beds.specs.Matching.{lowFrequency, matches, firstFrom, firstOf, orElse, matching, counted}
+use Rattle.beds.specs.Matching.{lowFrequency, matches, firstFrom, firstOf, orFound, matching, counted}
 
 -- ---- one step of the search and of the count
 
@@ -45,4 +45,4 @@ module _ (code : ℕ) (cs : List ℕ) where
 
   pub by-else : {t : Bool} → firstOf code code cs ≡ Nothing → lowFrequency code ≡ t → cond t (firstOf 3 17 cs) Nothing ≡ matching code cs
   unfolding matching
-  by-else e t = sym (ap (λ (f : Found). orElse f (cond (lowFrequency code) (firstOf 3 17 cs) Nothing)) e ∙ ap (λ (b : Bool). cond b (firstOf 3 17 cs) Nothing) t)
+  by-else e t = sym (ap (λ (f : Found). orFound f (cond (lowFrequency code) (firstOf 3 17 cs) Nothing)) e ∙ ap (λ (b : Bool). cond b (firstOf 3 17 cs) Nothing) t)

@@ -10,7 +10,7 @@ use lib.Dec.{eqb}
 use lib.ListN.{length, getD}
 use Rattle.beds.specs.declared.Found.{Found}
 use Rattle.beds.specs.declared.Found.the-variants.{At, Nothing}
-use Rattle.beds.specs.Matching.{lowFrequency, matches, firstFrom, firstOf, orElse, matching, counted}
+use Rattle.beds.specs.Matching.{lowFrequency, matches, firstFrom, firstOf, orFound, matching, counted}
 
 -- ---- the count
 
@@ -87,7 +87,7 @@ module _ (code : ℕ) (cs : List ℕ) where
   low true e w Nothing v = none-counted code cs (λ k h. unlike k w h (and-none (lowFrequency code) (v k h)))
   low false e w f v = none-counted code cs (λ k h. unlike k w h (ap (λ (b : Bool). b && lowFrequency (getD cs k 0)) e))
 
-  first : (f : Found) → Finds code code cs 0 f → Judged code cs (orElse f (cond (lowFrequency code) (firstOf 3 17 cs) Nothing))
+  first : (f : Found) → Finds code code cs 0 f → Judged code cs (orFound f (cond (lowFrequency code) (firstOf 3 17 cs) Nothing))
   unfolding firstOf
   first (At i) w = hit (w .1) (w .2) (rw (sym (exact code (getD cs (w .0) 0)) ∙ w .3))
   first Nothing w = low (lowFrequency code) refl w (firstFrom 0 3 17 cs) (finds 3 17 cs 0)

@@ -21,13 +21,13 @@ firstFrom i a b (c ∷ cs) = cond (eqb c a || eqb c b) (At i) (firstFrom (suc i)
 unfoldable pub firstOf : ℕ → ℕ → List ℕ → Found
 firstOf a b cs = firstFrom 0 a b cs
 
-abbrev pub orElse : Found → Found → Found
-orElse (At i) other = At i
-orElse Nothing other = other
+abbrev pub orFound : Found → Found → Found
+orFound (At i) other = At i
+orFound Nothing other = other
 
 -- Document 01, item 3: "The two LFE codes match each other when no exact match exists".
 unfoldable pub matching : ℕ → List ℕ → Found
-matching code inputs = orElse (firstOf code code inputs) (cond (lowFrequency code) (firstOf 3 17 inputs) Nothing)
+matching code inputs = orFound (firstOf code code inputs) (cond (lowFrequency code) (firstOf 3 17 inputs) Nothing)
 
 -- how many of the codes match a bed: the counts of refusal 13
 abbrev pub counted : ℕ → List ℕ → ℕ

@@ -5,14 +5,14 @@ use mathlib.Core.List.{List, [], _∷_}
 use lib.ListN.{getD}
 use lib.Ieee.{binary32, neg, round}
 use Rattle.vectors.specs.declared.Vec3.{Vec3}
-use Rattle.vectors.specs.Vectors.{0·0, 1·0, vec3, zeroVec3}
+use Rattle.vectors.specs.Vectors.{0·0f, 1·0f, vec3, zeroVec3}
 
 -- By code, in the source's values: o is 0.0, p 1.0, m -1.0 and w the f32 nearest to 0.677419.
 unfoldable pub positions : List Vec3
 positions =
-    let o = 0·0 in
-    let p = 1·0 in
-    let m = neg 1·0 in
+    let o = 0·0f in
+    let p = 1·0f in
+    let m = neg 1·0f in
     let w = round binary32 false 677_419 1_000_000 in
     vec3 m o p  --  0 FrontLeft
     ∷ vec3 p o p  --  1 FrontRight

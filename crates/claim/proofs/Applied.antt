@@ -84,7 +84,7 @@ all-set P (y ∷ l) (suc i) x p h = (h .0, all-set P l i x p (h .1))
 
 -- ---- what starts again
 
-zero-fits : T (fits binary32 vectors.0·0)
+zero-fits : T (fits binary32 vectors.0·0f)
 unfolding fits ofBits
 zero-fits = tt
 
@@ -102,7 +102,7 @@ start-fits : T (fits binary32 0·707)
 unfolding fits ofBits
 start-fits = tt
 
-start-size : T (between 0·0 1·0 vectors.0·0)
+start-size : T (between 0·0 1·0 vectors.0·0f)
 unfolding between fits le ofBits
 start-size = tt
 

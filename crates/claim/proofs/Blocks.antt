@@ -16,7 +16,7 @@ use Rattle.rules.specs.Ranges as rules
 use Rattle.rules.specs.Samples.{Renderer}
 use Rattle.store.specs.Layout.{size, decode, encode}
 use Rattle.store.specs.Ranges as store
-use Rattle.store.specs.Ranged.{PlacesRanged, Ranged}
+use Rattle.store.specs.Ranged.{PlacesRanged, BlockRanged}
 use Rattle.store.proofs.Whole as whole
 use Rattle.store.proofs.Valid as valid′
 use Rattle.store.proofs.Decoded as decoded′
@@ -40,7 +40,7 @@ rate-in n (inl e) = t-or (eqb n 0) (listed n) (inl (eq-eqb n 0 e))
 rate-in n (inr e) = t-or (eqb n 0) (listed n) (inr e)
 
 -- a renderer in the rules' ranges is in the layout's
-pub ranged : (r : Renderer Timed) → rules.Ranged hall Within r → Ranged r
+pub ranged : (r : Renderer Timed) → rules.Ranged hall Within r → BlockRanged r
 ranged r h =
     let f = h .filter in
     record {
@@ -61,7 +61,7 @@ words-in : (p : Places) → PlacesRanged p → (c : ℕ) (below : Bool) → ltb 
 words-in p h c true e = h .words c (ltb-true c 12 e)
 words-in p h c false e = subst Words (sym (h .none c (ltb-false c 12 e))) tt
 
-unranged : (r : Renderer Timed) → Ranged r → rules.Ranged hall Within r
+unranged : (r : Renderer Timed) → BlockRanged r → rules.Ranged hall Within r
 unranged r h =
     let f = h .filter in
     record {

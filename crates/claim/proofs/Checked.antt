@@ -19,8 +19,8 @@ use Rattle.panning.specs.Table.{between, 8·0}
 use Rattle.fields.specs.Bytes.{byte, kind, has}
 use Rattle.fields.specs.Update.{objects, bedOrIsf, beds, elements, code, countsFit, mostAt, codesFit, isUpdate}
 use Rattle.fields.specs.Block.{blocks}
-use Rattle.fields.specs.Infos.{infoOf}
-use Rattle.fields.specs.Object.{isObject, maybeOf, depthOf, objectOf, upTo, objectInRange}
+use Rattle.fields.specs.Infos.{storedInfo}
+use Rattle.fields.specs.Object.{isObject, maybeOf, depthCode, objectOf, absentOr, objectInRange}
 use Rattle.fields.specs.declared.object.Info.{Info}
 use Rattle.fields.proofs.All.{and-left, and-right, all-at}
 use Rattle.records.specs.Runs.{each}
@@ -70,7 +70,7 @@ t-of : (b : Bool) → b ≡ true → T b
 t-of true e = tt
 t-of false e = absurd (let z : _≡_ {A = ℕ} 0 1 = cc in omega arith)
 
-up-to : (most : Float) (b : Bool) (w : ℕ) → upTo most (cond b (Value (ofBits binary32 w)) Absent) ≡ true → UpTo most (cond b (Value (ofBits binary32 w)) Absent)
+up-to : (most : Float) (b : Bool) (w : ℕ) → absentOr most (cond b (Value (ofBits binary32 w)) Absent) ≡ true → UpTo most (cond b (Value (ofBits binary32 w)) Absent)
 unfolding between
 up-to most true w e = and-in (fits binary32 (ofBits binary32 w)) _ (ofBits-fits binary32 w) (t-of _ e)
 up-to most false w e = tt
@@ -140,31 +140,31 @@ module _ (m : List ℕ) (bytes : Bytes m) (laid : laidOut m ≡ true) (fit : inR
     unfolding isObject
     anchor-listed = leb-true _ _ (and-right (eqb (kind m r) 4) _ (and-left _ _ (and-left _ _ (and-left _ _ (and-left _ _ object)))))
 
-    depth-listed : depthOf (floatAt m (40 * r + 32)) < 4
-    depth-listed = ltb-true _ _ (and-right (upTo 8·0 (objectOf m r .gain) && upTo 1·0 (objectOf m r .size)) _ inside)
+    depth-listed : depthCode (floatAt m (40 * r + 32)) < 4
+    depth-listed = ltb-true _ _ (and-right (absentOr 8·0 (objectOf m r .gain) && absentOr 1·0 (objectOf m r .size)) _ inside)
 
-    head-is : (bed : Bool) → HeadOf (byte m r 2) (depthOf (floatAt m (40 * r + 32))) (headOf bed (infoOf m r))
-    head-is bed = bed-head bed (byte m r 2) (byte m r 1) (depthOf (floatAt m (40 * r + 32))) (infoOf m r) flags-few anchor-listed depth-listed refl
+    head-is : (bed : Bool) → HeadOf (byte m r 2) (depthCode (floatAt m (40 * r + 32))) (headOf bed (storedInfo m r))
+    head-is bed = bed-head bed (byte m r 2) (byte m r 1) (depthCode (floatAt m (40 * r + 32))) (storedInfo m r) flags-few anchor-listed depth-listed refl
 
     gain-in : UpTo 8·0 (cond (has (byte m r 2) 4) (Value (ofBits binary32 (word m (40 * r + 4)))) Absent)
     unfolding maybeOf floatAt
-    gain-in = up-to 8·0 (has (byte m r 2) 4) (word m (40 * r + 4)) (and-left (upTo 8·0 (objectOf m r .gain)) _ (and-left _ _ inside))
+    gain-in = up-to 8·0 (has (byte m r 2) 4) (word m (40 * r + 4)) (and-left (absentOr 8·0 (objectOf m r .gain)) _ (and-left _ _ inside))
 
     size-in : UpTo 1·0 (cond (has (byte m r 2) 32) (Value (ofBits binary32 (word m (40 * r + 24)))) Absent)
     unfolding maybeOf floatAt
-    size-in = up-to 1·0 (has (byte m r 2) 32) (word m (40 * r + 24)) (and-right (upTo 8·0 (objectOf m r .gain)) _ (and-left _ _ inside))
+    size-in = up-to 1·0 (has (byte m r 2) 32) (word m (40 * r + 24)) (and-right (absentOr 8·0 (objectOf m r .gain)) _ (and-left _ _ inside))
 
-    pub fit-for : (P : Said) (bed : Bool) → P (headOf bed (infoOf m r)) (infoOf m r .gain) (infoOf m r .size) → Fit P bed (infoOf m r)
+    pub fit-for : (P : Said) (bed : Bool) → P (headOf bed (storedInfo m r)) (storedInfo m r .gain) (storedInfo m r .size) → Fit P bed (storedInfo m r)
     fit-for P bed p =
         let h = head-is bed .less in
         record { head = omega arith; gain = number-small m (40 * r + 4) 4 bytes; size = number-small m (40 * r + 24) 4 bytes; holds = p }
 
-    pub info-ranged : (bed : Bool) → Fit RangedSaid bed (infoOf m r)
-    info-ranged bed = fit-for RangedSaid bed (head-valid (byte m r 2) (depthOf (floatAt m (40 * r + 32))) (headOf bed (infoOf m r)) flags-few (head-is bed))
+    pub info-ranged : (bed : Bool) → Fit RangedSaid bed (storedInfo m r)
+    info-ranged bed = fit-for RangedSaid bed (head-valid (byte m r 2) (depthCode (floatAt m (40 * r + 32))) (headOf bed (storedInfo m r)) flags-few (head-is bed))
 
-    pub info-sound : (bed : Bool) → Fit SoundSaid bed (infoOf m r)
+    pub info-sound : (bed : Bool) → Fit SoundSaid bed (storedInfo m r)
     info-sound bed =
-        let n = headOf bed (infoOf m r) in
+        let n = headOf bed (storedInfo m r) in
         let h = head-is bed in
         fit-for SoundSaid bed (
           subst (λ (k : ℕ). UpTo 8·0 (cond (eqb k 1) (Value (ofBits binary32 (word m (40 * r + 4)))) Absent)) (sym (h .gain)) gain-in,

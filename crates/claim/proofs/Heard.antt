@@ -13,7 +13,7 @@ use Rattle.words.specs.Words.{Bytes, floatAt, number, withNumber}
 use Rattle.ieee.specs.Units.{mag}
 use Rattle.ieee.specs.Small.{absolute, larger}
 use Rattle.roots.specs.Root.{root, rootUnits, floorRoot, digits}
-use Rattle.angles.specs.Angle.{down, up, partial, w0}
+use Rattle.angles.specs.Angle.{down, numeratorAt, partial, w0}
 use Rattle.angles.specs.Filter.{coefficientsOf}
 use Rattle.angles.specs.FiveTerms.{cosine, sine}
 use Rattle.lowpass.specs.Lowpass.{new}
@@ -21,7 +21,7 @@ use Rattle.limiter.specs.Limiter.{lowered, blockPeak}
 use Rattle.beds.specs.Routes.{routeOf}
 use Rattle.beds.specs.Terms.{bedAdds}
 use Rattle.beds.specs.Matching.{firstOf, matching}
-use Rattle.panning.specs.Choice.{keep, every, orElse, first, below, above, level, end, flank, layer, row, side, corner}
+use Rattle.panning.specs.Choice.{keep, everyOf, orList, first, below, above, level, end, flank, layer, rowAmong, side, corner}
 use Rattle.panning.specs.Choice as choice
 use Rattle.panning.specs.Terms as terms
 use Rattle.panning.specs.Terms.{ratio, ahead, across, rowWeight, coefficient, innerGain, extra, panned, audible, paired, onChannel}
@@ -79,11 +79,11 @@ unfolding laidOut isUpdates isWholeUpdate isUpdate codesFit all some last count 
 accepted-object = refl
 
 told-bed : Told bed 0
-unfolding laidOut isUpdates isWholeUpdate isUpdate codesFit all some last count updateAt elementAt inRange recordInRange each times number blank pushed flushed written applied elementsApplied codesGiven nextGains nextSources slotAt heard bedAdds routeOf firstOf matching new coefficientsOf w0 cosine sine partial up down lowered blockPeak absolute larger floatAt withNumber lt le eq add sub mul div neg sum round units odd size climb span ofInt ofBits ofFields toBits nanBits
+unfolding laidOut isUpdates isWholeUpdate isUpdate codesFit all some last count updateAt elementAt inRange recordInRange each times number blank pushed flushed written applied elementsApplied codesGiven nextGains nextSources slotAt heard bedAdds routeOf firstOf matching new coefficientsOf w0 cosine sine partial numeratorAt down lowered blockPeak absolute larger floatAt withNumber lt le eq add sub mul div neg sum round units odd size climb span ofInt ofBits ofFields toBits nanBits
 told-bed = tt
 
 told-object : Told object 512
-unfolding laidOut isUpdates isWholeUpdate isUpdate codesFit all some last count updateAt elementAt inRange recordInRange each times number blank pushed flushed written applied elementsApplied codesGiven nextGains nextSources slotAt heard bedAdds routeOf firstOf matching new coefficientsOf w0 cosine sine partial up down lowered blockPeak absolute larger floatAt withNumber lt le eq add sub mul div neg sum round units odd size climb span ofInt ofBits ofFields toBits nanBits objectTerms onChannel positions714 hall714 keep every orElse first choice.last below above level end flank layer row side corner ratio terms.up ahead across rowWeight coefficient innerGain extra panned audible paired root rootUnits floorRoot digits mag ne trailingZeros
+unfolding laidOut isUpdates isWholeUpdate isUpdate codesFit all some last count updateAt elementAt inRange recordInRange each times number blank pushed flushed written applied elementsApplied codesGiven nextGains nextSources slotAt heard bedAdds routeOf firstOf matching new coefficientsOf w0 cosine sine partial numeratorAt down lowered blockPeak absolute larger floatAt withNumber lt le eq add sub mul div neg sum round units odd size climb span ofInt ofBits ofFields toBits nanBits objectTerms onChannel positions714 hall714 keep everyOf orList first choice.outermost below above level end flank layer rowAmong side corner ratio terms.up ahead across rowWeight coefficient innerGain extra panned audible paired root rootUnits floorRoot digits mag ne trailingZeros
 told-object = tt
 
 -- ---- what is lent is bytes

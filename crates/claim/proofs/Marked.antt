@@ -21,7 +21,7 @@ use Rattle.panning.specs.Hall.{hall714}
 use Rattle.limiter.specs.Limiter.{scaled, lowered, blockPeak}
 use Rattle.rules.specs.Parts.{1·0, Places, floats}
 use Rattle.store.specs.Layout.{blank}
-use Rattle.claim.specs.Marked.{Holds, peakOf, Limits, cases}
+use Rattle.claim.specs.Marked.{Tells, peakOf, Limits, cases}
 
 -- one sample, on channel 0
 abbrev alone : ℕ → Places
@@ -39,7 +39,7 @@ limits {p} {g} {f} b i h = record { every = λ d e c. ap (λ (q : Float). scaled
 same : (x : Float) → T (fits binary32 x) → mul binary32 x 1·0 ≡ x
 same x f = mul-one x (is-true (fits binary32 x) f)
 
-pub table : All Holds cases
+pub table : All Tells cases
 unfolding sub le ne ofBits mag absolute larger lowered blockPeak root rootPower number withNumber floatAt hall714 corner panned audible paired
     roomAnchored moved placed slotAt applied blank
 table = (refl, (refl, (refl, (refl, (refl, (refl, (refl, (refl, (refl, (limits (alone 0x3f80_0000) refl same, (limits (alone 0x4000_0000) refl (λ x f. refl), tt)))))))))))

@@ -14,11 +14,11 @@ use Rattle.words.proofs.Small.{number-bytes}
 use Rattle.words.proofs.Beside.{Kept, kept-twice, number-keeps, reads-before, reads-past}
 use Rattle.vectors.specs.declared.Vec3.{Vec3}
 use Rattle.timed.specs.Infos.{withVec}
-use Rattle.timed.specs.Objects.{moved, movedAt, movedAll}
+use Rattle.timed.specs.Objects.{objectMoved, movedAt, movedAll}
 use Rattle.timed.specs.Objects as objects
 use Rattle.timed.specs.Rules.{noBlock, due, leftAfter, rampOver, active}
-use Rattle.timed.specs.Slot.{Work, blockApplied, blockAt, blocksApplied, updatedSources}
-use Rattle.timed.specs.State.{Timed, elementOf, timingOf, reachOf, taken, slotOf, slotAt}
+use Rattle.timed.specs.Slot.{SlotWork, blockApplied, blockTurn, blocksApplied, updatedSources}
+use Rattle.timed.specs.State.{Timed, elementOf, timingOf, reachOf, elementTaken, slotOf, slotAt}
 use Rattle.timed.specs.declared.state.DynamicSourceState.{DynamicSourceState}
 use Rattle.timed.specs.declared.objects.Moving.{Moving}
 use Rattle.timed.specs.declared.slot.Timing.{Timing}
@@ -101,8 +101,8 @@ module _ (is : List ℕ) (j : ℕ) (p l : Vec3) where
         same = λ k c h. stored-same k c h (ltb j k) refl;
       }
 
-pub moved-like : (arrived : Bool) (k : ℕ) (s : DynamicSourceState) (is : List ℕ) → Like is (moved arrived k s is .infos)
-unfolding moved
+pub moved-like : (arrived : Bool) (k : ℕ) (s : DynamicSourceState) (is : List ℕ) → Like is (objectMoved arrived k s is .infos)
+unfolding objectMoved
 moved-like arrived k s is = stored-like is k _ _
 
 -- ---- the loops, the element, the state
@@ -110,20 +110,20 @@ moved-like arrived k s is = stored-like is k _ _
 pub moved-all-like : (arrived : Bool) (first count : ℕ) (m : Moving) (is : List ℕ) → Like is (movedAll arrived first count m is .infos)
 unfolding movedAll
 moved-all-like arrived first count m is =
-    times-keeps (λ (w : objects.Work). Like is (w .infos)) (movedAt arrived first)
+    times-keeps (λ (w : objects.ObjectsWork). Like is (w .infos)) (movedAt arrived first)
     (λ d w h. like-trans h (moved-like arrived (first + 8 * d) (getD (w .moving .sources) d objects.noSource) (w .infos))) count 0 (record { moving = m; infos = is }) (like-refl is)
 
-pub applied-like : (w : Timing) (r : Reach) (b : ℕ) (k : Work) → Like (k .infos) (blockApplied w r b k .infos)
+pub applied-like : (w : Timing) (r : Reach) (b : ℕ) (k : SlotWork) → Like (k .infos) (blockApplied w r b k .infos)
 unfolding blockApplied
 applied-like w r b k =
     let s = k .slot in
     moved-all-like (rampOver (leftAfter w (getD (s .schedule) b noBlock))) (r .first + b) (r .count) (record { sources = s .sources; tracks = s .tracks }) (k .infos)
 
-pub blocks-like : (w : Timing) (r : Reach) (n : ℕ) (k : Work) → Like (k .infos) (blocksApplied w r n k .infos)
+pub blocks-like : (w : Timing) (r : Reach) (n : ℕ) (k : SlotWork) → Like (k .infos) (blocksApplied w r n k .infos)
 unfolding blocksApplied
 blocks-like w r n k =
-    times-keeps (λ (x : Work). Like (k .infos) (x .infos)) (blockAt w r)
-    (λ b x h. cond-keeps (λ (y : Work). Like (k .infos) (y .infos)) (due w (getD (x .slot .schedule) b noBlock)) (blockApplied w r b x) x (λ _. like-trans h (applied-like w r b x)) (λ _. h))
+    times-keeps (λ (x : SlotWork). Like (k .infos) (x .infos)) (blockTurn w r)
+    (λ b x h. cond-keeps (λ (y : SlotWork). Like (k .infos) (y .infos)) (due w (getD (x .slot .schedule) b noBlock)) (blockApplied w r b x) x (λ _. like-trans h (applied-like w r b x)) (λ _. h))
     n 0 k (like-refl (k .infos))
 
 slot-of-like : (w : Timing) (i : ℕ) (t : Timed) → Like (t .infos) (slotOf w i t .infos)
@@ -136,7 +136,7 @@ pub slot-like : (start : ℕ) (t : Timed) → Like (t .infos) (slotAt start t .i
 unfolding slotAt
 slot-like start t =
     let w = timingOf start (t .state) in
-    let i = taken w (t .state .states) (t .state .elements) in
+    let i = elementTaken w (t .state .states) (t .state .elements) in
     let P : Timed → Type 0 = λ x. Like (t .infos) (x .infos) in
     cond-keeps P (eqb (t .state .elements) 0) t _ (λ _. like-refl (t .infos))
     (λ _. cond-keeps P (active (elementOf (t .state) i)) (slotOf w i t) t (λ _. slot-of-like w i t) (λ _. like-refl (t .infos)))

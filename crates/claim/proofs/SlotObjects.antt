@@ -16,7 +16,7 @@ use Rattle.vectors.specs.Target.{placed}
 use Rattle.vectors.specs.Fit.{VecFits, BlockFits, PlacedFits}
 use Rattle.vectors.proofs.Fitting.{placed-fits, lerp-fits}
 use Rattle.timed.specs.Infos.{maybeAt, vecAt, gainAt, sizeAt, blockPosition}
-use Rattle.timed.specs.Objects.{noSource, noTrack, orElse, moved, movedAt, movedAll, bedAt, bedGains, ramped, rampedAt, rampedAll}
+use Rattle.timed.specs.Objects.{noSource, noTrack, orElse, objectMoved, movedAt, movedAll, bedAt, bedGains, ramped, rampedAt, rampedAll}
 use Rattle.timed.specs.Objects as objects
 use Rattle.timed.specs.declared.state.Track.{Track}
 use Rattle.timed.specs.declared.state.DynamicSourceState.{DynamicSourceState}
@@ -70,8 +70,8 @@ module _ (G Z : Float → Type 0) where
     target-fits : PlacedFits (placed (blockPosition is k) (s .place))
     target-fits = placed-fits (blockPosition is k) (s .place) (block-fits is k) (h .place)
 
-    pub moved-has : InfosHave G Z is → SourceHas G Z (moved arrived k s is .moved .source)
-    unfolding moved
+    pub moved-has : InfosHave G Z is → SourceHas G Z (objectMoved arrived k s is .moved .source)
+    unfolding objectMoved
     moved-has i =
         record {
           gain = or-else-holds G (gainAt is k) (s .gain) (i .gain k) (h .gain);
@@ -79,8 +79,8 @@ module _ (G Z : Float → Type 0) where
           place = cond-keeps VecFits (blockPosition is k .valid && arrived) (placed (blockPosition is k) (s .place) .target) (s .place) (λ _. target-fits .target-fits) (λ _. h .place);
         }
 
-    pub track-fits : VecFits (moved arrived k s is .moved .track .future)
-    unfolding moved
+    pub track-fits : VecFits (objectMoved arrived k s is .moved .track .future)
+    unfolding objectMoved
     track-fits = target-fits .target-fits
 
   pub ramped-has : (t : Float) (last : Bool) (k : Track) (s : DynamicSourceState) → SourceHas G Z s → VecFits (k .future) → SourceHas G Z (ramped t last k s)
@@ -96,16 +96,16 @@ module _ (G Z : Float → Type 0) where
 
 -- ---- the loops
 
-record WorkHas (G Z : Float → Type 0) (w : objects.Work) : Type 0 where
+record WorkHas (G Z : Float → Type 0) (w : objects.ObjectsWork) : Type 0 where
   moving : MovingHas G Z (w .moving)
   infos : InfosHave G Z (w .infos)
 
 module _ (G Z : Float → Type 0) where
-  moved-at-has : (arrived : Bool) (first d : ℕ) (w : objects.Work) → d < 16 → WorkHas G Z w → WorkHas G Z (movedAt arrived first d w)
+  moved-at-has : (arrived : Bool) (first d : ℕ) (w : objects.ObjectsWork) → d < 16 → WorkHas G Z w → WorkHas G Z (movedAt arrived first d w)
   moved-at-has arrived first d w l h =
       let s = getD (w .moving .sources) d noSource in
       let k = first + 8 * d in
-      let a = moved arrived k s (w .infos) in
+      let a = objectMoved arrived k s (w .infos) in
       let g = h .moving .sources d l in
       record {
         moving = record {

@@ -7,11 +7,11 @@ use lib.Dec.{eqb, leb}
 use lib.ListN.{length, getD, length-set}
 use lib.Ieee.{Float, nan}
 use Rattle.timed.specs.Infos.{gainAt}
-use Rattle.timed.specs.Objects.{noSource, noTrack, orElse, moved, movedAt, movedAll, bedAt, bedGains, ramped, rampedAt, rampedAll}
+use Rattle.timed.specs.Objects.{noSource, noTrack, orElse, objectMoved, movedAt, movedAll, bedAt, bedGains, ramped, rampedAt, rampedAll}
 use Rattle.timed.specs.Objects as objects
 use Rattle.timed.specs.Rules.{noBlock, remainingOf, due, leftAfter, rampOver, share, active}
-use Rattle.timed.specs.Slot.{Work, blockApplied, blockAt, blocksApplied, rampApplied, updatedSources}
-use Rattle.timed.specs.State.{Timed, noElement, elementOf, timingOf, reachOf, taken, slotOf, slotAt}
+use Rattle.timed.specs.Slot.{SlotWork, blockApplied, blockTurn, blocksApplied, rampApplied, updatedSources}
+use Rattle.timed.specs.State.{Timed, noElement, elementOf, timingOf, reachOf, elementTaken, slotOf, slotAt}
 use Rattle.timed.specs.declared.state.Track.{Track}
 use Rattle.timed.specs.declared.state.ElementRendererState.{ElementRendererState}
 use Rattle.timed.specs.declared.state.MetadataRendererState.{MetadataRendererState}
@@ -57,9 +57,9 @@ record MovingLong (m n : Moving) : Type 0 where
 moved-all-long : (arrived : Bool) (first count : ℕ) (m : Moving) (is : List ℕ) → MovingLong m (movedAll arrived first count m is .moving)
 unfolding movedAll
 moved-all-long arrived first count m is =
-    times-keeps (λ (w : objects.Work). MovingLong m (w .moving)) (movedAt arrived first)
+    times-keeps (λ (w : objects.ObjectsWork). MovingLong m (w .moving)) (movedAt arrived first)
     (λ d w h.
-    let a = moved arrived (first + 8 * d) (getD (w .moving .sources) d noSource) (w .infos) in
+    let a = objectMoved arrived (first + 8 * d) (getD (w .moving .sources) d noSource) (w .infos) in
     record { sources = length-set (w .moving .sources) d (a .moved .source) ∙ h .sources; tracks = length-set (w .moving .tracks) d (a .moved .track) ∙ h .tracks })
     count 0 (record { moving = m; infos = is }) (record { sources = refl; tracks = refl })
 
@@ -84,7 +84,7 @@ long-refl s = record { schedule = refl; gains = refl; sources = refl; tracks = r
 long-trans : {s t u : Slot} → Long s t → Long t u → Long s u
 long-trans a b = record { schedule = b .schedule ∙ a .schedule; gains = b .gains ∙ a .gains; sources = b .sources ∙ a .sources; tracks = b .tracks ∙ a .tracks }
 
-applied-long : (w : Timing) (r : Reach) (b : ℕ) (k : Work) → Long (k .slot) (blockApplied w r b k .slot)
+applied-long : (w : Timing) (r : Reach) (b : ℕ) (k : SlotWork) → Long (k .slot) (blockApplied w r b k .slot)
 unfolding blockApplied
 applied-long w r b k =
     let s = k .slot in
@@ -97,11 +97,11 @@ applied-long w r b k =
       tracks = m .tracks;
     }
 
-blocks-long : (w : Timing) (r : Reach) (n : ℕ) (k : Work) → Long (k .slot) (blocksApplied w r n k .slot)
+blocks-long : (w : Timing) (r : Reach) (n : ℕ) (k : SlotWork) → Long (k .slot) (blocksApplied w r n k .slot)
 unfolding blocksApplied
 blocks-long w r n k =
-    times-keeps (λ (x : Work). Long (k .slot) (x .slot)) (blockAt w r)
-    (λ b x h. cond-keeps (λ (y : Work). Long (k .slot) (y .slot)) (due w (getD (x .slot .schedule) b noBlock)) (blockApplied w r b x) x (λ _. long-trans h (applied-long w r b x)) (λ _. h))
+    times-keeps (λ (x : SlotWork). Long (k .slot) (x .slot)) (blockTurn w r)
+    (λ b x h. cond-keeps (λ (y : SlotWork). Long (k .slot) (y .slot)) (due w (getD (x .slot .schedule) b noBlock)) (blockApplied w r b x) x (λ _. long-trans h (applied-long w r b x)) (λ _. h))
     n 0 k (long-refl (k .slot))
 
 ramp-long : (before : List Track) (n : ℕ) (s : Slot) → Long s (rampApplied before n s)
@@ -143,7 +143,7 @@ slot-of-shape w i t =
     let s = t .state in
     let e = elementOf s i in
     let r = reachOf s i in
-    let k : Work = record { slot = slotOn s e; infos = t .infos } in
+    let k : SlotWork = record { slot = slotOn s e; infos = t .infos } in
     let l = long-trans (blocks-long w r (e .blocks) k) (ramp-long (e .tracks) (r .count) (blocksApplied w r (e .blocks) k .slot)) in
     let f = updatedSources w r e (s .gains) (s .sources) (t .infos) .updated .element in
     record {
@@ -167,7 +167,7 @@ pub shape-slot : (start : ℕ) (t : Timed) → Shaped (t .state) (slotAt start t
 unfolding slotAt
 shape-slot start t =
     let w = timingOf start (t .state) in
-    let i = taken w (t .state .states) (t .state .elements) in
+    let i = elementTaken w (t .state .states) (t .state .elements) in
     let P : Timed → Type 0 = λ x. Shaped (t .state) (x .state) in
     cond-keeps P (eqb (t .state .elements) 0) t _ (λ _. shaped-refl (t .state))
     (λ _. cond-keeps P (active (elementOf (t .state) i)) (slotOf w i t) t (λ _. slot-of-shape w i t) (λ _. shaped-refl (t .state)))

@@ -11,8 +11,8 @@ use lib.Ieee.{Float, nan}
 use Rattle.vectors.specs.Fit.{VecFits}
 use Rattle.timed.specs.Objects.{noSource, noTrack}
 use Rattle.timed.specs.Rules.{noBlock, remainingOf, due, leftAfter, rampOver, share, active}
-use Rattle.timed.specs.Slot.{Work, blockApplied, blockAt, blocksApplied, rampApplied, updatedSources}
-use Rattle.timed.specs.State.{Timed, noElement, elementOf, timingOf, reachOf, taken, slotOf, slotAt}
+use Rattle.timed.specs.Slot.{SlotWork, blockApplied, blockTurn, blocksApplied, rampApplied, updatedSources}
+use Rattle.timed.specs.State.{Timed, noElement, elementOf, timingOf, reachOf, elementTaken, slotOf, slotAt}
 use Rattle.timed.specs.declared.state.Track.{Track}
 use Rattle.timed.specs.declared.state.MetadataRendererState.{MetadataRendererState}
 use Rattle.timed.specs.declared.slot.Slot.{Slot}
@@ -27,7 +27,7 @@ record SlotHas (G Z : Float → Type 0) (s : Slot) : Type 0 where
   gains : (i : ℕ) → i < 18 → G (getD (s .gains) i nan)
   moving : MovingHas G Z (record { sources = s .sources; tracks = s .tracks })
 
-record WorkHas (G Z : Float → Type 0) (k : Work) : Type 0 where
+record WorkHas (G Z : Float → Type 0) (k : SlotWork) : Type 0 where
   slot : SlotHas G Z (k .slot)
   infos : InfosHave G Z (k .infos)
 
@@ -43,7 +43,7 @@ pub record StateHas (G Z : Float → Type 0) (s : MetadataRendererState) : Type 
 
 module _ (G Z : Float → Type 0) where
   module _ (w : Timing) (r : Reach) (few : r .channels ≤ 18) (some : r .count ≤ 16) where
-    applied-has : (b : ℕ) (k : Work) → WorkHas G Z k → WorkHas G Z (blockApplied w r b k)
+    applied-has : (b : ℕ) (k : SlotWork) → WorkHas G Z k → WorkHas G Z (blockApplied w r b k)
     unfolding blockApplied
     applied-has b k h =
         let s = k .slot in
@@ -54,10 +54,10 @@ module _ (G Z : Float → Type 0) where
           infos = like-has (applied-like w r b k) (h .infos);
         }
 
-    blocks-have : (n : ℕ) (k : Work) → WorkHas G Z k → WorkHas G Z (blocksApplied w r n k)
+    blocks-have : (n : ℕ) (k : SlotWork) → WorkHas G Z k → WorkHas G Z (blocksApplied w r n k)
     unfolding blocksApplied
     blocks-have n k h =
-        times-keeps (WorkHas G Z) (blockAt w r)
+        times-keeps (WorkHas G Z) (blockTurn w r)
         (λ b x i. cond-keeps (WorkHas G Z) (due w (getD (x .slot .schedule) b noBlock)) (blockApplied w r b x) x (λ _. applied-has b x i) (λ _. i))
         n 0 k h
 
@@ -77,7 +77,7 @@ module _ (G Z : Float → Type 0) where
       let s = t .state in
       let e = elementOf s i in
       let r = reachOf s i in
-      let k : Work = record { slot = slotOn s e; infos = t .infos } in
+      let k : SlotWork = record { slot = slotOn s e; infos = t .infos } in
       let g : WorkHas G Z k = record { slot = record { gains = h .gains; moving = record { sources = h .sources; targets = h .targets i low } }; infos = is } in
       let l = ramp-has (e .tracks) (r .count) (blocksApplied w r (e .blocks) k .slot) (h .objects) (blocks-have w r (h .beds) (h .objects) (e .blocks) k g .slot) in
       let f = updatedSources w r e (s .gains) (s .sources) (t .infos) .updated .element in
@@ -105,7 +105,7 @@ unfolding slotAt
 slot-has G Z start t h is =
     let s = t .state in
     let w = timingOf start s in
-    let i = taken w (s .states) (s .elements) in
+    let i = elementTaken w (s .states) (s .elements) in
     let P : Timed → Type 0 = λ x. StateHas G Z (x .state) in
     cond-keeps P (eqb (s .elements) 0) t _ (λ _. h)
     (λ _. cond-keeps P (active (elementOf s i)) (slotOf w i t) t (λ a. slot-of-has G Z w i t (active-low s i (h .states) a (ltb i 2) refl) h is) (λ _. h))

@@ -71,8 +71,8 @@ moving offset =
     }
 
 -- the object, once that update is applied as the first of a stream, at sample 4,096, and the slot at a timecode has started
-abbrev pub objectAt : ℕ → ℕ → DynamicSourceState
-objectAt offset timecode = getD (slotAt (4096 + timecode) (applied 4096 (moving offset) blank) .state .sources) 0 noSource
+abbrev pub caseObject : ℕ → ℕ → DynamicSourceState
+caseObject offset timecode = getD (slotAt (4096 + timecode) (applied 4096 (moving offset) blank) .state .sources) 0 noSource
 
 -- the object as the block has it
 abbrev pub movedObject : DynamicSourceState
@@ -92,11 +92,11 @@ pub record Limits (p g : Float) (f : Float → Float) : Type 0 where
 
 -- ---- the proposition, and the cases
 
-abbrev pub Holds : Case → Type 0
-Holds (panning p g k cs) = terms714 p g 0·0 ≡ map (λ c. term c k) cs
-Holds (block offset timecode applies) = objectAt offset timecode ≡ cond applies movedObject newSource
-Holds (power depth y r) = depthPower depth y ≡ r
-Holds (limiter p g f) = Limits p g f
+abbrev pub Tells : Case → Type 0
+Tells (panning p g k cs) = terms714 p g 0·0 ≡ map (λ c. term c k) cs
+Tells (block offset timecode applies) = caseObject offset timecode ≡ cond applies movedObject newSource
+Tells (power depth y r) = depthPower depth y ≡ r
+Tells (limiter p g f) = Limits p g f
 
 abbrev pub cases : List Case
 cases =

@@ -11,7 +11,7 @@ use Rattle.vectors.specs.Head.{Head}
 use Rattle.vectors.proofs.Heads.{head-reads-back}
 use Rattle.fields.specs.Bytes.{byte, kind}
 use Rattle.fields.specs.Object.{isObject, maybeOf, positionOf, objectOf}
-use Rattle.fields.specs.Infos.{headSaid, infoOf, objectFrom, objectOfInfo}
+use Rattle.fields.specs.Infos.{headSaid, storedInfo, objectFrom, objectOfInfo}
 use Rattle.fields.proofs.All.{and-left, and-right}
 
 module _ (m : List ℕ) (r : ℕ) (object : isObject m r ≡ true) where
@@ -23,12 +23,12 @@ module _ (m : List ℕ) (r : ℕ) (object : isObject m r ≡ true) where
   unfolding isObject
   anchor-listed = leb-true _ _ (and-right (eqb (kind m r) 4) _ (and-left _ _ (and-left _ _ (and-left _ _ (and-left _ _ object)))))
 
-  plain : objectFrom (headSaid m r) (infoOf m r) ≡ objectOf m r
+  plain : objectFrom (headSaid m r) (storedInfo m r) ≡ objectOf m r
   unfolding floatAt maybeOf positionOf
   plain =
       let y : 40 * r + 8 + 4 ≡ 40 * r + 12 = omega arith in
       let z : 40 * r + 8 + 8 ≡ 40 * r + 16 = omega arith in
       rw (y, z)
 
-  pub info-says-all : objectOfInfo (infoOf m r) ≡ objectOf m r
-  info-says-all = ap (λ (h : Head). objectFrom h (infoOf m r)) (head-reads-back (headSaid m r) (omega (arith, flags-few)) (omega (arith, anchor-listed))) ∙ plain
+  pub info-says-all : objectOfInfo (storedInfo m r) ≡ objectOf m r
+  info-says-all = ap (λ (h : Head). objectFrom h (storedInfo m r)) (head-reads-back (headSaid m r) (omega (arith, flags-few)) (omega (arith, anchor-listed))) ∙ plain

@@ -6,7 +6,7 @@ use lib.Dec.{eqb, leb}
 use lib.IntN.{ℤ, pos, negsuc}
 use lib.Signed.{leZ}
 use Rattle.words.specs.Words.{signedAt}
-use Rattle.fields.specs.Bytes.{byte, kind, zeros}
+use Rattle.fields.specs.Bytes.{byte, kind, zeroBytes}
 use Rattle.fields.specs.declared.block.Block.{Block}
 
 abbrev pub blocks : List ℕ → ℕ → ℕ
@@ -14,11 +14,11 @@ blocks m e = byte m e 1
 
 -- record r is an element as laid out; "8 blocks each"
 unfoldable pub isElement : List ℕ → ℕ → Bool
-isElement m r = eqb (kind m r) 2 && leb (blocks m r) 8 && zeros m (40 * r + 2) 38
+isElement m r = eqb (kind m r) 2 && leb (blocks m r) 8 && zeroBytes m (40 * r + 2) 38
 
 -- record r is a block as laid out
 unfoldable pub isBlock : List ℕ → ℕ → Bool
-isBlock m r = eqb (kind m r) 3 && zeros m (40 * r + 1) 7 && zeros m (40 * r + 24) 16
+isBlock m r = eqb (kind m r) 3 && zeroBytes m (40 * r + 1) 7 && zeroBytes m (40 * r + 24) 16
 
 abbrev pub blockOf : List ℕ → ℕ → Block
 blockOf m r = record { offset = signedAt m (40 * r + 8); ramp = signedAt m (40 * r + 16) }

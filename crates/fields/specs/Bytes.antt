@@ -20,5 +20,5 @@ abbrev pub kind : List ℕ → ℕ → ℕ
 kind m r = getD m (40 * r) 0
 
 -- the n bytes from `at` on are zero
-abbrev pub zeros : List ℕ → ℕ → ℕ → Bool
-zeros m at n = all (λ k. eqb (getD m (at + k) 0) 0) n
+abbrev pub zeroBytes : List ℕ → ℕ → ℕ → Bool
+zeroBytes m at n = all (λ k. eqb (getD m (at + k) 0) 0) n

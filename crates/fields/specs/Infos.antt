@@ -8,17 +8,17 @@ use Rattle.vectors.specs.Head.{Head, headWord, headIn, anchorOf, has}
 use Rattle.vectors.specs.declared.Maybe.{Maybe}
 use Rattle.vectors.specs.declared.Maybe.the-variants.{Absent, Value}
 use Rattle.fields.specs.Bytes.{byte}
-use Rattle.fields.specs.Object.{depthOf}
+use Rattle.fields.specs.Object.{depthCode}
 use Rattle.fields.specs.declared.object.Position.the-variants.{Same, At}
 use Rattle.fields.specs.declared.object.Object.{Object}
 use Rattle.fields.specs.declared.object.Info.{Info}
 
 abbrev pub headSaid : List ℕ → ℕ → Head
-headSaid m r = record { flags = byte m r 2; anchor = byte m r 1; depth = depthOf (floatAt m (40 * r + 32)) }
+headSaid m r = record { flags = byte m r 2; anchor = byte m r 1; depth = depthCode (floatAt m (40 * r + 32)) }
 
 -- the word of the head, and the bits of each f32
-abbrev pub infoOf : List ℕ → ℕ → Info
-infoOf m r =
+abbrev pub storedInfo : List ℕ → ℕ → Info
+storedInfo m r =
     record {
       head = headWord (headSaid m r);
       gain = word m (40 * r + 4);

@@ -10,7 +10,7 @@ use Rattle.words.specs.Words.{floatAt}
 use Rattle.vectors.specs.declared.Maybe.{Maybe}
 use Rattle.vectors.specs.declared.Maybe.the-variants.{Absent, Value}
 use Rattle.vectors.specs.Head.{anchorOf}
-use Rattle.fields.specs.Bytes.{byte, kind, zeros, has}
+use Rattle.fields.specs.Bytes.{byte, kind, zeroBytes, has}
 use Rattle.fields.specs.declared.object.Position.{Position}
 use Rattle.fields.specs.declared.object.Position.the-variants.{Same, At}
 use Rattle.fields.specs.declared.object.Object.{Object}
@@ -19,7 +19,7 @@ use Rattle.fields.specs.declared.object.Object.{Object}
 
 -- "An absent value is zero": n bytes from `at` on, present with `bit`
 abbrev pub valueFits : List ℕ → ℕ → ℕ → ℕ → ℕ → Bool
-valueFits m flags bit at n = has flags bit || zeros m at n
+valueFits m flags bit at n = has flags bit || zeroBytes m at n
 
 -- gain, position, distance, size of the record that starts at byte `at`
 unfoldable pub valuesFit : List ℕ → ℕ → ℕ → Bool
@@ -29,7 +29,7 @@ valuesFit m at flags =
 -- record r is an object in a block as laid out
 unfoldable pub isObject : List ℕ → ℕ → Bool
 isObject m r =
-    eqb (kind m r) 4 && leb (byte m r 1) 2 && leb (byte m r 2) 63 && eqb (byte m r 3) 0 && valuesFit m (40 * r) (byte m r 2) && zeros m (40 * r + 36) 4
+    eqb (kind m r) 4 && leb (byte m r 1) 2 && leb (byte m r 2) 63 && eqb (byte m r 3) 0 && valuesFit m (40 * r) (byte m r 2) && zeroBytes m (40 * r + 36) 4
 
 -- ---- its meaning
 
@@ -41,8 +41,8 @@ unfoldable pub positionOf : List ℕ → ℕ → ℕ → Position
 positionOf m flags at = cond (has flags 8) (At (record { x = floatAt m at; y = floatAt m (at + 4); z = floatAt m (at + 8) })) Same
 
 -- the code of a depth factor: 0.25, 0.5, 1, 2 are 0 to 3, any other is 4
-unfoldable pub depthOf : Float → ℕ
-depthOf x =
+unfoldable pub depthCode : Float → ℕ
+depthCode x =
     cond (eq x (fin false 1 (negsuc 1))) 0
     (cond (eq x (fin false 1 (negsuc 0))) 1
     (cond (eq x (fin false 1 (pos 0))) 2
@@ -59,16 +59,16 @@ objectOf m r =
       distance = maybeOf m (byte m r 2) 16 (40 * r + 20);
       size = maybeOf m (byte m r 2) 32 (40 * r + 24);
       screen = floatAt m (40 * r + 28);
-      depth = depthOf (floatAt m (40 * r + 32));
+      depth = depthCode (floatAt m (40 * r + 32));
     }
 
 -- ---- refusal 6 does not arise
 
 -- absent, or from 0 to `most`
-abbrev pub upTo : Float → Maybe → Bool
-upTo most Absent = true
-upTo most (Value x) = le (fin false 0 (pos 0)) x && le x most
+abbrev pub absentOr : Float → Maybe → Bool
+absentOr most Absent = true
+absentOr most (Value x) = le (fin false 0 (pos 0)) x && le x most
 
 -- "a present gain outside 0 to 8, a size outside 0 to 1 (NaN is outside) .. a depth factor not one of the four"
 abbrev pub objectInRange : Object → Bool
-objectInRange o = upTo (fin false 1 (pos 3)) (o .gain) && upTo (fin false 1 (pos 0)) (o .size) && ltb (o .depth) 4
+objectInRange o = absentOr (fin false 1 (pos 3)) (o .gain) && absentOr (fin false 1 (pos 0)) (o .size) && ltb (o .depth) 4

@@ -5,7 +5,7 @@ use mathlib.Core.List.{List}
 use lib.Dec.{eqb, leb, ltb}
 use lib.ListN.{getD}
 use Rattle.words.specs.Words.{half}
-use Rattle.fields.specs.Bytes.{all, byte, kind, zeros}
+use Rattle.fields.specs.Bytes.{all, byte, kind, zeroBytes}
 use Rattle.fields.specs.declared.update.Header.{Header}
 
 abbrev pub offset : List ℕ → ℕ → ℕ
@@ -47,4 +47,4 @@ codesFit m at beds = all (λ k. leb (getD m (at + k) 0) (mostAt k beds)) 18
 -- record r is an update as laid out
 unfoldable pub isUpdate : List ℕ → ℕ → Bool
 isUpdate m r =
-    eqb (kind m r) 1 && eqb (byte m r 1) 0 && countsFit (objects m r) (bedOrIsf m r) (beds m r) (elements m r) && codesFit m (40 * r + 8) (beds m r) && zeros m (40 * r + 26) 14
+    eqb (kind m r) 1 && eqb (byte m r 1) 0 && countsFit (objects m r) (bedOrIsf m r) (beds m r) (elements m r) && codesFit m (40 * r + 8) (beds m r) && zeroBytes m (40 * r + 26) 14

@@ -2,7 +2,7 @@
 ghost use mathlib.Core.Path.{_≡_};
 ghost use Prim.Native.Nat.{_+_, _<_, _≤_};
 ghost use lib.ListN.{length, getD};
-ghost use Rattle.fields.specs.Bytes.{zeros, has};
+ghost use Rattle.fields.specs.Bytes.{zeroBytes, has};
 
 fn wide(x: u8) -> usize
     ensures { λ r. ⌜ (r ≡ x) × (r < 256) ⌝ }
@@ -21,7 +21,7 @@ pub fn byte_at(meta: &[u8], at: usize) -> usize
 // Whether the n bytes from `at` on are zero.
 pub fn zeros(meta: &[u8], at: usize, n: usize) -> bool
     requires { ⌜ at + n ≤ length (now meta) ⌝ }
-    ensures { λ r. ⌜ r ≡ zeros (now (meta .entry)) at n ⌝ }
+    ensures { λ r. ⌜ r ≡ zeroBytes (now (meta .entry)) at n ⌝ }
 {
     let mut k = 0usize;
     while k < n {

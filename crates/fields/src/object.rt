@@ -3,10 +3,10 @@ ghost use mathlib.Core.Path.{_≡_};
 ghost use Prim.Native.Nat.{_+_, _*_, _<_, _≤_};
 ghost use lib.ListN.{length};
 ghost use Rattle.vectors.specs.Head.{anchorOf, headWord};
-ghost use Rattle.fields.specs.Object.{valueFits, valuesFit, isObject, maybeOf, positionOf, depthOf, objectOf};
-ghost use Rattle.fields.specs.Infos.{infoOf};
+ghost use Rattle.fields.specs.Object.{valueFits, valuesFit, isObject, maybeOf, positionOf, depthCode, objectOf};
+ghost use Rattle.fields.specs.Infos.{storedInfo};
 ghost use Rattle.vectors.specs.Head.{anchorOf, headWord};
-ghost use Rattle.fields.specs.Object.{upTo, objectInRange};
+ghost use Rattle.fields.specs.Object.{absentOr, objectInRange};
 use crate::bytes::has;
 use crate::bytes::zeros;
 use vectors::Anchor;
@@ -124,7 +124,7 @@ fn position_at(meta: &[u8], flags: u8, at: usize) -> Position
 
 // The code of a depth factor; 4 for one that is not listed.
 fn depth_of(x: f32) -> u8
-    ensures { λ r. ⌜ r ≡ depthOf x ⌝ }
+    ensures { λ r. ⌜ r ≡ depthCode x ⌝ }
 {
     if x == 0.25 {
         return 0;
@@ -162,7 +162,7 @@ pub fn object_at(meta: &[u8], r: usize) -> Object
 
 // Whether a value is absent or from 0 to `most`.
 fn up_to(most: f32, m: Maybe) -> bool
-    ensures { λ r. ⌜ r ≡ upTo most m ⌝ }
+    ensures { λ r. ⌜ r ≡ absentOr most m ⌝ }
 {
     match m {
         Maybe::Absent => true,
@@ -212,7 +212,7 @@ fn head_of(flags: u8, anchor: u8, depth: u8) -> u32
 
 pub fn info_at(meta: &[u8], r: usize) -> Info
     requires { ⌜ 40 * r + 40 ≤ length (now meta) ⌝ }
-    ensures { λ i. ⌜ i ≡ infoOf (now (meta .entry)) r ⌝ }
+    ensures { λ i. ⌜ i ≡ storedInfo (now (meta .entry)) r ⌝ }
 {
     let at = 40 * r;
     let depth = depth_of(words::f32_at(meta, at + 32));

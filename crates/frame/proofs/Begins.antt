@@ -20,10 +20,10 @@ use Rattle.records.specs.Answers.{IsLayout}
 use Rattle.records.specs.declared.layout.Layout as records
 use Rattle.updates.specs.Said.{Update, updateOf}
 use Rattle.updates.specs.Applied as updates
-use Rattle.rules.specs.Samples.{Renderer, applied, updated, slotted}
+use Rattle.rules.specs.Samples.{Renderer, appliedAt, updated, slotted}
 use Rattle.rules.specs.Ranges.{Ranged}
 use Rattle.store.specs.declared.Small.{Small}
-use Rattle.store.specs.Layout.{size, joined, infosOf, placesOf}
+use Rattle.store.specs.Layout.{size, assembled, infosOf, placesOf}
 use Rattle.claim.specs.Hall.{Sent, hall, sentAt, sentOf}
 use Rattle.claim.proofs.Sound.{Within}
 use Rattle.frame.specs.Held.{held, smallBytes, IsHeld, IsNext}
@@ -43,13 +43,13 @@ module _ (t : ℕ) (u : Update) (s : Small) (b : List ℕ) where
   abbrev pub before : Timed
   before = record { state = s .state; infos = infosOf b }
 
-  by-start : (new : Bool) (m : Timed) → (not (s .state .initialized) || eqb t 0) ≡ new → updates.applied (s .position) u before ≡ m → joined (after new s (m .state)) (m .infos) (placesOf b) ≡ applied hall t (sent t u) (held s b)
+  by-start : (new : Bool) (m : Timed) → (not (s .state .initialized) || eqb t 0) ≡ new → updates.applied (s .position) u before ≡ m → assembled (after new s (m .state)) (m .infos) (placesOf b) ≡ appliedAt hall t (sent t u) (held s b)
   by-start true m e f = rw (e, f)
   by-start false m e f = rw (e, f)
 
   pub one-applied :
       (new : Bool) (at : ℕ) (m : MetadataRendererState) (is : List ℕ) (r : Small) → length b ≡ size → length is ≡ 22528 → (not (s .state .initialized) || eqb t 0) ≡ new → at ≡ s .position →
-      IsTimed (updates.applied at u before) m is → r ≡ after new s m → IsNext (applied hall t (sent t u) (held s b)) b r (changed b is)
+      IsTimed (updates.applied at u before) m is → r ≡ after new s m → IsNext (appliedAt hall t (sent t u) (held s b)) b r (changed b is)
   one-applied new at m is r whole long e here h q =
       record {
         holds = record { is = changed-held b is whole long r ∙ rw (q, h .state, h .infos, here) (by-start new _ e refl); long = changed-long b is whole long };
@@ -59,7 +59,7 @@ module _ (t : ℕ) (u : Update) (s : Small) (b : List ℕ) where
 -- ---- the slot
 
 module _ (s : Small) (b : List ℕ) where
-  by-slot : (on : Bool) (m : Timed) → (s .state .initialized && eqb (s .phase) 0) ≡ on → cond on (slotAt (s .start) (record { state = s .state; infos = infosOf b })) (record { state = s .state; infos = infosOf b }) ≡ m → joined (withState s (m .state)) (m .infos) (placesOf b) ≡ slotted hall (held s b)
+  by-slot : (on : Bool) (m : Timed) → (s .state .initialized && eqb (s .phase) 0) ≡ on → cond on (slotAt (s .start) (record { state = s .state; infos = infosOf b })) (record { state = s .state; infos = infosOf b }) ≡ m → assembled (withState s (m .state)) (m .infos) (placesOf b) ≡ slotted hall (held s b)
   by-slot true m e f = rw (e, f)
   by-slot false m e f = rw (e, f)
 
@@ -99,11 +99,11 @@ module _ (t : ℕ) (g : ℕ → Sent) (n : ℕ) where
   pub rest : ℕ → Renderer Timed → Renderer Timed
   rest i r = updated hall t (later g (n - i) i) r
 
-  rest-more : (i : ℕ) (r : Renderer Timed) → i < n → rest i r ≡ rest (suc i) (cond (eqb (g i .offset) t) (applied hall t (g i) r) r)
+  rest-more : (i : ℕ) (r : Renderer Timed) → i < n → rest i r ≡ rest (suc i) (cond (eqb (g i .offset) t) (appliedAt hall t (g i) r) r)
   unfolding rest later
   rest-more i r l = let e : n - i ≡ suc (n - suc i) = omega arith in rw e
 
-  rest-here : (i : ℕ) (r : Renderer Timed) → i < n → g i .offset ≡ t → rest i r ≡ rest (suc i) (applied hall t (g i) r)
+  rest-here : (i : ℕ) (r : Renderer Timed) → i < n → g i .offset ≡ t → rest i r ≡ rest (suc i) (appliedAt hall t (g i) r)
   rest-here i r l e = rest-more i r l ∙ rw (eq-eqb (g i .offset) t e)
 
   rest-past : (i : ℕ) (r : Renderer Timed) → i < n → (g i .offset ≡ t → ⊥) → rest i r ≡ rest (suc i) r
@@ -146,13 +146,13 @@ module _ (m : List ℕ) (l : records.Layout) (t at : ℕ) (all : Renderer Timed)
 
     -- an update more
     pub goes-on :
-        (i j : ℕ) (s r : Small) (b c : List ℕ) → i < l .count → Standing i s b → IsNext (applied hall t (sent t (updateOf m (getD (l .first) i 0))) (held s b)) b r c →
+        (i j : ℕ) (s r : Small) (b c : List ℕ) → i < l .count → Standing i s b → IsNext (appliedAt hall t (sent t (updateOf m (getD (l .first) i 0))) (held s b)) b r c →
         FirstAt (λ k. getD (l .offset) k 0) (l .count) t (i + 1) j → Standing j r c
     goes-on i j s r b c low h next first =
         let k : i < count m = omega (arith, g .counted) in
         let o : sentAt m i .offset ≡ t = sym (g .offsets i k) ∙ h .time low in
         let u : updateOf m (getD (l .first) i 0) ≡ updateOf m (updateAt m i) = ap (updateOf m) (g .firsts i k) in
-        let one : held r c ≡ applied hall t (sentAt m i) (held s b) = next .holds .is ∙ rw u in
+        let one : held r c ≡ appliedAt hall t (sentAt m i) (held s b) = next .holds .is ∙ rw u in
         standing (i + 1) j r c first (next .holds .long) (next .small ∙ h .small) (h .here ∙ sym (ap (λ (x : Renderer Timed). x .position) (next .holds .is)))
         (rw (add-one, one) (sym (rest-here t (sentAt m) (l .count) i (held s b) low o) ∙ h .left))
 

@@ -12,7 +12,7 @@ use Rattle.ieee.specs.Bounds.{All}
 use Rattle.rules.specs.Leaves.{Leaves, Shape}
 use Rattle.rules.specs.Samples.{State, After, updated, slotted, framed, opened, pushed}
 use Rattle.rules.specs.Refusals.{Args, listed, shapeAt}
-use Rattle.rules.specs.Calls.{sentOf, frameOf}
+use Rattle.rules.specs.Calls.{announced, frameOf}
 use Rattle.rules.specs.Block.{Layout, written}
 use Rattle.rules.proofs.Facts.{Facts}
 use Rattle.rules.proofs.Judged.{Passed, is-roomy, samples-fit}
@@ -52,10 +52,10 @@ module _ (L : Leaves) (B : Layout L) (F : Facts L B) where
     us = L .updates (a .meta)
 
     abbrev Fit : Shape → Type 0
-    Fit = Matches (sentOf L us) (a .objects) (a .codes)
+    Fit = Matches (announced L us) (a .objects) (a .codes)
 
     abbrev shaped : ℕ → Shape → Shape
-    shaped t s = shapeAt (sentOf L us) (a .objects) (a .codes) t (sentOf L us) s
+    shaped t s = shapeAt (announced L us) (a .objects) (a .codes) t (announced L us) s
 
     -- the samples from t on, from r
     abbrev rest : ℕ → State L → After L
@@ -93,7 +93,7 @@ module _ (L : Leaves) (B : Layout L) (F : Facts L B) where
           let u = updated-ranged L B F t us r k (g .ranged) in
           let w = untouched L t us r in
           let e = slotted-shape L B F (updated L t us r) (λ n. S .rests n (updated L t us r .meta))
-          ∙ updated-shape L B F (S .Coded) (S .keeps) (S .gives) (sentOf L us) (a .objects) (a .codes) t us r k (S .within (r .position) (r .meta) (g .ranged .meta)) in
+          ∙ updated-shape L B F (S .Coded) (S .keeps) (S .gives) (announced L us) (a .objects) (a .codes) t us r k (S .within (r .position) (r .meta) (g .ranged .meta)) in
           record {
             updates = u;
             ranged = slotted-ranged L B F (updated L t us r) u;
@@ -145,8 +145,8 @@ module _ (L : Leaves) (B : Layout L) (F : Facts L B) where
 
         fits-more : t + suc n < a .samples → Fit (shaped (t + suc n) (L .shape (C .next .meta)))
         fits-more l =
-            let j = judged (sentOf L us) (a .objects) (a .codes) (a .samples) (a .rate) (r₀ .rate) (L .shape (r₀ .meta)) (p .later) in
-            matches-on (sentOf L us) (a .objects) (a .codes) (t + suc n) (sentOf L us) (L .shape (C .next .meta)) (j .then-all (t + suc n) l)
+            let j = judged (announced L us) (a .objects) (a .codes) (a .samples) (a .rate) (r₀ .rate) (L .shape (r₀ .meta)) (p .later) in
+            matches-on (announced L us) (a .objects) (a .codes) (t + suc n) (announced L us) (L .shape (C .next .meta)) (j .then-all (t + suc n) l)
             (subst (λ (x : L .Meta). Fit (L .shape x)) (sym (chunk-passes L (frameOf L a) (suc n) t (met t r) .meta)) (begun .fits))
 
         gone : Going (t + suc n) (C .next) (ready + 64 * counted .blocks) (behind ready (C .given) (a .stride) out)
@@ -192,7 +192,7 @@ module _ (L : Leaves) (B : Layout L) (F : Facts L B) where
     unfolding pushed
     starts g p =
         let o = opened-ranged L B F (a .rate) r₀ (p .early .listed) g in
-        let j = judged (sentOf L us) (a .objects) (a .codes) (a .samples) (a .rate) (r₀ .rate) (L .shape (r₀ .meta)) (p .later) in
+        let j = judged (announced L us) (a .objects) (a .codes) (a .samples) (a .rate) (r₀ .rate) (L .shape (r₀ .meta)) (p .later) in
         record {
           here = zero-le;
           next = ap (λ (x : After L). x .next) all;

@@ -22,10 +22,10 @@ use Rattle.rules.specs.Samples.{Frame, Renderer, moment, flushed, gainAfter}
 use Rattle.timed.specs.State.{Timed}
 use Rattle.claim.specs.Hall.{Sent, hall}
 use Rattle.store.specs.declared.Small.{Small}
-use Rattle.store.specs.Layout.{joined, infosOf, placesOf}
+use Rattle.store.specs.Layout.{assembled, infosOf, placesOf}
 use Rattle.store.proofs.Decoded.{words-long}
-use Rattle.render.specs.Sources.{Framed, bed, bedsOf, sourceOf, sourcesOf}
-use Rattle.render.specs.Run.{momentAt, filterAfter, rowRun, Passed}
+use Rattle.render.specs.Sources.{Framed, bedWith, bedsOf, plainSource, sourcesOf}
+use Rattle.render.specs.Run.{momentOf, filterAfter, rowRun, Passed}
 use Rattle.render.proofs.Channels.{fewer}
 use Rattle.render.proofs.Tables.{beds-each, sources-each}
 use Rattle.render.proofs.Steps.{filter-as, run-as}
@@ -34,7 +34,7 @@ use Rattle.frame.specs.Chunk.{chunk}
 use Rattle.frame.specs.Out.{behind}
 use Rattle.frame.specs.Give.{CanGive, emptied, Gave}
 use Rattle.frame.specs.Pass as pass
-use Rattle.frame.specs.Pass.{CanPass, Laid, passedClock, frameOf, Passes}
+use Rattle.frame.specs.Pass.{CanPass, Laid, passedClock, frameWith, Passes}
 use Rattle.frame.proofs.Given.{none-behind}
 use Rattle.frame.proofs.Laying.{laid-nil, length-laid}
 
@@ -58,41 +58,41 @@ pub record Full (m : MetadataRendererState) (objects : ℕ) : Type 0 where
 
 -- what is mixed: nothing before the first update
 abbrev pub mixed : MetadataRendererState → List ℕ → ℕ → List ℕ → ℕ → ℕ → Moment
-mixed m codes objects pcm n = momentAt (bedsOf (cond (m .initialized) (m .beds) 0) (m .codes) (m .gains)) (sourcesOf (cond (m .initialized) objects 0) (m .sources)) codes pcm n
+mixed m codes objects pcm n = momentOf (bedsOf (cond (m .initialized) (m .beds) 0) (m .codes) (m .gains)) (sourcesOf (cond (m .initialized) objects 0) (m .sources)) codes pcm n
 
 module _ (codes pcm : List ℕ) (objects n t c : ℕ) where
   -- the same beds and objects, each with its own sample
   heard-same : (bs : List Bed) (ss : List Source) (beds : List Bed) (sources : List Source) → bs ≡ beds → ss ≡ sources → length ss ≡ objects
-      → heard (momentAt bs ss codes pcm n t) c
+      → heard (momentOf bs ss codes pcm n t) c
       ≡ heard (record { beds = beds; objects = sources; codes = codes; inputs = λ i. sampleAt pcm n i t; own = samplesAt pcm n objects (length codes) t }) c
   heard-same bs ss beds sources p q e =
       ap₂ (λ (x : List Bed) (y : List Source). heard (record { beds = x; objects = y; codes = codes; inputs = λ i. sampleAt pcm n i t; own = samplesAt pcm n (length ss) (length codes) t }) c) p q
       ∙ ap (λ (k : ℕ). heard (record { beds = beds; objects = sources; codes = codes; inputs = λ i. sampleAt pcm n i t; own = samplesAt pcm n k (length codes) t }) c) e
 
   mixed-heard : (b : Bool) (m : MetadataRendererState) → Full m objects → (b ≡ true → m .objects - m .isf ≡ objects)
-      → heard (momentAt (bedsOf (cond b (m .beds) 0) (m .codes) (m .gains)) (sourcesOf (cond b objects 0) (m .sources)) codes pcm n t) c
+      → heard (momentOf (bedsOf (cond b (m .beds) 0) (m .codes) (m .gains)) (sourcesOf (cond b objects 0) (m .sources)) codes pcm n t) c
       ≡ heard (record {
-        beds = cond b (each (λ k. bed (getD (m .codes) k 0) (getD (m .gains) k nan)) (m .beds)) [];
-        objects = cond b (each (λ k. sourceOf (getD (m .sources) k noSource)) (m .objects - m .isf)) [];
+        beds = cond b (each (λ k. bedWith (getD (m .codes) k 0) (getD (m .gains) k nan)) (m .beds)) [];
+        objects = cond b (each (λ k. plainSource (getD (m .sources) k noSource)) (m .objects - m .isf)) [];
         codes = codes;
         inputs = λ i. sampleAt pcm n i t;
         own = samplesAt pcm n objects (length codes) t;
       }) c
   unfolding heard
   mixed-heard true m h d =
-      let e : length (sourcesOf objects (m .sources)) ≡ objects = length-map (take objects (m .sources)) sourceOf ∙ length-take-le objects (m .sources) (h .sources) in
+      let e : length (sourcesOf objects (m .sources)) ≡ objects = length-map (take objects (m .sources)) plainSource ∙ length-take-le objects (m .sources) (h .sources) in
       heard-same (bedsOf (m .beds) (m .codes) (m .gains)) (sourcesOf objects (m .sources)) _ _ (sym (beds-each (m .beds) (m .codes) (m .gains) (h .codes) (h .gains)))
-      (sym (sources-each objects (m .sources) (h .sources)) ∙ ap (each (λ k. sourceOf (getD (m .sources) k noSource))) (sym (d refl))) e
+      (sym (sources-each objects (m .sources) (h .sources)) ∙ ap (each (λ k. plainSource (getD (m .sources) k noSource))) (sym (d refl))) e
   mixed-heard false m h d = refl
 
 -- ---- the renderer after a chunk, before a whole block is given out
 
 module _ (f : Frame Sent) (t k : ℕ) (s : Small) (b : List ℕ) where
   abbrev at : ℕ → Moment
-  at = pass.at f t k s b
+  at = pass.momentHere f t k s b
 
   abbrev rows : Places
-  rows = pass.rows f t k s b
+  rows = pass.placesAfter f t k s b
 
   abbrev settled : Renderer Timed
   settled = pass.settled f t k s b
@@ -123,7 +123,7 @@ module _ (f : Frame Sent) (t k : ℕ) (s : Small) (b : List ℕ) where
     unfolding chunk flushed
     chunk-whole =
         rw e
-        (ap (λ (w : Channels). joined (emptied (passedClock s (filterAfter at (s .filter) t k) k) (gainAfter 64 (s .rate) (s .gain) w)) (infosOf b) rows) (sym rows-whole))
+        (ap (λ (w : Channels). assembled (emptied (passedClock s (filterAfter at (s .filter) t k) k) (gainAfter 64 (s .rate) (s .gain) w)) (infosOf b) rows) (sym rows-whole))
 
     chunk-given : chunk hall f k t (held s b) .given ≡ flushed hall settled .given
     unfolding chunk flushed
@@ -143,7 +143,7 @@ module _ (f : Frame Sent) (t k : ℕ) (s : Small) (b : List ℕ) where
     held-settled e =
         ap (λ (r : Small). held r b') e
         ∙ ap (λ (f : BiquadLowpassState). held (passedClock s f k) b') (p .filter ∙ filter-as m at same (s .filter) t k)
-        ∙ ap₂ (joined (passedClock s (filterAfter at (s .filter) t k) k)) (l .infos) (l .places ∙ fun-ext (λ c. rows-laid c (ltb c 12) refl))
+        ∙ ap₂ (assembled (passedClock s (filterAfter at (s .filter) t k) k)) (l .infos) (l .places ∙ fun-ext (λ c. rows-laid c (ltb c 12) refl))
 
   module _ (stride ready : ℕ) (out : List ℕ) {r : Small} {b' : List ℕ} (n : IsNext settled b r b') where
     pub passes-waiting : s .pending + k < 64 → Passes f t k stride ready s b out r b' out
@@ -163,7 +163,7 @@ module _ (f : Frame Sent) (t k : ℕ) (s : Small) (b : List ℕ) where
 
 -- the moments that `mix` hears
 pub same-heard : (rate : ℕ) (us : List Sent) (codes pcm : List ℕ) (objects n : ℕ) (s : Small) (b : List ℕ) → Full (s .state) objects → (s .state .initialized ≡ true → s .state .objects - s .state .isf ≡ objects)
-    → (t c : ℕ) → heard (mixed (s .state) codes objects pcm n t) c ≡ heard (moment hall (frameOf rate us codes objects pcm n) t (record { state = s .state; infos = infosOf b })) c
+    → (t c : ℕ) → heard (mixed (s .state) codes objects pcm n t) c ≡ heard (moment hall (frameWith rate us codes objects pcm n) t (record { state = s .state; infos = infosOf b })) c
 same-heard rate us codes pcm objects n s b h d t c = mixed-heard codes pcm objects n t c (s .state .initialized) (s .state) h d
 
 -- what a turn of the frame's loop may do: pass its samples, and where a block gets whole, give it out behind `ready` samples

@@ -14,7 +14,7 @@ use Rattle.angles.specs.Angle.{Listed}
 use Rattle.fields.specs.Update.{offset}
 use Rattle.records.specs.Laid.{count, updateAt}
 use Rattle.records.specs.Answers.{IsLayout}
-use Rattle.records.specs.Order.{next}
+use Rattle.records.specs.Order.{nextOffset}
 use Rattle.records.specs.declared.layout.Layout.{Layout}
 use Rattle.records.proofs.Times.{next-within, next-above, next-least}
 use Rattle.updates.specs.Whole.{WholeUpdates}
@@ -134,7 +134,7 @@ module _ (b : List ℕ) (a : Args) (l : Layout) (k : Taken b a l) (t : ℕ) (s :
       }
 
   -- the next update or the frame's end
-  module _ (end : ℕ) (is-end : end ≡ next (λ i. getD (l .offset) i 0) (l .count) t (a .samples)) where
+  module _ (end : ℕ) (is-end : end ≡ nextOffset (λ i. getD (l .offset) i 0) (l .count) t (a .samples)) where
     pub end-above : t < end
     end-above = subst (λ (x : ℕ). t < x) (sym is-end) (next-above (λ i. getD (l .offset) i 0) t (a .samples) (l .count) more)
 
@@ -149,7 +149,7 @@ module _ (b : List ℕ) (a : Args) (l : Layout) (k : Taken b a l) (t : ℕ) (s :
         late : (i : ℕ) → i < count (a .meta) → getD (l .offset) i 0 ≡ j → ⊥
         late i n e =
             let c = k .layout .counted in
-            let m : next (λ i. getD (l .offset) i 0) (l .count) t (a .samples) ≤ getD (l .offset) i 0 = next-least (λ i. getD (l .offset) i 0) t (a .samples) (l .count) i (omega arith) (omega arith) in
+            let m : nextOffset (λ i. getD (l .offset) i 0) (l .count) t (a .samples) ≤ getD (l .offset) i 0 = next-least (λ i. getD (l .offset) i 0) t (a .samples) (l .count) i (omega arith) (omega arith) in
             omega arith
 
     -- with the small part s′ and the block state′ after them
@@ -228,7 +228,7 @@ pub record Turning (b : List ℕ) (a : Args) (l : Layout) (t : ℕ) (s : Small) 
   pub taken : Taken b a l
   pub running : Running b a t s state ready out
   pub more : t < a .samples
-  pub ends : end ≡ next (λ i. getD (l .offset) i 0) (l .count) t (a .samples)
+  pub ends : end ≡ nextOffset (λ i. getD (l .offset) i 0) (l .count) t (a .samples)
   pub begun : IsNext (slotted hall (updated hall t (sentOf (a .meta)) (held s state))) state s′ state′
   pub count : n ≡ runLength (s′ .state .initialized) (s′ .phase) (s′ .pending) (end - t)
 

@@ -6,11 +6,11 @@ use lib.ListN.{length, take}
 use Rattle.timed.specs.State.{Timed}
 use Rattle.rules.specs.Samples.{Renderer}
 use Rattle.store.specs.declared.Small.{Small}
-use Rattle.store.specs.Layout.{size, joined, infosOf, placesOf}
+use Rattle.store.specs.Layout.{size, assembled, infosOf, placesOf}
 
 -- `decode b` is `held` of b's own small part
 abbrev pub held : Small → List ℕ → Renderer Timed
-held s b = joined s (infosOf b) (placesOf b)
+held s b = assembled s (infosOf b) (placesOf b)
 
 -- the small part s and the block b hold the renderer r
 pub record IsHeld (r : Renderer Timed) (s : Small) (b : List ℕ) : Type 0 where

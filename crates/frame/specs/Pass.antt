@@ -13,7 +13,7 @@ use Rattle.rules.specs.Mix.{Moment}
 use Rattle.rules.specs.Samples.{Frame, Renderer, moment}
 use Rattle.claim.specs.Hall.{Sent, hall}
 use Rattle.store.specs.declared.Small.{Small}
-use Rattle.store.specs.Layout.{size, joined, infosOf, placesOf}
+use Rattle.store.specs.Layout.{size, assembled, infosOf, placesOf}
 use Rattle.render.specs.Sources.{Framed}
 use Rattle.render.specs.Run.{filterAfter, rowRun}
 use Rattle.frame.specs.Held.{held, smallBytes, IsNext}
@@ -34,11 +34,11 @@ pub record CanPass (s : Small) (state pcm codes : List ℕ) (objects n t k : ℕ
   pub start : s .start ≤ 1099511627776
 
 -- the first k places of each row behind the pending samples of its channel; the small part's bytes and the infos stay
-pub record Laid (rows : List Float) (pending k : ℕ) (state state' : List ℕ) : Type 0 where
+pub record Laid (placesAfter : List Float) (pending k : ℕ) (state state' : List ℕ) : Type 0 where
   pub long : length state' ≡ size
   pub small : smallBytes state' ≡ smallBytes state
   pub infos : infosOf state' ≡ infosOf state
-  pub places : placesOf state' ≡ (λ c. laid pending (take k (drop (64 * c) rows)) (placesOf state c))
+  pub places : placesOf state' ≡ (λ c. laid pending (take k (drop (64 * c) placesAfter)) (placesOf state c))
 
 -- the small part with k samples more pending: the clock rests before the first update
 abbrev pub passedClock : Small → BiquadLowpassState → ℕ → Small
@@ -55,19 +55,19 @@ passedClock s low k =
     }
 
 -- a frame of a push: its rate and its updates, bed codes, objects, PCM and samples a channel
-abbrev pub frameOf : ℕ → List Sent → List ℕ → ℕ → List ℕ → ℕ → Frame Sent
-frameOf rate us codes objects pcm n = record { rate = rate; samples = n; codes = codes; objects = objects; pcm = pcm; updates = us }
+abbrev pub frameWith : ℕ → List Sent → List ℕ → ℕ → List ℕ → ℕ → Frame Sent
+frameWith rate us codes objects pcm n = record { rate = rate; samples = n; codes = codes; objects = objects; pcm = pcm; updates = us }
 
 module _ (f : Frame Sent) (t k : ℕ) (s : Small) (b : List ℕ) where
-  abbrev pub at : ℕ → Moment
-  at t = moment hall f t (record { state = s .state; infos = infosOf b })
+  abbrev pub momentHere : ℕ → Moment
+  momentHere t = moment hall f t (record { state = s .state; infos = infosOf b })
 
-  abbrev pub rows : Places
-  rows c = laid (s .pending) (rowRun at (s .filter) c t k) (placesOf b c)
+  abbrev pub placesAfter : Places
+  placesAfter c = laid (s .pending) (rowRun momentHere (s .filter) c t k) (placesOf b c)
 
   -- the renderer after the chunk, before a whole block is given out
   abbrev pub settled : Renderer Timed
-  settled = joined (passedClock s (filterAfter at (s .filter) t k) k) (infosOf b) rows
+  settled = assembled (passedClock s (filterAfter momentHere (s .filter) t k) k) (infosOf b) placesAfter
 
 -- the rules' chunk: what is held after it, and what is given out behind `ready` samples of each channel
 pub record Passes (f : Frame Sent) (t k stride ready : ℕ) (s : Small) (state out : List ℕ) (r : Small) (state' out' : List ℕ) : Type 0 where

@@ -22,12 +22,12 @@ use Rattle.frame.specs.Held.{IsNext}
 
 -- ---- the samples of a turn
 
-abbrev pub least : ℕ → ℕ → ℕ
-least a b = cond (ltb a b) a b
+abbrev pub lesser : ℕ → ℕ → ℕ
+lesser a b = cond (ltb a b) a b
 
 -- up to the end of the block, of the slot where the clock runs, and of the `left` samples before the next update or the frame's end
 abbrev pub runLength : Bool → ℕ → ℕ → ℕ → ℕ
-runLength started phase pending left = cond started (least (64 - phase) (least (64 - pending) left)) (least (64 - pending) left)
+runLength started phase pending left = cond started (lesser (64 - phase) (lesser (64 - pending) left)) (lesser (64 - pending) left)
 
 -- a block was given out, and nothing is pending
 abbrev pub readyAfter : ℕ → ℕ → ℕ

@@ -9,7 +9,7 @@ ghost use lib.ListN.{length};
 ghost use Rattle.records.specs.Answers.{IsLayout};
 ghost use Rattle.updates.specs.Whole.{WholeUpdate, WholeUpdates};
 ghost use Rattle.updates.specs.Said.{updateOf};
-ghost use Rattle.rules.specs.Samples.{applied, updated, slotted};
+ghost use Rattle.rules.specs.Samples.{appliedAt, updated, slotted};
 ghost use Rattle.store.specs.Layout.{size};
 ghost use Rattle.claim.specs.Hall.{hall, sentOf};
 ghost use Rattle.frame.specs.Held.{held, IsNext};
@@ -69,7 +69,7 @@ fn starts_slot(started: bool, t: usize) -> bool
 // The update at record u, whose sample offset is t.
 fn apply_one(s: Small, state: &mut [u8], meta: &[u8], u: usize, t: usize, at: StreamSample) -> Small
     requires { ⌜ (length (now state) ≡ size) × (at .0 ≡ s .position) × WholeUpdate (now meta) u ⌝ }
-    ensures { λ r. ⌜ IsNext (applied hall t (record { offset = t; said = updateOf (now (meta .entry)) u }) (held s (now (state .entry)))) (now (state .entry)) r (now (state .exit)) ⌝ }
+    ensures { λ r. ⌜ IsNext (appliedAt hall t (record { offset = t; said = updateOf (now (meta .entry)) u }) (held s (now (state .entry)))) (now (state .entry)) r (now (state .exit)) ⌝ }
 {
     let before = s.state;
     let new = starts_slot(before.initialized, t);

@@ -11,10 +11,10 @@ ghost use lib.ListN.{length};
 ghost use Rattle.formats.specs.Areas.{rowPlaces, placeCount};
 ghost use Rattle.claim.specs.Hall.{Sent};
 ghost use Rattle.render.specs.Sources.{Framed, bedsOf, sourcesOf};
-ghost use Rattle.render.specs.Run.{momentAt, Passed};
+ghost use Rattle.render.specs.Run.{momentOf, Passed};
 ghost use Rattle.store.specs.Layout.{size};
 ghost use Rattle.frame.specs.Held.{IsNext};
-ghost use Rattle.frame.specs.Pass.{CanPass, Laid, passedClock, frameOf, settled};
+ghost use Rattle.frame.specs.Pass.{CanPass, Laid, passedClock, frameWith, settled};
 use formats::areas;
 use lowpass::BiquadLowpassState;
 use store::Small;
@@ -40,7 +40,7 @@ fn mix(
     k: usize,
 ) -> BiquadLowpassState
     requires { ⌜ Framed (now pcm) (length (now codes) + objects) n t k × (length (now rows) ≡ placeCount) × (length (now codes) ≤ 18) × (m .beds ≤ 18) × (objects ≤ 16) ⌝ }
-    ensures { λ r. ⌜ Passed (momentAt (bedsOf (cond (m .initialized) (m .beds) 0) (m .codes) (m .gains)) (sourcesOf (cond (m .initialized) objects 0) (m .sources)) (now (codes .entry)) (now (pcm .entry)) n) filter t k (now (rows .exit)) r ⌝ }
+    ensures { λ r. ⌜ Passed (momentOf (bedsOf (cond (m .initialized) (m .beds) 0) (m .codes) (m .gains)) (sourcesOf (cond (m .initialized) objects 0) (m .sources)) (now (codes .entry)) (now (pcm .entry)) n) filter t k (now (rows .exit)) r ⌝ }
 {
     let wanted = m.codes;
     let gains = m.gains;
@@ -131,7 +131,7 @@ pub fn pass(
     k: usize,
 ) -> Small
     requires { ⌜ CanPass s (now state) (now pcm) (now codes) objects n t k ⌝ }
-    ensures { λ r. ⌜ ((rate : ℕ) (us : List Sent) → IsNext (settled (frameOf rate us (now (codes .entry)) objects (now (pcm .entry)) n) t k s (now (state .entry))) (now (state .entry)) r (now (state .exit))) ⌝ }
+    ensures { λ r. ⌜ ((rate : ℕ) (us : List Sent) → IsNext (settled (frameWith rate us (now (codes .entry)) objects (now (pcm .entry)) n) t k s (now (state .entry))) (now (state .entry)) r (now (state .exit))) ⌝ }
 {
     let mut rows = [0.0f32; areas::PLACE_COUNT];
     let m = s.state;

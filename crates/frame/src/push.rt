@@ -15,7 +15,7 @@ ghost use Rattle.claim.specs.Hall.{hall};
 ghost use Rattle.frame.specs.Held.{held};
 ghost use Rattle.frame.specs.Begin.{Rests};
 ghost use Rattle.refusals.specs.Found.{argsWith};
-ghost use Rattle.frame.specs.Turns.{least, runLength, readyAfter, Accepted, IsRendered};
+ghost use Rattle.frame.specs.Turns.{lesser, runLength, readyAfter, Accepted, IsRendered};
 use crate::begin::begin;
 use crate::chunk::pass;
 use crate::flush::give;
@@ -29,7 +29,7 @@ use timed::clock::FrameOffset;
 use timed::clock::StreamSample;
 
 fn least(a: usize, b: usize) -> usize
-    ensures { λ r. ⌜ r ≡ least a b ⌝ }
+    ensures { λ r. ⌜ r ≡ lesser a b ⌝ }
 {
     if a < b {
         return a;

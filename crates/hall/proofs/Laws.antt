@@ -11,7 +11,7 @@ use Rattle.rules.specs.Calls as rules
 use Rattle.rules.specs.Calls.{Call, push, flush, reset, refused, rendered, nothing, cleared, Result, frameOf, found, asked, drained, step}
 use Rattle.rules.specs.Block.{Outcome, outOf, strideOf, written, left, takes, made}
 use Rattle.rules.proofs.Unused.{numberOf, never-seven}
-use Rattle.store.specs.Layout.{size, decode, encode, fresh}
+use Rattle.store.specs.Layout.{size, decode, encode, freshRenderer}
 use Rattle.store.specs.Ranges.{valid}
 use Rattle.claim.specs.Hall.{hall, block}
 use Rattle.hall.specs.declared.answer.Answer.{Answer}
@@ -74,7 +74,7 @@ module _ (out : List ℕ) (stride : ℕ) (b : List ℕ) (v : valid b ≡ true) w
 
 -- ---- reset
 
-pub resets : (b : List ℕ) → eqb (length b) size ≡ true → made hall block reset b ≡ record { answer = cleared; state = encode fresh; out = [] }
+pub resets : (b : List ℕ) → eqb (length b) size ≡ true → made hall block reset b ≡ record { answer = cleared; state = encode freshRenderer; out = [] }
 resets b e = taken reset b _ e refl
 
 -- ---- R-1: "7 never occurs again"

@@ -14,7 +14,7 @@ use lib.Seq.{take-at, set-at, drop-cons, drop-length, drop-append-add, drop-drop
 use borrow.Rule.Slice.PartMut.{putMid, post-is, mid-len, midOf}
 use Rattle.words.specs.Words.{half, word}
 use Rattle.fields.proofs.All.{and-left, and-right}
-use Rattle.fields.specs.Bytes.{zeros}
+use Rattle.fields.specs.Bytes.{zeroBytes}
 use Rattle.io.specs.Digits.{digits, Fewest}
 use Rattle.rules.specs.Refusals.{argsOf}
 use Rattle.rules.specs.Calls.{Call, push, flush, reset}
@@ -22,14 +22,14 @@ use Rattle.rules.specs.Block.{made, finalOn}
 use Rattle.claim.specs.Hall.{hall, block}
 use Rattle.hall.specs.Answers.{Left}
 use Rattle.hall.specs.declared.answer.Answer.{Answer}
-use Rattle.hallrender.specs.Framing.{bedsOf, inLimits, isFrame, isPlain, metadataBytes, pcmBytes}
+use Rattle.hallrender.specs.Framing.{bedCount, inLimits, isFrame, isPlain, metadataBytes, pcmBytes}
 use Rattle.hallrender.specs.Line.{hex8, cells}
-use Rattle.hallrender.specs.Asked.{frameArgs, outAfter, Called, Kept, Framed, callOf, NotAlone, Handled, One, callsOf, outOn, Ran}
+use Rattle.hallrender.specs.Asked.{frameArgs, outAfter, Called, Kept, FrameTaken, callOf, NotAlone, Handled, RecordTaken, callsOf, outOn, Ran}
 
 -- the counts of a frame
 pub record Limits (r : List ℕ) : Type 0 where
   pub samples : half r 8 ≤ 256
-  pub beds : bedsOf r ≤ 18
+  pub beds : bedCount r ≤ 18
   pub objects : getD r 11 0 ≤ 16
   pub records : half r 12 ≤ 1200
 
@@ -37,7 +37,7 @@ pub in-limits : (r : List ℕ) → inLimits r ≡ true → Limits r
 unfolding inLimits
 in-limits r e =
     let s = leb (half r 8) 256 in
-    let b = leb (bedsOf r) 18 in
+    let b = leb (bedCount r) 18 in
     let o = leb (getD r 11 0) 16 in
     let three = and-left (s && b && o) _ e in
     let two = and-left (s && b) _ three in
@@ -52,16 +52,16 @@ pub frame-limits : (r : List ℕ) → isFrame r ≡ true → Limits r
 unfolding isFrame
 frame-limits r e =
     let k = eqb (getD r 0 0) 5 in
-    in-limits r (and-right k (inLimits r) (and-left (k && inLimits r) _ (and-left (k && inLimits r && zeros r 1 3) _ e)))
+    in-limits r (and-right k (inLimits r) (and-left (k && inLimits r) _ (and-left (k && inLimits r && zeroBytes r 1 3) _ e)))
 
 pub frame-kind : (r : List ℕ) → isFrame r ≡ true → getD r 0 0 ≡ 5
 unfolding isFrame
 frame-kind r e =
     let k = eqb (getD r 0 0) 5 in
-    eqb-true _ _ (and-left k _ (and-left (k && inLimits r) _ (and-left (k && inLimits r && zeros r 1 3) _ e)))
+    eqb-true _ _ (and-left k _ (and-left (k && inLimits r) _ (and-left (k && inLimits r && zeroBytes r 1 3) _ e)))
 
 -- 34 channels of 256 samples
-pub pcm-fits : (r : List ℕ) {a b s : ℕ} → Limits r → a ≡ bedsOf r → b ≡ getD r 11 0 → s ≡ half r 8 → (a + b) * s ≤ 8704
+pub pcm-fits : (r : List ℕ) {a b s : ℕ} → Limits r → a ≡ bedCount r → b ≡ getD r 11 0 → s ≡ half r 8 → (a + b) * s ≤ 8704
 pcm-fits r {a} {b} {s} l p q e =
     let m : (a + b) * s ≤ 34 * 256 = mul-le-mul {n₂ = 34} {m₂ = 256} (omega (arith, l .beds, l .objects)) (omega (arith, l .samples)) in m
 
@@ -128,13 +128,13 @@ line-whole out i line n p =
     rw (d, p)
 
 -- a push of the header's parts is the header's push
-pub pushed : (r meta pcm out b : List ℕ) {n rate samples objects : ℕ} {a : Answer} {state out' : List ℕ} → n ≡ bedsOf r → rate ≡ word r 4 → samples ≡ half r 8 → objects ≡ getD r 11 0 → Left (made hall block (push (argsOf pcm meta out (take n (drop 14 r)) rate samples objects 256)) b) a state out' → Called (push (frameArgs r meta pcm out)) b out state out'
+pub pushed : (r meta pcm out b : List ℕ) {n rate samples objects : ℕ} {a : Answer} {state out' : List ℕ} → n ≡ bedCount r → rate ≡ word r 4 → samples ≡ half r 8 → objects ≡ getD r 11 0 → Left (made hall block (push (argsOf pcm meta out (take n (drop 14 r)) rate samples objects 256)) b) a state out' → Called (push (frameArgs r meta pcm out)) b out state out'
 pushed r meta pcm out b {n} {rate} {samples} {objects} {a} {state} {out'} p q e f l =
     let same : argsOf pcm meta out (take n (drop 14 r)) rate samples objects 256 ≡ frameArgs r meta pcm out = cc in
     let k = subst (λ x. Left (made hall block (push x) b) a state out') same l in
     record { block = k .block; output = k .output }
 
-pub framed : (r meta pcm b o : List ℕ) {m n : ℕ} {state out : List ℕ} → m ≡ metadataBytes r → n ≡ pcmBytes r → isFrame r ≡ true → Called (push (frameArgs r (take m meta) (take n pcm) o)) b o state out → Framed r meta pcm b o true state out
+pub framed : (r meta pcm b o : List ℕ) {m n : ℕ} {state out : List ℕ} → m ≡ metadataBytes r → n ≡ pcmBytes r → isFrame r ≡ true → Called (push (frameArgs r (take m meta) (take n pcm) o)) b o state out → FrameTaken r meta pcm b o true state out
 framed r meta pcm b o {m} {n} {state} {out} p q f k =
     let same : push (frameArgs r (take m meta) (take n pcm) o) ≡ push (frameArgs r (take (metadataBytes r) meta) (take (pcmBytes r) pcm) o) = rw (p, q) in
     (f, subst (λ x. Called x b o state out) same k)
@@ -163,7 +163,7 @@ module _ (r meta pcm b o : List ℕ) where
   unfolding isPlain
   frame-not-plain k = rw k
 
-  pub frame-handled : (go : Bool) (state out : List ℕ) → getD r 0 0 ≡ 5 → Framed r meta pcm b o go state out → Handled r meta pcm b o go state out
+  pub frame-handled : (go : Bool) (state out : List ℕ) → getD r 0 0 ≡ 5 → FrameTaken r meta pcm b o go state out → Handled r meta pcm b o go state out
   frame-handled true state out k (f, l) = (rw f, subst (λ x. Called x b o state out) (frame-call k) l)
   frame-handled false state out k (n, l) = (frame-not-plain k, n, l)
 
@@ -181,7 +181,7 @@ module _ (r meta pcm b o : List ℕ) where
   pub reset-handled : {state : List ℕ} → isPlain r ≡ true → eqb (getD r 0 0) 5 ≡ false → eqb (getD r 0 0) 7 ≡ false → state ≡ made hall block reset b .state → Handled r meta pcm b o true state o
   reset-handled {state} p k l e = (either (isFrame r) p, subst (λ x. Called x b o state o) (reset-call k l) (record { block = e; output = refl }))
 
-  pub handled-one : (go : Bool) (state out : List ℕ) → length r ≡ 40 → Handled r meta pcm b o go state out → One meta pcm b o go state out
+  pub handled-one : (go : Bool) (state out : List ℕ) → length r ≡ 40 → Handled r meta pcm b o go state out → RecordTaken meta pcm b o go state out
   handled-one true state out w (l, k) = record { rec = r; whole = w; laid = l; called = k }
   handled-one false state out w (l, n, k) = k
 
@@ -190,14 +190,14 @@ module _ (r meta pcm b o : List ℕ) where
 abbrev pub From : List ℕ → List ℕ → List ℕ → List ℕ → Type 0
 From b o s t = (u v : List ℕ) → Ran s t u v → Ran b o u v
 
-pub stops : (meta pcm b o s t : List ℕ) (go : Bool) {u v : List ℕ} → go ≡ false → From b o s t → One meta pcm s t go u v → Ran b o u v
+pub stops : (meta pcm b o s t : List ℕ) (go : Bool) {u v : List ℕ} → go ≡ false → From b o s t → RecordTaken meta pcm s t go u v → Ran b o u v
 stops meta pcm b o s t go {u} {v} e f k =
-    let n = subst (λ g. One meta pcm s t g u v) e k in
+    let n = subst (λ g. RecordTaken meta pcm s t g u v) e k in
     f u v (record { inputs = []; block = n .block; output = n .output })
 
-pub goes : (meta pcm b o s t : List ℕ) (go : Bool) {u v : List ℕ} → go ≡ true → length meta ≡ 48000 → length pcm ≡ 34816 → From b o s t → One meta pcm s t go u v → From b o u v
+pub goes : (meta pcm b o s t : List ℕ) (go : Bool) {u v : List ℕ} → go ≡ true → length meta ≡ 48000 → length pcm ≡ 34816 → From b o s t → RecordTaken meta pcm s t go u v → From b o u v
 goes meta pcm b o s t go {u} {v} e m n f k x y ran =
-    let w = subst (λ g. One meta pcm s t g u v) e k in
+    let w = subst (λ g. RecordTaken meta pcm s t g u v) e k in
     let c = callOf (w .rec) meta pcm t in
     let xs = ran .inputs in
     let now : List ℕ = made hall block c s .state in

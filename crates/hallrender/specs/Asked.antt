@@ -11,11 +11,11 @@ use Rattle.rules.specs.Samples.{fresh}
 use Rattle.rules.specs.Calls.{Call, push, flush, reset}
 use Rattle.rules.specs.Block.{made, finalOn}
 use Rattle.claim.specs.Hall.{hall, block}
-use Rattle.hallrender.specs.Framing.{bedsOf, isFrame, isPlain, metadataBytes, pcmBytes}
+use Rattle.hallrender.specs.Framing.{bedCount, isFrame, isPlain, metadataBytes, pcmBytes}
 
 -- "frame (4-7 rate, 8-9 samples, 10 beds, 11 objects, .., 14-31 codes)"; "Its stride is 256"
 abbrev pub frameArgs : List ℕ → List ℕ → List ℕ → List ℕ → Args
-frameArgs r meta pcm out = argsOf pcm meta out (take (bedsOf r) (drop 14 r)) (word r 4) (half r 8) (getD r 11 0) 256
+frameArgs r meta pcm out = argsOf pcm meta out (take (bedCount r) (drop 14 r)) (word r 4) (half r 8) (getD r 11 0) 256
 
 -- what a call leaves of the output; a reset is lent none
 abbrev pub outAfter : Call → List ℕ → List ℕ → List ℕ
@@ -38,9 +38,9 @@ abbrev pub NotAlone : List ℕ → Type 0
 NotAlone r = isFrame r ≡ true → metadataBytes r + pcmBytes r ≡ 0 → ⊥
 
 -- a frame with the header r, whether the program goes on: pushed with the bytes in use of the metadata and the PCM, or no call
-abbrev pub Framed : List ℕ → List ℕ → List ℕ → List ℕ → List ℕ → Bool → List ℕ → List ℕ → Type 0
-Framed r meta pcm b o true state out = (isFrame r ≡ true) × Called (push (frameArgs r (take (metadataBytes r) meta) (take (pcmBytes r) pcm) o)) b o state out
-Framed r meta pcm b o false state out = NotAlone r × Kept b o state out
+abbrev pub FrameTaken : List ℕ → List ℕ → List ℕ → List ℕ → List ℕ → Bool → List ℕ → List ℕ → Type 0
+FrameTaken r meta pcm b o true state out = (isFrame r ≡ true) × Called (push (frameArgs r (take (metadataBytes r) meta) (take (pcmBytes r) pcm) o)) b o state out
+FrameTaken r meta pcm b o false state out = NotAlone r × Kept b o state out
 
 -- "5, frame ..; 7, flush; 8, reset."
 unfoldable pub callOf : List ℕ → List ℕ → List ℕ → List ℕ → Call
@@ -58,9 +58,9 @@ pub record Took (meta pcm b o state out : List ℕ) : Type 0 where
   pub laid : isFrame rec || isPlain rec ≡ true
   pub called : Called (callOf rec meta pcm o) b o state out
 
-abbrev pub One : List ℕ → List ℕ → List ℕ → List ℕ → Bool → List ℕ → List ℕ → Type 0
-One meta pcm b o true state out = Took meta pcm b o state out
-One meta pcm b o false state out = Kept b o state out
+abbrev pub RecordTaken : List ℕ → List ℕ → List ℕ → List ℕ → Bool → List ℕ → List ℕ → Type 0
+RecordTaken meta pcm b o true state out = Took meta pcm b o state out
+RecordTaken meta pcm b o false state out = Kept b o state out
 
 -- what is read for a call: a record as laid out, metadata and PCM
 pub record Input : Type 0 where

@@ -2,7 +2,7 @@
 ghost use mathlib.Core.Path.{_≡_};
 ghost use mathlib.Core.Bool.{true};
 ghost use Prim.Native.Nat.{_≤_, min};
-ghost use Rattle.hallrender.specs.Framing.{inLimits, isFrame, isPlain, isPcm, bedsOf, metadataBytes, pcmBytes};
+ghost use Rattle.hallrender.specs.Framing.{inLimits, isFrame, isPlain, isPcm, bedCount, metadataBytes, pcmBytes};
 use fields::bytes::byte_at;
 use fields::bytes::zeros;
 
@@ -75,7 +75,7 @@ pub fn is_pcm(rec: &[u8; 40], n: usize) -> bool
 // A frame's beds, and the bytes of its metadata and of its PCM.
 pub fn beds(rec: &[u8; 40]) -> usize
     requires { ⌜ isFrame (now rec) ≡ true ⌝ }
-    ensures { λ r. ⌜ (r ≡ bedsOf (now (rec .entry))) × (r ≤ 18) ⌝ }
+    ensures { λ r. ⌜ (r ≡ bedCount (now (rec .entry))) × (r ≤ 18) ⌝ }
 {
     byte_at(rec, 10)
 }

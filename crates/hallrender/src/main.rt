@@ -5,7 +5,7 @@ ghost use Prim.Native.Nat.{_≤_};
 ghost use lib.ListN.{length};
 ghost use Rattle.rules.specs.Calls.{push};
 ghost use Rattle.hallrender.specs.Framing.{isFrame};
-ghost use Rattle.hallrender.specs.Asked.{frameArgs, Called, Framed, Handled, One, newBlock, Ran, Nine};
+ghost use Rattle.hallrender.specs.Asked.{frameArgs, Called, FrameTaken, Handled, RecordTaken, newBlock, Ran, Nine};
 use fields::bytes::byte_at;
 use libc::STDIN_FILENO;
 use libc::STDOUT_FILENO;
@@ -82,7 +82,7 @@ fn push(state: &mut [u8], meta: &[u8], pcm: &[u8], out: &mut [u8], rec: &[u8; 40
 // A frame whose header is `rec`, whether the program goes on. Nothing of a frame that is cut is pushed.
 fn frame(state: &mut [u8], meta: &mut [u8], pcm: &mut [u8], out: &mut [u8], rec: &[u8; 40]) -> bool
     requires { ⌜ (length (now meta) ≡ 48000) × (length (now pcm) ≡ 34816) × (length (now out) ≡ 12288) ⌝ }
-    ensures { λ r. ⌜ Framed (now (rec .entry)) (now (meta .exit)) (now (pcm .exit)) (now (state .entry)) (now (out .entry)) r (now (state .exit)) (now (out .exit)) ⌝ }
+    ensures { λ r. ⌜ FrameTaken (now (rec .entry)) (now (meta .exit)) (now (pcm .exit)) (now (state .entry)) (now (out .entry)) r (now (state .exit)) (now (out .exit)) ⌝ }
 {
     if !framing::is_frame(rec) {
         return bad();
@@ -118,7 +118,7 @@ fn handle(state: &mut [u8], meta: &mut [u8], pcm: &mut [u8], out: &mut [u8], rec
 // One record and what belongs to it; whether the program goes on.
 fn one(state: &mut [u8], meta: &mut [u8], pcm: &mut [u8], out: &mut [u8]) -> bool
     requires { ⌜ (length (now meta) ≡ 48000) × (length (now pcm) ≡ 34816) × (length (now out) ≡ 12288) ⌝ }
-    ensures { λ r. ⌜ One (now (meta .exit)) (now (pcm .exit)) (now (state .entry)) (now (out .entry)) r (now (state .exit)) (now (out .exit)) ⌝ }
+    ensures { λ r. ⌜ RecordTaken (now (meta .exit)) (now (pcm .exit)) (now (state .entry)) (now (out .entry)) r (now (state .exit)) (now (out .exit)) ⌝ }
 {
     let mut rec = [0u8; 40];
     let n = io::read_full(STDIN_FILENO, &mut rec);

@@ -11,7 +11,7 @@ use lib.ListN.{length}
 use lib.Dec.{T}
 use lib.Ieee.{Float, nan, inf, fin, binary32, fits, neg, add, sub, mul, lt, le, eq}
 use lib.Ieee.Fits.{and-i, and-l, and-r}
-use Rattle.ieee.specs.Units.{Tame}
+use Rattle.ieee.specs.Units.{Unitary}
 pub use Rattle.ieee.specs.Bounds.{Bounded, All, sumFrom}
 use Rattle.ieee.proofs.Grid.{OnGrid, grid-at}
 use Rattle.ieee.proofs.Value.{One, one-pos, Top, F32, mag, P, N}
@@ -30,7 +30,7 @@ pub neg-bounded : {a : ℕ} {x : Float} → Bounded a x → Bounded a (neg x)
 neg-bounded {a} {x} k = record { f32 = neg-f32 x (k .f32); most = omega (arith, mag-is x, mag-is (neg x), neg-P x (k .f32), neg-N x (k .f32), k .most) }
 
 -- a value in [-1, 1]
-pub bounded-tame : {x : Float} → Bounded One x → Tame x
+pub bounded-tame : {x : Float} → Bounded One x → Unitary x
 bounded-tame {x} k = record { f32 = k .f32; high = omega (arith, mag-is x, k .most); deep = omega (arith, mag-is x, k .most) }
 
 -- what compares as from -b to b is finite and of size at most b's, and the other way round

@@ -16,7 +16,7 @@ use lib.Ieee.Digits.{size-lt, size-le, size-reaches}
 use lib.Ieee.Fits.{kept-lt, nearest-le}
 use lib.Ieee.Nearest.{closest, closest-mono, nearest-ge, div-mono}
 use lib.Ieee.Order.{drop, kept}
-pub use Rattle.ieee.specs.Nearest.{OnGrid, Within}
+pub use Rattle.ieee.specs.Nearest.{OnGrid, DifferBy}
 
 pub le-or-lt : (a b : ℕ) → (a ≤ b) ⊎ (b < a)
 le-or-lt a b = go (leb a b) (leb→le a b) (nleb→lt a b)
@@ -40,7 +40,7 @@ cmp a b = go (compare a b) (leb→le a b) (nleb→lt a b) (eqb→eq a b) (λ (e 
     go Ordering·gt h k e n = k tt
 
 -- ---- the nearest whole number is within a half
-near-by : (w r u : ℕ) (o : Ordering) → Cmp o (r * 2) u → r < u → Within (2 * (nearest w o * u)) (2 * (w * u + r)) u
+near-by : (w r u : ℕ) (o : Ordering) → Cmp o (r * 2) u → r < u → DifferBy (2 * (nearest w o * u)) (2 * (w * u + r)) u
 near-by w r u Ordering·lt c l = omega arith
 near-by w r u Ordering·eq c l =
     let t : w % 2 * u ≤ 1 * u = mul-le-mul-right u (bit w) in
@@ -50,8 +50,8 @@ near-by w r u Ordering·eq c l =
     bit x = omega arith
 near-by w r u Ordering·gt c l = omega arith
 
-pub closest-near : (n u : ℕ) → 0 < u → Within (2 * (closest n u * u)) (2 * n) u
-closest-near n u U = subst (λ (x : ℕ). Within (2 * (closest n u * u)) (2 * x) u) (div-add-mod' n u) (near-by (n / u) (n % u) u (compare (n % u * 2) u) (cmp (n % u * 2) u) (mod-lt n U))
+pub closest-near : (n u : ℕ) → 0 < u → DifferBy (2 * (closest n u * u)) (2 * n) u
+closest-near n u U = subst (λ (x : ℕ). DifferBy (2 * (closest n u * u)) (2 * x) u) (div-add-mod' n u) (near-by (n / u) (n % u) u (compare (n % u * 2) u) (cmp (n % u * 2) u) (mod-lt n U))
 
 -- ---- the library's `grid-mono`, which it keeps to itself, with the lemmas under it, at 24 digits
 same-drop : (k a b c d : ℕ) → 0 < b → 0 < d → a * d ≤ c * b → closest a (b * 2 ^ k) * 2 ^ k ≤ closest c (d * 2 ^ k) * 2 ^ k
@@ -114,35 +114,35 @@ rnd-same a b c d B D e = le-antisymm (rnd-mono a b c d B D (le-of-eq e)) (rnd-mo
 
 -- ---- the error
 -- with the unit u = c * 2 ^ k that was kept, for each k that serves as a bound on what was dropped
-pub near-unit : (n c : ℕ) → 0 < c → Within (2 * (rnd n c * c)) (2 * n) (c * 2 ^ drop 24 n c)
+pub near-unit : (n c : ℕ) → 0 < c → DifferBy (2 * (rnd n c * c)) (2 * n) (c * 2 ^ drop 24 n c)
 unfolding rnd
 near-unit n c C =
     let k = drop 24 n c in
     let q = kept 24 n c in
-    let i : Within (2 * (q * (c * 2 ^ k))) (2 * n) (c * 2 ^ k) = closest-near n (c * 2 ^ k) (mul-pos C (pow-pos k)) in
+    let i : DifferBy (2 * (q * (c * 2 ^ k))) (2 * n) (c * 2 ^ k) = closest-near n (c * 2 ^ k) (mul-pos C (pow-pos k)) in
     let e : q * (c * 2 ^ k) ≡ q * 2 ^ k * c = simp (mul-assoc, mul-comm, mul-left-comm) in
-    subst (λ (x : ℕ). Within (2 * x) (2 * n) (c * 2 ^ k)) e i
+    subst (λ (x : ℕ). DifferBy (2 * x) (2 * n) (c * 2 ^ k)) e i
 
 dropped : (z j : ℕ) → z ≤ 24 + j → z - 24 ≤ j
 dropped z j h = omega arith
 
 -- half a unit in the last place, in absolute terms: below 2 ^ (24 + j) the error is 2 ^ j / 2 at most
-pub rnd-ulp : (n c j : ℕ) → 0 < c → n < 2 ^ (24 + j) * c → Within (2 * (rnd n c * c)) (2 * n) (c * 2 ^ j)
+pub rnd-ulp : (n c j : ℕ) → 0 < c → n < 2 ^ (24 + j) * c → DifferBy (2 * (rnd n c * c)) (2 * n) (c * 2 ^ j)
 rnd-ulp n c j C h =
     let i = near-unit n c C in
     let m : c * 2 ^ drop 24 n c ≤ c * 2 ^ j = mul-le-mul-left c (pow-mono (dropped (size (n / c)) j (size-le (n / c) (24 + j) (div-lt-iff-lt-mul C .1 h)))) in
     record { above = le-trans (i .above) (omega arith); below = le-trans (i .below) (omega arith) }
 
 -- half a unit, or one part in 2 ^ 24
-pub rnd-either : (n c : ℕ) → 0 < c → Within (2 * (rnd n c * c)) (2 * n) c ⊎ Within (16777216 * (rnd n c * c)) (16777216 * n) n
+pub rnd-either : (n c : ℕ) → 0 < c → DifferBy (2 * (rnd n c * c)) (2 * n) c ⊎ DifferBy (16777216 * (rnd n c * c)) (16777216 * n) n
 rnd-either n c C = elim (eq-zero-or-pos (drop 24 n c)) [ inl z ↦ inl (few z) | inr p ↦ inr (many p) ]
   where
-    few : drop 24 n c ≡ 0 → Within (2 * (rnd n c * c)) (2 * n) c
+    few : drop 24 n c ≡ 0 → DifferBy (2 * (rnd n c * c)) (2 * n) c
     few z =
-        let i : Within (2 * (rnd n c * c)) (2 * n) (c * 2 ^ 0) = subst (λ (x : ℕ). Within (2 * (rnd n c * c)) (2 * n) (c * 2 ^ x)) z (near-unit n c C) in
+        let i : DifferBy (2 * (rnd n c * c)) (2 * n) (c * 2 ^ 0) = subst (λ (x : ℕ). DifferBy (2 * (rnd n c * c)) (2 * n) (c * 2 ^ x)) z (near-unit n c C) in
         record { above = le-trans (i .above) (omega arith); below = le-trans (i .below) (omega arith) }
 
-    many : 0 < drop 24 n c → Within (16777216 * (rnd n c * c)) (16777216 * n) n
+    many : 0 < drop 24 n c → DifferBy (16777216 * (rnd n c * c)) (16777216 * n) n
     many p =
         let i = near-unit n c C in
         let k = drop 24 n c in
@@ -150,11 +150,11 @@ rnd-either n c C = elim (eq-zero-or-pos (drop 24 n c)) [ inl z ↦ inl (few z) |
         omega (arith, i)
 
 -- the sum of the two
-pub rnd-near : (n c : ℕ) → 0 < c → Within (16777216 * (rnd n c * c)) (16777216 * n) (n + 8388608 * c)
+pub rnd-near : (n c : ℕ) → 0 < c → DifferBy (16777216 * (rnd n c * c)) (16777216 * n) (n + 8388608 * c)
 rnd-near n c C = elim (rnd-either n c C) [ inl i ↦ omega (arith, i) | inr i ↦ omega (arith, i) ]
 
 -- ---- the numbers of at most 24 digits: they round to themselves, and every result is one
-cancel : (x r t : ℕ) → 0 < t → Within (2 * (x * t)) (2 * (r * t)) t → x ≡ r
+cancel : (x r t : ℕ) → 0 < t → DifferBy (2 * (x * t)) (2 * (r * t)) t → x ≡ r
 cancel x r t t0 i = le-antisymm (half x r (le-of-mul-le-mul-right (up x r (i .above)) t0)) (half r x (le-of-mul-le-mul-right (up r x (i .below)) t0))
   where
     up : (a b : ℕ) → 2 * (a * t) ≤ 2 * (b * t) + t → 2 * a * t ≤ (2 * b + 1) * t
@@ -174,8 +174,8 @@ rnd-exact {w} g c C =
     let r = q * 2 ^ (j - k) in
     let e3 : r * 2 ^ k ≡ w = mul-assoc q (2 ^ (j - k)) (2 ^ k) ∙ ap (λ (x : ℕ). q * x) (sym (pow-add 2 (j - k) k) ∙ ap (λ (x : ℕ). 2 ^ x) (back j k k-le)) ∙ sym (g .is) in
     let x = kept 24 (w * c) c in
-    let i : Within (2 * (x * 2 ^ k * c)) (2 * (w * c)) (c * 2 ^ k) = near-unit (w * c) c C in
-    let i' : Within (2 * (x * (2 ^ k * c))) (2 * (r * (2 ^ k * c))) (2 ^ k * c) =
+    let i : DifferBy (2 * (x * 2 ^ k * c)) (2 * (w * c)) (c * 2 ^ k) = near-unit (w * c) c C in
+    let i' : DifferBy (2 * (x * (2 ^ k * c))) (2 * (r * (2 ^ k * c))) (2 ^ k * c) =
     let e : w * c ≡ r * (2 ^ k * c) = ap (λ (z : ℕ). z * c) (sym e3) ∙ mul-assoc r (2 ^ k) c in
     omega (arith, i, e) in
     ap (λ (z : ℕ). z * 2 ^ k) (cancel x r (2 ^ k * c) (mul-pos (pow-pos k) C) i') ∙ e3
@@ -240,7 +240,7 @@ pub rnd-zero : (c : ℕ) → 0 < c → rnd 0 c ≡ 0
 rnd-zero c C = subst (λ (x : ℕ). rnd x c ≡ 0) (native.Mathlib.Nat.zero-mul c) (rnd-exact grid-zero c C)
 
 -- a sum of two floats has no denominator: it is exact, or one part in 2 ^ 24 off
-pub rnd-whole : (n : ℕ) → Within (16777216 * rnd n 1) (16777216 * n) n
+pub rnd-whole : (n : ℕ) → DifferBy (16777216 * rnd n 1) (16777216 * n) n
 rnd-whole n = elim (rnd-either n 1 (lit< tt)) [ inl i ↦ omega (arith, i) | inr i ↦ omega (arith, i) ]
 
 -- ---- a number of the grid from 2 ^ 23 on has all 24 digits

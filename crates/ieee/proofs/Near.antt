@@ -11,7 +11,7 @@ use lib.Dec.{lit<}
 use lib.IntN.{ℤ, pos, negℤ, natAbs, _+ℤ_, _-ℤ_, _*ℤ_, +ℤ-idl}
 use lib.Ieee.{Float, binary32, add, sub, mul}
 use Rattle.ieee.specs.Bounds.{Bounded}
-use Rattle.ieee.proofs.Grid.{grid-pow, Within}
+use Rattle.ieee.proofs.Grid.{grid-pow, DifferBy}
 use Rattle.ieee.proofs.Value.{One, Top, F32, sign, mag, P, N, one-pos}
 use Rattle.ieee.proofs.Ops.{Rounds, Small, small, add-rounds, sub-rounds, mul-rounds}
 use Rattle.ieee.proofs.Digits.{Plus, Minus}
@@ -46,7 +46,7 @@ pub record Sum (v z : ℤ) : Type 0 where
 
 -- ---- from `Rounds`
 -- k times the distance of p c - n c from a - b
-distance : (k p n a b c e : ℕ) → Within (k * (p * c + b)) (k * (a + n * c)) e → k * natAbs (pos c *ℤ (pos p -ℤ pos n) -ℤ (pos a -ℤ pos b)) ≤ e
+distance : (k p n a b c e : ℕ) → DifferBy (k * (p * c + b)) (k * (a + n * c)) e → k * natAbs (pos c *ℤ (pos p -ℤ pos n) -ℤ (pos a -ℤ pos b)) ≤ e
 distance k p n a b c e w =
     le-trans (le-of-eq (sym (abs-mul k (pos c *ℤ (pos p -ℤ pos n) -ℤ (pos a -ℤ pos b))) ∙ ap natAbs (identity (pos k) (pos p) (pos n) (pos a) (pos b) (pos c))))
     (gap-of (k * (p * c + b)) (k * (a + n * c)) e (w .above) (w .below))
@@ -65,7 +65,7 @@ pub rounds-sum : {z : Float} {A B : ℕ} → Rounds z A B 1 → Sum (val z) (pos
 rounds-sum {z} {A} {B} r =
     let M = natAbs (pos A -ℤ pos B) in
     let w = near-whole r M (gap-above A B) (gap-below A B) in
-    let w' : Within (16777216 * (P z * 1 + B)) (16777216 * (A + N z * 1)) M = record { above = omega (arith, w .above); below = omega (arith, w .below) } in
+    let w' : DifferBy (16777216 * (P z * 1 + B)) (16777216 * (A + N z * 1)) M = record { above = omega (arith, w .above); below = omega (arith, w .below) } in
     record { near = le-trans (le-of-eq (ap (λ (v : ℤ). 16777216 * natAbs (v -ℤ (pos A -ℤ pos B))) (once (val z)))) (distance 16777216 (P z) (N z) A B 1 M w') }
   where
     once : (v : ℤ) → v ≡ pos 1 *ℤ v

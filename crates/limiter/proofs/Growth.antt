@@ -10,7 +10,7 @@ use lib.Dec.{T, ltb, ltb→lt, nltb→le, lit<}
 use lib.IntN.{pos}
 use lib.Ieee.{Float, binary32, lt, add, ofInt}
 use Rattle.ieee.specs.Units.{One, Top, F32, P, N, Gain}
-use Rattle.ieee.proofs.Grid.{Within}
+use Rattle.ieee.proofs.Grid.{DifferBy}
 use Rattle.ieee.proofs.Value.{one-pos, one-is, one-grid, plus-P, plus-N}
 use Rattle.ieee.proofs.Constants.{1·0, one-f32, one-P, one-less, whole-grid, whole-less, whole-is}
 use Rattle.ieee.proofs.Unique.{same-value}
@@ -25,7 +25,7 @@ pub record Decay (n rate : ℕ) : Type 0 where
   pub f32 : F32 (decay n rate)
   pub plus : N (decay n rate) ≡ 0
   pub most : P (decay n rate) ≤ One
-  pub near : Within (16777216 * (P (decay n rate) * rate)) (16777216 * (n * One)) (n * One + 8388608 * rate)
+  pub near : DifferBy (16777216 * (P (decay n rate) * rate)) (16777216 * (n * One)) (n * One + 8388608 * rate)
 
 pub decay-is : (n rate : ℕ) → n ≤ rate → 0 < rate → rate < 16777216 → Decay n rate
 decay-is n rate h r0 rl =

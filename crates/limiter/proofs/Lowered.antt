@@ -7,7 +7,7 @@ use native.Mathlib.Omega.{arith}
 use mathlib.Core.Bool.{Bool, true, false, not, cond}
 use lib.Dec.{T, ltb, ltb→lt, nltb→le, lit<}
 use lib.Ieee.{Float, inf, binary32, unlike, lt, mul, div}
-use Rattle.ieee.specs.Units.{One, Top, F32, sign, mag, P, N, Gain, Tame}
+use Rattle.ieee.specs.Units.{One, Top, F32, sign, mag, P, N, Gain, Unitary}
 use Rattle.ieee.proofs.Grid.{grid-small, rnd, rnd-zero, rnd-le, rnd-mono}
 use Rattle.ieee.proofs.Value.{one-pos, one-grid}
 use Rattle.ieee.proofs.Constants.{1·0, 0·9, one-f32, one-P, one-less, ninth-f32, ninth-P}
@@ -21,7 +21,7 @@ unfolding Top One
 top-is = refl
 
 -- a sample of size at most p, times a gain g with p * g at most 1 when rounded
-gained : (x g : Float) (p : ℕ) → F32 x → F32 g → N g ≡ 0 → mag x ≤ p → rnd (p * P g) One ≤ One → Tame (mul binary32 x g)
+gained : (x g : Float) (p : ℕ) → F32 x → F32 g → N g ≡ 0 → mag x ≤ p → rnd (p * P g) One ≤ One → Unitary (mul binary32 x g)
 gained x g p f k n l h =
     let A = P x * P g + N x * N g in
     let B = P x * N g + N x * P g in
@@ -140,5 +140,5 @@ lowered-keeps p g f n k = go (lt 1·0 (mul binary32 p g)) (ninth-keeps p g f n k
     go true t e = t tt
     go false t e = record { gain = k; within = e tt }
 
-pub kept-within : (p h x : Float) → Keeps p h → F32 x → mag x ≤ P p → Tame (mul binary32 x h)
+pub kept-within : (p h x : Float) → Keeps p h → F32 x → mag x ≤ P p → Unitary (mul binary32 x h)
 kept-within p h x k f l = gained x h (P p) f (k .gain .f32) (k .gain .plus) l (k .within)

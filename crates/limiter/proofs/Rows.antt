@@ -10,7 +10,7 @@ use lib.Seq.{drop-drop, take-append-add, drop-append-add, length-take-le, take-a
 use lib.Ieee.{Float}
 use Rattle.ieee.specs.Bounds.{All}
 use Rattle.ieee.specs.Small.{absolute, larger}
-use Rattle.limiter.specs.Limiter.{peak, scaled, blockPeak, scaledBlock, channels, laid}
+use Rattle.limiter.specs.Limiter.{peak, scaled, blockPeak, scaledBlock, channels, overlaid}
 use Rattle.limiter.proofs.Levels.{Level, level-abs}
 use Rattle.limiter.specs.Places.{floatsAt, withFloats, channelsAt, withChannels}
 use Rattle.limiter.proofs.Laws.{length-scaled}
@@ -36,8 +36,8 @@ scaled-next-channel : (g : Float) (k n at : ℕ) (xs : List Float) → 0 < k →
 unfolding scaledBlock
 scaled-next-channel g k n at xs h = ap (scaledBlock g) (channels-next k n at xs h)
 
-laid-cons : (z : List Float) (cs : List (List Float)) (t : List Float) → laid (z ∷ cs) t ≡ z ++ (take (64 - length z) (drop (length z) t) ++ laid cs (drop 64 t))
-unfolding laid
+laid-cons : (z : List Float) (cs : List (List Float)) (t : List Float) → overlaid (z ∷ cs) t ≡ z ++ (take (64 - length z) (drop (length z) t) ++ overlaid cs (drop 64 t))
+unfolding overlaid
 laid-cons z cs t = refl
 
 channels-at-next : (s : List ℕ) (k n at : ℕ) → 0 < k → channelsAt k n s (4 * at) ≡ floatsAt s (4 * at) n ∷ channelsAt (k - 1) n s (4 * (at + 64))
@@ -78,13 +78,13 @@ module _ (p z t : List Float) (n : ℕ) (e : length z ≡ n) (h : n ≤ 64) wher
       back : (n : ℕ) → n ≤ 64 → n + (64 - n) ≡ 64
       back n h = omega arith
 
-  laid-one : (cs : List (List Float)) → let ys = p ++ (z ++ drop n t) in take (length p + 64) ys ++ laid cs (drop (length p + 64) ys) ≡ p ++ laid (z ∷ cs) t
+  laid-one : (cs : List (List Float)) → let ys = p ++ (z ++ drop n t) in take (length p + 64) ys ++ overlaid cs (drop (length p + 64) ys) ≡ p ++ overlaid (z ∷ cs) t
   laid-one cs =
-      ap (λ (l : List Float). take (length p + 64) (p ++ (z ++ drop n t)) ++ laid cs l) dropped
-      ∙ ap (λ (l : List Float). l ++ laid cs (drop 64 t)) taken
-      ∙ append-assoc p (z ++ take (64 - n) (drop n t)) (laid cs (drop 64 t))
-      ∙ ap (λ (l : List Float). p ++ l) (append-assoc z (take (64 - n) (drop n t)) (laid cs (drop 64 t)))
-      ∙ ap (λ (j : ℕ). p ++ (z ++ (take (64 - j) (drop j t) ++ laid cs (drop 64 t)))) (sym e)
+      ap (λ (l : List Float). take (length p + 64) (p ++ (z ++ drop n t)) ++ overlaid cs l) dropped
+      ∙ ap (λ (l : List Float). l ++ overlaid cs (drop 64 t)) taken
+      ∙ append-assoc p (z ++ take (64 - n) (drop n t)) (overlaid cs (drop 64 t))
+      ∙ ap (λ (l : List Float). p ++ l) (append-assoc z (take (64 - n) (drop n t)) (overlaid cs (drop 64 t)))
+      ∙ ap (λ (j : ℕ). p ++ (z ++ (take (64 - j) (drop j t) ++ overlaid cs (drop 64 t)))) (sym e)
       ∙ sym (ap (λ (l : List Float). p ++ l) (laid-cons z cs t))
 
 -- the channel of n samples at `at`, written by a loop
@@ -95,10 +95,10 @@ module _ (n at : ℕ) (xs z : List Float) (e : length z ≡ n) (h : n ≤ 64) (f
   written : putMid at (at + n - at) xs z ≡ take at xs ++ (z ++ drop n (drop at xs))
   written = ap (λ (j : ℕ). take at xs ++ (z ++ drop j (drop at xs))) (whole at n)
 
-  pub row-laid : (cs : List (List Float)) → let ys = putMid at (at + n - at) xs z in take (at + 64) ys ++ laid cs (drop (at + 64) ys) ≡ take at xs ++ laid (z ∷ cs) (drop at xs)
+  pub row-laid : (cs : List (List Float)) → let ys = putMid at (at + n - at) xs z in take (at + 64) ys ++ overlaid cs (drop (at + 64) ys) ≡ take at xs ++ overlaid (z ∷ cs) (drop at xs)
   row-laid cs =
-      ap (λ (ys : List Float). take (at + 64) ys ++ laid cs (drop (at + 64) ys)) written
-      ∙ subst (λ (b : ℕ). let ys = take at xs ++ (z ++ drop n (drop at xs)) in take (b + 64) ys ++ laid cs (drop (b + 64) ys) ≡ take at xs ++ laid (z ∷ cs) (drop at xs)) front (laid-one (take at xs) z (drop at xs) n e h cs)
+      ap (λ (ys : List Float). take (at + 64) ys ++ overlaid cs (drop (at + 64) ys)) written
+      ∙ subst (λ (b : ℕ). let ys = take at xs ++ (z ++ drop n (drop at xs)) in take (b + 64) ys ++ overlaid cs (drop (b + 64) ys) ≡ take at xs ++ overlaid (z ∷ cs) (drop at xs)) front (laid-one (take at xs) z (drop at xs) n e h cs)
 
   pub row-rest : drop (at + 64) (putMid at (at + n - at) xs z) ≡ drop (at + 64) xs
   row-rest = ap (drop (at + 64)) written ∙ subst (λ (b : ℕ). drop (b + 64) (take at xs ++ (z ++ drop n (drop at xs))) ≡ drop 64 (drop at xs)) front (dropped (take at xs) z (drop at xs) n e h) ∙ drop-drop 64 at xs
@@ -108,18 +108,18 @@ module _ (n at : ℕ) (xs z : List Float) (e : length z ≡ n) (h : n ≤ 64) (f
 
 -- ---- from bytes
 pub load-next : (s : List ℕ) (k n at : ℕ) (xs z : List Float) → 0 < k → n ≤ 64 → at + 64 * k ≡ length xs → z ≡ floatsAt s (4 * at) n → let ys = putMid at (at + n - at) xs z in
-    (length ys ≡ length xs) × (take (at + 64) ys ++ laid (channelsAt (k - 1) n s (4 * (at + 64))) (drop (at + 64) ys) ≡ take at xs ++ laid (channelsAt k n s (4 * at)) (drop at xs))
+    (length ys ≡ length xs) × (take (at + 64) ys ++ overlaid (channelsAt (k - 1) n s (4 * (at + 64))) (drop (at + 64) ys) ≡ take at xs ++ overlaid (channelsAt k n s (4 * at)) (drop at xs))
 load-next s k n at xs z h i f e =
     let l : length z ≡ n = ap length e ∙ length-floats s (4 * at) n in
     let m : at + 64 ≤ length xs = omega arith in (
       row-length n at xs z l i m,
       row-laid n at xs z l i m (channelsAt (k - 1) n s (4 * (at + 64)))
-          ∙ ap (λ (u : List Float). take at xs ++ laid (u ∷ channelsAt (k - 1) n s (4 * (at + 64))) (drop at xs)) e
-          ∙ sym (ap (λ (cs : List (List Float)). take at xs ++ laid cs (drop at xs)) (channels-at-next s k n at h)),
+          ∙ ap (λ (u : List Float). take at xs ++ overlaid (u ∷ channelsAt (k - 1) n s (4 * (at + 64))) (drop at xs)) e
+          ∙ sym (ap (λ (cs : List (List Float)). take at xs ++ overlaid cs (drop at xs)) (channels-at-next s k n at h)),
     )
 
-pub load-end : (s : List ℕ) (k n at : ℕ) (xs : List Float) → k ≤ 0 → xs ≡ take at xs ++ laid (channelsAt k n s (4 * at)) (drop at xs)
-unfolding laid channelsAt
+pub load-end : (s : List ℕ) (k n at : ℕ) (xs : List Float) → k ≤ 0 → xs ≡ take at xs ++ overlaid (channelsAt k n s (4 * at)) (drop at xs)
+unfolding overlaid channelsAt
 load-end s zero n at xs h = sym (take-append-drop at xs)
 load-end s (suc k) n at xs h = absurd (native.Mathlib.Nat.not-suc-le-zero h)
 
@@ -161,8 +161,8 @@ room-next (suc k) step h = ap (λ (j : ℕ). step + j * step) (less k) ∙ more 
     more k step = omega arith
 
 -- ---- what was laid is read back
-pub channels-laid : (k n : ℕ) (cs : List (List Float)) (xs : List Float) → length cs ≡ k → All (λ (c : List Float). length c ≡ n) cs → n ≤ 64 → 64 * k ≤ length xs → channels k n (laid cs xs) ≡ cs
-unfolding channels laid
+pub channels-laid : (k n : ℕ) (cs : List (List Float)) (xs : List Float) → length cs ≡ k → All (λ (c : List Float). length c ≡ n) cs → n ≤ 64 → 64 * k ≤ length xs → channels k n (overlaid cs xs) ≡ cs
+unfolding channels overlaid
 channels-laid zero n [] xs e a h f = refl
 channels-laid zero n (c ∷ cs) xs e a h f = absurd (native.Mathlib.Nat.suc-ne-zero (length cs) e)
 channels-laid (suc k) n [] xs e a h f = absurd (native.Mathlib.Nat.suc-ne-zero k (sym e))
@@ -170,8 +170,8 @@ channels-laid (suc k) n (c ∷ cs) xs e a h f =
     let m = take (64 - length c) (drop (length c) xs) in
     let l : length m ≡ 64 - n = length-take-le (64 - length c) (drop (length c) xs) (omega (arith, length-drop (length c) xs, a .0)) ∙ omega (arith, a .0) in
     let p : length (c ++ m) ≡ 64 = length-append c m ∙ omega (arith, a .0, l) in
-    let d : drop 64 (c ++ (m ++ laid cs (drop 64 xs))) ≡ laid cs (drop 64 xs) = ap (drop 64) (sym (append-assoc c m (laid cs (drop 64 xs)))) ∙ drop-at (c ++ m) (laid cs (drop 64 xs)) 64 p in
-    ap (λ (t : List Float). t ∷ channels k n (drop 64 (c ++ (m ++ laid cs (drop 64 xs))))) (take-at c (m ++ laid cs (drop 64 xs)) n (a .0))
+    let d : drop 64 (c ++ (m ++ overlaid cs (drop 64 xs))) ≡ overlaid cs (drop 64 xs) = ap (drop 64) (sym (append-assoc c m (overlaid cs (drop 64 xs)))) ∙ drop-at (c ++ m) (overlaid cs (drop 64 xs)) 64 p in
+    ap (λ (t : List Float). t ∷ channels k n (drop 64 (c ++ (m ++ overlaid cs (drop 64 xs))))) (take-at c (m ++ overlaid cs (drop 64 xs)) n (a .0))
     ∙ ap (λ (t : List Float). c ∷ channels k n t) d
     ∙ ap (λ (t : List (List Float)). c ∷ t) (channels-laid k n cs (drop 64 xs) (native.Mathlib.Nat.suc-inj e) (a .1) h (omega (arith, length-drop 64 xs)))
 

@@ -14,22 +14,22 @@ use Rattle.ieee.proofs.Value.{one-is}
 use Rattle.ieee.proofs.Constants.{whole-grid, whole-less}
 use Rattle.ieee.proofs.Bound.{bounded-by, zero-bounded, mul-bounded, next-bounded}
 use Rattle.limiter.specs.Limiter.{0·0}
-use Rattle.limiter.specs.Sums.{Term, mixed, Within, SumsBounded}
+use Rattle.limiter.specs.Sums.{Product, productSum, ProductWithin, SumsBounded}
 
 module _ (s c : ℕ) (small : s * c < 16777216) where
-  term-bounded : (t : Term) → Within s c t → Bounded (s * c * One) (mul binary32 (t .sample) (t .coef))
+  term-bounded : (t : Product) → ProductWithin s c t → Bounded (s * c * One) (mul binary32 (t .sample) (t .coef))
   term-bounded t w = mul-bounded (whole-grid (s * c) small) (whole-less (s * c) (native.Mathlib.Nat.le-of-lt small)) (le-of-eq (product s c One)) (w .sample) (w .coef)
     where
       product : (s c o : ℕ) → s * o * (c * o) ≡ s * c * o * o
       product s c o = omega arith
 
   -- n terms are in a already
-  from : (n : ℕ) (a : Float) (ts : List Term) → (n + length ts) * (s * c) ≤ 16777216 → Bounded (n * (s * c * One)) a → All (Within s c) ts → Bounded ((n + length ts) * (s * c * One)) (mixed a ts)
+  from : (n : ℕ) (a : Float) (ts : List Product) → (n + length ts) * (s * c) ≤ 16777216 → Bounded (n * (s * c * One)) a → All (ProductWithin s c) ts → Bounded ((n + length ts) * (s * c * One)) (productSum a ts)
   from n a [] h b w = bounded-by (mul-le-mul-right (s * c * One) (same n)) b
     where
       same : (n : ℕ) → n ≤ n + 0
       same n = omega arith
-  from n a (t ∷ ts) h b w = subst (λ (m : ℕ). Bounded (m * (s * c * One)) (mixed (cond (eq (t .coef) 0·0) a sum) ts)) e (from (suc n) (cond (eq (t .coef) 0·0) a sum) ts (subst (λ (m : ℕ). m * (s * c) ≤ 16777216) (sym e) h) (go (eq (t .coef) 0·0)) (w .1))
+  from n a (t ∷ ts) h b w = subst (λ (m : ℕ). Bounded (m * (s * c * One)) (productSum (cond (eq (t .coef) 0·0) a sum) ts)) e (from (suc n) (cond (eq (t .coef) 0·0) a sum) ts (subst (λ (m : ℕ). m * (s * c) ≤ 16777216) (sym e) h) (go (eq (t .coef) 0·0)) (w .1))
     where
       sum : Float
       sum = add binary32 a (mul binary32 (t .sample) (t .coef))
@@ -53,7 +53,7 @@ module _ (s c : ℕ) (small : s * c < 16777216) where
           more n = omega arith
       go false = next-bounded (s * c) 149 one-is n short less b (term-bounded t (w .0))
 
-  pub mixed-bounded : (m w : ℕ) (ts : List Term) → length ts ≤ m → m * (s * c) ≤ w → w ≤ 16777216 → All (Within s c) ts → Bounded (w * One) (mixed 0·0 ts)
+  pub mixed-bounded : (m w : ℕ) (ts : List Product) → length ts ≤ m → m * (s * c) ≤ w → w ≤ 16777216 → All (ProductWithin s c) ts → Bounded (w * One) (productSum 0·0 ts)
   mixed-bounded m w ts h k l q =
       bounded-by (le-trans (mul-le-mul-right (s * c * One) h') (le-trans (le-of-eq (sym (mul-assoc m (s * c) One))) (mul-le-mul-right One k)))
       (from 0 0·0 ts (le-trans (mul-le-mul-right (s * c) h') (le-trans k l)) (zero-bounded (0 * (s * c * One))) q)

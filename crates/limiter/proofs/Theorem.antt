@@ -6,12 +6,12 @@ use Prim.Native.Nat.{ℕ, _-_, _≤_, _<_}
 use native.Mathlib.Nat.{le-trans, le-of-eq, lt-irrefl}
 use native.Mathlib.Omega.{arith}
 use lib.Ieee.{Float, nan, inf, fin}
-use Rattle.ieee.specs.Units.{Top, F32, mag, P, N, Gain, Tame}
+use Rattle.ieee.specs.Units.{Top, F32, mag, P, N, Gain, Unitary}
 use Rattle.ieee.specs.Bounds.{All}
 use Rattle.ieee.proofs.Value.{shape}
 use Rattle.ieee.proofs.Constants.{top-pos}
 use Rattle.limiter.specs.Limiter.{0·0, blockPeak, scaled, scaledBlock, lowered}
-use Rattle.limiter.specs.Range.{InRange}
+use Rattle.limiter.specs.Range.{LimitedInRange}
 use Rattle.limiter.proofs.Levels.{Level, Fit, rank}
 use Rattle.limiter.proofs.Peaks.{Under, zero-level, zero-under, block-peak}
 use Rattle.limiter.proofs.Lowered.{Keeps, lowered-keeps, kept-within}
@@ -52,17 +52,17 @@ channels-under [] f = tt
 channels-under (c ∷ cs) f = (all-under c (f .0), channels-under cs (f .1))
 
 -- ---- the samples
-tame-channel : (p h : Float) (c : List Float) → Keeps p h → P p ≡ rank p → All F32 c → Under (rank p) c → All Tame (scaled h c)
+tame-channel : (p h : Float) (c : List Float) → Keeps p h → P p ≡ rank p → All F32 c → Under (rank p) c → All Unitary (scaled h c)
 tame-channel p h [] k e f u = tt
 tame-channel p h (x ∷ c) k e f u = (kept-within p h x k (f .0) (le-trans (le-of-eq (sym (finite-rank x (f .0)))) (le-trans (u .0) (le-of-eq (sym e)))), tame-channel p h c k e (f .1) (u .1))
 
-tame-block : (p h : Float) (cs : List (List Float)) → Keeps p h → P p ≡ rank p → All (All F32) cs → All (Under (rank p)) cs → All (All Tame) (scaledBlock h cs)
+tame-block : (p h : Float) (cs : List (List Float)) → Keeps p h → P p ≡ rank p → All (All F32) cs → All (Under (rank p)) cs → All (All Unitary) (scaledBlock h cs)
 unfolding scaledBlock
 tame-block p h [] k e f u = tt
 tame-block p h (c ∷ cs) k e f u = (tame-channel p h c k e (f .0) (u .0), tame-block p h cs k e (f .1) (u .1))
 
 -- ---- the theorem
-pub limiter-in-range : (g : Float) (n rate : ℕ) (cs : List (List Float)) → Gain g → All (All F32) cs → n ≤ rate → 0 < rate → rate < 16777216 → InRange g n rate cs
+pub limiter-in-range : (g : Float) (n rate : ℕ) (cs : List (List Float)) → Gain g → All (All F32) cs → n ≤ rate → 0 < rate → rate < 16777216 → LimitedInRange g n rate cs
 limiter-in-range g n rate cs k f a b c =
     let p = blockPeak 0·0 cs in
     let q = block-peak 0·0 cs zero-level (channels-fit cs f) in

@@ -1,22 +1,14 @@
 -- The output limiter, for any floats. Document 01, item 6: "A block of 64 with peak p and gain g: if p × g > 1, g becomes 0.9 / p; scale; then g grows by length / rate, at most 1. Flush treats the
 -- remainder as one shorter block." Assumes nothing.
 use Prim.Native.Nat.{ℕ, zero, suc, _-_}
-use mathlib.Core.Bool.{false, cond}
+use mathlib.Core.Bool.{cond}
 use mathlib.Core.List.{List, [], _∷_, _++_}
-use lib.IntN.{pos, negsuc}
+use lib.IntN.{pos}
 use lib.ListN.{length, take, drop}
-use lib.Ieee.{Float, fin, binary32, add, mul, div, lt, ofInt}
+use lib.Ieee.{Float, binary32, add, mul, div, lt, ofInt}
 use Rattle.ieee.specs.Small.{absolute, larger}
 use Rattle.formats.specs.Areas.{rowPlaces}
-
-abbrev pub 0·0 : Float
-0·0 = fin false 0 (pos 0)
-
-abbrev pub 1·0 : Float
-1·0 = fin false 1 (pos 0)
-
-abbrev pub 0·9 : Float
-0·9 = fin false 7549747 (negsuc 22)
+pub use Rattle.ieee.specs.Numbers.{0·0, 1·0, 0·9}
 
 -- the largest size of a sample, at least m; a NaN is passed over
 abbrev pub peakFrom : Float → List Float → Float
@@ -60,6 +52,6 @@ channels zero n xs = []
 channels (suc k) n xs = take n xs ∷ channels k n (drop rowPlaces xs)
 
 -- the block with the first places of each channel written anew
-unfoldable pub laid : List (List Float) → List Float → List Float
-laid [] xs = xs
-laid (c ∷ cs) xs = c ++ (take (rowPlaces - length c) (drop (length c) xs) ++ laid cs (drop rowPlaces xs))
+unfoldable pub overlaid : List (List Float) → List Float → List Float
+overlaid [] xs = xs
+overlaid (c ∷ cs) xs = c ++ (take (rowPlaces - length c) (drop (length c) xs) ++ overlaid cs (drop rowPlaces xs))

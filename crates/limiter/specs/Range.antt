@@ -5,13 +5,13 @@ use mathlib.Core.Logic.{_⊎_}
 use mathlib.Core.List.{List}
 use lib.IntN.{pos}
 use lib.Ieee.{Float, binary32, div, ofInt}
-use Rattle.ieee.specs.Units.{One, F32, P, N, Gain, Tame}
+use Rattle.ieee.specs.Units.{One, F32, P, N, Gain, Unitary}
 use Rattle.ieee.specs.Bounds.{All}
 use Rattle.limiter.specs.Limiter.{1·0, scaledBlock, blockGain, grown}
 
 -- from the gain g, a block of channels of n samples: each sample given out is finite and from -1 to 1, and the next gain is above 0 and at most 1
-pub record InRange (g : Float) (n rate : ℕ) (cs : List (List Float)) : Type 0 where
-  pub samples : All (All Tame) (scaledBlock (blockGain g cs) cs)
+pub record LimitedInRange (g : Float) (n rate : ℕ) (cs : List (List Float)) : Type 0 where
+  pub samples : All (All Unitary) (scaledBlock (blockGain g cs) cs)
   pub scaling : Gain (blockGain g cs)
   pub next : Gain (grown n rate (blockGain g cs))
 

@@ -6,7 +6,7 @@ ghost use mathlib.Core.Path.{_≡_};
 ghost use Prim.Native.Nat.{_+_, _*_, _≤_};
 ghost use lib.ListN.{length};
 ghost use Rattle.formats.specs.Areas.{rowCount, rowPlaces, placeCount, placesBytes};
-ghost use Rattle.limiter.specs.Limiter.{scaled, scaledBlock, channels, laid};
+ghost use Rattle.limiter.specs.Limiter.{scaled, scaledBlock, channels, overlaid};
 ghost use Rattle.limiter.specs.Places.{floatsAt, withFloats, channelsAt, withChannels};
 use formats::areas;
 
@@ -37,7 +37,7 @@ pub fn scale_slice_into(samples: &[f32], gain: f32, out: &mut [u8])
 // The places of a state block, `samples` of each channel, in a block of floats.
 pub fn load_block(places: &[u8], samples: usize, block: &mut [f32])
     requires { ⌜ (length (now places) ≡ placesBytes) × (length (now block) ≡ placeCount) × (samples ≤ rowPlaces) ⌝ }
-    ensures { λ _. ⌜ now (block .exit) ≡ laid (channelsAt rowCount samples (now (places .entry)) 0) (now (block .entry)) ⌝ }
+    ensures { λ _. ⌜ now (block .exit) ≡ overlaid (channelsAt rowCount samples (now (places .entry)) 0) (now (block .entry)) ⌝ }
 {
     let mut at: usize = 0;
     let mut left: usize = areas::ROW_COUNT;

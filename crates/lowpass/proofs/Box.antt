@@ -10,7 +10,7 @@ use lib.Dec.{lit<, lit≤}
 use lib.Pow.{pow-pos}
 use lib.Ieee.{Float}
 use Rattle.ieee.specs.Units.{One}
-use Rattle.ieee.specs.Nearest.{Within}
+use Rattle.ieee.specs.Nearest.{DifferBy}
 use Rattle.ieee.proofs.Grid.{le-or-lt}
 use Rattle.angles.specs.Angle.{Listed}
 use Rattle.angles.proofs.Made.{one-23, Made}
@@ -24,8 +24,8 @@ record Together (δ A α v u : ℕ) : Type 0 where
   k-high : 16777216 + α ≤ 2 * A + 2 * v + 3
   k-low : 4 * u + 67108864 * A ≤ 33554432 * (16777216 + α) + 101783178
 
-together : (p δ A α v x y z u : ℕ) → p ≤ 8948549 → δ ≤ 16777216 → Within (2 * x) 281474976710656 p → Within (2 * x + y) (33554432 * δ) δ → z + u ≡ 16777216 * δ → u ≤ v * 16777216
-    → Within (2 * (A * 16777216)) (2 * z) 16777216 → Within (2 * (α * 16777216)) (2 * y) 16777216 → Together δ A α v u
+together : (p δ A α v x y z u : ℕ) → p ≤ 8948549 → δ ≤ 16777216 → DifferBy (2 * x) 281474976710656 p → DifferBy (2 * x + y) (33554432 * δ) δ → z + u ≡ 16777216 * δ → u ≤ v * 16777216
+    → DifferBy (2 * (A * 16777216)) (2 * z) 16777216 → DifferBy (2 * (α * 16777216)) (2 * y) 16777216 → Together δ A α v u
 together p δ A α v x y z u few many inverse both parts most first second = record { α-high = omega arith; α-low = omega arith; k-high = omega arith; k-low = omega arith }
 
 module _ {cos sin : Float} {N C v a : ℕ} (l : Listed N) (whole : C + v ≡ 16777216) (s : Sized N v a) (m : Made cos sin C v a) where
@@ -89,7 +89,7 @@ module _ {cos sin : Float} {N C v a : ℕ} (l : Listed N) (whole : C + v ≡ 167
   δ-more far = δ-least 8433405 16688000 (p-most 8433405 (omega arith)) (lit< tt)
 
   -- ---- the roundings at this rate
-  both : Within (2 * (m .δ * m .p) + m .μ * m .δ) (33554432 * m .δ) (m .δ)
+  both : DifferBy (2 * (m .δ * m .p) + m .μ * m .δ) (33554432 * m .δ) (m .δ)
   both = record {
     above = up (m .p) (m .δ) (m .μ) (mul-le-mul-right (m .δ) (m .both-near .above));
     below = down (m .p) (m .δ) (m .μ) (mul-le-mul-right (m .δ) (m .both-near .below));
@@ -113,13 +113,13 @@ module _ {cos sin : Float} {N C v a : ℕ} (l : Listed N) (whole : C + v ≡ 167
   abbrev E : ℕ
   E = 33554432 - 2 * m .δ
 
-  E-near : Within (E * m .p + 281474976710656) (33554432 * m .p) (m .p)
+  E-near : DifferBy (E * m .p + 281474976710656) (33554432 * m .p) (m .p)
   E-near = go E (m .p) (m .δ) (left (m .δ) (m .δ-many)) (m .δ-near)
     where
       left : (d : ℕ) → d ≤ 16777216 → 33554432 - 2 * d + 2 * d ≡ 33554432
       left d h = omega arith
 
-      go : (e p d : ℕ) → e + 2 * d ≡ 33554432 → Within (2 * (d * p)) 281474976710656 p → Within (e * p + 281474976710656) (33554432 * p) p
+      go : (e p d : ℕ) → e + 2 * d ≡ 33554432 → DifferBy (2 * (d * p)) 281474976710656 p → DifferBy (e * p + 281474976710656) (33554432 * p) p
       go e p d f w = let g : (e + 2 * d) * p ≡ 33554432 * p = ap (λ (k : ℕ). k * p) f in record { above = omega (arith, w .below); below = omega (arith, w .above) }
 
   E-low : 16445027123 + 2 * N ≤ E * N

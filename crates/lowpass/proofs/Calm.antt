@@ -12,7 +12,7 @@ use Rattle.ieee.specs.Units.{One, F32, mag}
 use Rattle.ieee.proofs.Constants.{zero-f32}
 use Rattle.ieee.proofs.Bound.{bounded-by, zero-bounded}
 use Rattle.ieee.proofs.Near.{val, abs-most, bounded-abs, most}
-use Rattle.lowpass.specs.Lowpass.{BiquadLowpassState, fresh, output, next, filtered, afterAll}
+use Rattle.lowpass.specs.Lowpass.{BiquadLowpassState, unfed, output, next, filtered, afterAll}
 use Rattle.lowpass.specs.Bound.{Bounded, All, Range}
 use Rattle.lowpass.proofs.Ellipse.{Inside, start, wider, bound}
 use Rattle.lowpass.proofs.Boxed.{step}
@@ -68,7 +68,7 @@ calm-next r c {x} h =
     record { rate = c .rate; known = c .known; x1-small = h; x2-small = c .x1-small; y1-f32 = m .f32; y2-small = last-bounded c; inside = m .kept }
 
 -- a new filter
-pub calm-start : (rate X : ℕ) (c : Coefficients) → Passing rate (c .a1) (c .a2) (c .b0) (c .b1) (c .b2) → Calm X (fresh c)
+pub calm-start : (rate X : ℕ) (c : Coefficients) → Passing rate (c .a1) (c .a2) (c .b0) (c .b1) (c .b2) → Calm X (unfed c)
 unfolding mag One
 calm-start rate X c k =
     record { rate = rate; known = k; x1-small = zero-bounded X; x2-small = zero-bounded X; y1-f32 = zero-f32; y2-small = zero-bounded (2 * X); inside = start rate X }

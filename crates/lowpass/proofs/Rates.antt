@@ -15,7 +15,7 @@ use Rattle.angles.specs.declared.filter.Coefficients.{Coefficients}
 use Rattle.angles.proofs.Theorems.{lowpass-only}
 use Rattle.angles.proofs.Made.{one-24, Made}
 use Rattle.angles.proofs.Sizes.{Sized, sized, whole, coefficients-made}
-use Rattle.lowpass.specs.Lowpass.{BiquadLowpassState, fresh, new, next, filtered, afterAll}
+use Rattle.lowpass.specs.Lowpass.{BiquadLowpassState, unfed, new, next, filtered, afterAll}
 use Rattle.lowpass.specs.Bound.{Bounded, All, Range, largest, Twice}
 use Rattle.lowpass.proofs.Passing.{Passing}
 use Rattle.lowpass.proofs.Box as box
@@ -54,9 +54,9 @@ listed-passes l = passing l (whole l) (sized l) (coefficients-made l)
 
 -- ---- a new filter
 -- its coefficients are those that document 01 means
-pub new-meant : {rate : ℕ} → Listed rate → {c : Coefficients} → LowpassAt rate c → new rate ≡ fresh c
+pub new-meant : {rate : ℕ} → Listed rate → {c : Coefficients} → LowpassAt rate c → new rate ≡ unfed c
 unfolding new
-new-meant l m = ap fresh (sym (lowpass-only l m))
+new-meant l m = ap unfed (sym (lowpass-only l m))
 
 pub calm-listed : {rate : ℕ} → Listed rate → (X : ℕ) → Calm X (new rate)
 unfolding new

@@ -1,25 +1,21 @@
 -- The low-pass, a sample at a time and over a list. Document 01, item 6: "Sums in the source's order. The filter's memory is four past values beside five coefficients."
 -- x1 and x2 are the last samples fed, y1 and y2 the last filtered; x1 and y1 are the later ones. Assumes nothing.
 use mathlib.Core.List.{List, [], _∷_}
-use mathlib.Core.Bool.{false}
 use Prim.Native.Nat.{ℕ}
-use lib.IntN.{pos}
-use lib.Ieee.{Float, fin, add, sub, mul, binary32}
+use lib.Ieee.{Float, add, sub, mul, binary32}
 use Rattle.angles.specs.FiveTerms.{coefficientsAt}
 use Rattle.angles.specs.declared.filter.Coefficients.{Coefficients}
 pub use Rattle.lowpass.specs.declared.BiquadLowpassState.{BiquadLowpassState}
-
-abbrev pub 0·0 : Float
-0·0 = fin false 0 (pos 0)
+pub use Rattle.ieee.specs.Numbers.{0·0}
 
 -- nothing fed yet
-abbrev pub fresh : Coefficients → BiquadLowpassState
-fresh c = record { a1 = c .a1; a2 = c .a2; b0 = c .b0; b1 = c .b1; b2 = c .b2; x1 = 0·0; x2 = 0·0; y1 = 0·0; y2 = 0·0 }
+abbrev pub unfed : Coefficients → BiquadLowpassState
+unfed c = record { a1 = c .a1; a2 = c .a2; b0 = c .b0; b1 = c .b1; b2 = c .b2; x1 = 0·0; x2 = 0·0; y1 = 0·0; y2 = 0·0 }
 
 -- Document 01, item 1: "`BiquadLowpassState::new` gives the coefficients from them", the cosine and the sine of w0: `LowpassAt` of angles/specs/Filter, by `new-meant` of
 -- proofs/Rates
 unfoldable pub new : ℕ → BiquadLowpassState
-new rate = fresh (coefficientsAt rate)
+new rate = unfed (coefficientsAt rate)
 
 -- b2 * x2 + b1 * x1 + b0 * x - a1 * y1 - a2 * y2, each operation rounded, from the left
 abbrev pub output : BiquadLowpassState → Float → Float

@@ -10,7 +10,7 @@ use lib.ListN.{length, getD, set, take, drop}
 use lib.Seq.{set-at, drop-cons, drop-length}
 use lib.Ieee.{Float, nan, binary32, add, mul, eq}
 use Rattle.words.specs.Words.{floatAt}
-use Rattle.mixing.specs.Mixing.{0·0, mixed, mixedFull}
+use Rattle.mixing.specs.Mixing.{0·0f, mixed, mixedFull}
 use Rattle.mixing.specs.Samples.{samples}
 
 -- ---- mixing
@@ -51,17 +51,17 @@ mixed-step i xs g os h k = rw (add-one i) (step-suc i xs g os h k)
 -- ---- a gain of zero
 
 module _ (xs : List Float) (g : Float) (os : List Float) where
-  pub full-zero : eq g 0·0 ≡ true → os ≡ mixedFull xs g os
+  pub full-zero : eq g 0·0f ≡ true → os ≡ mixedFull xs g os
   unfolding mixedFull
   full-zero e = rw e
 
-  pub full-mixed : eq g 0·0 ≡ false → mixed xs g os ≡ mixedFull xs g os
+  pub full-mixed : eq g 0·0f ≡ false → mixed xs g os ≡ mixedFull xs g os
   unfolding mixedFull
   full-mixed e = rw e
 
   pub length-full : length (mixedFull xs g os) ≡ length os
   unfolding mixedFull
-  length-full = go (eq g 0·0)
+  length-full = go (eq g 0·0f)
     where
       go : (b : Bool) → length (cond b os (mixed xs g os)) ≡ length os
       go true = refl

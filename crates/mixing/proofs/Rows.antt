@@ -6,15 +6,15 @@ use Prim.Native.Nat.{ℕ, _<_, _≤_}
 use native.Mathlib.Omega.{arith}
 use lib.ListN.{length, getD}
 use lib.Ieee.{Float, nan, binary32, add, mul, eq}
-use Rattle.mixing.specs.Mixing.{0·0, mixed, mixedFull}
-use Rattle.mixing.specs.Sums.{Term, plus, total, RowTerm, mixedAll, termsAt}
+use Rattle.mixing.specs.Mixing.{0·0f, mixed, mixedFull}
+use Rattle.mixing.specs.Sums.{Addend, plus, total, RowTerm, mixedAll, termsAt}
 use Rattle.mixing.proofs.Laws.{length-full, mixed-at}
 
 -- one term over a row
 pub full-at : (xs : List Float) (g : Float) (os : List Float) (i : ℕ) → i < length xs → i < length os
     → getD (mixedFull xs g os) i nan ≡ plus (getD os i nan) (record { coef = g; sample = getD xs i nan })
 unfolding mixedFull
-full-at xs g os i h k = go (eq g 0·0)
+full-at xs g os i h k = go (eq g 0·0f)
   where
     go : (b : Bool) → getD (cond b os (mixed xs g os)) i nan ≡ cond b (getD os i nan) (add binary32 (getD os i nan) (mul binary32 (getD xs i nan) g))
     go true = refl
@@ -44,6 +44,6 @@ pub all-append : (ts us : List RowTerm) (os : List Float) → mixedAll (ts ++ us
 all-append [] us os = refl
 all-append (t ∷ ts) us os = all-append ts us (mixedFull (t .row) (t .coef) os)
 
-pub total-append : (ts us : List Term) (s : Float) → total s (ts ++ us) ≡ total (total s ts) us
+pub total-append : (ts us : List Addend) (s : Float) → total s (ts ++ us) ≡ total (total s ts) us
 total-append [] us s = refl
 total-append (t ∷ ts) us s = total-append ts us (plus s t)

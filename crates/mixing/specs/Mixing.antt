@@ -1,10 +1,8 @@
 -- What the mixing functions leave in their output. Assumes nothing.
 use mathlib.Core.Bool.{cond}
 use mathlib.Core.List.{List, [], _∷_}
-use lib.Ieee.{Float, binary32, add, mul, eq, ofBits}
-
-abbrev pub 0·0 : Float
-0·0 = ofBits binary32 0
+use lib.Ieee.{Float, binary32, add, mul, eq}
+pub use Rattle.ieee.specs.Numbers.{0·0f}
 
 -- `mix_add_scaled`: *target += sample * gain, for as many as there are samples
 abbrev pub mixed : List Float → Float → List Float → List Float
@@ -14,4 +12,4 @@ mixed (x ∷ xs) g (o ∷ os) = add binary32 o (mul binary32 x g) ∷ mixed xs g
 
 -- `mix_full_channel`: a gain of either zero adds nothing
 unfoldable pub mixedFull : List Float → Float → List Float → List Float
-mixedFull xs g os = cond (eq g 0·0) os (mixed xs g os)
+mixedFull xs g os = cond (eq g 0·0f) os (mixed xs g os)

@@ -4,21 +4,21 @@ use mathlib.Core.List.{List, [], _∷_}
 use Prim.Native.Nat.{ℕ}
 use lib.ListN.{getD}
 use lib.Ieee.{Float, nan, binary32, add, mul, eq}
-use Rattle.mixing.specs.Mixing.{0·0, mixedFull}
+use Rattle.mixing.specs.Mixing.{0·0f, mixedFull}
 
 -- ---- at one sample
 
 -- a coefficient and the sample that it scales
-pub record Term : Type 0 where
+pub record Addend : Type 0 where
   pub coef : Float
   pub sample : Float
 
 -- a coefficient of either zero adds nothing
-abbrev pub plus : Float → Term → Float
-plus s t = cond (eq (t .coef) 0·0) s (add binary32 s (mul binary32 (t .sample) (t .coef)))
+abbrev pub plus : Float → Addend → Float
+plus s t = cond (eq (t .coef) 0·0f) s (add binary32 s (mul binary32 (t .sample) (t .coef)))
 
 -- the terms added to s one after another
-abbrev pub total : Float → List Term → Float
+abbrev pub total : Float → List Addend → Float
 total s [] = s
 total s (t ∷ ts) = total (plus s t) ts
 
@@ -35,6 +35,6 @@ mixedAll [] os = os
 mixedAll (t ∷ ts) os = mixedAll ts (mixedFull (t .row) (t .coef) os)
 
 -- the rows' terms at sample i
-abbrev pub termsAt : List RowTerm → ℕ → List Term
+abbrev pub termsAt : List RowTerm → ℕ → List Addend
 termsAt [] i = []
 termsAt (t ∷ ts) i = record { coef = t .coef; sample = getD (t .row) i nan } ∷ termsAt ts i

@@ -11,7 +11,7 @@ use lib.Ieee.{Float, binary32, fits, le, eq}
 use Rattle.ieee.specs.Units.{F32, P, N}
 use Rattle.ieee.proofs.Compare.{le→, →le, →eq, eq→}
 use Rattle.panning.proofs.Corners714.{eq-finite}
-use Rattle.panning.specs.Choice.{keep, every, first, orElse, ge, last, below, above, end}
+use Rattle.panning.specs.Choice.{keep, everyOf, first, orList, ge, outermost, below, above, end}
 use Rattle.panning.proofs.Lists.{In, Some, Each, keep→, →keep, every→, →every, first-in, orElse→, Filled, filled}
 
 -- ---- `le` and `ge` order the finite values
@@ -93,16 +93,16 @@ module _ (r : Float → Float → Bool) (o : Order r) (c : ℕ → Float) where
             )
           ]
 
-  last-some : (l : List ℕ) → Each (λ s. F32 (c s)) l → Some l → Some (last r c l)
-  unfolding last
+  last-some : (l : List ℕ) → Each (λ s. F32 (c s)) l → Some l → Some (outermost r c l)
+  unfolding outermost
   last-some l f m =
       let g = greatest l f m in
-      (g .0, →keep (λ s. every (λ t. r (c t) (c s)) l) l (g .1) (→every (λ t. r (c t) (c (g .0))) l (g .2)))
+      (g .0, →keep (λ s. everyOf (λ t. r (c t) (c s)) l) l (g .1) (→every (λ t. r (c t) (c (g .0))) l (g .2)))
 
-last→ : (r : Float → Float → Bool) (c : ℕ → Float) (l : List ℕ) {a : ℕ} → In a (last r c l) → In a l × Each (λ t. T (r (c t) (c a))) l
-unfolding last
+last→ : (r : Float → Float → Bool) (c : ℕ → Float) (l : List ℕ) {a : ℕ} → In a (outermost r c l) → In a l × Each (λ t. T (r (c t) (c a))) l
+unfolding outermost
 last→ r c l {a} m =
-    let k = keep→ (λ s. every (λ t. r (c t) (c s)) l) l m in
+    let k = keep→ (λ s. everyOf (λ t. r (c t) (c s)) l) l m in
     (k .0, every→ (λ t. r (c t) (c a)) l (k .1))
 
 -- ---- the ends about v
@@ -143,8 +143,8 @@ module _ (c : ℕ → Float) (v : Float) (l : List ℕ) where
       one false h k = inr (last-some ge ge-order c (keep (λ s. not (le (c s) v)) l) (fine (λ s. not (le (c s) v))) (kept (λ s. not (le (c s) v)) (k tt)))
 
 -- ---- left and right of a row
-orElse-left : (k l : List ℕ) {a : ℕ} → Some k → In a (orElse k l) → In a k
-unfolding orElse
+orElse-left : (k l : List ℕ) {a : ℕ} → Some k → In a (orList k l) → In a k
+unfolding orList
 orElse-left [] l s m = absurd (List·Memᴰ·not-nil (s .1))
 orElse-left (t ∷ k) l s m = m
 

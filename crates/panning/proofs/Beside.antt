@@ -8,7 +8,7 @@ use native.Mathlib.Omega.{arith}
 use lib.Dec.{T, T-not, leb, leb→le, nleb→lt, lit<, lit≤}
 use lib.Ieee.{Float, nan, inf, fin, binary32, fits, le, lt, eq, sub, div}
 use lib.Ieee.Scale.{finite}
-use Rattle.ieee.specs.Units.{One, F32, Tame, P, N}
+use Rattle.ieee.specs.Units.{One, F32, Unitary, P, N}
 use Rattle.ieee.proofs.Constants.{zero-f32, zero-mag, whole-grid, whole-less}
 use Rattle.ieee.proofs.Ops.{small}
 use Rattle.ieee.proofs.Compare.{le→, →le, →lt, →eq}
@@ -42,7 +42,7 @@ nle→ x y f g h = go (leb (P x + N y) (P y + N x)) (leb→le (P x + N y) (P y +
     go true l k = absurd (T-not (le x y) h (→le x y f g (l tt)))
     go false l k = k tt
 
-inside : (a b v : Float) → Tame a → Tame b → T (fits binary32 v) → T (le a v) → T (not (le b v))
+inside : (a b v : Float) → Unitary a → Unitary b → T (fits binary32 v) → T (le a v) → T (not (le b v))
     → let s = div binary32 (sub binary32 v a) (sub binary32 b a) in Shared s (sub binary32 1·0 s)
 inside a b v ta tb fv h k =
     let fa = ta .f32 in
@@ -68,7 +68,7 @@ ratio-zero a b v t = go (eq a b) t
     go true t = refl
     go false t = absurd t
 
-pub ratio-part : (a b v : Float) → Tame a → Tame b → T (fits binary32 v) → Beside a b v → Part (ratio a b v)
+pub ratio-part : (a b v : Float) → Unitary a → Unitary b → T (fits binary32 v) → Beside a b v → Part (ratio a b v)
 unfolding ratio
 ratio-part a b v ta tb fv w = go (eq a b) (λ t. t) (λ t. elim w [ inl e ↦ absurd (T-not (eq a b) t e) | inr h ↦ inside a b v ta tb fv (h .0) (h .1) ])
   where

@@ -8,8 +8,8 @@ use lib.Dec.{T}
 use lib.Ieee.{Float, binary32, fits, eq}
 use Rattle.ieee.specs.Units.{F32}
 use Rattle.vectors.specs.declared.Vec3.{Vec3}
-use Rattle.panning.specs.Choice.{keep, first, orElse, level, end, flank, layer, row, side, corner}
-use Rattle.panning.specs.Terms.{at, up, ahead, across}
+use Rattle.panning.specs.Choice.{keep, first, orList, level, end, flank, layer, rowAmong, side, corner}
+use Rattle.panning.specs.Terms.{cornerAt, up, ahead, across}
 use Rattle.panning.specs.Table.{Table, Position}
 use Rattle.panning.proofs.Lists.{In, Some, Each, keep→, first-in, orElse→, orElse-some, some-of}
 use Rattle.panning.proofs.Axis.{end→, Ends, ends, level-with}
@@ -18,11 +18,11 @@ use Rattle.panning.proofs.Beside.{Beside, Part, eq-self, ratio-part}
 
 -- ---- left and right of a row
 module _ (X : ℕ → Float) (v : Float) (g : T (fits binary32 v)) (l : List ℕ) (f : Each (λ k. F32 (X k)) l) (s : Some l) where
-  sides : Beside (X (first (end false X v l))) (X (first (orElse (level X v l) (end true X v l)))) v
-  unfolding level orElse first
+  sides : Beside (X (first (end false X v l))) (X (first (orList (level X v l) (end true X v l)))) v
+  unfolding level orList first
   sides = go (keep (λ t. eq (X t) v) l) (λ t m. keep→ (λ t. eq (X t) v) l m)
     where
-      go : (k : List ℕ) → Each (λ t. In t l × T (eq (X t) v)) k → Beside (X (first (end false X v l))) (X (first (orElse k (end true X v l)))) v
+      go : (k : List ℕ) → Each (λ t. In t l × T (eq (X t) v)) k → Beside (X (first (end false X v l))) (X (first (orList k (end true X v l)))) v
       go (t ∷ k) h = let i = h t (List·Memᴰ·head refl) in inl (level-with X v g l f s t (i .0) (i .1))
       go [] h =
           let d = ends X v l f s in
@@ -50,16 +50,16 @@ module _ (sp : ℕ → Vec3) (l : List ℕ) (t : Table sp l) (p : Vec3) where
   unfolding layer
   layer-in b m = end→ Y (p .y) l b m
 
-  row-in : (b c : Bool) {s : ℕ} → In s (row c sp p (layer b sp p l)) → In s (layer b sp p l)
-  unfolding row
+  row-in : (b c : Bool) {s : ℕ} → In s (rowAmong c sp p (layer b sp p l)) → In s (layer b sp p l)
+  unfolding rowAmong
   row-in b c m = end→ Z (p .z) (layer b sp p l) c m
 
-  side-in : (b c d : Bool) {s : ℕ} → In s (side d sp p (row c sp p (layer b sp p l))) → In s (row c sp p (layer b sp p l))
+  side-in : (b c d : Bool) {s : ℕ} → In s (side d sp p (rowAmong c sp p (layer b sp p l))) → In s (rowAmong c sp p (layer b sp p l))
   unfolding side flank level
-  side-in b c false m = end→ X (p .x) (row c sp p (layer b sp p l)) false m
-  side-in b c true m = elim (orElse→ (level X (p .x) (row c sp p (layer b sp p l))) (end true X (p .x) (row c sp p (layer b sp p l))) m) [
-    | inl n ↦ keep→ (λ k. eq (X k) (p .x)) (row c sp p (layer b sp p l)) n .0
-    | inr n ↦ end→ X (p .x) (row c sp p (layer b sp p l)) true n
+  side-in b c false m = end→ X (p .x) (rowAmong c sp p (layer b sp p l)) false m
+  side-in b c true m = elim (orElse→ (level X (p .x) (rowAmong c sp p (layer b sp p l))) (end true X (p .x) (rowAmong c sp p (layer b sp p l))) m) [
+    | inl n ↦ keep→ (λ k. eq (X k) (p .x)) (rowAmong c sp p (layer b sp p l)) n .0
+    | inr n ↦ end→ X (p .x) (rowAmong c sp p (layer b sp p l)) true n
   ]
 
   pub layers : Ends Y (p .y) l
@@ -73,62 +73,62 @@ module _ (sp : ℕ → Vec3) (l : List ℕ) (t : Table sp l) (p : Vec3) where
   pub rows : (b : Bool) → Ends Z (p .z) (layer b sp p l)
   rows b = ends Z (p .z) (layer b sp p l) (λ s m. tame-in s (layer-in b m) .z .f32) (layer-some b)
 
-  row-some : (b c : Bool) → Some (row c sp p (layer b sp p l))
-  unfolding row
+  row-some : (b c : Bool) → Some (rowAmong c sp p (layer b sp p l))
+  unfolding rowAmong
   row-some b false = rows b .low-some
   row-some b true = rows b .high-some
 
-  row-x : (b c : Bool) → Each (λ k. F32 (X k)) (row c sp p (layer b sp p l))
+  row-x : (b c : Bool) → Each (λ k. F32 (X k)) (rowAmong c sp p (layer b sp p l))
   row-x b c s m = tame-in s (layer-in b (row-in b c m)) .x .f32
 
-  side-some : (b c d : Bool) → Some (side d sp p (row c sp p (layer b sp p l)))
+  side-some : (b c d : Bool) → Some (side d sp p (rowAmong c sp p (layer b sp p l)))
   unfolding side flank
-  side-some b c false = ends X (p .x) (row c sp p (layer b sp p l)) (row-x b c) (row-some b c) .low-some
-  side-some b c true = orElse-some (level X (p .x) (row c sp p (layer b sp p l))) (end true X (p .x) (row c sp p (layer b sp p l))) (ends X (p .x) (row c sp p (layer b sp p l)) (row-x b c) (row-some b c) .high-some)
+  side-some b c false = ends X (p .x) (rowAmong c sp p (layer b sp p l)) (row-x b c) (row-some b c) .low-some
+  side-some b c true = orElse-some (level X (p .x) (rowAmong c sp p (layer b sp p l))) (end true X (p .x) (rowAmong c sp p (layer b sp p l))) (ends X (p .x) (rowAmong c sp p (layer b sp p l)) (row-x b c) (row-some b c) .high-some)
 
-  pub corner-in-row : (b c d : Bool) → In (at (corner sp l p) b c d) (row c sp p (layer b sp p l))
+  pub corner-in-row : (b c d : Bool) → In (cornerAt (corner sp l p) b c d) (rowAmong c sp p (layer b sp p l))
   unfolding corner
-  corner-in-row b c d = side-in b c d (first-in (side d sp p (row c sp p (layer b sp p l))) (side-some b c d))
+  corner-in-row b c d = side-in b c d (first-in (side d sp p (rowAmong c sp p (layer b sp p l))) (side-some b c d))
 
-  pub corner-in-layer : (b c d : Bool) → In (at (corner sp l p) b c d) (layer b sp p l)
+  pub corner-in-layer : (b c d : Bool) → In (cornerAt (corner sp l p) b c d) (layer b sp p l)
   corner-in-layer b c d = row-in b c (corner-in-row b c d)
 
   -- (a) every corner is a speaker of the table
-  pub corner-in : (b c d : Bool) → In (at (corner sp l p) b c d) l
+  pub corner-in : (b c d : Bool) → In (cornerAt (corner sp l p) b c d) l
   corner-in b c d = layer-in b (corner-in-layer b c d)
 
-  corner-tame : (b c d : Bool) → Tame3 (sp (at (corner sp l p) b c d))
-  corner-tame b c d = tame-in (at (corner sp l p) b c d) (corner-in b c d)
+  corner-tame : (b c d : Bool) → Tame3 (sp (cornerAt (corner sp l p) b c d))
+  corner-tame b c d = tame-in (cornerAt (corner sp l p) b c d) (corner-in b c d)
 
   -- ---- each axis
-  up-beside : Beside (Y (at (corner sp l p) false true false)) (Y (at (corner sp l p) true true false)) (p .y)
+  up-beside : Beside (Y (cornerAt (corner sp l p) false true false)) (Y (cornerAt (corner sp l p) true true false)) (p .y)
   unfolding corner layer
   up-beside = elim (layers .apart) [
-    | inl e ↦ inl (subst (λ (k : List ℕ). T (eq (Y (at (corner sp l p) false true false)) (Y (first (side false sp p (row true sp p k)))))) e (eq-self (Y (at (corner sp l p) false true false)) (corner-tame false true false .y .f32)))
-    | inr h ↦ inr (h .0 (at (corner sp l p) false true false) (corner-in-layer false true false), h .1 (at (corner sp l p) true true false) (corner-in-layer true true false))
+    | inl e ↦ inl (subst (λ (k : List ℕ). T (eq (Y (cornerAt (corner sp l p) false true false)) (Y (first (side false sp p (rowAmong true sp p k)))))) e (eq-self (Y (cornerAt (corner sp l p) false true false)) (corner-tame false true false .y .f32)))
+    | inr h ↦ inr (h .0 (cornerAt (corner sp l p) false true false) (corner-in-layer false true false), h .1 (cornerAt (corner sp l p) true true false) (corner-in-layer true true false))
   ]
 
-  ahead-beside : (b : Bool) → Beside (Z (at (corner sp l p) b false false)) (Z (at (corner sp l p) b true false)) (p .z)
-  unfolding corner row
+  ahead-beside : (b : Bool) → Beside (Z (cornerAt (corner sp l p) b false false)) (Z (cornerAt (corner sp l p) b true false)) (p .z)
+  unfolding corner rowAmong
   ahead-beside b = elim (rows b .apart) [
-    | inl e ↦ inl (subst (λ (k : List ℕ). T (eq (Z (at (corner sp l p) b false false)) (Z (first (side false sp p k))))) e (eq-self (Z (at (corner sp l p) b false false)) (corner-tame b false false .z .f32)))
-    | inr h ↦ inr (h .0 (at (corner sp l p) b false false) (corner-in-row b false false), h .1 (at (corner sp l p) b true false) (corner-in-row b true false))
+    | inl e ↦ inl (subst (λ (k : List ℕ). T (eq (Z (cornerAt (corner sp l p) b false false)) (Z (first (side false sp p k))))) e (eq-self (Z (cornerAt (corner sp l p) b false false)) (corner-tame b false false .z .f32)))
+    | inr h ↦ inr (h .0 (cornerAt (corner sp l p) b false false) (corner-in-row b false false), h .1 (cornerAt (corner sp l p) b true false) (corner-in-row b true false))
   ]
 
   module _ (q : Position p) where
-    across-beside : (b c : Bool) → Beside (X (at (corner sp l p) b c false)) (X (at (corner sp l p) b c true)) (p .x)
+    across-beside : (b c : Bool) → Beside (X (cornerAt (corner sp l p) b c false)) (X (cornerAt (corner sp l p) b c true)) (p .x)
     unfolding corner side flank
-    across-beside b c = sides X (p .x) (q .x) (row c sp p (layer b sp p l)) (row-x b c) (row-some b c)
+    across-beside b c = sides X (p .x) (q .x) (rowAmong c sp p (layer b sp p l)) (row-x b c) (row-some b c)
 
     -- (b) every share lies from 0 to 1, and so does what it leaves
     pub up-part : Part (up sp (corner sp l p) p)
     unfolding up
-    up-part = ratio-part (Y (at (corner sp l p) false true false)) (Y (at (corner sp l p) true true false)) (p .y) (corner-tame false true false .y) (corner-tame true true false .y) (q .y) up-beside
+    up-part = ratio-part (Y (cornerAt (corner sp l p) false true false)) (Y (cornerAt (corner sp l p) true true false)) (p .y) (corner-tame false true false .y) (corner-tame true true false .y) (q .y) up-beside
 
     pub ahead-part : (b : Bool) → Part (ahead sp (corner sp l p) p b)
     unfolding ahead
-    ahead-part b = ratio-part (Z (at (corner sp l p) b false false)) (Z (at (corner sp l p) b true false)) (p .z) (corner-tame b false false .z) (corner-tame b true false .z) (q .z) (ahead-beside b)
+    ahead-part b = ratio-part (Z (cornerAt (corner sp l p) b false false)) (Z (cornerAt (corner sp l p) b true false)) (p .z) (corner-tame b false false .z) (corner-tame b true false .z) (q .z) (ahead-beside b)
 
     pub across-part : (b c : Bool) → Part (across sp (corner sp l p) p b c)
     unfolding across
-    across-part b c = ratio-part (X (at (corner sp l p) b c false)) (X (at (corner sp l p) b c true)) (p .x) (corner-tame b c false .x) (corner-tame b c true .x) (q .x) (across-beside b c)
+    across-part b c = ratio-part (X (cornerAt (corner sp l p) b c false)) (X (cornerAt (corner sp l p) b c true)) (p .x) (corner-tame b c false .x) (corner-tame b c true .x) (q .x) (across-beside b c)

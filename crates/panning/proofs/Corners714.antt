@@ -10,7 +10,7 @@ use lib.Ieee.Fits.{and-i, and-l, and-r}
 use Rattle.ieee.specs.Units.{F32, P, N}
 use Rattle.ieee.proofs.Compare.{lt→, →lt, le→, eq→}
 use Rattle.vectors.specs.declared.Vec3.{Vec3}
-use Rattle.panning.specs.Choice.{0·0, keep, every, orElse, first, ge, last, below, above, level, end, flank, layer, row, side, corner}
+use Rattle.panning.specs.Choice.{0·0, keep, everyOf, orList, first, ge, outermost, below, above, level, end, flank, layer, rowAmong, side, corner}
 use Rattle.panning.specs.declared.Ends.{Ends}
 use Rattle.panning.specs.Found.{sideOf, rowOf, layerOf, chosen, Inside}
 use Rattle.panning.specs.Corners714.{pairEnds, narrowEnds, wideEnds, frontEnds, floorEnds, ceilingEnds, cube714}
@@ -24,12 +24,12 @@ ceiling = 8 ∷ 9 ∷ 10 ∷ 11 ∷ []
 
 -- the ends, by the outcomes g and e of the tests "up to the position" and "at the position"
 abbrev endBy : Bool → (ℕ → Float) → (ℕ → Bool) → List ℕ → List ℕ
-endBy false c g l = orElse (last le c (keep g l)) (last ge c (keep (λ k. not (g k)) l))
-endBy true c g l = orElse (last ge c (keep (λ k. not (g k)) l)) (last le c (keep g l))
+endBy false c g l = orList (outermost le c (keep g l)) (outermost ge c (keep (λ k. not (g k)) l))
+endBy true c g l = orList (outermost ge c (keep (λ k. not (g k)) l)) (outermost le c (keep g l))
 
 abbrev flankBy : Bool → (ℕ → Float) → (ℕ → Bool) → (ℕ → Bool) → List ℕ → List ℕ
 flankBy false c g e l = endBy false c g l
-flankBy true c g e l = orElse (keep e l) (endBy true c g l)
+flankBy true c g e l = orList (keep e l) (endBy true c g l)
 
 abbrev X : ℕ → Float
 X k = hall714 k .x
@@ -42,7 +42,7 @@ Z k = hall714 k .z
 
 -- ---- height and depth
 heights : (top a b : Bool) → endBy top Y (λ k. cond (leb 8 k) b a) fullRange ≡ cond (cond top a b) ceiling floor
-unfolding last keep every orElse hall714 positions714 le lt eq
+unfolding outermost keep everyOf orList hall714 positions714 le lt eq
 heights false true true = refl
 heights false true false = refl
 heights false false true = refl
@@ -55,7 +55,7 @@ heights true false false = refl
 -- a, b and c: the position has reached the rows of 4 and 5, of 6 and 7, of 0, 1 and 2
 floor-rows : (front a b c : Bool) → endBy front Z (λ k. cond (leb k 2) c (cond (leb k 5) a b)) floor
     ≡ cond front (cond a (cond b (0 ∷ 1 ∷ 2 ∷ []) (6 ∷ 7 ∷ [])) (4 ∷ 5 ∷ [])) (cond c (0 ∷ 1 ∷ 2 ∷ []) (cond b (6 ∷ 7 ∷ []) (4 ∷ 5 ∷ [])))
-unfolding last keep every orElse hall714 positions714 le lt eq
+unfolding outermost keep everyOf orList hall714 positions714 le lt eq
 floor-rows false true true true = refl
 floor-rows false true true false = refl
 floor-rows false true false true = refl
@@ -75,7 +75,7 @@ floor-rows true false false false = refl
 
 -- a and b: it has reached those of 10 and 11, of 8 and 9
 ceiling-rows : (front a b : Bool) → endBy front Z (λ k. cond (leb k 9) b a) ceiling ≡ cond (cond front a b) (8 ∷ 9 ∷ []) (10 ∷ 11 ∷ [])
-unfolding last keep every orElse hall714 positions714 le lt eq
+unfolding outermost keep everyOf orList hall714 positions714 le lt eq
 ceiling-rows false true true = refl
 ceiling-rows false true false = refl
 ceiling-rows false false true = refl
@@ -128,7 +128,7 @@ record Pair (i j : ℕ) : Type 0 where
   right-all : T (pairs-right i j)
 
 four : Pair 4 5 × Pair 6 7 × Pair 8 9 × Pair 10 11
-unfolding all last keep every orElse first hall714 positions714 le lt eq fits
+unfolding all outermost keep everyOf orList first hall714 positions714 le lt eq fits
 four = (
   record { left = record { fine = tt; fit = tt }; right = record { fine = tt; fit = tt }; order = tt; right-all = tt },
   record { left = record { fine = tt; fit = tt }; right = record { fine = tt; fit = tt }; order = tt; right-all = tt },
@@ -145,7 +145,7 @@ three-right a b c d e f =
     (eqb (first (flankBy false X g h (0 ∷ 1 ∷ 2 ∷ []))) (cond (e || f) 1 (cond (c || d) 2 0)) && eqb (first (flankBy true X g h (0 ∷ 1 ∷ 2 ∷ []))) (cond c 1 (cond a 2 0)))
 
 three : T (all (λ a. all (λ b. all (λ c. all (λ d. all (λ e. all (three-right a b c d e)))))))
-unfolding all last keep every orElse first hall714 positions714 le lt eq
+unfolding all outermost keep everyOf orList first hall714 positions714 le lt eq
 three = tt
 
 -- ---- what the comparisons of floats say
@@ -223,19 +223,19 @@ module _ (p : Vec3) (w : T (fits binary32 (p .x))) where
     pair-is true = eqb→eq (sides true) _ (and-r (eqb (sides false) (cond (le (X j) (p .x)) j i)) _ both)
 
   row-45 : Sides p (4 ∷ 5 ∷ []) (narrowEnds 4 5 (p .x))
-  unfolding side flank level end below above last keep every orElse first hall714 positions714
+  unfolding side flank level end below above outermost keep everyOf orList first hall714 positions714
   row-45 = record { is = λ right. elim right [ false ↦ pair-is 4 5 (four .0) false | true ↦ pair-is 4 5 (four .0) true ] }
 
   row-67 : Sides p (6 ∷ 7 ∷ []) (wideEnds 6 7 (p .x))
-  unfolding side flank level end below above last keep every orElse first hall714 positions714
+  unfolding side flank level end below above outermost keep everyOf orList first hall714 positions714
   row-67 = record { is = λ right. elim right [ false ↦ pair-is 6 7 (four .1) false | true ↦ pair-is 6 7 (four .1) true ] }
 
   row-89 : Sides p (8 ∷ 9 ∷ []) (wideEnds 8 9 (p .x))
-  unfolding side flank level end below above last keep every orElse first hall714 positions714
+  unfolding side flank level end below above outermost keep everyOf orList first hall714 positions714
   row-89 = record { is = λ right. elim right [ false ↦ pair-is 8 9 (four .2) false | true ↦ pair-is 8 9 (four .2) true ] }
 
   row-1011 : Sides p (10 ∷ 11 ∷ []) (narrowEnds 10 11 (p .x))
-  unfolding side flank level end below above last keep every orElse first hall714 positions714
+  unfolding side flank level end below above outermost keep everyOf orList first hall714 positions714
   row-1011 = record { is = λ right. elim right [ false ↦ pair-is 10 11 (four .3) false | true ↦ pair-is 10 11 (four .3) true ] }
 
   thirds : Bool → ℕ
@@ -256,7 +256,7 @@ module _ (p : Vec3) (w : T (fits binary32 (p .x))) where
       (and-i (beyond a c d) (beyond c e f) (beyond-at (X 0) (X 2) (p .x) (centre .0) (centre .1) w (centre .3)) (beyond-at (X 2) (X 1) (p .x) (centre .1) (centre .2) w (centre .4))))))
 
   row-012 : Sides p (0 ∷ 1 ∷ 2 ∷ []) (frontEnds (p .x))
-  unfolding thirds side flank level end below above last keep every orElse first hall714 positions714
+  unfolding thirds side flank level end below above outermost keep everyOf orList first hall714 positions714
   row-012 = record {
     is = λ right. elim right [
       | false ↦ eqb→eq (thirds false) _ (and-l (eqb (thirds false) (cond (le (X 1) (p .x)) 1 (cond (le (X 2) (p .x)) 2 0))) _ all-three)
@@ -272,26 +272,26 @@ module _ (p : Vec3) (w : T (fits binary32 (p .x))) where
   moved : {k l : List ℕ} {e : Ends} → k ≡ l → Sides p l e → Sides p k e
   moved {e = e} q h = subst (λ (l : List ℕ). Sides p l e) (sym q) h
 
-  floor-sides : (front : Bool) → Sides p (row front hall714 p floor) (rowOf front (floorEnds (p .z) (p .x)))
-  unfolding row end below above hall714 positions714
+  floor-sides : (front : Bool) → Sides p (rowAmong front hall714 p floor) (rowOf front (floorEnds (p .z) (p .x)))
+  unfolding rowAmong end below above hall714 positions714
   floor-sides true =
       moved (floor-rows true (le (one true) (p .z)) (le (surround true) (p .z)) (le (one false) (p .z))) (either (either row-012 row-67 (le (surround true) (p .z))) row-45 (le (one true) (p .z)))
   floor-sides false =
       moved (floor-rows false (le (one true) (p .z)) (le (surround true) (p .z)) (le (one false) (p .z))) (either row-012 (either row-67 row-45 (le (surround true) (p .z))) (le (one false) (p .z)))
 
-  ceiling-sides : (front : Bool) → Sides p (row front hall714 p ceiling) (rowOf front (ceilingEnds (p .z) (p .x)))
-  unfolding row end below above hall714 positions714
+  ceiling-sides : (front : Bool) → Sides p (rowAmong front hall714 p ceiling) (rowOf front (ceilingEnds (p .z) (p .x)))
+  unfolding rowAmong end below above hall714 positions714
   ceiling-sides true = moved (ceiling-rows true (le (one true) (p .z)) (le (surround false) (p .z))) (either row-89 row-1011 (le (one true) (p .z)))
   ceiling-sides false = moved (ceiling-rows false (le (one true) (p .z)) (le (surround false) (p .z))) (either row-89 row-1011 (le (surround false) (p .z)))
 
-  layer-sides : (b front : Bool) → Sides p (row front hall714 p (cond b ceiling floor)) (rowOf front (cond b (ceilingEnds (p .z) (p .x)) (floorEnds (p .z) (p .x))))
+  layer-sides : (b front : Bool) → Sides p (rowAmong front hall714 p (cond b ceiling floor)) (rowOf front (cond b (ceilingEnds (p .z) (p .x)) (floorEnds (p .z) (p .x))))
   layer-sides true = ceiling-sides
   layer-sides false = floor-sides
 
-  cube-sides : (top front : Bool) → Sides p (row front hall714 p (layer top hall714 p fullRange)) (rowOf front (layerOf top (cube714 p)))
+  cube-sides : (top front : Bool) → Sides p (rowAmong front hall714 p (layer top hall714 p fullRange)) (rowOf front (layerOf top (cube714 p)))
   unfolding layer end below above hall714 positions714
-  cube-sides true front = moved (ap (row front hall714 p) (heights true (le 0·0 (p .y)) (le (one false) (p .y)))) (layer-sides (le 0·0 (p .y)) front)
-  cube-sides false front = moved (ap (row front hall714 p) (heights false (le 0·0 (p .y)) (le (one false) (p .y)))) (layer-sides (le (one false) (p .y)) front)
+  cube-sides true front = moved (ap (rowAmong front hall714 p) (heights true (le 0·0 (p .y)) (le (one false) (p .y)))) (layer-sides (le 0·0 (p .y)) front)
+  cube-sides false front = moved (ap (rowAmong front hall714 p) (heights false (le 0·0 (p .y)) (le (one false) (p .y)))) (layer-sides (le (one false) (p .y)) front)
 
   pub chosen-is : chosen (cube714 p) ≡ corner hall714 fullRange p
   unfolding corner

@@ -7,8 +7,8 @@ use mathlib.Core.Path.{_≡_}
 use lib.Ieee.{Float, fits, lt, le, eq}
 use lib.Ieee.Fits.{and-i, and-l, and-r}
 use Rattle.vectors.specs.declared.Vec3.{Vec3}
-use Rattle.panning.specs.Choice.{keep, every}
-use Rattle.panning.specs.Table.{Table, Position, between, placed, alike, distinct, occupied}
+use Rattle.panning.specs.Choice.{keep, everyOf}
+use Rattle.panning.specs.Table.{Table, Position, between, placedInside, alike, distinct, occupied}
 use Rattle.panning.specs.Hall.{positions714, hall714, fullRange, 12·0, terms714}
 use Rattle.panning.specs.Terms.{onChannel}
 use Rattle.panning.specs.Facts.{Pans}
@@ -17,7 +17,7 @@ use Rattle.panning.proofs.Facts.{pans}
 use Rattle.panning.proofs.Audible.{absent-none, absent-of}
 
 pub hall714-table : Table hall714 fullRange
-unfolding positions714 hall714 every distinct between fits lt le eq
+unfolding positions714 hall714 everyOf distinct between fits lt le eq
 hall714-table = record { some = tt; placed = tt; distinct = tt }
 
 pub pans714 : (p : Vec3) → Position p → Pans hall714 fullRange 12·0 p
@@ -26,7 +26,7 @@ pans714 p q = pans hall714 fullRange hall714-table p q 12·0 (record { fine = tt
 
 -- panning puts nothing into the bass channel
 pub no-bass : (p : Vec3) → Position p → (g s : Float) → onChannel 3 (terms714 p g s) ≡ []
-unfolding every
+unfolding everyOf
 no-bass p q g s = absent-none 3 (terms714 p g s) (absent-of 3 (terms714 p g s) (λ t m. every→ (λ k. not (eqb 3 k)) fullRange tt (t .channel) (pans714 p q .named g s t m)))
 
 -- ---- halls with fewer speakers
@@ -37,15 +37,15 @@ module _ (sp : ℕ → Vec3) (f : ℕ → Bool) where
   keep-distinct : (l : List ℕ) → T (distinct sp l) → T (distinct sp (keep f l))
   unfolding distinct keep
   keep-distinct [] d = tt
-  keep-distinct (k ∷ l) d = go (f k) (keep-distinct l (and-r (every (far k) l) (distinct sp l) d))
+  keep-distinct (k ∷ l) d = go (f k) (keep-distinct l (and-r (everyOf (far k) l) (distinct sp l) d))
     where
       go : (b : Bool) → T (distinct sp (keep f l)) → T (distinct sp (cond b (k ∷ keep f l) (keep f l)))
-      go true r = and-i (every (far k) (keep f l)) (distinct sp (keep f l)) (→every (far k) (keep f l) (λ j m. every→ (far k) l (and-l (every (far k) l) (distinct sp l) d) j (keep→ f l m .0))) r
+      go true r = and-i (everyOf (far k) (keep f l)) (distinct sp (keep f l)) (→every (far k) (keep f l) (λ j m. every→ (far k) l (and-l (everyOf (far k) l) (distinct sp l) d) j (keep→ f l m .0))) r
       go false r = r
 
   pub fewer : (l : List ℕ) → Table sp l → T (occupied (keep f l)) → Table sp (keep f l)
   fewer l t h = record {
     some = h;
-    placed = →every (λ k. placed (sp k)) (keep f l) (λ k m. every→ (λ k. placed (sp k)) l (t .placed) k (keep→ f l m .0));
+    placed = →every (λ k. placedInside (sp k)) (keep f l) (λ k m. every→ (λ k. placedInside (sp k)) l (t .placed) k (keep→ f l m .0));
     distinct = keep-distinct l (t .distinct);
   }

@@ -6,7 +6,7 @@ use Prim.Native.Nat.{ℕ}
 use mathlib.Core.List.{List, [], _∷_, List·Memᴰ, List·Memᴰ·head, List·Memᴰ·tail, List·Memᴰ·not-nil, List·Memᴰ·cases-cons}
 use lib.Dec.{T}
 use lib.Ieee.Fits.{and-i, and-l, and-r}
-use Rattle.panning.specs.Choice.{keep, every, orElse, first}
+use Rattle.panning.specs.Choice.{keep, everyOf, orList, first}
 use Rattle.panning.specs.Table.{occupied}
 
 abbrev pub In : ℕ → List ℕ → Type 0
@@ -49,31 +49,31 @@ unfolding keep
     there true n = List·Memᴰ·tail n
     there false n = n
 
-pub every→ : (f : ℕ → Bool) (l : List ℕ) → T (every f l) → Each (λ s. T (f s)) l
-unfolding every
+pub every→ : (f : ℕ → Bool) (l : List ℕ) → T (everyOf f l) → Each (λ s. T (f s)) l
+unfolding everyOf
 every→ f [] t a m = absurd (List·Memᴰ·not-nil m)
 every→ f (s ∷ l) t a m = elim (List·Memᴰ·cases-cons m) [
-  | inl e ↦ subst (λ (x : ℕ). T (f x)) (sym e) (and-l (f s) (every f l) t)
-  | inr n ↦ every→ f l (and-r (f s) (every f l) t) a n
+  | inl e ↦ subst (λ (x : ℕ). T (f x)) (sym e) (and-l (f s) (everyOf f l) t)
+  | inr n ↦ every→ f l (and-r (f s) (everyOf f l) t) a n
 ]
 
-pub →every : (f : ℕ → Bool) (l : List ℕ) → Each (λ s. T (f s)) l → T (every f l)
-unfolding every
+pub →every : (f : ℕ → Bool) (l : List ℕ) → Each (λ s. T (f s)) l → T (everyOf f l)
+unfolding everyOf
 →every f [] h = tt
-→every f (s ∷ l) h = and-i (f s) (every f l) (h s (List·Memᴰ·head refl)) (→every f l (λ a m. h a (List·Memᴰ·tail m)))
+→every f (s ∷ l) h = and-i (f s) (everyOf f l) (h s (List·Memᴰ·head refl)) (→every f l (λ a m. h a (List·Memᴰ·tail m)))
 
 pub first-in : (l : List ℕ) → Some l → In (first l) l
 unfolding first
 first-in [] m = absurd (List·Memᴰ·not-nil (m .1))
 first-in (s ∷ l) m = List·Memᴰ·head refl
 
-pub orElse→ : (k l : List ℕ) {a : ℕ} → In a (orElse k l) → In a k ⊎ In a l
-unfolding orElse
+pub orElse→ : (k l : List ℕ) {a : ℕ} → In a (orList k l) → In a k ⊎ In a l
+unfolding orList
 orElse→ [] l m = inr m
 orElse→ (s ∷ k) l m = inl m
 
-pub orElse-some : (k l : List ℕ) → Some l → Some (orElse k l)
-unfolding orElse
+pub orElse-some : (k l : List ℕ) → Some l → Some (orList k l)
+unfolding orList
 orElse-some [] l m = m
 orElse-some (s ∷ k) l m = (s, List·Memᴰ·head refl)
 
@@ -83,8 +83,8 @@ pub record Filled (P Q : ℕ → Type 0) (low high : List ℕ) : Type 0 where
   pub high-some : Some high
   pub apart : (low ≡ high) ⊎ (Each P low × Each Q high)
 
-pub filled : (P Q : ℕ → Type 0) (b a : List ℕ) → Some b ⊎ Some a → Each P b → Each Q a → Filled P Q (orElse b a) (orElse a b)
-unfolding orElse
+pub filled : (P Q : ℕ → Type 0) (b a : List ℕ) → Some b ⊎ Some a → Each P b → Each Q a → Filled P Q (orList b a) (orList a b)
+unfolding orList
 filled P Q [] [] h p q = absurd (elim h [ inl m ↦ List·Memᴰ·not-nil (m .1) | inr m ↦ List·Memᴰ·not-nil (m .1) ])
 filled P Q [] (t ∷ a) h p q = record { low-some = (t, List·Memᴰ·head refl); high-some = (t, List·Memᴰ·head refl); apart = inl refl }
 filled P Q (s ∷ b) [] h p q = record { low-some = (s, List·Memᴰ·head refl); high-some = (s, List·Memᴰ·head refl); apart = inl refl }

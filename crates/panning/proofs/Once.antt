@@ -9,8 +9,8 @@ use lib.Ieee.{Float, le, eq, unlike}
 use Rattle.ieee.proofs.Constants.{zero-mag}
 use Rattle.ieee.specs.Units.{F32, P}
 use Rattle.vectors.specs.declared.Vec3.{Vec3}
-use Rattle.panning.specs.Choice.{Corner, differ, first, layer, row, side, corner}
-use Rattle.panning.specs.Terms.{ratio, at, up, ahead, across}
+use Rattle.panning.specs.Choice.{Corner, differ, first, layer, rowAmong, side, corner}
+use Rattle.panning.specs.Terms.{ratio, cornerAt, up, ahead, across}
 use Rattle.panning.specs.Table.{Table, Position}
 use Rattle.panning.proofs.Tables.{Tame3, Gain8, all-tame}
 use Rattle.panning.proofs.Beside.{eq-self, ratio-zero}
@@ -21,29 +21,29 @@ ratio-none : (a b v : Float) → F32 a → a ≡ b → P (ratio a b v) ≡ 0
 ratio-none a b v f e = ap (λ (x : Float). P x) (ratio-zero a b v (subst (λ (x : Float). T (eq a x)) e (eq-self a f))) ∙ zero-mag
 
 module _ (sp : ℕ → Vec3) (l : List ℕ) (t : Table sp l) (p : Vec3) (q : Position p) (g : Float) (G : Gain8 g) where
-  placed-at : (b c d : Bool) → Tame3 (sp (at (corner sp l p) b c d))
-  placed-at b c d = all-tame sp l (t .placed) (at (corner sp l p) b c d) (corner-in sp l t p b c d)
+  placed-at : (b c d : Bool) → Tame3 (sp (cornerAt (corner sp l p) b c d))
+  placed-at b c d = all-tame sp l (t .placed) (cornerAt (corner sp l p) b c d) (corner-in sp l t p b c d)
 
   -- the weight of a corner on the high end of the axis, where a corner on its low end is the same speaker
-  one-layer : (c d c' d' : Bool) → at (corner sp l p) false c d ≡ at (corner sp l p) true c' d' → P (weight sp l p g true c' d') ≡ 0
+  one-layer : (c d c' d' : Bool) → cornerAt (corner sp l p) false c d ≡ cornerAt (corner sp l p) true c' d' → P (weight sp l p g true c' d') ≡ 0
   unfolding up corner layer
   one-layer c d c' d' e = no-up sp l t p q g G c' d' (elim (layers sp l t p .apart) [
-    | inl h ↦ ratio-none (sp (at (corner sp l p) false true false) .y) (sp (at (corner sp l p) true true false) .y) (p .y) (placed-at false true false .y .f32) (ap (λ (k : List ℕ). sp (first (side false sp p (row true sp p k))) .y) h)
-    | inr h ↦ absurd (T-not (le (sp (at (corner sp l p) true c' d') .y) (p .y)) (h .1 (at (corner sp l p) true c' d') (corner-in-layer sp l t p true c' d')) (subst (λ (k : ℕ). T (le (sp k .y) (p .y))) e (h .0 (at (corner sp l p) false c d) (corner-in-layer sp l t p false c d))))
+    | inl h ↦ ratio-none (sp (cornerAt (corner sp l p) false true false) .y) (sp (cornerAt (corner sp l p) true true false) .y) (p .y) (placed-at false true false .y .f32) (ap (λ (k : List ℕ). sp (first (side false sp p (rowAmong true sp p k))) .y) h)
+    | inr h ↦ absurd (T-not (le (sp (cornerAt (corner sp l p) true c' d') .y) (p .y)) (h .1 (cornerAt (corner sp l p) true c' d') (corner-in-layer sp l t p true c' d')) (subst (λ (k : ℕ). T (le (sp k .y) (p .y))) e (h .0 (cornerAt (corner sp l p) false c d) (corner-in-layer sp l t p false c d))))
   ])
 
-  one-row : (b d d' : Bool) → at (corner sp l p) b false d ≡ at (corner sp l p) b true d' → P (weight sp l p g b true d') ≡ 0
-  unfolding ahead corner row
+  one-row : (b d d' : Bool) → cornerAt (corner sp l p) b false d ≡ cornerAt (corner sp l p) b true d' → P (weight sp l p g b true d') ≡ 0
+  unfolding ahead corner rowAmong
   one-row b d d' e = no-ahead sp l t p q g G b d' (elim (rows sp l t p b .apart) [
-    | inl h ↦ ratio-none (sp (at (corner sp l p) b false false) .z) (sp (at (corner sp l p) b true false) .z) (p .z) (placed-at b false false .z .f32) (ap (λ (k : List ℕ). sp (first (side false sp p k)) .z) h)
-    | inr h ↦ absurd (T-not (le (sp (at (corner sp l p) b true d') .z) (p .z)) (h .1 (at (corner sp l p) b true d') (corner-in-row sp l t p b true d')) (subst (λ (k : ℕ). T (le (sp k .z) (p .z))) e (h .0 (at (corner sp l p) b false d) (corner-in-row sp l t p b false d))))
+    | inl h ↦ ratio-none (sp (cornerAt (corner sp l p) b false false) .z) (sp (cornerAt (corner sp l p) b true false) .z) (p .z) (placed-at b false false .z .f32) (ap (λ (k : List ℕ). sp (first (side false sp p k)) .z) h)
+    | inr h ↦ absurd (T-not (le (sp (cornerAt (corner sp l p) b true d') .z) (p .z)) (h .1 (cornerAt (corner sp l p) b true d') (corner-in-row sp l t p b true d')) (subst (λ (k : ℕ). T (le (sp k .z) (p .z))) e (h .0 (cornerAt (corner sp l p) b false d) (corner-in-row sp l t p b false d))))
   ])
 
-  one-side : (b c : Bool) → at (corner sp l p) b c false ≡ at (corner sp l p) b c true → P (weight sp l p g b c true) ≡ 0
+  one-side : (b c : Bool) → cornerAt (corner sp l p) b c false ≡ cornerAt (corner sp l p) b c true → P (weight sp l p g b c true) ≡ 0
   unfolding across
-  one-side b c e = no-across sp l t p q g G b c (ratio-none (sp (at (corner sp l p) b c false) .x) (sp (at (corner sp l p) b c true) .x) (p .x) (placed-at b c false .x .f32) (ap (λ (k : ℕ). sp k .x) e))
+  one-side b c e = no-across sp l t p q g G b c (ratio-none (sp (cornerAt (corner sp l p) b c false) .x) (sp (cornerAt (corner sp l p) b c true) .x) (p .x) (placed-at b c false .x .f32) (ap (λ (k : ℕ). sp k .x) e))
 
-  one-bits : (b c d b' c' d' : Bool) → T (unlike b b' || unlike c c' || unlike d d') → at (corner sp l p) b c d ≡ at (corner sp l p) b' c' d'
+  one-bits : (b c d b' c' d' : Bool) → T (unlike b b' || unlike c c' || unlike d d') → cornerAt (corner sp l p) b c d ≡ cornerAt (corner sp l p) b' c' d'
       → (P (weight sp l p g b c d) ≡ 0) ⊎ (P (weight sp l p g b' c' d') ≡ 0)
   one-bits false c d true c' d' h e = inr (one-layer c d c' d' e)
   one-bits true c d false c' d' h e = inl (one-layer c' d' c d (sym e))

@@ -9,13 +9,13 @@ use lib.Dec.{T, T-not, eqb, eqb-refl}
 use lib.Ieee.{Float, nan, inf, fin, binary32, fits, le, lt, eq}
 use lib.Ieee.Fits.{and-l, and-r}
 use lib.Ieee.Scale.{finite}
-use Rattle.ieee.specs.Units.{One, F32, Tame, mag, P, N}
+use Rattle.ieee.specs.Units.{One, F32, Unitary, mag, P, N}
 use Rattle.ieee.proofs.Compare.{le→}
 use Rattle.ieee.proofs.Signed.{one-sided}
 use Rattle.ieee.proofs.Constants.{zero-f32, one-f32, eight-f32, zero-mag, one-P, eight-P}
 use Rattle.vectors.specs.declared.Vec3.{Vec3}
-use Rattle.panning.specs.Choice.{every, 0·0, 1·0}
-use Rattle.panning.specs.Table.{minus-one, 8·0, between, placed, distinct, alike}
+use Rattle.panning.specs.Choice.{everyOf, 0·0, 1·0}
+use Rattle.panning.specs.Table.{minus-one, 8·0, between, placedInside, distinct, alike}
 use Rattle.panning.proofs.Lists.{In, Each, every→}
 
 -- ---- what lies between two finite values is finite
@@ -48,7 +48,7 @@ minus-N : N minus-one ≡ One
 unfolding mag One
 minus-N = refl
 
-tame : (x : Float) → T (between minus-one 1·0 x) → Tame x
+tame : (x : Float) → T (between minus-one 1·0 x) → Unitary x
 tame x t =
     let b = between→ minus-one 1·0 x minus-f32 one-f32 t in
     let p = one-P in
@@ -92,13 +92,13 @@ size1 s t =
 
 -- ---- the table
 pub record Tame3 (v : Vec3) : Type 0 where
-  pub x : Tame (v .x)
-  pub y : Tame (v .y)
-  pub z : Tame (v .z)
+  pub x : Unitary (v .x)
+  pub y : Unitary (v .y)
+  pub z : Unitary (v .z)
 
-pub all-tame : (sp : ℕ → Vec3) (l : List ℕ) → T (every (λ k. placed (sp k)) l) → Each (λ k. Tame3 (sp k)) l
+pub all-tame : (sp : ℕ → Vec3) (l : List ℕ) → T (everyOf (λ k. placedInside (sp k)) l) → Each (λ k. Tame3 (sp k)) l
 all-tame sp l t k m =
-    let a = every→ (λ k. placed (sp k)) l t k m in
+    let a = every→ (λ k. placedInside (sp k)) l t k m in
     let v = sp k in
     let b = between minus-one 1·0 in
     let r = and-r (b (v .x)) (b (v .y) && b (v .z)) a in
@@ -113,8 +113,8 @@ pub other : (sp : ℕ → Vec3) (k : ℕ) (l : List ℕ) → T (distinct sp (k �
 unfolding distinct
 other sp k l d {j} m e =
     let far : ℕ → Bool = λ i. not (eqb k i) && not (alike (sp k) (sp i)) in
-    T-not (eqb k j) (and-l (not (eqb k j)) (not (alike (sp k) (sp j))) (every→ far l (and-l (every far l) (distinct sp l) d) j m)) (subst (λ (i : ℕ). T (eqb k i)) e (eqb-refl k))
+    T-not (eqb k j) (and-l (not (eqb k j)) (not (alike (sp k) (sp j))) (every→ far l (and-l (everyOf far l) (distinct sp l) d) j m)) (subst (λ (i : ℕ). T (eqb k i)) e (eqb-refl k))
 
 pub others : (sp : ℕ → Vec3) (k : ℕ) (l : List ℕ) → T (distinct sp (k ∷ l)) → T (distinct sp l)
 unfolding distinct
-others sp k l d = and-r (every (λ i. not (eqb k i) && not (alike (sp k) (sp i))) l) (distinct sp l) d
+others sp k l d = and-r (everyOf (λ i. not (eqb k i) && not (alike (sp k) (sp i))) l) (distinct sp l) d

@@ -4,15 +4,9 @@
 use Prim.Native.Nat.{ℕ}
 use mathlib.Core.Bool.{Bool, true, false, not, _&&_, _||_, cond}
 use mathlib.Core.List.{List, [], _∷_}
-use lib.IntN.{pos}
-use lib.Ieee.{Float, fin, le, eq, unlike}
+use lib.Ieee.{Float, le, eq, unlike}
 use Rattle.vectors.specs.declared.Vec3.{Vec3}
-
-abbrev pub 0·0 : Float
-0·0 = fin false 0 (pos 0)
-
-abbrev pub 1·0 : Float
-1·0 = fin false 1 (pos 0)
+pub use Rattle.ieee.specs.Numbers.{0·0, 1·0}
 
 -- ---- lists of channels
 
@@ -20,14 +14,14 @@ unfoldable pub keep : (ℕ → Bool) → List ℕ → List ℕ
 keep f [] = []
 keep f (k ∷ l) = cond (f k) (k ∷ keep f l) (keep f l)
 
-unfoldable pub every : (ℕ → Bool) → List ℕ → Bool
-every f [] = true
-every f (k ∷ l) = f k && every f l
+unfoldable pub everyOf : (ℕ → Bool) → List ℕ → Bool
+everyOf f [] = true
+everyOf f (k ∷ l) = f k && everyOf f l
 
 -- the first list, or the second where the first is empty
-unfoldable pub orElse : List ℕ → List ℕ → List ℕ
-orElse [] l = l
-orElse (k ∷ m) l = k ∷ m
+unfoldable pub orList : List ℕ → List ℕ → List ℕ
+orList [] l = l
+orList (k ∷ m) l = k ∷ m
 
 unfoldable pub first : List ℕ → ℕ
 first [] = 0
@@ -39,17 +33,17 @@ abbrev pub ge : Float → Float → Bool
 ge a b = le b a
 
 -- those that no other passes in the order r
-unfoldable pub last : (Float → Float → Bool) → (ℕ → Float) → List ℕ → List ℕ
-unfolding keep every
-last r c l = keep (λ k. every (λ j. r (c j) (c k)) l) l
+unfoldable pub outermost : (Float → Float → Bool) → (ℕ → Float) → List ℕ → List ℕ
+unfolding keep everyOf
+outermost r c l = keep (λ k. everyOf (λ j. r (c j) (c k)) l) l
 
 unfoldable pub below : (ℕ → Float) → Float → List ℕ → List ℕ
-unfolding keep last
-below c v l = last le c (keep (λ k. le (c k) v) l)
+unfolding keep outermost
+below c v l = outermost le c (keep (λ k. le (c k) v) l)
 
 unfoldable pub above : (ℕ → Float) → Float → List ℕ → List ℕ
-unfolding keep last
-above c v l = last ge c (keep (λ k. not (le (c k) v)) l)
+unfolding keep outermost
+above c v l = outermost ge c (keep (λ k. not (le (c k) v)) l)
 
 unfoldable pub level : (ℕ → Float) → Float → List ℕ → List ℕ
 unfolding keep
@@ -57,15 +51,15 @@ level c v l = keep (λ k. eq (c k) v) l
 
 -- the low end (false) and the high end (true), each filled by the other
 unfoldable pub end : Bool → (ℕ → Float) → Float → List ℕ → List ℕ
-unfolding below above orElse
-end false c v l = orElse (below c v l) (above c v l)
-end true c v l = orElse (above c v l) (below c v l)
+unfolding below above orList
+end false c v l = orList (below c v l) (above c v l)
+end true c v l = orList (above c v l) (below c v l)
 
 -- left (false) and right (true): as `end`, but a speaker at v itself is both
 unfoldable pub flank : Bool → (ℕ → Float) → Float → List ℕ → List ℕ
-unfolding end level orElse
+unfolding end level orList
 flank false c v l = end false c v l
-flank true c v l = orElse (level c v l) (end true c v l)
+flank true c v l = orList (level c v l) (end true c v l)
 
 -- ---- the eight corners
 
@@ -81,17 +75,17 @@ unfoldable pub layer : Bool → (ℕ → Vec3) → Vec3 → List ℕ → List �
 unfolding end
 layer top sp p = end top (λ k. sp k .y) (p .y)
 
-unfoldable pub row : Bool → (ℕ → Vec3) → Vec3 → List ℕ → List ℕ
+unfoldable pub rowAmong : Bool → (ℕ → Vec3) → Vec3 → List ℕ → List ℕ
 unfolding end
-row front sp p = end front (λ k. sp k .z) (p .z)
+rowAmong front sp p = end front (λ k. sp k .z) (p .z)
 
 unfoldable pub side : Bool → (ℕ → Vec3) → Vec3 → List ℕ → List ℕ
 unfolding flank
 side right sp p = flank right (λ k. sp k .x) (p .x)
 
 unfoldable pub corner : (ℕ → Vec3) → List ℕ → Vec3 → Corner → ℕ
-unfolding layer row side first
-corner sp l p c = first (side (c .right) sp p (row (c .front) sp p (layer (c .top) sp p l)))
+unfolding layer rowAmong side first
+corner sp l p c = first (side (c .right) sp p (rowAmong (c .front) sp p (layer (c .top) sp p l)))
 
 -- in the source's order: bottom before top, front before rear, left before right
 abbrev pub corners : List Corner

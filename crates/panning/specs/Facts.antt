@@ -8,7 +8,7 @@ use lib.Dec.{T}
 use lib.ListN.{length}
 use lib.Ieee.{Float, eq}
 use Rattle.ieee.specs.Units.{One, mag, P}
-use Rattle.ieee.specs.Nearest.{Within}
+use Rattle.ieee.specs.Nearest.{DifferBy}
 use Rattle.vectors.specs.declared.Vec3.{Vec3}
 use Rattle.panning.specs.Choice.{Corner, corner, 0·0, 1·0}
 use Rattle.panning.specs.Terms as t
@@ -27,7 +27,7 @@ squares (c ∷ l) ts = squareSum (onChannel c ts) + squares l ts
 
 -- |sum - g| is at most g * 2 ^ -20 + 2 ^ -140, both sides taken 2 ^ 20 times. In units of 2 ^ -298 g is P g * One, and 2 ^ -140 is 512 * One.
 abbrev pub AddsUp : ℕ → Float → Type 0
-AddsUp sum g = Within (1048576 * sum) (1048576 * (P g * One)) (P g * One + 1048576 * (512 * One))
+AddsUp sum g = DifferBy (1048576 * sum) (1048576 * (P g * One)) (P g * One + 1048576 * (512 * One))
 
 abbrev pub Each : (Term → Type 0) → List Term → Type 0
 Each Q ts = (t : Term) → List·Memᴰ t ts → Q t

@@ -7,7 +7,7 @@ use lib.IntN.{pos}
 use lib.Dec.{T, eqb}
 use lib.Ieee.{Float, fin, binary32, fits, le, eq}
 use Rattle.vectors.specs.declared.Vec3.{Vec3}
-use Rattle.panning.specs.Choice.{every, 1·0}
+use Rattle.panning.specs.Choice.{everyOf, 1·0}
 
 abbrev pub minus-one : Float
 minus-one = fin true 1 (pos 0)
@@ -18,16 +18,16 @@ abbrev pub 8·0 : Float
 unfoldable pub between : Float → Float → Float → Bool
 between lo hi x = fits binary32 x && (le lo x && le x hi)
 
-abbrev pub placed : Vec3 → Bool
-placed v = between minus-one 1·0 (v .x) && (between minus-one 1·0 (v .y) && between minus-one 1·0 (v .z))
+abbrev pub placedInside : Vec3 → Bool
+placedInside v = between minus-one 1·0 (v .x) && (between minus-one 1·0 (v .y) && between minus-one 1·0 (v .z))
 
 abbrev pub alike : Vec3 → Vec3 → Bool
 alike v w = eq (v .x) (w .x) && (eq (v .y) (w .y) && eq (v .z) (w .z))
 
 unfoldable pub distinct : (ℕ → Vec3) → List ℕ → Bool
-unfolding every
+unfolding everyOf
 distinct sp [] = true
-distinct sp (k ∷ l) = every (λ j. not (eqb k j) && not (alike (sp k) (sp j))) l && distinct sp l
+distinct sp (k ∷ l) = everyOf (λ j. not (eqb k j) && not (alike (sp k) (sp j))) l && distinct sp l
 
 abbrev pub occupied : List ℕ → Bool
 occupied [] = false
@@ -36,7 +36,7 @@ occupied (k ∷ l) = true
 -- the channels l may be panned over, placed at sp
 pub record Table (sp : ℕ → Vec3) (l : List ℕ) : Type 0 where
   pub some : T (occupied l)
-  pub placed : T (every (λ k. placed (sp k)) l)
+  pub placed : T (everyOf (λ k. placedInside (sp k)) l)
   pub distinct : T (distinct sp l)
 
 -- any f32 values, NaN and infinities too

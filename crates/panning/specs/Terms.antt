@@ -18,21 +18,21 @@ unfoldable pub ratio : Float → Float → Float → Float
 ratio a b v = cond (eq a b) 0·0 (div binary32 (sub binary32 v a) (sub binary32 b a))
 
 -- the channel that the choice ch makes a corner
-abbrev pub at : (Corner → ℕ) → Bool → Bool → Bool → ℕ
-at ch top front right = ch (record { top = top; front = front; right = right })
+abbrev pub cornerAt : (Corner → ℕ) → Bool → Bool → Bool → ℕ
+cornerAt ch top front right = ch (record { top = top; front = front; right = right })
 
 -- the share of the upper layer, of a layer's front row, and of a row's right side, at the corners ch
 unfoldable pub up : (ℕ → Vec3) → (Corner → ℕ) → Vec3 → Float
 unfolding ratio
-up sp ch p = ratio (sp (at ch false true false) .y) (sp (at ch true true false) .y) (p .y)
+up sp ch p = ratio (sp (cornerAt ch false true false) .y) (sp (cornerAt ch true true false) .y) (p .y)
 
 unfoldable pub ahead : (ℕ → Vec3) → (Corner → ℕ) → Vec3 → Bool → Float
 unfolding ratio
-ahead sp ch p top = ratio (sp (at ch top false false) .z) (sp (at ch top true false) .z) (p .z)
+ahead sp ch p top = ratio (sp (cornerAt ch top false false) .z) (sp (cornerAt ch top true false) .z) (p .z)
 
 unfoldable pub across : (ℕ → Vec3) → (Corner → ℕ) → Vec3 → Bool → Bool → Float
 unfolding ratio
-across sp ch p top front = ratio (sp (at ch top front false) .x) (sp (at ch top front true) .x) (p .x)
+across sp ch p top front = ratio (sp (cornerAt ch top front false) .x) (sp (cornerAt ch top front true) .x) (p .x)
 
 -- a share, or what it leaves of 1
 abbrev pub part : Bool → Float → Float

@@ -11,7 +11,7 @@ use Rattle.timed.specs.Slot.{InRange, middle, noBlock}
 use Rattle.timed.specs.State.{Within, elementOf}
 use Rattle.timed.specs.declared.state.ElementRendererState.{ElementRendererState}
 use Rattle.timed.specs.declared.state.MetadataRendererState.{MetadataRendererState}
-use Rattle.probes.specs.Timed.{longest, blockFits, scheduleFits, elementFits, countsFit, stateFits}
+use Rattle.probes.specs.Timed.{lastPosition, blockFits, scheduleFits, elementFits, countsSuit, stateFits}
 
 never : {A : Type 0} → false ≡ true → A
 never e = absurd (subst T (sym e) tt)
@@ -54,9 +54,9 @@ module _ (p : ℕ) (e : ElementRendererState) where
 -- ---- the state
 module _ (p : ℕ) (s : MetadataRendererState) where
   pub fits-within : stateFits p s ≡ true → Within p s
-  unfolding stateFits countsFit
+  unfolding stateFits countsSuit
   fits-within h =
-      let t = four (countsFit s) (leb (s .payload .0) longest) (elementFits p (elementOf s 0)) (elementFits p (elementOf s 1)) h in
+      let t = four (countsSuit s) (leb (s .payload .0) lastPosition) (elementFits p (elementOf s 0)) (elementFits p (elementOf s 1)) h in
       let k = four (leb (s .objects) 32 && leb (s .isf) 255 && leb (s .objects - s .isf) 16) (leb (s .beds) 18) (leb (s .beds) (s .objects)) (leb (s .elements) 2) (t .0) in
       let n = four true (leb (s .objects) 32) (leb (s .isf) 255) (leb (s .objects - s .isf) 16) (k .0) in
       record {
@@ -71,6 +71,6 @@ module _ (p : ℕ) (s : MetadataRendererState) where
       }
 
   pub within-fits : Within p s → stateFits p s ≡ true
-  unfolding stateFits countsFit
+  unfolding stateFits countsSuit
   within-fits h =
       simp (le-leb _ _ (h .objects), le-leb _ _ (h .isf), le-leb _ _ (h .dynamic), le-leb _ _ (h .beds), le-leb _ _ (h .channels), le-leb _ _ (h .elements), le-leb _ _ (h .payload), element-fits p _ (h .states 0 (omega arith)), element-fits p _ (h .states 1 (omega arith)))

@@ -17,8 +17,8 @@ use Rattle.updates.specs.Said.{updateOf}
 use Rattle.updates.specs.Applied.{applied}
 
 -- 2^40
-abbrev pub longest : ℕ
-longest = 1099511627776
+abbrev pub lastPosition : ℕ
+lastPosition = 1099511627776
 
 -- ---- a state
 
@@ -33,14 +33,14 @@ unfolding scheduleFits
 elementFits position e =
     leb (e .blocks) 8 && scheduleFits (e .schedule) && leb (e .remaining) 140737489403904 && leb middle (e .remaining + (2097152 + 64 * position))
 
-unfoldable pub countsFit : MetadataRendererState → Bool
-countsFit s =
+unfoldable pub countsSuit : MetadataRendererState → Bool
+countsSuit s =
     leb (s .objects) 32 && leb (s .isf) 255 && leb (s .objects - s .isf) 16 && leb (s .beds) 18 && leb (s .beds) (s .objects) && leb (s .elements) 2
 
 unfoldable pub stateFits : ℕ → MetadataRendererState → Bool
-unfolding countsFit elementFits
+unfolding countsSuit elementFits
 stateFits position s =
-    countsFit s && leb (s .payload .0) longest && elementFits position (elementOf s 0) && elementFits position (elementOf s 1)
+    countsSuit s && leb (s .payload .0) lastPosition && elementFits position (elementOf s 0) && elementFits position (elementOf s 1)
 
 -- ---- the slot and the update
 
@@ -49,7 +49,7 @@ abbrev pub hasInfos : Timed → Bool
 hasInfos t = eqb (length (t .infos)) 22528
 
 abbrev pub slotIf : ℕ → Timed → Timed
-slotIf start t = cond (hasInfos t && leb start longest && stateFits start (t .state)) (slotAt start t) t
+slotIf start t = cond (hasInfos t && leb start lastPosition && stateFits start (t .state)) (slotAt start t) t
 
 -- update i of metadata that refusals 5 and 6 let pass
 abbrev pub updateIf : List ℕ → ℕ → ℕ → Timed → Timed

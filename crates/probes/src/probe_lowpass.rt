@@ -2,13 +2,13 @@ use lowpass::BiquadLowpassState;
 ghost use mathlib.Core.Path.{_≡_};
 ghost use mathlib.Core.Bool.{cond};
 ghost use Rattle.rates.specs.Rates.{listed};
-ghost use Rattle.lowpass.specs.Lowpass.{fresh, new, filtered, afterAll};
+ghost use Rattle.lowpass.specs.Lowpass.{unfed, new, filtered, afterAll};
 ghost use Rattle.probes.specs.Taken.{zeroCoefficients};
 
 // At a rate that is not listed, zeros.
 #[no_mangle]
 pub extern "C" fn probe_lowpass_new(rate: u32) -> BiquadLowpassState
-    ensures { λ r. ⌜ r ≡ cond (listed rate) (new rate) (fresh zeroCoefficients) ⌝ }
+    ensures { λ r. ⌜ r ≡ cond (listed rate) (new rate) (unfed zeroCoefficients) ⌝ }
 {
     match rate {
         8000..=192000 => BiquadLowpassState::new(rate),

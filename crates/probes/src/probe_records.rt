@@ -8,10 +8,10 @@ ghost use Prim.Native.Nat.{_+_, _*_};
 ghost use lib.Dec.{leb, ltb};
 ghost use Rattle.fields.specs.Update.{offset, headerOf, code};
 ghost use Rattle.fields.specs.Block.{blocks, blockOf};
-ghost use Rattle.fields.specs.Infos.{infoOf};
+ghost use Rattle.fields.specs.Infos.{storedInfo};
 ghost use Rattle.records.specs.Laid.{updateAt, count, elementEnd, objectAt};
 ghost use Rattle.records.specs.Ranges.{refusal};
-ghost use Rattle.records.specs.Order.{next, FirstAt};
+ghost use Rattle.records.specs.Order.{nextOffset, FirstAt};
 ghost use Rattle.probes.specs.Taken.{hasRecord, zeroHeader, zeroBlock, zeroInfo};
 
 #[no_mangle]
@@ -129,7 +129,7 @@ pub extern "C" fn probe_block(meta: &[u8], r: usize) -> Block
 
 #[no_mangle]
 pub extern "C" fn probe_info(meta: &[u8], r: usize) -> Info
-    ensures { λ i. ⌜ i ≡ cond (hasRecord (now (meta .entry)) r) (infoOf (now (meta .entry)) r) zeroInfo ⌝ }
+    ensures { λ i. ⌜ i ≡ cond (hasRecord (now (meta .entry)) r) (storedInfo (now (meta .entry)) r) zeroInfo ⌝ }
 {
     if r >= meta.len() / 40 {
         return Info {
@@ -148,7 +148,7 @@ pub extern "C" fn probe_info(meta: &[u8], r: usize) -> Info
 
 #[no_mangle]
 pub extern "C" fn probe_next_offset(meta: &[u8], t: usize, end: usize) -> usize
-    ensures { λ r. ⌜ r ≡ next (λ i. offset (now (meta .entry)) (updateAt (now (meta .entry)) i)) (count (now (meta .entry))) t end ⌝ }
+    ensures { λ r. ⌜ r ≡ nextOffset (λ i. offset (now (meta .entry)) (updateAt (now (meta .entry)) i)) (count (now (meta .entry))) t end ⌝ }
 {
     records::order::next_offset(records::layout::layout_of(meta), t, end)
 }

@@ -2,7 +2,7 @@
 ghost use mathlib.Core.Path.{_≡_};
 ghost use Prim.Native.Nat.{_≤_};
 ghost use Rattle.timed.specs.Contracts.{IsTimed};
-ghost use Rattle.probes.specs.Timed.{scheduleFits, elementFits, countsFit, stateFits, slotIf, updateIf};
+ghost use Rattle.probes.specs.Timed.{scheduleFits, elementFits, countsSuit, stateFits, slotIf, updateIf};
 use timed::clock::StreamSample;
 use timed::state;
 use timed::state::BlockState;
@@ -45,7 +45,7 @@ fn element_fits(e: ElementRendererState, position: u64) -> bool
 }
 
 fn counts_fit(s: MetadataRendererState) -> bool
-    ensures { λ r. ⌜ r ≡ countsFit s ⌝ }
+    ensures { λ r. ⌜ r ≡ countsSuit s ⌝ }
 {
     if s.objects > 32 {
         return false;

@@ -8,7 +8,9 @@ ghost use mathlib.Core.Path.{_≡_};
 ghost use Rattle.vectors.specs.Vectors.{vecAdd, vecSub, vecMulScalar, vecMulComponents, vecLength, mapToCube, lerpVec3};
 ghost use Rattle.vectors.specs.Anchors.{roomAnchored, screenAnchored};
 ghost use Rattle.vectors.specs.Target.{placed};
-ghost use Rattle.probes.specs.Codes.{depthOf, anchorOf, maybeOf};
+ghost use Rattle.timed.specs.Infos.{depthOf};
+ghost use Rattle.vectors.specs.Head.{anchorOf};
+ghost use Rattle.probes.specs.Codes.{maybeWhere};
 
 #[no_mangle]
 pub extern "C" fn probe_vec_add(lhs: Vec3, rhs: Vec3) -> Vec3
@@ -60,7 +62,7 @@ pub extern "C" fn probe_lerp_vec3(from: Vec3, to: Vec3, t: f32) -> Vec3
 }
 
 fn maybe_of(present: bool, value: f32) -> Maybe
-    ensures { λ r. ⌜ r ≡ maybeOf present value ⌝ }
+    ensures { λ r. ⌜ r ≡ maybeWhere present value ⌝ }
 {
     if present {
         return Maybe::Value(value);
@@ -97,7 +99,7 @@ fn anchor_of(code: u8) -> Anchor
 
 #[no_mangle]
 pub extern "C" fn probe_room_anchored_position(position: Vec3, present: bool, distance: f32) -> Vec3
-    ensures { λ r. ⌜ r ≡ roomAnchored position (maybeOf present distance) ⌝ }
+    ensures { λ r. ⌜ r ≡ roomAnchored position (maybeWhere present distance) ⌝ }
 {
     vectors::room_anchored_position(position, maybe_of(present, distance))
 }
@@ -122,7 +124,7 @@ pub extern "C" fn probe_update_source_position(
     depth: u8,
     here: Vec3,
 ) -> Placed
-    ensures { λ r. ⌜ r ≡ placed (record { valid = valid; differential = differential; anchor = anchorOf anchor; position = position; last = last; distance = maybeOf present distance; screen = screen; depth = depthOf depth }) here ⌝ }
+    ensures { λ r. ⌜ r ≡ placed (record { valid = valid; differential = differential; anchor = anchorOf anchor; position = position; last = last; distance = maybeWhere present distance; screen = screen; depth = depthOf depth }) here ⌝ }
 {
     let anchor = anchor_of(anchor);
     let distance = maybe_of(present, distance);

@@ -5,18 +5,18 @@ use Prim.Native.Nat.{ℕ, zero, suc, _+_, _-_, _*_, _%_, _^_}
 use mathlib.Core.Bool.{Bool, not, _&&_, _||_}
 use lib.Dec.{ltb}
 use Rattle.rates.specs.Rates.{listed}
-use Rattle.rates.specs.Sums.{stepOf, nearestAngle, term}
+use Rattle.rates.specs.Sums.{stepOf, nearestAngle, nextTerm}
 
 -- what begins at m in a cell of the length g, and is d long, neither begins nor ends at an end of it
 abbrev pub inside : (m d g : ℕ) → Bool
 inside m d g = ltb 0 m && ltb (m + d) g
 
-abbrev pub alike : (y t n₁ n₂ n₃ n₄ g : ℕ) → Bool
-alike y t n₁ n₂ n₃ n₄ g =
-    let t₁ = term y t n₁ in
-    let t₂ = term y t₁ n₂ in
-    let t₃ = term y t₂ n₃ in
-    inside ((t + t₂ - (t₁ + t₃ + 4)) % g) (term y t₃ n₄ + 8) g
+abbrev pub roundAlike : (y t n₁ n₂ n₃ n₄ g : ℕ) → Bool
+roundAlike y t n₁ n₂ n₃ n₄ g =
+    let t₁ = nextTerm y t n₁ in
+    let t₂ = nextTerm y t₁ n₂ in
+    let t₃ = nextTerm y t₂ n₃ in
+    inside ((t + t₂ - (t₁ + t₃ + 4)) % g) (nextTerm y t₃ n₄ + 8) g
 
 -- at a rate: the cosine, which is at least 1/2, so that its last digit is 2 ^ 36 steps; and the sine, whose last digit is the angle's, or half of it
 abbrev pub suffice : ℕ → Bool
@@ -24,7 +24,7 @@ suffice rate =
     let s = stepOf rate in
     let w = nearestAngle rate s in
     let y = w * w in
-    alike y (2 ^ 60) 2 12 30 56 (2 ^ 35) && alike y (w * 2 ^ 28) 6 20 42 72 (s * 2 ^ 26)
+    roundAlike y (2 ^ 60) 2 12 30 56 (2 ^ 35) && roundAlike y (w * 2 ^ 28) 6 20 42 72 (s * 2 ^ 26)
 
 -- at those of the 2 ^ k rates from one on that are accepted
 unfoldable pub allFrom : (k rate : ℕ) → Bool

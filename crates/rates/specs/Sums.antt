@@ -17,16 +17,16 @@ unfoldable pub angleOf : ℕ → ℕ
 angleOf rate = nearestAngle rate (stepOf rate)
 
 -- the term after t, cut: times the square y of the angle, which counts steps of 2 ^ -64, by n
-abbrev pub term : (y t n : ℕ) → ℕ
-term y t n = y * t / 2 ^ 64 / n
+abbrev pub nextTerm : (y t n : ℕ) → ℕ
+nextTerm y t n = y * t / 2 ^ 64 / n
 
 -- the sum of a series from the term t on, the signs taking turns
 unfoldable pub five : (y t n₁ n₂ n₃ n₄ : ℕ) → ℕ
 five y t n₁ n₂ n₃ n₄ =
-    let t₁ = term y t n₁ in
-    let t₂ = term y t₁ n₂ in
-    let t₃ = term y t₂ n₃ in
-    t - t₁ + t₂ - t₃ + term y t₃ n₄
+    let t₁ = nextTerm y t n₁ in
+    let t₂ = nextTerm y t₁ n₂ in
+    let t₃ = nextTerm y t₂ n₃ in
+    t - t₁ + t₂ - t₃ + nextTerm y t₃ n₄
 
 -- the cosine and the sine of w steps
 abbrev pub cosineSum : ℕ → ℕ

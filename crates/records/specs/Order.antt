@@ -9,9 +9,9 @@ unfoldable pub nearer : ℕ → ℕ → ℕ → ℕ
 nearer t x y = cond (ltb t x && ltb x y) x y
 
 -- the least of f 0 .. f (n - 1) that is above t, where it is below `end`, else `end`
-unfoldable pub next : (ℕ → ℕ) → ℕ → ℕ → ℕ → ℕ
-next f zero t end = end
-next f (suc n) t end = nearer t (f n) (next f n t end)
+unfoldable pub nextOffset : (ℕ → ℕ) → ℕ → ℕ → ℕ → ℕ
+nextOffset f zero t end = end
+nextOffset f (suc n) t end = nearer t (f n) (nextOffset f n t end)
 
 -- i is the first number from `from` on at which f is t, or n where there is none
 pub record FirstAt (f : ℕ → ℕ) (n t from i : ℕ) : Type 0 where

@@ -5,8 +5,8 @@ use mathlib.Core.List.{List}
 use Rattle.words.specs.Words.{wordsAt}
 use Rattle.store.specs.declared.Small.{Small}
 use Rattle.store.specs.Fields.{smallOf}
-use Rattle.store.specs.Layout.{joined, infosOf, placesOf, decode}
+use Rattle.store.specs.Layout.{assembled, infosOf, placesOf, decode}
 
-pub loaded : (b : List ℕ) (s : Small) → s ≡ smallOf (wordsAt b 0 340) → joined s (infosOf b) (placesOf b) ≡ decode b
+pub loaded : (b : List ℕ) (s : Small) → s ≡ smallOf (wordsAt b 0 340) → assembled s (infosOf b) (placesOf b) ≡ decode b
 unfolding decode
-loaded b s e = ap (λ (x : Small). joined x (infosOf b) (placesOf b)) e
+loaded b s e = ap (λ (x : Small). assembled x (infosOf b) (placesOf b)) e

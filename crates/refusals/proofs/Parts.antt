@@ -11,11 +11,11 @@ use Rattle.records.specs.Laid.{count}
 use Rattle.records.specs.Answers.{IsLayout}
 use Rattle.records.specs.declared.layout.Layout.{Layout}
 use Rattle.rules.specs.Leaves.{Shape}
-use Rattle.rules.specs.Refusals.{Found, clear, stop, _then_, unless, objectsMatch, countsAt, shapeAt, walk, none, later}
+use Rattle.rules.specs.Refusals.{Found, clear, stop, _then_, unless, objectsMatch, countsAt, shapeAt, walk, noneSent, later}
 use Rattle.refusals.specs.Found.{foundOf}
 use Rattle.refusals.specs.declared.Refusal.{Refusal}
 use Rattle.refusals.specs.declared.present.Present.{Present}
-use Rattle.refusals.specs.Told.{toldOf, presentShape, IsAfter, IsCounts, matched, isClear}
+use Rattle.refusals.specs.Told.{toldOf, presentShape, IsAfter, IsEleven, matched, isClear}
 use Rattle.refusals.proofs.First.{chain-stops, chain-passes, unless-stops, unless-passes}
 use Rattle.refusals.proofs.Sent.{told, told-each}
 
@@ -24,14 +24,14 @@ then-both clear b c = refl
 then-both (stop n x y) b c = refl
 
 module _ (m : List ℕ) (l : Layout) (g : IsLayout m l) (objects : ℕ) (codes : List ℕ) where
-  none-each : (k : ℕ) → none (toldOf m) objects codes (each (told m) k) ≡ eqb k 0
+  none-each : (k : ℕ) → noneSent (toldOf m) objects codes (each (told m) k) ≡ eqb k 0
   unfolding each
   none-each zero = refl
   none-each (suc k) = sym (ne-eqb (suc k) 0 (λ e. omega arith))
 
   -- no update was sent
-  none-told : none (toldOf m) objects codes (toldOf m) ≡ eqb (l .count) 0
-  none-told = ap (none (toldOf m) objects codes) (told-each m) ∙ none-each (count m) ∙ ap (λ (k : ℕ). eqb k 0) (sym (g .counted))
+  none-told : noneSent (toldOf m) objects codes (toldOf m) ≡ eqb (l .count) 0
+  none-told = ap (noneSent (toldOf m) objects codes) (told-each m) ∙ none-each (count m) ∙ ap (λ (k : ℕ). eqb k 0) (sym (g .counted))
 
   module _ (n rate old : ℕ) (s : Shape) where
     abbrev all : Found
@@ -64,7 +64,7 @@ module _ (m : List ℕ) (l : Layout) (g : IsLayout m l) (objects : ℕ) (codes :
       pub start-stops : isClear a ≡ false → foundOf a ≡ all
       start-stops e = chain-stops a start _ all a-is later-is e
 
-      module _ (a-none : isClear a ≡ true) (b : Refusal) (b-is : IsCounts m objects 0 b) where
+      module _ (a-none : isClear a ≡ true) (b : Refusal) (b-is : IsEleven m objects 0 b) where
         after-start : (counts then (unless (not (eqb n 0)) 12 0 0 then rest)) ≡ all
         after-start = chain-passes a start _ all a-is later-is a-none
 

@@ -13,7 +13,7 @@ use Rattle.fields.specs.Update.{offset, objects, bedOrIsf, beds, code}
 use Rattle.records.specs.Runs.{each}
 use Rattle.records.specs.Laid.{count, updateAt}
 use Rattle.records.proofs.Each.{each-length, each-at}
-use Rattle.rules.specs.Refusals.{Found, clear, _then_, Sent, countsAt, shapeAt}
+use Rattle.rules.specs.Refusals.{Found, clear, _then_, Announced, countsAt, shapeAt}
 use Rattle.updates.specs.Said.{updateOf}
 use Rattle.updates.specs.Applied.{codesGiven}
 use Rattle.claim.specs.Hall as claim
@@ -22,7 +22,7 @@ use Rattle.refusals.specs.Found.{foundOf}
 use Rattle.refusals.specs.declared.Refusal.{Refusal}
 use Rattle.refusals.specs.declared.Refusal.the-variants.{Clear}
 use Rattle.refusals.specs.declared.present.Present.{Present}
-use Rattle.refusals.specs.Told.{toldOf, saidShape, presentShape, IsAfter, IsCounts, matched, isClear}
+use Rattle.refusals.specs.Told.{toldOf, saidShape, presentShape, IsAfter, IsEleven, matched, isClear}
 use Rattle.refusals.proofs.First.{chain-stops, chain-passes}
 
 -- the first n of a list, by their places
@@ -40,19 +40,19 @@ map-each g f zero = refl
 map-each g f (suc n) = ap (λ l. g (f 0) ∷ l) (map-each g (λ k. f (suc k)) n)
 
 -- update i
-abbrev pub told : List ℕ → ℕ → Sent
+abbrev pub told : List ℕ → ℕ → Announced
 told m i = record { offset = offset m (updateAt m i); shape = saidShape m (updateAt m i) }
 
 pub told-each : (m : List ℕ) → toldOf m ≡ each (told m) (count m)
 told-each m = map-each (λ (u : claim.Sent). record { offset = claim.hall .offset u; shape = claim.hall .sent u }) (claim.sentAt m) (count m)
 
 told-length : (m : List ℕ) → length (toldOf m) ≡ count m
-told-length m = ap (length {A = Sent}) (told-each m) ∙ each-length (told m) (count m)
+told-length m = ap (length {A = Announced}) (told-each m) ∙ each-length (told m) (count m)
 
 told-from : (m : List ℕ) (i : ℕ) → i < count m → drop i (toldOf m) ≡ told m i ∷ drop (i + 1) (toldOf m)
 told-from m i l =
     let long = told-length m in
-    let at : getD (toldOf m) i (told m 0) ≡ told m i = ap (λ (us : List Sent). getD us i (told m 0)) (told-each m) ∙ each-at (told m) (count m) i (told m 0) l in
+    let at : getD (toldOf m) i (told m 0) ≡ told m i = ap (λ (us : List Announced). getD us i (told m 0)) (told-each m) ∙ each-at (told m) (count m) i (told m 0) l in
     drop-cons (toldOf m) i (told m 0) (omega arith) ∙ rw (at, add-one)
 
 told-end : (m : List ℕ) (i : ℕ) → count m ≤ i → drop i (toldOf m) ≡ []
@@ -73,13 +73,13 @@ module _ (m : List ℕ) (n t : ℕ) where
   counts-step i l h codes = ap (countsAt (toldOf m) n codes t) (sym (told-from m i l)) ∙ h codes
 
   module _ (r : Refusal) (i : ℕ) (l : i < count m) (h : CountsFrom i) (is : foundOf r ≡ refusedAt i) where
-    pub counts-stop : isClear r ≡ false → IsCounts m n t r
+    pub counts-stop : isClear r ≡ false → IsEleven m n t r
     counts-stop e = record { is = λ codes. chain-stops r (refusedAt i) _ _ is (counts-step i l h codes) e }
 
     pub counts-go : isClear r ≡ true → CountsFrom (i + 1)
     counts-go e codes = chain-passes r (refusedAt i) _ _ is (counts-step i l h codes) e
 
-  pub counts-end : (i : ℕ) → count m ≤ i → CountsFrom i → IsCounts m n t Clear
+  pub counts-end : (i : ℕ) → count m ≤ i → CountsFrom i → IsEleven m n t Clear
   counts-end i l h = record { is = λ codes. ap (countsAt (toldOf m) n codes t) (sym (told-end m i l)) ∙ h codes }
 
 -- ---- the shape after those at t
@@ -92,10 +92,10 @@ module _ (m : List ℕ) (t : ℕ) (p : Present) where
   pub shape-go : (i : ℕ) (q r : Present) → i < count m → ShapeFrom i q → presentShape r ≡ cond (eqb (told m i .offset) t) (told m i .shape) (presentShape q) → ShapeFrom (i + 1) r
   shape-go i q r l h e n codes =
       ap (shapeAt (toldOf m) n codes t (drop (i + 1) (toldOf m))) e
-      ∙ ap (λ (us : List Sent). shapeAt (toldOf m) n codes t us (presentShape q)) (sym (told-from m i l)) ∙ h n codes
+      ∙ ap (λ (us : List Announced). shapeAt (toldOf m) n codes t us (presentShape q)) (sym (told-from m i l)) ∙ h n codes
 
   pub shape-end : (i : ℕ) (q : Present) → count m ≤ i → q .beds ≤ 18 → ShapeFrom i q → IsAfter m t p q
-  shape-end i q l few h = record { few = few; is = λ n codes. ap (λ (us : List Sent). shapeAt (toldOf m) n codes t us (presentShape q)) (sym (told-end m i l)) ∙ h n codes }
+  shape-end i q l few h = record { few = few; is = λ n codes. ap (λ (us : List Announced). shapeAt (toldOf m) n codes t us (presentShape q)) (sym (told-end m i l)) ∙ h n codes }
 
 -- ---- what is read of an update's record
 

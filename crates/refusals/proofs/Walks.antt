@@ -11,29 +11,29 @@ use Rattle.ieee.specs.Bounds.{All}
 use Rattle.fields.specs.Update.{offset}
 use Rattle.records.specs.Laid.{count, updateAt}
 use Rattle.records.specs.Answers.{IsLayout}
-use Rattle.records.specs.Order.{next}
+use Rattle.records.specs.Order.{nextOffset}
 use Rattle.records.specs.declared.layout.Layout.{Layout}
 use Rattle.records.proofs.Times.{next-within, next-above, next-least}
 use Rattle.rules.specs.Leaves.{Shape}
-use Rattle.rules.specs.Refusals.{Found, clear, _then_, Sent, countsAt, shapeAt, mixes, walk}
+use Rattle.rules.specs.Refusals.{Found, clear, _then_, Announced, countsAt, shapeAt, mixes, walk}
 use Rattle.claim.proofs.Checked.{each-all}
 use Rattle.refusals.specs.Found.{foundOf}
 use Rattle.refusals.specs.declared.Refusal.{Refusal}
 use Rattle.refusals.specs.declared.present.Present.{Present}
-use Rattle.refusals.specs.Told.{toldOf, presentShape, IsAfter, IsCounts, isClear}
+use Rattle.refusals.specs.Told.{toldOf, presentShape, IsAfter, IsEleven, isClear}
 use Rattle.refusals.proofs.First.{is-none, chain-stops, chain-passes}
 use Rattle.refusals.proofs.Sent.{told, told-each}
 
 -- no update is at t
-abbrev NoneAt : ℕ → List Sent → Type 0
-NoneAt t us = All (λ (u : Sent). eqb (u .offset) t ≡ false) us
+abbrev NoneAt : ℕ → List Announced → Type 0
+NoneAt t us = All (λ (u : Announced). eqb (u .offset) t ≡ false) us
 
-module _ (us : List Sent) (objects : ℕ) (codes : List ℕ) where
-  none-counted : (t : ℕ) (vs : List Sent) → NoneAt t vs → countsAt us objects codes t vs ≡ clear
+module _ (us : List Announced) (objects : ℕ) (codes : List ℕ) where
+  none-counted : (t : ℕ) (vs : List Announced) → NoneAt t vs → countsAt us objects codes t vs ≡ clear
   none-counted t [] h = refl
   none-counted t (u ∷ vs) h = rw (h .0) (none-counted t vs (h .1))
 
-  none-shaped : (t : ℕ) (vs : List Sent) (s : Shape) → NoneAt t vs → shapeAt us objects codes t vs s ≡ s
+  none-shaped : (t : ℕ) (vs : List Announced) (s : Shape) → NoneAt t vs → shapeAt us objects codes t vs s ≡ s
   none-shaped t [] s h = refl
   none-shaped t (u ∷ vs) s h = rw (h .0) (none-shaped t vs s (h .1))
 
@@ -61,7 +61,7 @@ module _ (m : List ℕ) (l : Layout) (g : IsLayout m l) where
   none-told : (t : ℕ) → ((i : ℕ) → i < l .count → f i ≡ t → ⊥) → NoneAt t (toldOf m)
   none-told t h =
       let one : (i : ℕ) → i < count m → i < l .count = λ i b. omega (arith, g .counted) in
-      rw (told-each m) (each-all (λ (u : Sent). eqb (u .offset) t ≡ false) (told m) (count m) (λ i b. ne-eqb (offset m (updateAt m i)) t (λ e. h i (one i b) (g .offsets i b ∙ e))))
+      rw (told-each m) (each-all (λ (u : Announced). eqb (u .offset) t ≡ false) (told m) (count m) (λ i b. ne-eqb (offset m (updateAt m i)) t (λ e. h i (one i b) (g .offsets i b ∙ e))))
 
   module _ (objects : ℕ) (codes : List ℕ) (end : ℕ) where
     -- what is found from t on, with the shape s before it
@@ -74,9 +74,9 @@ module _ (m : List ℕ) (l : Layout) (g : IsLayout m l) where
     pub walk-step : (t : ℕ) (s : Shape) → t < end → from t s ≡ (countsAt (toldOf m) objects codes t (toldOf m) then (mixes (toldOf m) objects codes (after t s) then from (suc t) (after t s)))
     walk-step t s h = let k : end - t ≡ suc (end - suc t) = omega arith in ap (λ (n : ℕ). walk (toldOf m) objects codes n t s) k
 
-    pub walk-skips : (t : ℕ) (s : Shape) → t < end → mixes (toldOf m) objects codes s ≡ clear → from (suc t) s ≡ from (next f (l .count) t end) s
+    pub walk-skips : (t : ℕ) (s : Shape) → t < end → mixes (toldOf m) objects codes s ≡ clear → from (suc t) s ≡ from (nextOffset f (l .count) t end) s
     walk-skips t s h e =
-        let u = next f (l .count) t end in
+        let u = nextOffset f (l .count) t end in
         let above = next-above f t end (l .count) h in
         skip (toldOf m) objects codes (u - suc t) (suc t) u end s (omega arith) (next-within f t end (l .count))
         (λ k a b. none-told k (λ i c q. let z = next-least f t end (l .count) i c (omega arith) in let y : ⊥ = omega arith in y)) e
@@ -86,7 +86,7 @@ module _ (m : List ℕ) (l : Layout) (g : IsLayout m l) where
 
     -- ---- one turn of the loop: the updates at t and the beds after them, with the present shape p
 
-    module _ (t : ℕ) (p : Present) (all : Found) (below : t < end) (rest : from t (presentShape p) ≡ all) (r : Refusal) (counts : IsCounts m objects t r) where
+    module _ (t : ℕ) (p : Present) (all : Found) (below : t < end) (rest : from t (presentShape p) ≡ all) (r : Refusal) (counts : IsEleven m objects t r) where
       turn : (countsAt (toldOf m) objects codes t (toldOf m) then (mixes (toldOf m) objects codes (after t (presentShape p)) then from (suc t) (after t (presentShape p)))) ≡ all
       turn = sym (walk-step t (presentShape p) below) ∙ rest
 
@@ -102,7 +102,7 @@ module _ (m : List ℕ) (l : Layout) (g : IsLayout m l) where
         pub beds-stop : isClear b ≡ false → foundOf b ≡ all
         beds-stop e = chain-stops b (mixes (toldOf m) objects codes (presentShape q)) (from (suc t) (presentShape q)) all beds beds-turn e
 
-        pub goes-on : isClear b ≡ true → from (next f (l .count) t end) (presentShape q) ≡ all
+        pub goes-on : isClear b ≡ true → from (nextOffset f (l .count) t end) (presentShape q) ≡ all
         goes-on e =
             sym (walk-skips t (presentShape q) below (sym beds ∙ is-none (foundOf b) e))
             ∙ chain-passes b (mixes (toldOf m) objects codes (presentShape q)) (from (suc t) (presentShape q)) all beds beds-turn e

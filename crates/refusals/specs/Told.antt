@@ -9,16 +9,16 @@ use Rattle.fields.specs.Update.{objects, bedOrIsf, beds, code}
 use Rattle.records.specs.Runs.{each}
 use Rattle.timed.specs.declared.state.MetadataRendererState.{MetadataRendererState}
 use Rattle.rules.specs.Leaves.{Shape}
-use Rattle.rules.specs.Refusals.{Found, clear, stop, Sent, unless, countsAt, shapeAt}
-use Rattle.rules.specs.Calls.{sentOf}
+use Rattle.rules.specs.Refusals.{Found, clear, stop, Announced, unless, countsAt, shapeAt}
+use Rattle.rules.specs.Calls.{announced}
 use Rattle.claim.specs.Hall as claim
 use Rattle.refusals.specs.Found.{foundOf}
 use Rattle.refusals.specs.declared.Refusal.{Refusal}
 use Rattle.refusals.specs.declared.present.Present.{Present}
 
 -- the updates in the order sent, each with its offset and its shape
-abbrev pub toldOf : List ℕ → List Sent
-toldOf m = sentOf claim.hall (claim.sentOf m)
+abbrev pub toldOf : List ℕ → List Announced
+toldOf m = announced claim.hall (claim.sentOf m)
 
 -- the shape of the update at record u
 abbrev pub saidShape : List ℕ → ℕ → Shape
@@ -37,7 +37,7 @@ pub record IsAfter (m : List ℕ) (t : ℕ) (p r : Present) : Type 0 where
   pub is : (n : ℕ) (codes : List ℕ) → presentShape r ≡ shapeAt (toldOf m) n codes t (toldOf m) (presentShape p)
 
 -- r is 11 for the updates at t, whatever inputs the push has
-pub record IsCounts (m : List ℕ) (n t : ℕ) (r : Refusal) : Type 0 where
+pub record IsEleven (m : List ℕ) (n t : ℕ) (r : Refusal) : Type 0 where
   pub is : (codes : List ℕ) → foundOf r ≡ countsAt (toldOf m) n codes t (toldOf m)
 
 -- 11: so many dynamic objects expected, and so many provided

@@ -10,7 +10,7 @@ ghost use Rattle.updates.specs.Whole.{WholeUpdate, WholeUpdates};
 ghost use Rattle.records.specs.Answers.{IsLayout};
 ghost use Rattle.rules.specs.Refusals.{clear, bedFound, bedsFound};
 ghost use Rattle.refusals.specs.Found.{foundOf};
-ghost use Rattle.refusals.specs.Told.{isClear, presentShape, saidShape, matched, IsCounts};
+ghost use Rattle.refusals.specs.Told.{isClear, presentShape, saidShape, matched, IsEleven};
 use crate::Refusal;
 use crate::present::Present;
 use beds::count_matching;
@@ -52,7 +52,7 @@ fn update_refusal(meta: &[u8], u: usize, taken: bool, objects: u32) -> Refusal
 // 11 for each update at sample offset t, in the order sent.
 pub fn counts_refusal(meta: &[u8], l: Layout, t: usize, objects: u32) -> Refusal
     requires { ⌜ IsLayout (now meta) l × WholeUpdates (now meta) (l .first) (l .count) ⌝ }
-    ensures { λ r. ⌜ IsCounts (now (meta .entry)) objects t r ⌝ }
+    ensures { λ r. ⌜ IsEleven (now (meta .entry)) objects t r ⌝ }
 {
     let first = l.first;
     let offset = l.offset;

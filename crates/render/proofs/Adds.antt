@@ -21,7 +21,7 @@ use Rattle.rules.specs.Mix.{scaledBy}
 use Rattle.render.specs.Rows.{mixedTerm, mixedTerms}
 
 -- `new` is `os` with the terms of `G` added: `G c i` at place i of channel c's row, for the first k places of each row
-pub record Adds (k : ℕ) (G : ℕ → ℕ → List sums.Term) (os new : List Float) : Type 0 where
+pub record Adds (k : ℕ) (G : ℕ → ℕ → List sums.Addend) (os new : List Float) : Type 0 where
   pub whole : length new ≡ 768
   pub at : (c i : ℕ) → c < 12 → i < k → getD new (64 * c + i) nan ≡ total (getD os (64 * c + i) nan) (G c i)
   pub past : (c i : ℕ) → c < 12 → k ≤ i → i < 64 → getD new (64 * c + i) nan ≡ getD os (64 * c + i) nan
@@ -32,7 +32,7 @@ module _ (k : ℕ) where
   pub adds-none : (os : List Float) → length os ≡ 768 → Adds k (λ c i. []) os os
   adds-none os h = record { whole = h; at = λ c i l m. refl; past = λ c i l m o. refl }
 
-  pub adds-then : (G H : ℕ → ℕ → List sums.Term) (os mid new : List Float) → Adds k G os mid → Adds k H mid new → Adds k (λ c i. G c i ++ H c i) os new
+  pub adds-then : (G H : ℕ → ℕ → List sums.Addend) (os mid new : List Float) → Adds k G os mid → Adds k H mid new → Adds k (λ c i. G c i ++ H c i) os new
   adds-then G H os mid new g h =
       record {
         whole = h .whole;
@@ -40,12 +40,12 @@ module _ (k : ℕ) where
         past = λ c i l m o. h .past c i l m o ∙ g .past c i l m o;
       }
 
-  pub adds-as : (G H : ℕ → ℕ → List sums.Term) (os new : List Float) → ((c i : ℕ) → c < 12 → i < k → G c i ≡ H c i) → Adds k G os new → Adds k H os new
+  pub adds-as : (G H : ℕ → ℕ → List sums.Addend) (os new : List Float) → ((c i : ℕ) → c < 12 → i < k → G c i ≡ H c i) → Adds k G os new → Adds k H os new
   adds-as G H os new e g =
       record { whole = g .whole; at = λ c i l m. g .at c i l m ∙ ap (total (getD os (64 * c + i) nan)) (e c i l m); past = g .past }
 
 -- a source's terms on channel c, each with the sample x
-abbrev pub scaledOn : ℕ → List Term → Float → List sums.Term
+abbrev pub scaledOn : ℕ → List Term → Float → List sums.Addend
 scaledOn c ts x = scaledBy (onChannel c ts) x
 
 -- ---- one term

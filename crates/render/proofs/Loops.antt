@@ -11,7 +11,7 @@ use Rattle.beds.specs.Matching.{matching}
 use Rattle.timed.specs.declared.state.DynamicSourceState.{DynamicSourceState}
 use Rattle.rules.specs.Mix.{objectTerms}
 use Rattle.render.specs.Rows.{mixedTerms}
-use Rattle.render.specs.Sources.{bed, bedTerms, bedsOf, sourceOf, sourcesOf, channelRow, mixedFound, mixedBeds, mixedObjects}
+use Rattle.render.specs.Sources.{bedWith, bedTerms, bedsOf, plainSource, sourcesOf, channelRow, mixedFound, mixedBeds, mixedObjects}
 
 -- ---- rows set to one value
 
@@ -51,7 +51,7 @@ module _ (pcm : List ℕ) (n t k : ℕ) where
       rw (e, f)
 
   pub bed-step : (codes : List ℕ) (j m : ℕ) (cs : List ℕ) (gs os : List Float) {new end : List Float} → j < m → j < length cs → j < length gs
-      → new ≡ mixedFound pcm n t k (bedTerms (bed (getD cs j 0) (getD gs j nan))) (matching (getD cs j 0) codes) os
+      → new ≡ mixedFound pcm n t k (bedTerms (bedWith (getD cs j 0) (getD gs j nan))) (matching (getD cs j 0) codes) os
       → mixedBeds pcm n t k codes (bedsOf (m - j) (drop j cs) (drop j gs)) os ≡ end
       → mixedBeds pcm n t k codes (bedsOf (m - (j + 1)) (drop (j + 1) cs) (drop (j + 1) gs)) new ≡ end
   bed-step codes j m cs gs os h a b p q =
@@ -64,7 +64,7 @@ module _ (pcm : List ℕ) (n t k : ℕ) where
       rw e at q
 
   pub object-step : (first j m : ℕ) (d : DynamicSourceState) (ds : List DynamicSourceState) (os : List Float) {new end : List Float} → j < m → j < length ds
-      → new ≡ mixedTerms (channelRow pcm n t k (first + j)) (objectTerms (sourceOf (getD ds j d))) os
+      → new ≡ mixedTerms (channelRow pcm n t k (first + j)) (objectTerms (plainSource (getD ds j d))) os
       → mixedObjects pcm n t k (first + j) (sourcesOf (m - j) (drop j ds)) os ≡ end
       → mixedObjects pcm n t k (first + (j + 1)) (sourcesOf (m - (j + 1)) (drop (j + 1) ds)) new ≡ end
   object-step first j m d ds os h a p q =

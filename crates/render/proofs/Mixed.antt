@@ -8,7 +8,7 @@ use native.Mathlib.Numerals.{add-one}
 use lib.ListN.{length, getD, take, drop, take-append-drop, drop-of-length-le}
 use lib.Seq.{drop-cons}
 use lib.Ieee.{Float, nan, ofBits, eq, ne}
-use Rattle.mixing.specs.Mixing.{0·0}
+use Rattle.mixing.specs.Mixing.{0·0f}
 use Rattle.mixing.specs.Part.{onPart}
 use Rattle.mixing.proofs.Laws.{full-zero}
 use Rattle.panning.specs.Terms.{Term, term, terms, audible, paired, spread}
@@ -18,7 +18,7 @@ use Rattle.render.specs.Rows.{upFrom, mixedTerm, mixedTerms}
 module _ (xs : List Float) where
   -- ---- nothing to add
 
-  pub term-none : (t : Term) (os : List Float) → eq (t .coefficient) 0·0 ≡ true → mixedTerm xs t os ≡ os
+  pub term-none : (t : Term) (os : List Float) → eq (t .coefficient) 0·0f ≡ true → mixedTerm xs t os ≡ os
   unfolding mixedTerm onPart
   term-none t os e =
       let b = 64 * t .channel in
@@ -27,16 +27,16 @@ module _ (xs : List Float) where
       ∙ ap (λ (ys : List Float). take b os ++ ys) (take-append-drop n (drop b os))
       ∙ take-append-drop b os
 
-  pub spread-none : (ks : List ℕ) (g : Float) (os : List Float) → eq g 0·0 ≡ true → mixedTerms xs (spread ks g) os ≡ os
+  pub spread-none : (ks : List ℕ) (g : Float) (os : List Float) → eq g 0·0f ≡ true → mixedTerms xs (spread ks g) os ≡ os
   spread-none [] g os e = refl
   spread-none (k ∷ ks) g os e = spread-none ks g (mixedTerm xs (term k g) os) e ∙ term-none (term k g) os e
 
   pub mixed-audible : (ts : List Term) (os : List Float) → mixedTerms xs (audible ts) os ≡ mixedTerms xs ts os
   unfolding audible ne ofBits
   mixed-audible [] os = refl
-  mixed-audible (t ∷ ts) os = go (eq (t .coefficient) 0·0) refl (mixed-audible ts)
+  mixed-audible (t ∷ ts) os = go (eq (t .coefficient) 0·0f) refl (mixed-audible ts)
     where
-      go : (b : Bool) → eq (t .coefficient) 0·0 ≡ b → ((o : List Float) → mixedTerms xs (audible ts) o ≡ mixedTerms xs ts o)
+      go : (b : Bool) → eq (t .coefficient) 0·0f ≡ b → ((o : List Float) → mixedTerms xs (audible ts) o ≡ mixedTerms xs ts o)
           → mixedTerms xs (cond (not b) (t ∷ audible ts) (audible ts)) os ≡ mixedTerms xs ts (mixedTerm xs t os)
       go true e h = h os ∙ ap (mixedTerms xs ts) (sym (term-none t os e))
       go false e h = h (mixedTerm xs t os)

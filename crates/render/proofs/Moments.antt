@@ -20,7 +20,7 @@ use Rattle.rules.specs.Leaves.{Source, Bed}
 use Rattle.rules.specs.Mix.{objectTerms, addsOf, sampleAt, samplesAt, scaledBy, fedBy, bedsOn, objectsOn, Moment, heard}
 use Rattle.render.specs.Rows.{mixedTerms}
 use Rattle.render.specs.Sources.{bedTerms, channelRow, mixedFound, mixedBeds, mixedObjects}
-use Rattle.render.specs.Run.{momentAt, column, Heard}
+use Rattle.render.specs.Run.{momentOf, column, Heard}
 use Rattle.render.proofs.Routes.{bed-adds}
 use Rattle.render.proofs.Adds.{Adds, scaledOn, adds-none, adds-then, adds-as, adds-terms}
 
@@ -52,7 +52,7 @@ module _ (pcm : List ℕ) (n t k : ℕ) (short : k ≤ 64) where
   adds-row j ts os h =
       let xs = channelRow pcm n t k j in
       let e : length xs ≡ k = length-samples pcm (4 * (j * n + t)) k in
-      let G : ℕ → ℕ → List sums.Term = λ c i. scaledOn c ts (getD xs i nan) in
+      let G : ℕ → ℕ → List sums.Addend = λ c i. scaledOn c ts (getD xs i nan) in
       adds-as k G (λ c i. scaledOn c ts (sampleAt pcm n j (t + i))) os (mixedTerms xs ts os) (λ c i l m. ap (scaledBy (onChannel c ts)) (sample i j m))
       (subst (λ (m : ℕ). Adds m G os (mixedTerms xs ts os)) e (adds-terms xs (omega arith) ts os h))
 
@@ -65,7 +65,7 @@ module _ (pcm : List ℕ) (n t k : ℕ) (short : k ≤ 64) where
   adds-beds codes (b ∷ bs) os h =
       let f = matching (b .code) codes in
       let mid = mixedFound pcm n t k (bedTerms b) f os in
-      let G : ℕ → ℕ → List sums.Term = λ c i. fedBy (addsOf b c) f (λ j. sampleAt pcm n j (t + i)) in
+      let G : ℕ → ℕ → List sums.Addend = λ c i. fedBy (addsOf b c) f (λ j. sampleAt pcm n j (t + i)) in
       let a =
       adds-as k (λ c i. fedBy (onChannel c (bedTerms b)) f (λ j. sampleAt pcm n j (t + i))) G os mid
       (λ c i l m. ap (λ (ks : List Float). fedBy ks f (λ j. sampleAt pcm n j (t + i))) (bed-adds b c)) (adds-found (bedTerms b) f os h)
@@ -88,9 +88,9 @@ module _ (pcm : List ℕ) (n t k : ℕ) (short : k ≤ 64) where
     blank = replicate places 0·0
 
     abbrev at : ℕ → Moment
-    at = momentAt beds objects codes pcm n
+    at = momentOf beds objects codes pcm n
 
-    terms : ℕ → ℕ → List sums.Term
+    terms : ℕ → ℕ → List sums.Addend
     terms c i = bedsOn c beds codes (at (t + i) .inputs) ++ objectsOn c objects (at (t + i) .own)
 
     run-adds : Adds k terms blank (mixedObjects pcm n t k (length codes) objects (mixedBeds pcm n t k codes beds blank))

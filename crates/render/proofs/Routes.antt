@@ -19,10 +19,10 @@ use Rattle.rules.specs.Parts.{0·0}
 use Rattle.rules.specs.Leaves.{Bed}
 use Rattle.rules.specs.Mix.{addsOf}
 use Rattle.render.specs.Rows.{mixedTerms}
-use Rattle.render.specs.Sources.{bed, routeTerms, bedTerms, mixedFound}
+use Rattle.render.specs.Sources.{bedWith, routeTerms, bedTerms, mixedFound}
 
 pub by-route : (xs os : List Float) (code : ℕ) (gain : Float) {r : Route} {new : List Float} → routeOf code ≡ r → new ≡ mixedTerms xs (routeTerms r code gain) os
-    → new ≡ mixedTerms xs (bedTerms (bed code gain)) os
+    → new ≡ mixedTerms xs (bedTerms (bedWith code gain)) os
 by-route xs os code gain e p = p ∙ ap (λ (s : Route). mixedTerms xs (routeTerms s code gain) os) (sym e)
 
 pub by-found : (pcm : List ℕ) (n t k : ℕ) (ts : List Term) (os : List Float) {found f : Found} {new : List Float} → found ≡ f → new ≡ mixedFound pcm n t k ts f os

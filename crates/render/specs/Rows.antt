@@ -15,8 +15,8 @@ pub record Sized (xs os : List Float) : Type 0 where
   pub whole : length os ≡ placeCount
 
 -- the channels are among the twelve
-abbrev pub Inside : List ℕ → Type 0
-Inside ks = (j : ℕ) → getD ks j 0 < 12
+abbrev pub AmongTwelve : List ℕ → Type 0
+AmongTwelve ks = (j : ℕ) → getD ks j 0 < 12
 
 -- the n channels from c on
 abbrev pub upFrom : ℕ → ℕ → List ℕ

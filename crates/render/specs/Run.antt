@@ -13,8 +13,8 @@ use Rattle.rules.specs.Mix.{sampleAt, samplesAt, Moment, heard, fed}
 use Rattle.rules.specs.Samples.{row}
 
 -- the moment at sample t of a frame of n samples a channel
-abbrev pub momentAt : List Bed → List Source → List ℕ → List ℕ → ℕ → ℕ → Moment
-momentAt beds objects codes pcm n t =
+abbrev pub momentOf : List Bed → List Source → List ℕ → List ℕ → ℕ → ℕ → Moment
+momentOf beds objects codes pcm n t =
     record {
       beds = beds;
       objects = objects;

@@ -22,24 +22,24 @@ use Rattle.render.specs.Rows.{mixedTerms}
 
 -- ---- tables with counts
 
-abbrev pub bed : ℕ → Float → Bed
-bed code gain = record { code = code; gain = gain }
+abbrev pub bedWith : ℕ → Float → Bed
+bedWith code gain = record { code = code; gain = gain }
 
 abbrev pub zipped : List ℕ → List Float → List Bed
 zipped [] gs = []
 zipped (c ∷ cs) [] = []
-zipped (c ∷ cs) (g ∷ gs) = bed c g ∷ zipped cs gs
+zipped (c ∷ cs) (g ∷ gs) = bedWith c g ∷ zipped cs gs
 
 -- the first m of a table of beds: codes and gains
 abbrev pub bedsOf : ℕ → List ℕ → List Float → List Bed
 bedsOf m cs gs = zipped (take m cs) (take m gs)
 
-abbrev pub sourceOf : DynamicSourceState → Source
-sourceOf d = record { gain = d .gain; size = d .size; place = d .place }
+abbrev pub plainSource : DynamicSourceState → Source
+plainSource d = record { gain = d .gain; size = d .size; place = d .place }
 
 -- the first m of a table of objects
 abbrev pub sourcesOf : ℕ → List DynamicSourceState → List Source
-sourcesOf m ds = map sourceOf (take m ds)
+sourcesOf m ds = map plainSource (take m ds)
 
 -- the terms of a bed, by its route: on each channel the coefficients of the rules' `addsOf`
 unfoldable pub routeTerms : Route → ℕ → Float → List Term

@@ -10,7 +10,7 @@ ghost use Rattle.mixing.specs.Part.{onPart};
 ghost use Rattle.lowpass.specs.Lowpass.{filtered, afterAll};
 ghost use Rattle.rules.specs.Parts.{0·0};
 ghost use Rattle.render.specs.Sources.{Framed, bedsOf, sourcesOf};
-ghost use Rattle.render.specs.Run.{momentAt, Heard, Passed};
+ghost use Rattle.render.specs.Run.{momentOf, Heard, Passed};
 use lowpass::BiquadLowpassState;
 use timed::state::DynamicSourceState;
 
@@ -39,7 +39,7 @@ pub fn mix_run(
     k: usize,
 )
     requires { ⌜ Framed (now pcm) (length (now codes) + objects) n t k × (length (now rows) ≡ placeCount) × (length (now codes) ≤ 18) × (beds ≤ 18) × (objects ≤ 16) ⌝ }
-    ensures { λ _. ⌜ Heard (momentAt (bedsOf beds wanted gains) (sourcesOf objects sources) (now (codes .entry)) (now (pcm .entry)) n) t k (now (rows .exit)) ⌝ }
+    ensures { λ _. ⌜ Heard (momentOf (bedsOf beds wanted gains) (sourcesOf objects sources) (now (codes .entry)) (now (pcm .entry)) n) t k (now (rows .exit)) ⌝ }
 {
     clear(rows);
     crate::sources::mix_beds(rows, pcm, codes, wanted, gains, beds, n, t, k);
@@ -72,7 +72,7 @@ pub fn pass_run(
     filter: BiquadLowpassState,
 ) -> BiquadLowpassState
     requires { ⌜ Framed (now pcm) (length (now codes) + objects) n t k × (length (now rows) ≡ placeCount) × (length (now codes) ≤ 18) × (beds ≤ 18) × (objects ≤ 16) ⌝ }
-    ensures { λ r. ⌜ Passed (momentAt (bedsOf beds wanted gains) (sourcesOf objects sources) (now (codes .entry)) (now (pcm .entry)) n) filter t k (now (rows .exit)) r ⌝ }
+    ensures { λ r. ⌜ Passed (momentOf (bedsOf beds wanted gains) (sourcesOf objects sources) (now (codes .entry)) (now (pcm .entry)) n) filter t k (now (rows .exit)) r ⌝ }
 {
     mix_run(
         rows,

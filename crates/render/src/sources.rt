@@ -10,7 +10,7 @@ ghost use Rattle.beds.specs.Matching.{matching};
 ghost use Rattle.rules.specs.Parts.{0·0};
 ghost use Rattle.rules.specs.Mix.{objectTerms};
 ghost use Rattle.render.specs.Rows.{Sized, mixedTerms};
-ghost use Rattle.render.specs.Sources.{Framed, Reached, bed, bedTerms, bedsOf, sourceOf, sourcesOf, channelRow, mixedFound, mixedBeds, mixedObjects};
+ghost use Rattle.render.specs.Sources.{Framed, Reached, bedWith, bedTerms, bedsOf, plainSource, sourcesOf, channelRow, mixedFound, mixedBeds, mixedObjects};
 use formats::areas;
 use beds::Found;
 use beds::Route;
@@ -33,7 +33,7 @@ fn read_channel(row: &mut [f32], pcm: &[u8], i: usize, n: usize, t: usize)
 // A bed's terms, by its route.
 fn mix_routed(rows: &mut [f32], samples: &[f32], code: u8, gain: f32)
     requires { ⌜ Sized (now samples) (now rows) ⌝ }
-    ensures { λ _. ⌜ now (rows .exit) ≡ mixedTerms (now (samples .entry)) (bedTerms (bed code gain)) (now (rows .entry)) ⌝ }
+    ensures { λ _. ⌜ now (rows .exit) ≡ mixedTerms (now (samples .entry)) (bedTerms (bedWith code gain)) (now (rows .entry)) ⌝ }
 {
     let route = beds::route_of(code);
     match route {
@@ -67,7 +67,7 @@ fn mix_bed(
     k: usize,
 )
     requires { ⌜ Framed (now pcm) (length (now codes)) n t k × (length (now rows) ≡ placeCount) ⌝ }
-    ensures { λ _. ⌜ now (rows .exit) ≡ mixedFound (now (pcm .entry)) n t k (bedTerms (bed code gain)) (matching code (now (codes .entry))) (now (rows .entry)) ⌝ }
+    ensures { λ _. ⌜ now (rows .exit) ≡ mixedFound (now (pcm .entry)) n t k (bedTerms (bedWith code gain)) (matching code (now (codes .entry))) (now (rows .entry)) ⌝ }
 {
     let found = beds::find_matching_input_bed_channel(code, codes);
     let Found::At(i) = found else {
@@ -89,7 +89,7 @@ fn mix_source(
     k: usize,
 )
     requires { ⌜ Reached (now pcm) i n t k × (k ≤ rowPlaces) × (length (now rows) ≡ placeCount) ⌝ }
-    ensures { λ _. ⌜ now (rows .exit) ≡ mixedTerms (channelRow (now (pcm .entry)) n t k i) (objectTerms (sourceOf source)) (now (rows .entry)) ⌝ }
+    ensures { λ _. ⌜ now (rows .exit) ≡ mixedTerms (channelRow (now (pcm .entry)) n t k i) (objectTerms (plainSource source)) (now (rows .entry)) ⌝ }
 {
     let mut row = silence();
     read_channel(&mut row[..k], pcm, i, n, t);

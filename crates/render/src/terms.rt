@@ -6,7 +6,7 @@ ghost use mathlib.Core.Path.{_≡_};
 ghost use Prim.Native.Nat.{_-_, _<_, _≤_};
 ghost use Rattle.panning.specs.Hall.{fullRange, terms714};
 ghost use Rattle.panning.specs.Terms.{term, paired, spread};
-ghost use Rattle.render.specs.Rows.{Sized, Inside, upFrom, mixedTerm, mixedTerms};
+ghost use Rattle.render.specs.Rows.{Sized, AmongTwelve, upFrom, mixedTerm, mixedTerms};
 use formats::areas;
 use vectors::Vec3;
 
@@ -44,7 +44,7 @@ fn mix_spread(rows: &mut [f32], samples: &[f32], gain: f32)
 
 // The eight corners in order.
 fn mix_corners(rows: &mut [f32], samples: &[f32], corners: [usize; 8], coefficients: [f32; 8])
-    requires { ⌜ Sized (now samples) (now rows) × Inside corners ⌝ }
+    requires { ⌜ Sized (now samples) (now rows) × AmongTwelve corners ⌝ }
     ensures { λ _. ⌜ now (rows .exit) ≡ mixedTerms (now (samples .entry)) (paired corners coefficients) (now (rows .entry)) ⌝ }
 {
     let mut j = 0usize;

@@ -6,7 +6,7 @@ use Prim.Native.Nat.{ℕ, zero, suc, _+_, _-_, _*_, _/_, _^_, _≤_, _<_}
 use native.Mathlib.Nat.{le-trans, le-of-lt, lt-of-lt-of-le, lt-of-le-of-lt, lt-irrefl, mul-le-mul}
 use native.Mathlib.Omega.{arith}
 use lib.Dec.{lit<, lit≤}
-use Rattle.roots.specs.Whole.{topOf, Ranged, NearWhole}
+use Rattle.roots.specs.Whole.{topOf, Spanned, NearWhole}
 use Rattle.ieee.proofs.Grid.{le-or-lt}
 
 top-mono : (f : Bool) {r s : ℕ} → r ≤ s → topOf f r ≤ topOf f s
@@ -18,11 +18,11 @@ top-mono true {r} {s} h = let x : 2 * r - 1 ≤ 2 * s - 1 = omega arith in upper
     upper h = omega arith
 
 -- ---- the numbers whose roots have 24 digits
-pub ranged-square : (n : ℕ) → 2 ^ 46 ≤ n → n < 2 ^ 48 → Ranged false n
+pub ranged-square : (n : ℕ) → 2 ^ 46 ≤ n → n < 2 ^ 48 → Spanned false n
 unfolding topOf
 ranged-square n l h = record { first = lt-of-lt-of-le (lit< tt) l; past = le-trans (le-of-lt h) (lit≤ tt) }
 
-pub ranged-fourth : (n : ℕ) → 2 ^ 32 ≤ n → n < 2 ^ 36 → Ranged true n
+pub ranged-fourth : (n : ℕ) → 2 ^ 32 ≤ n → n < 2 ^ 36 → Spanned true n
 unfolding topOf
 ranged-fourth n l h = record { first = lt-of-lt-of-le (lit< tt) l; past = le-trans (le-of-lt h) (lit≤ tt) }
 
@@ -44,7 +44,7 @@ unfolding topOf
 up-to-square r s n e h = let f : r + 1 - 1 ≡ r = omega arith in subst (λ (x : ℕ). n ≤ (r + 1) * x) (sym f) (omega arith)
 
 -- ---- from the tests on both sides
-module _ (f : Bool) (n : ℕ) (i : Ranged f n) where
+module _ (f : Bool) (n : ℕ) (i : Spanned f n) where
   pub large : (s : ℕ) → n ≤ topOf f s → 8388608 < s
   large s h = elim (le-or-lt s 8388608) [ inr l ↦ l | inl l ↦ absurd (lt-irrefl n (lt-of-le-of-lt h (lt-of-le-of-lt (top-mono f l) (i .first)))) ]
 

@@ -17,7 +17,7 @@ topOf false r = r * (r - 1)
 topOf true r = (2 * r - 1) * (2 * r - 1) * ((2 * r - 1) * (2 * r - 1)) / 2 ^ 64
 
 -- the root of n has 24 digits
-pub record Ranged (fourth : Bool) (n : ℕ) : Type 0 where
+pub record Spanned (fourth : Bool) (n : ℕ) : Type 0 where
   pub first : topOf fourth 8388608 < n
   pub past : n ≤ topOf fourth 16777217
 

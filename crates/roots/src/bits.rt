@@ -9,12 +9,12 @@ ghost use Prim.Native.Nat.{_+_, _-_, _*_, _%_, _^_, _<_, _≤_};
 ghost use lib.Ieee.{binary32, ofBits};
 ghost use Rattle.ieee.specs.Units.{unitsOf};
 ghost use Rattle.roots.specs.Root.{rootUnits};
-ghost use Rattle.roots.specs.Whole.{Ranged};
+ghost use Rattle.roots.specs.Whole.{Spanned};
 
 // m with 23 or 24 more digits, so that what is left of the exponent e + 126 is even.
 fn even_rest(m: u64, e: u64) -> u64
     requires { ⌜ (2 ^ 23 ≤ m) × (m < 2 ^ 24) ⌝ }
-    ensures { λ r. ⌜ (r ≡ m * 2 ^ (24 - e % 2)) × (2 ^ 46 ≤ r) × (r < 2 ^ 48) × (Ranged false r) ⌝ }
+    ensures { λ r. ⌜ (r ≡ m * 2 ^ (24 - e % 2)) × (2 ^ 46 ≤ r) × (r < 2 ^ 48) × (Spanned false r) ⌝ }
 {
     m * (16777216 - e % 2 * 8388608)
 }
@@ -22,7 +22,7 @@ fn even_rest(m: u64, e: u64) -> u64
 // m with 9 to 12 more digits, so that what is left of the exponent e + 424, past 60, is a multiple of 4.
 fn fourth_rest(m: u64, e: u64) -> u64
     requires { ⌜ (2 ^ 23 ≤ m) × (m < 2 ^ 24) × (e ≤ 276) ⌝ }
-    ensures { λ r. ⌜ (r ≡ m * 2 ^ (9 + (e + 3) % 4)) × (2 ^ 32 ≤ r) × (r < 2 ^ 36) × (Ranged true r) ⌝ }
+    ensures { λ r. ⌜ (r ≡ m * 2 ^ (9 + (e + 3) % 4)) × (2 ^ 32 ≤ r) × (r < 2 ^ 36) × (Spanned true r) ⌝ }
 {
     let s = (e + 3) % 4;
     m * ((512 + s % 2 * 512) * (1 + s / 2 * 3))

@@ -2,7 +2,7 @@
 ghost use mathlib.Core.Path.{_≡_};
 ghost use mathlib.Core.Bool.{false};
 ghost use Prim.Native.Nat.{_*_, _/_, _^_, _<_, _≤_};
-ghost use Rattle.roots.specs.Whole.{topOf, Ranged, NearWhole};
+ghost use Rattle.roots.specs.Whole.{topOf, Spanned, NearWhole};
 
 // The upper half of the square of a.
 fn high_square(a: u64) -> u64
@@ -34,7 +34,7 @@ fn top(r: u64, fourth: bool) -> u64
 
 // The whole number nearest to the root of n, by halving the range.
 fn by_halves(n: u64, fourth: bool) -> u64
-    requires { ⌜ Ranged fourth n ⌝ }
+    requires { ⌜ Spanned fourth n ⌝ }
     ensures { λ r. ⌜ NearWhole fourth n r ⌝ }
 {
     let mut low: u64 = 8388608;
@@ -52,7 +52,7 @@ fn by_halves(n: u64, fourth: bool) -> u64
 
 // The same from a number close to it: that one, or a neighbour.
 pub fn nearest_whole(n: u64, r: u64, fourth: bool) -> u64
-    requires { ⌜ (Ranged fourth n) × (r < 2 ^ 25) ⌝ }
+    requires { ⌜ (Spanned fourth n) × (r < 2 ^ 25) ⌝ }
     ensures { λ r. ⌜ NearWhole fourth n r ⌝ }
 {
     if top(r + 1, fourth) < n {
@@ -72,7 +72,7 @@ pub fn nearest_whole(n: u64, r: u64, fourth: bool) -> u64
 
 // The same for the square root. Nearly always the number close to it is the one: tested with one product.
 pub fn nearest_root(n: u64, r: u64) -> u64
-    requires { ⌜ (Ranged false n) × (r < 2 ^ 25) × (n < 2 ^ 48) ⌝ }
+    requires { ⌜ (Spanned false n) × (r < 2 ^ 25) × (n < 2 ^ 48) ⌝ }
     ensures { λ r. ⌜ NearWhole false n r ⌝ }
 {
     let s = squared(r);

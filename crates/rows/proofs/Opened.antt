@@ -42,7 +42,7 @@ numbers = tt
 
 unfoldable pub metadata : Unit {0}
 unfolding
-    fields.all update.codesFit update.isUpdate block.isElement block.isBlock object.valuesFit object.isObject object.maybeOf object.depthOf
+    fields.all update.codesFit update.isUpdate block.isElement block.isBlock object.valuesFit object.isObject object.maybeOf object.depthCode
     runs.some runs.last runs.each laid.isWholeElement laid.elementAt laid.isWholeUpdate laid.updateAt laid.isUpdates laid.laidOut laid.count
     ranges.recordInRange ranges.inRange
 metadata = tt

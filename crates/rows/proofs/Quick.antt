@@ -111,7 +111,7 @@ mixer f m =
     let tss = allTerms (cond (started hall m) (hall .objects m) []) in
     memo 12 [] (λ c. bedFeeds c bs (f .codes) ++ objectFeeds c tss (f .objects) (length (f .codes)))
 
-unfoldable pub scaled : (ℕ → Float) → List Feed → List sums.Term
+unfoldable pub scaled : (ℕ → Float) → List Feed → List sums.Addend
 scaled xs [] = []
 scaled xs (k ∷ ks) = record { coef = k .coef; sample = xs (k .row) } ∷ scaled xs ks
 

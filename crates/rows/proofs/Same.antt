@@ -74,12 +74,12 @@ module _ (xs : ℕ → Float) where
   scaled-then : (ks ls : List Feed) → scaled xs (ks ++ ls) ≡ scaled xs ks ++ scaled xs ls
   unfolding scaled
   scaled-then [] ls = refl
-  scaled-then (k ∷ ks) ls = ap (λ (ts : List sums.Term). record { coef = k .coef; sample = xs (k .row) } ∷ ts) (scaled-then ks ls)
+  scaled-then (k ∷ ks) ls = ap (λ (ts : List sums.Addend). record { coef = k .coef; sample = xs (k .row) } ∷ ts) (scaled-then ks ls)
 
   scaled-feeds : (i : ℕ) (ks : List Float) → scaled xs (feeds i ks) ≡ scaledBy ks (xs i)
   unfolding scaled feeds
   scaled-feeds i [] = refl
-  scaled-feeds i (k ∷ ks) = ap (λ (ts : List sums.Term). record { coef = k; sample = xs i } ∷ ts) (scaled-feeds i ks)
+  scaled-feeds i (k ∷ ks) = ap (λ (ts : List sums.Addend). record { coef = k; sample = xs i } ∷ ts) (scaled-feeds i ks)
 
   scaled-fed : (ks : List Float) (i : input.Found) → scaled xs (fedFrom ks i) ≡ fedBy ks i xs
   unfolding scaled fedFrom

@@ -4,8 +4,8 @@ use mathlib.Core.List.{List, [], _∷_, map}
 use Rattle.ieee.specs.Bounds.{All}
 use Rattle.rules.proofs.Lists.{all-append}
 use Rattle.rows.specs.Rows.{Said, Row, Holds, says, seen}
-use Rattle.rows.specs.Notation.{joined}
-use Rattle.rows.specs.Lists.{refusals, outputs, blocks, beds, objects, updates, slots, groups, rows}
+use Rattle.rows.specs.Notation.{concat}
+use Rattle.rows.specs.Lists.{refusals, outputs, block-rows, bed-rows, object-rows, updates, slots, groups, rows}
 use Rattle.rows.proofs.Opened.{everything}
 use Rattle.rows.proofs.Quick.{plainly, quickly}
 use Rattle.rows.proofs.Same.{plainly-is, quickly-is}
@@ -30,19 +30,19 @@ outputs-hold = held seen (λ r. refl) outputs refl
 
 -- ---- with the places worked out once a sample
 
-blocks-hold : All Holds blocks
+blocks-hold : All Holds block-rows
 unfolding plainly
-blocks-hold = held plainly plainly-is blocks refl
+blocks-hold = held plainly plainly-is block-rows refl
 
 -- ---- with the coefficients worked out once a slot too
 
-beds-hold : All Holds beds
+beds-hold : All Holds bed-rows
 unfolding quickly
-beds-hold = held quickly quickly-is beds refl
+beds-hold = held quickly quickly-is bed-rows refl
 
-objects-hold : All Holds objects
+objects-hold : All Holds object-rows
 unfolding quickly
-objects-hold = held quickly quickly-is objects refl
+objects-hold = held quickly quickly-is object-rows refl
 
 updates-hold : All Holds updates
 unfolding quickly
@@ -54,9 +54,9 @@ slots-hold = held quickly quickly-is slots refl
 
 -- ---- all rows
 
-all-joined : (gs : List (List Row)) → All (All Holds) gs → All Holds (joined gs)
+all-joined : (gs : List (List Row)) → All (All Holds) gs → All Holds (concat gs)
 all-joined [] h = tt
-all-joined (g ∷ gs) h = all-append Holds g (joined gs) (h .0) (all-joined gs (h .1))
+all-joined (g ∷ gs) h = all-append Holds g (concat gs) (h .0) (all-joined gs (h .1))
 
 pub table : All Holds rows
 table = all-joined groups (refusals-hold, (outputs-hold, (blocks-hold, (beds-hold, (objects-hold, (updates-hold, (slots-hold, tt)))))))

@@ -17,9 +17,9 @@ abbrev pub words : List ℕ → List ℕ
 words [] = []
 words (w ∷ ws) = bytes 4 w ++ words ws
 
-abbrev pub joined : {A : Type 0} → List (List A) → List A
-joined [] = []
-joined (xs ∷ xss) = xs ++ joined xss
+abbrev pub concat : {A : Type 0} → List (List A) → List A
+concat [] = []
+concat (xs ∷ xss) = xs ++ concat xss
 
 -- s with the bytes xs from `at` on
 abbrev pub put : ℕ → List ℕ → List ℕ → List ℕ
@@ -33,14 +33,14 @@ minus n = 2 ^ 64 - n
 -- ---- metadata
 
 -- a record: 40 bytes, zero past those given
-abbrev pub filled : List ℕ → List ℕ
-filled xs = take 40 (xs ++ replicate 40 0)
+abbrev pub padded : List ℕ → List ℕ
+padded xs = take 40 (xs ++ replicate 40 0)
 
 -- at a sample offset: bed codes, the number of dynamic objects, elements
 abbrev pub update : ℕ → List ℕ → ℕ → List (List ℕ) → List ℕ
 update offset codes dynamic elements =
     let beds = length codes in
-    filled (1 ∷ 0 ∷ bytes 2 offset ++ (beds + dynamic) ∷ beds ∷ beds ∷ length elements ∷ codes) ++ joined elements
+    padded (1 ∷ 0 ∷ bytes 2 offset ++ (beds + dynamic) ∷ beds ∷ beds ∷ length elements ∷ codes) ++ concat elements
 
 -- beds alone, at offset 0
 abbrev pub bed : List ℕ → List ℕ
@@ -52,21 +52,21 @@ spoilt at b m = put at (b ∷ []) m
 
 -- blocks; then each object in all blocks
 abbrev pub element : List (List ℕ) → List (List ℕ) → List ℕ
-element blocks objects = filled (2 ∷ length blocks ∷ []) ++ joined blocks ++ joined objects
+element blocks objects = padded (2 ∷ length blocks ∷ []) ++ concat blocks ++ concat objects
 
 -- offset and ramp
-abbrev pub block : ℕ → ℕ → List ℕ
-block offset ramp = put 8 (bytes 8 offset ++ bytes 8 ramp) (filled (3 ∷ []))
+abbrev pub blockFrom : ℕ → ℕ → List ℕ
+blockFrom offset ramp = put 8 (bytes 8 offset ++ bytes 8 ramp) (padded (3 ∷ []))
 
 -- An object in a block: one that says nothing, in the room, both its factors 1; with more flags and with words from byte `at` on; each value that can be present.
 abbrev pub object : List ℕ
-object = put 28 (words (0x3f80_0000 ∷ 0x3f80_0000 ∷ [])) (filled (4 ∷ []))
+object = put 28 (words (0x3f80_0000 ∷ 0x3f80_0000 ∷ [])) (padded (4 ∷ []))
 
 abbrev pub flagged : ℕ → ℕ → List ℕ → List ℕ → List ℕ
 flagged flags at ws o = put 2 ((getD o 2 0 + flags) ∷ []) (put at (words ws) o)
 
-abbrev pub valid : List ℕ → List ℕ
-valid o = flagged 1 4 [] o
+abbrev pub validPosition : List ℕ → List ℕ
+validPosition o = flagged 1 4 [] o
 
 abbrev pub differential : List ℕ → List ℕ
 differential o = flagged 2 4 [] o
@@ -80,8 +80,8 @@ place x y z o = flagged 8 8 (x ∷ y ∷ z ∷ []) o
 abbrev pub distance : ℕ → List ℕ → List ℕ
 distance d o = flagged 16 20 (d ∷ []) o
 
-abbrev pub size : ℕ → List ℕ → List ℕ
-size s o = flagged 32 24 (s ∷ []) o
+abbrev pub withSize : ℕ → List ℕ → List ℕ
+withSize s o = flagged 32 24 (s ∷ []) o
 
 abbrev pub screen : ℕ → List ℕ → List ℕ
 screen f o = put 28 (words (f ∷ [])) o
@@ -89,35 +89,35 @@ screen f o = put 28 (words (f ∷ [])) o
 abbrev pub depth : ℕ → List ℕ → List ℕ
 depth f o = put 32 (words (f ∷ [])) o
 
-abbrev pub onScreen : List ℕ → List ℕ
-onScreen o = put 1 (1 ∷ []) o
+abbrev pub screenAnchor : List ℕ → List ℕ
+screenAnchor o = put 1 (1 ∷ []) o
 
 abbrev pub onSpeakers : List ℕ → List ℕ
 onSpeakers o = put 1 (2 ∷ []) o
 
 abbrev pub at : ℕ → ℕ → ℕ → List ℕ
-at x y z = valid (place x y z object)
+at x y z = validPosition (place x y z object)
 
 -- An element whose objects are set at timecode 0, with a ramp. "A block is applied when the timecode is greater than its offset", so theirs has the offset -1.
 -- It is the second block, since an element whose first offset is below 0 does nothing; in the first its objects say nothing.
-abbrev pub behind : List (List ℕ) → List (List ℕ)
-behind [] = []
-behind (o ∷ os) = object ∷ o ∷ behind os
+abbrev pub afterFirst : List (List ℕ) → List (List ℕ)
+afterFirst [] = []
+afterFirst (o ∷ os) = object ∷ o ∷ afterFirst os
 
 abbrev pub atOnce : ℕ → List (List ℕ) → List ℕ
-atOnce ramp objects = element (block 0 0 ∷ block (minus 1) ramp ∷ []) (behind objects)
+atOnce ramp objects = element (blockFrom 0 0 ∷ blockFrom (minus 1) ramp ∷ []) (afterFirst objects)
 
 -- ---- calls
 
-abbrev pub room : ℕ → List ℕ
-room stride = replicate (48 * stride) 0
+abbrev pub outputFor : ℕ → List ℕ
+outputFor stride = replicate (48 * stride) 0
 
 -- stride and rate; samples, bed codes, the number of objects, the words of the PCM, updates
-abbrev pub sentAt : ℕ → ℕ → ℕ → List ℕ → ℕ → List ℕ → List (List ℕ) → Call
-sentAt stride rate samples codes objects pcm updates = push (argsOf (words pcm) (joined updates) (room stride) codes rate samples objects stride)
+abbrev pub sentBy : ℕ → ℕ → ℕ → List ℕ → ℕ → List ℕ → List (List ℕ) → Call
+sentBy stride rate samples codes objects pcm updates = push (argsOf (words pcm) (concat updates) (outputFor stride) codes rate samples objects stride)
 
 abbrev pub sent : ℕ → List ℕ → ℕ → List ℕ → List (List ℕ) → Call
-sent samples codes objects pcm updates = sentAt 64 48000 samples codes objects pcm updates
+sent samples codes objects pcm updates = sentBy 64 48000 samples codes objects pcm updates
 
 -- one sample, a half, of a front left bed, or of an object
 abbrev pub ofBed : List (List ℕ) → Call
@@ -127,7 +127,7 @@ abbrev pub ofObject : List (List ℕ) → Call
 ofObject updates = sent 1 [] 1 (0x3f00_0000 ∷ []) updates
 
 abbrev pub flushAt : ℕ → Call
-flushAt stride = flush (room stride) stride
+flushAt stride = flush (outputFor stride) stride
 
 -- the same call with an output that is a byte short
 abbrev pub short : Call → Call
@@ -145,8 +145,8 @@ abbrev pub diagonalFrom : ℕ → ℕ → ℕ → List ℕ
 diagonalFrom zero k w = []
 diagonalFrom (suc n) k w = quiet k ++ w ∷ quiet n ++ diagonalFrom n (suc k) w
 
-abbrev pub diagonal : ℕ → ℕ → List ℕ
-diagonal n w = diagonalFrom n 0 w
+abbrev pub diagonalWords : ℕ → ℕ → List ℕ
+diagonalWords n w = diagonalFrom n 0 w
 
 -- samples given out: silent ones, and one that is heard on channel c alone
 abbrev pub silence : ℕ → List (List ℕ)
@@ -160,5 +160,5 @@ only c w = set (quiet 12) c w
 abbrev pub rowAt : ℕ → List Turn → Row
 rowAt start turns = record { start = start; turns = turns }
 
-abbrev pub row : List Turn → Row
-row turns = rowAt 0 turns
+abbrev pub asRow : List Turn → Row
+asRow turns = rowAt 0 turns

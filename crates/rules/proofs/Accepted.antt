@@ -11,8 +11,8 @@ use Rattle.ieee.specs.Bounds.{All}
 use Rattle.beds.specs.Matching.{counted}
 use Rattle.rules.specs.Leaves.{Leaves, Shape, started}
 use Rattle.rules.specs.Samples.{State}
-use Rattle.rules.specs.Refusals.{Args, Found, clear, _then_, unless, early, bedsFound, Sent, objectsMatch, countsAt, shapeAt, mixes, walk, none, later}
-use Rattle.rules.specs.Calls.{sentOf, found}
+use Rattle.rules.specs.Refusals.{Args, Found, clear, _then_, unless, early, bedsFound, Announced, objectsMatch, countsAt, shapeAt, mixes, walk, noneSent, later}
+use Rattle.rules.specs.Calls.{announced, found}
 use Rattle.rules.specs.Accepted.{Suits, Acceptable}
 
 -- ---- tests that find nothing
@@ -26,7 +26,7 @@ not-equal : (m n : ℕ) → (m ≡ n → ⊥) → not (eqb m n) ≡ true
 not-equal m n h = ap not (ne-eqb m n h)
 
 -- ---- 11, 13 and 14
-module _ (us : List Sent) (objects : ℕ) (codes : List ℕ) where
+module _ (us : List Announced) (objects : ℕ) (codes : List ℕ) where
   abbrev Fits : Shape → Type 0
   Fits = Suits objects codes
 
@@ -56,7 +56,7 @@ module _ (us : List Sent) (objects : ℕ) (codes : List ℕ) where
       go true e = matched s (f e)
       go false e = refl
 
-  counts-clear : (t : ℕ) (vs : List Sent) → All (λ (u : Sent). Fits (u .shape)) vs → countsAt us objects codes t vs ≡ clear
+  counts-clear : (t : ℕ) (vs : List Announced) → All (λ (u : Announced). Fits (u .shape)) vs → countsAt us objects codes t vs ≡ clear
   counts-clear t [] h = refl
   counts-clear t (u ∷ vs) h = both-clear (go (eqb (u .offset) t)) (counts-clear t vs (h .1))
     where
@@ -64,7 +64,7 @@ module _ (us : List Sent) (objects : ℕ) (codes : List ℕ) where
       go true = matched (u .shape) (h .0)
       go false = refl
 
-  shape-ready : (t : ℕ) (vs : List Sent) (s : Shape) → All (λ (u : Sent). Fits (u .shape)) vs → Ready s → Ready (shapeAt us objects codes t vs s)
+  shape-ready : (t : ℕ) (vs : List Announced) (s : Shape) → All (λ (u : Announced). Fits (u .shape)) vs → Ready s → Ready (shapeAt us objects codes t vs s)
   shape-ready t [] s h f = f
   shape-ready t (u ∷ vs) s h f = shape-ready t vs (cond (eqb (u .offset) t) (u .shape) s) (h .1) (go (eqb (u .offset) t))
     where
@@ -72,14 +72,14 @@ module _ (us : List Sent) (objects : ℕ) (codes : List ℕ) where
       go true e = h .0
       go false e = f e
 
-  module _ (all : All (λ (u : Sent). Fits (u .shape)) us) where
+  module _ (all : All (λ (u : Announced). Fits (u .shape)) us) where
     walk-clear : (n t : ℕ) (s : Shape) → Ready s → walk us objects codes n t s ≡ clear
     walk-clear zero t s f = refl
     walk-clear (suc n) t s f =
         let next = shape-ready t us s all f in
         both-clear (counts-clear t us all) (both-clear (mixes-clear (shapeAt us objects codes t us s) next) (walk-clear n (suc t) (shapeAt us objects codes t us s) next))
 
-    later-clear : (n rate old : ℕ) (s : Shape) → (eqb old 0 || eqb old rate) ≡ true → (s .started || not (none us objects codes us)) ≡ true → not (eqb n 0) ≡ true → Ready s
+    later-clear : (n rate old : ℕ) (s : Shape) → (eqb old 0 || eqb old rate) ≡ true → (s .started || not (noneSent us objects codes us)) ≡ true → not (eqb n 0) ≡ true → Ready s
         → later us objects codes n rate old s ≡ clear
     later-clear n rate old s p q z f =
         both-clear (passed 9 old rate p)
@@ -88,10 +88,10 @@ module _ (us : List Sent) (objects : ℕ) (codes : List ℕ) where
 
 -- ---- a push
 module _ (L : Leaves) (r : State L) (a : Args) (k : Acceptable L r a) where
-  abbrev sent : List Sent
-  sent = sentOf L (L .updates (a .meta))
+  abbrev sent : List Announced
+  sent = announced L (L .updates (a .meta))
 
-  all-sent : (us : List (L .Update)) → All (λ (u : L .Update). Suits (a .objects) (a .codes) (L .sent u)) us → All (λ (u : Sent). Suits (a .objects) (a .codes) (u .shape)) (sentOf L us)
+  all-sent : (us : List (L .Update)) → All (λ (u : L .Update). Suits (a .objects) (a .codes) (L .sent u)) us → All (λ (u : Announced). Suits (a .objects) (a .codes) (u .shape)) (announced L us)
   all-sent [] h = tt
   all-sent (u ∷ us) h = (h .0, all-sent us (h .1))
 
@@ -109,13 +109,13 @@ module _ (L : Leaves) (r : State L) (a : Args) (k : Acceptable L r a) where
       (λ (e : r .rate ≡ a .rate). ap (λ (b : Bool). eqb (r .rate) 0 || b) (eq-eqb (r .rate) (a .rate) e) ∙ or-true (eqb (r .rate) 0))
       (k .rate)
 
-  told : (started L (r .meta) || not (none sent (a .objects) (a .codes) sent)) ≡ true
+  told : (started L (r .meta) || not (noneSent sent (a .objects) (a .codes) sent)) ≡ true
   told = ⊎-elim
-      (λ (e : started L (r .meta) ≡ true). ap (λ (b : Bool). b || not (none sent (a .objects) (a .codes) sent)) e)
+      (λ (e : started L (r .meta) ≡ true). ap (λ (b : Bool). b || not (noneSent sent (a .objects) (a .codes) sent)) e)
       (λ (h : L .updates (a .meta) ≡ [] → ⊥). ap (λ (b : Bool). started L (r .meta) || b) (some-sent (L .updates (a .meta)) h) ∙ or-true (started L (r .meta)))
       (k .told)
     where
-      some-sent : (us : List (L .Update)) → (us ≡ [] → ⊥) → not (none sent (a .objects) (a .codes) (sentOf L us)) ≡ true
+      some-sent : (us : List (L .Update)) → (us ≡ [] → ⊥) → not (noneSent sent (a .objects) (a .codes) (announced L us)) ≡ true
       some-sent [] h = absurd (h refl)
       some-sent (u ∷ us) h = refl
 

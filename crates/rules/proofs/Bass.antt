@@ -28,7 +28,7 @@ use Rattle.rules.specs.Leaves.{Leaves, Source, Bed}
 use Rattle.rules.specs.Mix.{Moment, addsOf, sampleAt, scaledBy, fedBy, bedsOn, objectsOn, heard, fed}
 use Rattle.rules.specs.Samples.{State}
 use Rattle.rules.specs.Refusals.{Args, Found, clear, unless, _then_, every, room, sized, listed, later}
-use Rattle.rules.specs.Calls.{sentOf, found}
+use Rattle.rules.specs.Calls.{announced, found}
 use Rattle.rules.specs.Promises.{Replaced, withPcm}
 use Rattle.rules.proofs.Facts.{InHall}
 use Rattle.rules.proofs.Terms.{object-no-bass}
@@ -48,7 +48,7 @@ same-fed ks code codes Nothing x y j h = refl
 same-beds : (bs : List Bed) (codes : List ℕ) (x y : ℕ → Float) → ((i : ℕ) → i < length codes → x i ≡ y i) → bedsOn 3 bs codes x ≡ bedsOn 3 bs codes y
 same-beds [] codes x y h = refl
 same-beds (b ∷ bs) codes x y h =
-    ap₂ (λ (s t : List sums.Term). s ++ t) (same-fed (addsOf b 3) (b .code) codes (matching (b .code) codes) x y (judged (b .code) codes) h) (same-beds bs codes x y h)
+    ap₂ (λ (s t : List sums.Addend). s ++ t) (same-fed (addsOf b 3) (b .code) codes (matching (b .code) codes) x y (judged (b .code) codes) h) (same-beds bs codes x y h)
 
 -- two moments with the same sources and the same samples of beds
 pub record Akin (m n : Moment) : Type 0 where
@@ -60,7 +60,7 @@ pub record Akin (m n : Moment) : Type 0 where
 pub same-bass : (m n : Moment) → Akin m n → All InHall (m .objects) → fed m ≡ fed n
 unfolding heard
 same-bass m n a h =
-    ap₂ (λ (s t : List sums.Term). total 0·0 (s ++ t))
+    ap₂ (λ (s t : List sums.Addend). total 0·0 (s ++ t))
     (same-beds (m .beds) (m .codes) (m .inputs) (n .inputs) (a .inputs) ∙ ap₂ (λ (bs : List Bed) (cs : List ℕ). bedsOn 3 bs cs (n .inputs)) (a .beds) (a .codes))
     (no-objects (m .objects) (m .own) h ∙ sym (no-objects (n .objects) (n .own) (subst (All InHall) (a .objects) h)))
 
@@ -107,7 +107,7 @@ module _ (L : Leaves) (r : State L) (a : Args) where
       then unless (L .laidOut (a .meta)) 5 0 0
       then unless (L .inRange (a .meta)) 6 0 0
       then unless pass 8 0 0)
-      then later (sentOf L (L .updates (a .meta))) (a .objects) (a .codes) (a .samples) (a .rate) (r .rate) (L .shape (r .meta))
+      then later (announced L (L .updates (a .meta))) (a .objects) (a .codes) (a .samples) (a .rate) (r .rate) (L .shape (r .meta))
 
   same-size : (qcm : List ℕ) → length qcm ≡ length (a .pcm) → sized (withPcm qcm a) ≡ sized a
   same-size qcm e =

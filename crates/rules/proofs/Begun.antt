@@ -8,7 +8,7 @@ use borrow.Author.Tests.{leb-true, leb-false, le-leb, lt-leb, eqb-true, eqb-fals
 use lib.Dec.{eqb, leb}
 use Rattle.ieee.specs.Bounds.{All}
 use Rattle.rules.specs.Leaves.{Leaves, Shape, started}
-use Rattle.rules.specs.Samples.{State, applied, updated}
+use Rattle.rules.specs.Samples.{State, appliedAt, updated}
 use Rattle.rules.specs.Refusals.{Args}
 use Rattle.rules.specs.Block.{Layout}
 use Rattle.rules.specs.Promises.{upTo, begun}
@@ -67,11 +67,11 @@ module _ (L : Leaves) where
     pub updated-started : (t : ℕ) (us : List (L .Update)) (r : State L) → All (F .Checked) us → F .Sound (r .meta) → started L (updated L t us r .meta) ≡ (started L (r .meta) || at t us)
     updated-started t [] r k s = sym (or-false (started L (r .meta)))
     updated-started t (u ∷ us) r k s =
-        updated-started t us (cond (eqb (L .offset u) t) (applied L t u r) r) (k .1)
-        (either (λ (r : State L). F .Sound (r .meta)) (eqb (L .offset u) t) {x = applied L t u r} {y = r} (F .sound-apply (r .position) u (r .meta) (k .0) s) s)
+        updated-started t us (cond (eqb (L .offset u) t) (appliedAt L t u r) r) (k .1)
+        (either (λ (r : State L). F .Sound (r .meta)) (eqb (L .offset u) t) {x = appliedAt L t u r} {y = r} (F .sound-apply (r .position) u (r .meta) (k .0) s) s)
         ∙ go (eqb (L .offset u) t)
       where
-        go : (b : Bool) → (started L (cond b (applied L t u r) r .meta) || at t us) ≡ (started L (r .meta) || (b || at t us))
+        go : (b : Bool) → (started L (cond b (appliedAt L t u r) r .meta) || at t us) ≡ (started L (r .meta) || (b || at t us))
         go true =
             ap (λ (b : Bool). b || at t us) (ap (λ (s : Shape). s .started) (F .shape-apply (r .position) u (r .meta) (k .0) s) ∙ F .sent-started u (k .0))
             ∙ sym (or-true (started L (r .meta)))

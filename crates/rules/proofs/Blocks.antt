@@ -10,7 +10,7 @@ use Rattle.rules.specs.Leaves.{Leaves}
 use Rattle.rules.specs.Samples.{State, fresh}
 use Rattle.rules.specs.Refusals.{Args, Found, clear, stop, room}
 use Rattle.rules.specs.Calls.{Call, push, flush, reset, Answer, refused, rendered, nothing, cleared, found, Result, isRefused, asked, drained, step}
-use Rattle.rules.specs.Block.{Layout, Outcome, left, outOf, strideOf, takes, made, runOn, finalOn, keptOn, acceptedOn, seen}
+use Rattle.rules.specs.Block.{Layout, Outcome, left, outOf, strideOf, takes, made, runOn, finalOn, keptOn, acceptedOn, asSeen}
 use Rattle.rules.proofs.Facts.{Facts, InRanges}
 
 -- what an answer says of the renderer after it
@@ -114,7 +114,7 @@ module _ (L : Leaves) (B : Layout L) where
     pub made-state : (c : Call) (r : State L) → InRanges F r → made L B c (B .encode r) .state ≡ B .encode (step L r c .next)
     made-state c r g = ap (λ (o : Outcome). o .state) (made-is c r g) ∙ left-state (step L r c .answer) (step L r c .next) r (outOf c) (strideOf c) (step-means L r c)
 
-    pub same-seen : (a : Answer) (s : State L) (out : List ℕ) (n : ℕ) (b : List ℕ) → seen L B (left L B a s out n b) ≡ seen L B (left L B a s out n [])
+    pub same-seen : (a : Answer) (s : State L) (out : List ℕ) (n : ℕ) (b : List ℕ) → asSeen L B (left L B a s out n b) ≡ asSeen L B (left L B a s out n [])
     same-seen (refused k x y) s out n b = refl
     same-seen (rendered v) s out n b = refl
     same-seen nothing s out n b = refl

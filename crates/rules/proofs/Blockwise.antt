@@ -13,7 +13,7 @@ use lib.Ieee.Bits.{ofBits-toBits}
 use Rattle.limiter.specs.Limiter.{scaled, blockGain, grown}
 use Rattle.rules.specs.Parts.{Channels, twelve}
 use Rattle.rules.specs.Samples.{limited, gainAfter}
-use Rattle.rules.specs.Sounds.{blockAt, gainAt, limitedBlocks}
+use Rattle.rules.specs.Sounds.{nthBlock, gainBefore, limitedBlocks}
 
 -- ---- the limiter looks at the twelve channels
 abbrev pub Same : Channels → Channels → Type 0
@@ -35,14 +35,14 @@ module _ (f g : Channels) where
   abbrev pub behind : Channels
   behind c = f c ++ g c
 
-  block-behind : (k : ℕ) → ((c : ℕ) → c < 12 → 64 * suc k ≤ length (f c)) → Same (blockAt f k) (blockAt behind k)
+  block-behind : (k : ℕ) → ((c : ℕ) → c < 12 → 64 * suc k ≤ length (f c)) → Same (nthBlock f k) (nthBlock behind k)
   block-behind k long c l =
       let w = long c l in
       let d = length-drop (64 * k) (f c) in
       sym (ap (take 64) (drop-append-le (64 * k) (f c) (g c) (omega arith)) ∙ take-append-le 64 (drop (64 * k) (f c)) (g c) (omega arith))
 
   module _ (rate : ℕ) (x : Float) where
-    pub gain-behind : (n : ℕ) → ((c : ℕ) → c < 12 → 64 * n ≤ length (f c)) → gainAt rate x f n ≡ gainAt rate x behind n
+    pub gain-behind : (n : ℕ) → ((c : ℕ) → c < 12 → 64 * n ≤ length (f c)) → gainBefore rate x f n ≡ gainBefore rate x behind n
     gain-behind zero long = refl
     gain-behind (suc n) long = same-gain 64 refl (gain-behind n (λ c l. let w = long c l in omega arith)) (block-behind n long)
 

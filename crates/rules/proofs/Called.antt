@@ -9,7 +9,7 @@ use native.Mathlib.Omega.{arith}
 use borrow.Author.Tests.{eqb-false}
 use lib.Dec.{eqb, lit<}
 use lib.ListN.{length, getD}
-use Rattle.ieee.specs.Units.{Tame}
+use Rattle.ieee.specs.Units.{Unitary}
 use Rattle.ieee.specs.Bounds.{All}
 use Rattle.rules.specs.Parts.{Channels, none}
 use Rattle.rules.specs.Leaves.{Leaves}
@@ -31,7 +31,7 @@ blocks-fit blocks left p n stride e l h w = omega arith
 module _ (L : Leaves) (B : Layout L) (F : Facts L B) where
   -- samples that are given out, of which each channel has n
   given-out : (g : Channels) (n stride : ℕ) (s : State L) (out b : List ℕ) → n ≤ stride → 48 * stride ≤ length out
-      → ((c : ℕ) → c < 12 → All Tame (g c)) → ((c : ℕ) → c < 12 → length (g c) ≡ n)
+      → ((c : ℕ) → c < 12 → All Unitary (g c)) → ((c : ℕ) → c < 12 → length (g c) ≡ n)
       → GivenOut stride out (left L B (rendered g) s out stride b)
   given-out g n stride s out b few room tamed long =
       let e = long 0 (lit< tt) in

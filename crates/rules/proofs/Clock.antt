@@ -7,7 +7,7 @@ use Prim.Native.Nat.{ℕ, suc, _+_}
 use lib.Dec.{eqb, leb}
 use Rattle.rules.specs.Leaves.{Leaves, started}
 use Rattle.rules.specs.Mix.{Moment}
-use Rattle.rules.specs.Samples.{State, applied, updated, slotted, passed}
+use Rattle.rules.specs.Samples.{State, appliedAt, updated, slotted, passed}
 use Rattle.rules.proofs.Lists.{either, both}
 
 module _ (L : Leaves) where
@@ -23,13 +23,13 @@ module _ (L : Leaves) where
   untouched-self : (r : State L) → Untouched r r
   untouched-self r = record { rate = refl; position = refl; gain = refl; filter = refl; pending = refl; places = refl }
 
-  untouched-one : (t : ℕ) (u : L .Update) (r : State L) → Untouched r (applied L t u r)
+  untouched-one : (t : ℕ) (u : L .Update) (r : State L) → Untouched r (appliedAt L t u r)
   untouched-one t u r = record { rate = refl; position = refl; gain = refl; filter = refl; pending = refl; places = refl }
 
   pub untouched : (t : ℕ) (us : List (L .Update)) (r : State L) → Untouched r (updated L t us r)
   untouched t [] r = untouched-self r
   untouched t (u ∷ us) r =
-      let s = cond (eqb (L .offset u) t) (applied L t u r) r in
+      let s = cond (eqb (L .offset u) t) (appliedAt L t u r) r in
       let h = untouched t us s in
       let k : Untouched r s = either (Untouched r) (eqb (L .offset u) t) (untouched-one t u r) (untouched-self r) in
       record {
@@ -50,7 +50,7 @@ module _ (L : Leaves) where
   pub alike-self : (r : State L) → Alike r r
   alike-self r = record { position = refl; phase = refl; start = refl; meta = refl }
 
-  applied-alike : (t : ℕ) (u : L .Update) (r s : State L) → Alike r s → Alike (applied L t u r) (applied L t u s)
+  applied-alike : (t : ℕ) (u : L .Update) (r s : State L) → Alike r s → Alike (appliedAt L t u r) (appliedAt L t u s)
   applied-alike t u r s a =
       record {
         position = a .position;
@@ -62,7 +62,7 @@ module _ (L : Leaves) where
   updated-alike : (t : ℕ) (us : List (L .Update)) (r s : State L) → Alike r s → Alike (updated L t us r) (updated L t us s)
   updated-alike t [] r s a = a
   updated-alike t (u ∷ us) r s a =
-      updated-alike t us (cond (eqb (L .offset u) t) (applied L t u r) r) (cond (eqb (L .offset u) t) (applied L t u s) s) (both Alike (eqb (L .offset u) t) (applied-alike t u r s a) a)
+      updated-alike t us (cond (eqb (L .offset u) t) (appliedAt L t u r) r) (cond (eqb (L .offset u) t) (appliedAt L t u s) s) (both Alike (eqb (L .offset u) t) (applied-alike t u r s a) a)
 
   slotted-alike : (r s : State L) → Alike r s → Alike (slotted L r) (slotted L s)
   slotted-alike r s a =

@@ -7,7 +7,7 @@ use lib.Dec.{T, T-not, eqb, ltb, ltb→lt}
 use lib.ListN.{length}
 use lib.Ieee.{eq}
 use lib.Ieee.Fits.{and-l, and-r}
-use Rattle.panning.specs.Choice.{every}
+use Rattle.panning.specs.Choice.{everyOf}
 use Rattle.panning.specs.Terms.{Term, onChannel}
 use Rattle.panning.specs.Hall.{fullRange}
 use Rattle.panning.proofs.Lists.{every→}
@@ -20,7 +20,7 @@ use Rattle.rules.proofs.Facts.{InHall}
 
 -- the eleven channels that are not 3
 eleven : {k : ℕ} → List·Memᴰ k fullRange → (k < 12) × (k ≡ 3 → ⊥)
-unfolding every
+unfolding everyOf
 eleven {k} m =
     let t = every→ (λ n. ltb n 12 && not (eqb n 3)) fullRange tt k m in
     (ltb→lt k 12 (and-l (ltb k 12) (not (eqb k 3)) t), λ e. T-not (eqb k 3) (and-r (ltb k 12) (not (eqb k 3)) t) (subst (λ (n : ℕ). T (eqb n 3)) (sym e) tt))

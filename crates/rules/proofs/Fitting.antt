@@ -30,7 +30,7 @@ pub one-fits : Fits 1·0
 unfolding fits
 one-fits = tt
 
-total-fits : (s : Float) (ts : List sums.Term) → Fits s → Fits (total s ts)
+total-fits : (s : Float) (ts : List sums.Addend) → Fits s → Fits (total s ts)
 total-fits s [] h = h
 total-fits s (t ∷ ts) h = total-fits _ ts (either Fits (eq (t .coef) (ofBits binary32 0)) h (add-fits binary32 s (mul binary32 (t .sample) (t .coef))))
 

@@ -7,7 +7,7 @@ use lib.Dec.{lit<}
 use lib.ListN.{length, take, length-append}
 use lib.Seq.{length-take-le}
 use lib.Ieee.{binary32, ofBits}
-use Rattle.ieee.specs.Units.{F32, Tame}
+use Rattle.ieee.specs.Units.{F32, Unitary}
 use Rattle.ieee.specs.Bounds.{All}
 use Rattle.words.specs.Words.{Bytes}
 use Rattle.rules.specs.Parts.{Channels, floats}
@@ -52,7 +52,7 @@ module _ (L : Leaves) (B : Layout L) (F : Facts L B) where
         let d = framed-fine n (suc t) (omega arith) (x .next) (a .next) in
         record {
           next = d .next;
-          given = λ c l. all-append Tame (x .given c) (y .given c) (a .given c l) (d .given c l);
+          given = λ c l. all-append Unitary (x .given c) (y .given c) (a .given c l) (d .given c l);
           blocks = a .blocks + d .blocks;
           length = λ c l. length-append (x .given c) (y .given c) ∙ sums (a .blocks) (d .blocks) (a .length c l) (d .length c l);
           all = total (a .blocks) (d .blocks) (x .next .pending) (y .next .pending) (r .pending) (a .all) (d .all);
@@ -73,7 +73,7 @@ module _ (L : Leaves) (B : Layout L) (F : Facts L B) where
   -- ---- flush
   pub record Drained (r : State L) (a : After L) : Type 0 where
     pub next : Good L B F (a .next)
-    pub given : (c : ℕ) → c < 12 → All Tame (a .given c)
+    pub given : (c : ℕ) → c < 12 → All Unitary (a .given c)
     pub length : (c : ℕ) → c < 12 → length (a .given c) ≡ r .pending
 
   pub flushed-fine : (r : State L) → Good L B F r → Drained r (flushed L r)

@@ -17,7 +17,7 @@ use Rattle.rules.specs.Leaves.{Leaves}
 use Rattle.rules.specs.Mix.{sampleAt, samplesAt}
 use Rattle.rules.specs.Samples.{State}
 use Rattle.rules.specs.Refusals.{Args, Found, clear, stop, _then_, unless, every, room, sized, listed, early, later}
-use Rattle.rules.specs.Calls.{sentOf, found}
+use Rattle.rules.specs.Calls.{announced, found}
 use Rattle.mixing.proofs.Meant.{sample-bounded}
 
 -- ---- tests
@@ -105,7 +105,7 @@ module _ (L : Leaves) where
 
   pub record Passed (r : State L) (a : Args) : Type 0 where
     pub early : Early r a
-    pub later : later (sentOf L (L .updates (a .meta))) (a .objects) (a .codes) (a .samples) (a .rate) (r .rate) (L .shape (r .meta)) ≡ clear
+    pub later : later (announced L (L .updates (a .meta))) (a .objects) (a .codes) (a .samples) (a .rate) (r .rate) (L .shape (r .meta)) ≡ clear
 
   pub is-early : (r : State L) (a : Args) → early L r a ≡ clear → Early r a
   is-early r a e =

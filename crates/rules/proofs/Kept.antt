@@ -10,7 +10,7 @@ use lib.Dec.{eqb, leb, ltb, lit≤, lit<}
 use lib.ListN.{length}
 use lib.Ieee.{Float, binary32, toBits, ofBits}
 use lib.Ieee.Bits.{ofBits-toBits}
-use Rattle.ieee.specs.Units.{One, F32, Gain, Tame}
+use Rattle.ieee.specs.Units.{One, F32, Gain, Unitary}
 use Rattle.ieee.specs.Bounds.{Bounded, All}
 use Rattle.ieee.proofs.Value.{one-pos}
 use Rattle.ieee.proofs.Constants.{one-f32, one-P, zero-f32}
@@ -21,7 +21,7 @@ use Rattle.angles.specs.Angle.{Listed}
 use Rattle.rules.specs.Parts.{1·0, none, Places, floats, laid, zeros}
 use Rattle.rules.specs.Leaves.{Leaves, started}
 use Rattle.rules.specs.Mix.{sampleAt, Moment, heard, fed}
-use Rattle.rules.specs.Samples.{Frame, State, fresh, limited, row, applied, updated, slotted, moment, After, passed, opened}
+use Rattle.rules.specs.Samples.{Frame, State, fresh, limited, row, appliedAt, updated, slotted, moment, After, passed, opened}
 use Rattle.rules.specs.Block.{Layout}
 use Rattle.rules.proofs.Lists.{either, all-laid, length-laid, all-same, all-map, length-map, zeros-long, few-left}
 use Rattle.rules.proofs.Facts.{Mixable, Facts}
@@ -81,14 +81,14 @@ module _ (L : Leaves) (B : Layout L) (F : Facts L B) where
   fresh-rest = inl (record { rate = refl; none = refl; steady = record { meta = F .sound-blank; gain = one-gain; places = zeros-finite; long = zeros-long; few = lit< tt } })
 
   -- ---- updates, slots, a rate
-  applied-good : (t : ℕ) (u : L .Update) (r : State L) → F .Checked u → Good r → Good (applied L t u r)
+  applied-good : (t : ℕ) (u : L .Update) (r : State L) → F .Checked u → Good r → Good (appliedAt L t u r)
   applied-good t u r k g =
       let s = g .steady in
       record { rate = g .rate; calm = g .calm; steady = record { meta = F .sound-apply (r .position) u (r .meta) k (s .meta); gain = s .gain; places = s .places; long = s .long; few = s .few } }
 
   pub updated-good : (t : ℕ) (us : List (L .Update)) (r : State L) → All (F .Checked) us → Good r → Good (updated L t us r)
   updated-good t [] r k g = g
-  updated-good t (u ∷ us) r k g = updated-good t us (cond (eqb (L .offset u) t) (applied L t u r) r) (k .1) (either Good (eqb (L .offset u) t) (applied-good t u r (k .0) g) g)
+  updated-good t (u ∷ us) r k g = updated-good t us (cond (eqb (L .offset u) t) (appliedAt L t u r) r) (k .1) (either Good (eqb (L .offset u) t) (applied-good t u r (k .0) g) g)
 
   slotted-good : (r : State L) → Good r → Good (slotted L r)
   slotted-good r g =
@@ -141,7 +141,7 @@ module _ (L : Leaves) (B : Layout L) (F : Facts L B) where
   -- n samples from p pending: what was given out, in how many blocks, and what is left
   pub record Fine (p n : ℕ) (a : After L) : Type 0 where
     pub next : Good (a .next)
-    pub given : (c : ℕ) → c < 12 → All Tame (a .given c)
+    pub given : (c : ℕ) → c < 12 → All Unitary (a .given c)
     pub blocks : ℕ
     pub length : (c : ℕ) → c < 12 → length (a .given c) ≡ 64 * blocks
     pub all : 64 * blocks + a .next .pending ≡ p + n
@@ -190,7 +190,7 @@ module _ (L : Leaves) (B : Layout L) (F : Facts L B) where
             let most = leb-true 64 (suc (r .pending)) e in
             record {
               next = passed-good;
-              given = λ c l. subst (λ (b : Bool). All Tame (cond b (limited (r .gain) (floats places)) none c)) (sym e)
+              given = λ c l. subst (λ (b : Bool). All Unitary (cond b (limited (r .gain) (floats places)) none c)) (sym e)
                   (limited-tame (floats places) floats-finite 64 (r .rate) (g .rate) (lit≤ tt) (r .gain) (g .steady .gain) c l);
               blocks = 1;
               length = λ c l. ap (λ (b : Bool). length (cond b (limited (r .gain) (floats places)) none c)) e ∙ length-limited (r .gain) (floats places) c ∙ floats-long c l;
@@ -199,7 +199,7 @@ module _ (L : Leaves) (B : Layout L) (F : Facts L B) where
         go false e =
             record {
               next = passed-good;
-              given = λ c l. subst (λ (b : Bool). All Tame (cond b (limited (r .gain) (floats places)) none c)) (sym e) tt;
+              given = λ c l. subst (λ (b : Bool). All Unitary (cond b (limited (r .gain) (floats places)) none c)) (sym e) tt;
               blocks = 0;
               length = λ c l. ap (λ (b : Bool). length (cond b (limited (r .gain) (floats places)) none c)) e;
               all = ap (λ (b : Bool). 64 * 0 + cond b 0 (suc (r .pending))) e ∙ (omega arith);

@@ -14,7 +14,7 @@ use Rattle.ieee.proofs.Ops.{neg-f32, neg-P, neg-N}
 use Rattle.ieee.proofs.Compare.{→le}
 use Rattle.beds.proofs.Range.{between}
 use Rattle.limiter.specs.Limiter.{scaled, scaledBlock, blockGain}
-use Rattle.limiter.specs.Range.{InRange}
+use Rattle.limiter.specs.Range.{LimitedInRange}
 use Rattle.limiter.proofs.Theorem.{limiter-in-range}
 use Rattle.limiter.proofs.Laws.{length-scaled}
 use Rattle.angles.specs.Angle.{Listed}
@@ -23,7 +23,7 @@ use Rattle.rules.specs.Samples.{limited, gainAfter}
 use Rattle.rules.proofs.Judged.{rate-low, rate-high}
 
 -- the two ways of saying it
-pub tame : (x : Float) → units.Tame x → Tame x
+pub tame : (x : Float) → units.Unitary x → Tame x
 tame x t =
     let p = one-P in
     record {
@@ -36,12 +36,12 @@ module _ (f : Channels) (h : (c : ℕ) → All F32 (f c)) where
   all-twelve = (h 0, (h 1, (h 2, (h 3, (h 4, (h 5, (h 6, (h 7, (h 8, (h 9, (h 10, (h 11, tt))))))))))))
 
   module _ (n rate : ℕ) (l : Listed rate) (few : n ≤ 64) (g : Float) (k : Gain g) where
-    block : InRange g n rate (twelve f)
+    block : LimitedInRange g n rate (twelve f)
     block = limiter-in-range g n rate (twelve f) k all-twelve (le-trans few (rate-low l)) (lt-of-lt-of-le (lit< tt) (rate-low l)) (rate-high l)
 
-    pub limited-tame : (c : ℕ) → c < 12 → All units.Tame (limited g f c)
+    pub limited-tame : (c : ℕ) → c < 12 → All units.Unitary (limited g f c)
     unfolding scaledBlock
-    limited-tame c q = between (λ c. All units.Tame (scaled (blockGain g (twelve f)) (f c))) 0 12 (block .samples) c zero-le (omega arith)
+    limited-tame c q = between (λ c. All units.Unitary (scaled (blockGain g (twelve f)) (f c))) 0 12 (block .samples) c zero-le (omega arith)
 
     pub gain-kept : Gain (gainAfter n rate g f)
     gain-kept = block .next

@@ -18,7 +18,7 @@ use Rattle.rules.specs.Samples.{Frame, State, slotted, updated, sampled,
 use Rattle.rules.specs.Refusals.{Args, Found, clear, unless}
 use Rattle.rules.specs.Calls.{frameOf, found, asked}
 use Rattle.rules.specs.Sounds.{silent, before, met, momentAt, whole}
-use Rattle.rules.specs.Promises.{nobody, Replaced, withPcm, objectAt, begun, Matched, AtSample, PushHolds}
+use Rattle.rules.specs.Promises.{nobody, Replaced, withPcm, objectHeard, begun, Matched, AtSample, PushHolds}
 use Rattle.rules.specs.Block.{Layout}
 use Rattle.rules.proofs.Lists.{all-at}
 use Rattle.rules.proofs.Facts.{InHall, Facts}
@@ -112,7 +112,7 @@ module _ (L : Leaves) (B : Layout L) (F : Facts L B) (r : State L) (a : Args) (b
     | inr h ↦ hearable-at L B F r a k good at-rate t h .sources .objects
   ]
 
-  in-hall : (t j : ℕ) → j < length (momentAt L r a t .objects) → InHall (objectAt L r a t j)
+  in-hall : (t j : ℕ) → j < length (momentAt L r a t .objects) → InHall (objectHeard L r a t j)
   in-hall t j h = all-at InHall (momentAt L r a t .objects) j nobody h (hall t)
 
   -- ---- the bass feed
@@ -165,8 +165,8 @@ module _ (L : Leaves) (B : Layout L) (F : Facts L B) (r : State L) (a : Args) (b
         moments = count;
         samples = at-sample hush;
         bass = λ t j h l z qcm p. (still-clear L r a (length (a .codes) + j) qcm p e, fed-same j qcm p t h);
-        squares = λ t j h z. squared (objectAt L r a t j) (in-hall t j h) z;
-        still = λ t j h z. stilled (objectAt L r a t j) (in-hall t j h) z;
+        squares = λ t j h z. squared (objectHeard L r a t j) (in-hall t j h) z;
+        still = λ t j h z. stilled (objectHeard L r a t j) (in-hall t j h) z;
       }
 
   pub hush-pushed : Hush L r → Hush L (pushed L f r .next)

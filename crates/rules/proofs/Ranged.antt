@@ -15,7 +15,7 @@ use Rattle.words.specs.Words.{Bytes, Words}
 use Rattle.rules.specs.Parts.{laid}
 use Rattle.rules.specs.Leaves.{Leaves, started}
 use Rattle.rules.specs.Mix.{Moment}
-use Rattle.rules.specs.Samples.{Frame, State, fresh, row, applied, updated, slotted, moment, passed, sampled, framed, opened, pushed, flushed}
+use Rattle.rules.specs.Samples.{Frame, State, fresh, row, appliedAt, updated, slotted, moment, passed, sampled, framed, opened, pushed, flushed}
 use Rattle.rules.specs.Refusals.{Args, listed}
 use Rattle.rules.specs.Ranges.{Fits, FilterFits, Ranged}
 use Rattle.rules.specs.Calls.{frameOf}
@@ -48,7 +48,7 @@ module _ (L : Leaves) (B : Layout L) (F : Facts L B) where
   }
 
   -- ---- updates and slots
-  pub applied-ranged : (t : ℕ) (u : L .Update) (r : State L) → F .Checked u → R r → R (applied L t u r)
+  pub applied-ranged : (t : ℕ) (u : L .Update) (r : State L) → F .Checked u → R r → R (appliedAt L t u r)
   applied-ranged t u r k g =
       let s = slot-kept (not (started L (r .meta)) || eqb t 0) in
       record {
@@ -117,7 +117,7 @@ module _ (L : Leaves) (B : Layout L) (F : Facts L B) where
   pub updated-ranged : (t : ℕ) (us : List (L .Update)) (r : State L) → All (F .Checked) us → R r → R (updated L t us r)
   updated-ranged t [] r c g = g
   updated-ranged t (u ∷ us) r c g =
-      updated-ranged t us (cond (eqb (L .offset u) t) (applied L t u r) r) (c .1) (either R (eqb (L .offset u) t) (applied-ranged t u r (c .0) g) g)
+      updated-ranged t us (cond (eqb (L .offset u) t) (appliedAt L t u r) r) (c .1) (either R (eqb (L .offset u) t) (applied-ranged t u r (c .0) g) g)
 
   pub framed-ranged : (f : Frame (L .Update)) → All (F .Checked) (f .updates) → (n t : ℕ) (r : State L) → listed (r .rate) ≡ true → r .position + n ≤ 1099511627776 → R r →
       R (framed L f n t r .next)

@@ -18,9 +18,9 @@ use Rattle.beds.proofs.Matches as match
 use Rattle.ieee.specs.Bounds.{All}
 use Rattle.rules.specs.Leaves.{Leaves, Shape, Bed, started}
 use Rattle.rules.specs.Mix.{fedBy}
-use Rattle.rules.specs.Samples.{Frame, State, applied, updated, slotted, sampled, opened}
-use Rattle.rules.specs.Refusals.{Args, Found, clear, unless, bedFound, bedsFound, Sent, objectsMatch, countsAt, shapeAt, mixes, walk, later, none}
-use Rattle.rules.specs.Calls.{sentOf, frameOf}
+use Rattle.rules.specs.Samples.{Frame, State, appliedAt, updated, slotted, sampled, opened}
+use Rattle.rules.specs.Refusals.{Args, Found, clear, unless, bedFound, bedsFound, Announced, objectsMatch, countsAt, shapeAt, mixes, walk, later, noneSent}
+use Rattle.rules.specs.Calls.{announced, frameOf}
 use Rattle.rules.specs.Sounds as sounds
 use Rattle.rules.specs.Promises.{Matched, begun}
 use Rattle.rules.specs.Block.{Layout}
@@ -32,7 +32,7 @@ use Rattle.rules.proofs.Frames.{sampled-fine}
 use Rattle.rules.proofs.Begun.{at, before, begins, updated-started}
 use Rattle.rules.proofs.Moments.{along}
 
-module _ (all : List Sent) (objects : ℕ) (codes : List ℕ) where
+module _ (all : List Announced) (objects : ℕ) (codes : List ℕ) where
   -- as many objects as the push brings, once an update was applied
   abbrev pub Matches : Shape → Type 0
   Matches s = s .started ≡ true → s .objects ≡ objects
@@ -41,7 +41,7 @@ module _ (all : List Sent) (objects : ℕ) (codes : List ℕ) where
   match-clear s e = eqb-true (s .objects) objects (unless-clear (eqb (s .objects) objects) 11 (s .objects) objects e)
 
   -- updates that passed 11 leave a shape that matches
-  pub matches-on : (t : ℕ) (vs : List Sent) (s : Shape) → countsAt all objects codes t vs ≡ clear → Matches s → Matches (shapeAt all objects codes t vs s)
+  pub matches-on : (t : ℕ) (vs : List Announced) (s : Shape) → countsAt all objects codes t vs ≡ clear → Matches s → Matches (shapeAt all objects codes t vs s)
   matches-on t [] s e m = m
   matches-on t (u ∷ vs) s e m =
       let p = then-clear (cond (eqb (u .offset) t) (objectsMatch all objects codes (u .shape)) clear) (countsAt all objects codes t vs) e in
@@ -82,7 +82,7 @@ module _ (all : List Sent) (objects : ℕ) (codes : List ℕ) where
   pub judged : (n rate old : ℕ) (s : Shape) → later all objects codes n rate old s ≡ clear → Judged n s
   judged n rate old s e =
       let p1 = then-clear (unless (eqb old 0 || eqb old rate) 9 old rate) _ e .1 in
-      let p2 = then-clear (unless (s .started || not (none all objects codes all)) 10 0 0) _ p1 .1 in
+      let p2 = then-clear (unless (s .started || not (noneSent all objects codes all)) 10 0 0) _ p1 .1 in
       let p3 = then-clear (counts 0) _ p2 .1 in
       let p4 = then-clear (unless (not (eqb n 0)) 12 0 0) _ p3 .1 in
       let p5 = then-clear (cond (after 0 s .started) (objectsMatch all objects codes (after 0 s)) clear) (walk all objects codes n 0 s) p4 in
@@ -119,14 +119,14 @@ module _ (L : Leaves) (B : Layout L) (F : Facts L B) where
   module _ (P : L .Meta → Type 0) (keeps : (n : ℕ) (u : L .Update) (m : L .Meta) → F .Checked u → P m → P (L .apply n u m))
       (gives : (n : ℕ) (u : L .Update) (m : L .Meta) → F .Checked u → P m → L .shape (L .apply n u m) ≡ L .sent u) where
     -- the shape that sample t is heard with
-    pub updated-shape : (all : List Sent) (objects : ℕ) (codes : List ℕ) (t : ℕ) (us : List (L .Update)) (r : State L) → All (F .Checked) us → P (r .meta)
-        → L .shape (updated L t us r .meta) ≡ shapeAt all objects codes t (sentOf L us) (L .shape (r .meta))
+    pub updated-shape : (all : List Announced) (objects : ℕ) (codes : List ℕ) (t : ℕ) (us : List (L .Update)) (r : State L) → All (F .Checked) us → P (r .meta)
+        → L .shape (updated L t us r .meta) ≡ shapeAt all objects codes t (announced L us) (L .shape (r .meta))
     updated-shape all objects codes t [] r k s = refl
     updated-shape all objects codes t (u ∷ us) r k s =
-        let x = either (λ (r : State L). P (r .meta)) (eqb (L .offset u) t) {x = applied L t u r} {y = r} (keeps (r .position) u (r .meta) (k .0) s) s in
-        updated-shape all objects codes t us (cond (eqb (L .offset u) t) (applied L t u r) r) (k .1) x ∙ ap (shapeAt all objects codes t (sentOf L us)) (go (eqb (L .offset u) t))
+        let x = either (λ (r : State L). P (r .meta)) (eqb (L .offset u) t) {x = appliedAt L t u r} {y = r} (keeps (r .position) u (r .meta) (k .0) s) s in
+        updated-shape all objects codes t us (cond (eqb (L .offset u) t) (appliedAt L t u r) r) (k .1) x ∙ ap (shapeAt all objects codes t (announced L us)) (go (eqb (L .offset u) t))
       where
-        go : (b : Bool) → L .shape (cond b (applied L t u r) r .meta) ≡ cond b (L .sent u) (L .shape (r .meta))
+        go : (b : Bool) → L .shape (cond b (appliedAt L t u r) r .meta) ≡ cond b (L .sent u) (L .shape (r .meta))
         go true = gives (r .position) u (r .meta) (k .0) s
         go false = refl
 
@@ -141,8 +141,8 @@ module _ (L : Leaves) (B : Layout L) (F : Facts L B) where
     abbrev f : Frame (L .Update)
     f = frameOf L a
 
-    abbrev sent : List Sent
-    sent = sentOf L (f .updates)
+    abbrev sent : List Announced
+    sent = announced L (f .updates)
 
     abbrev Fit : Shape → Type 0
     Fit = Matches sent (a .objects) (a .codes)

@@ -19,7 +19,7 @@ use Rattle.rules.specs.Mix.{Moment, heard, fed}
 use Rattle.rules.specs.Samples.{Frame, State, limited, gainAfter, row, updated, slotted, After, passed, sampled, framed, opened, waiting, pushed}
 use Rattle.rules.specs.Refusals.{Args}
 use Rattle.rules.specs.Calls.{frameOf}
-use Rattle.rules.specs.Sounds.{blockAt, gainAt, limitedBlocks, before, met, momentAt, soundAt, sounds}
+use Rattle.rules.specs.Sounds.{nthBlock, gainBefore, limitedBlocks, before, met, momentAt, soundAt, sounds}
 use Rattle.rules.specs.Block.{Layout}
 use Rattle.rules.proofs.Lists.{length-map, either}
 use Rattle.rules.proofs.Facts.{Facts}
@@ -141,7 +141,7 @@ module _ (L : Leaves) where
       pub position : s t .position ≡ r .position + t
       pub pending : s t .pending ≡ (r .pending + t) % 64
       pub long : (c : ℕ) → c < 12 → length (met-by t c) ≡ r .pending + t
-      pub gain : s t .gain ≡ gainAt (a .rate) (r .gain) (met-by t) (blocks t)
+      pub gain : s t .gain ≡ gainBefore (a .rate) (r .gain) (met-by t) (blocks t)
       pub given : Same (framed L f t 0 start .given) (limitedBlocks (a .rate) (r .gain) (met-by t) (blocks t))
       pub waits : Same (waiting L (s t)) (λ c. drop (64 * blocks t) (met-by t c))
 
@@ -168,8 +168,8 @@ module _ (L : Leaves) where
       enough c l = let e = i .long c l in omega arith
 
       -- the blocks before it stay as they were
-      gain-stays : s t .gain ≡ gainAt (a .rate) (r .gain) (met-by (suc t)) (blocks t)
-      gain-stays = i .gain ∙ gain-behind (met-by t) one (a .rate) (r .gain) (blocks t) enough ∙ ap (λ (x : Channels). gainAt (a .rate) (r .gain) x (blocks t)) grows
+      gain-stays : s t .gain ≡ gainBefore (a .rate) (r .gain) (met-by (suc t)) (blocks t)
+      gain-stays = i .gain ∙ gain-behind (met-by t) one (a .rate) (r .gain) (blocks t) enough ∙ ap (λ (x : Channels). gainBefore (a .rate) (r .gain) x (blocks t)) grows
 
       given-stays : Same (framed L f t 0 start .given) (limitedBlocks (a .rate) (r .gain) (met-by (suc t)) (blocks t))
       given-stays c l =
@@ -211,13 +211,13 @@ module _ (L : Leaves) where
             position = position-next;
             pending = pending-by false e ∙ (omega arith);
             long = long-next;
-            gain = gain-by false e ∙ gain-stays ∙ ap (gainAt (a .rate) (r .gain) (met-by (suc t))) same;
+            gain = gain-by false e ∙ gain-stays ∙ ap (gainBefore (a .rate) (r .gain) (met-by (suc t))) same;
             given = λ c l. given-by false e c ∙ append-nil (framed L f t 0 start .given c) ∙ given-stays c l ∙ ap (λ (k : ℕ). limitedBlocks (a .rate) (r .gain) (met-by (suc t)) k c) same;
             waits = λ c l. waiting-by false e c ∙ open-block c l ∙ ap (λ (k : ℕ). drop (64 * k) (met-by (suc t) c)) same;
           }
 
       -- the block is whole
-      is-block : p ≡ 63 → Same block (blockAt (met-by (suc t)) (blocks t))
+      is-block : p ≡ 63 → Same block (nthBlock (met-by (suc t)) (blocks t))
       is-block e c l =
           let n = length-map (ofBits binary32) (more t .next .places c) ∙ ap length (places-are t c) ∙ length-set (s t .places c) p (toBits binary32 (soundAt L r a c t)) ∙ long-at t c (le-of-lt h) l in
           sym (take-all 64 (block c) (omega arith))
@@ -234,7 +234,7 @@ module _ (L : Leaves) where
             position = position-next;
             pending = pending-by true e ∙ (omega arith);
             long = long-next;
-            gain = gain-by true e ∙ same-gain 64 (i .rate) gain-stays (is-block v) ∙ ap (gainAt (a .rate) (r .gain) (met-by (suc t))) one-more;
+            gain = gain-by true e ∙ same-gain 64 (i .rate) gain-stays (is-block v) ∙ ap (gainBefore (a .rate) (r .gain) (met-by (suc t))) one-more;
             given = λ c l.
                 given-by true e c
                 ∙ ap₂ (λ (u v : List Float). u ++ v) (given-stays c l) (same-limited gain-stays (is-block v) c l)
@@ -252,7 +252,7 @@ module _ (L : Leaves) where
           position = omega arith;
           pending = omega arith;
           long = λ c l. let e = long-at 0 c zero-le l in length-append (waiting L r c) [] ∙ (omega (arith, length-take-le (r .pending) (floats (r .places) c) (le-trans (le-of-lt few) (le-of-eq (sym (length-map (ofBits binary32) (r .places c) ∙ e))))));
-          gain = ap (gainAt (a .rate) (r .gain) (met-by 0)) (sym none-yet);
+          gain = ap (gainBefore (a .rate) (r .gain) (met-by 0)) (sym none-yet);
           given = λ c l. ap (λ (k : ℕ). limitedBlocks (a .rate) (r .gain) (met-by 0) k c) (sym none-yet);
           waits = λ c l. sym (append-nil (waiting L r c)) ∙ ap (λ (k : ℕ). drop (64 * k) (met-by 0 c)) (sym none-yet);
         }

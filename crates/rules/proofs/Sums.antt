@@ -16,7 +16,7 @@ use Rattle.ieee.proofs.Bound.{mul-bounded}
 use Rattle.mixing.specs.Sums as sums
 use Rattle.mixing.specs.Sums.{total}
 use Rattle.limiter.specs.Sums as bound
-use Rattle.limiter.specs.Sums.{Within, mixed}
+use Rattle.limiter.specs.Sums.{ProductWithin, productSum}
 use Rattle.limiter.proofs.Sums.{mixed-bounded}
 use Rattle.beds.specs.declared.Route.{Route}
 use Rattle.beds.specs.declared.Route.the-variants.{Bass, Folded, Direct, Unsupported}
@@ -40,23 +40,23 @@ use Rattle.rules.proofs.Facts.{InHall, Mixable}
 use Rattle.rules.proofs.Terms.{eight-bounded, Modest, panned-modest, object-modest}
 
 -- ---- the sum of the terms, in the words of the limiter's bound
-abbrev told : sums.Term → bound.Term
+abbrev told : sums.Addend → bound.Product
 told t = record { sample = t .sample; coef = t .coef }
 
 zero-is : ofBits binary32 0 ≡ 0·0
 unfolding ofBits
 zero-is = refl
 
-as-mixed : (a : Float) (ts : List sums.Term) → total a ts ≡ mixed a (map told ts)
+as-mixed : (a : Float) (ts : List sums.Addend) → total a ts ≡ productSum a (map told ts)
 as-mixed a [] = refl
 as-mixed a (t ∷ ts) =
     ap (λ (z : Float). total (cond (eq (t .coef) z) a (add binary32 a (mul binary32 (t .sample) (t .coef)))) ts) zero-is
     ∙ as-mixed (cond (eq (t .coef) 0·0) a (add binary32 a (mul binary32 (t .sample) (t .coef)))) ts
 
-abbrev Small : sums.Term → Type 0
-Small t = Within 16 8 (told t)
+abbrev Small : sums.Addend → Type 0
+Small t = ProductWithin 16 8 (told t)
 
-all-told : (ts : List sums.Term) → All Small ts → All (Within 16 8) (map told ts)
+all-told : (ts : List sums.Addend) → All Small ts → All (ProductWithin 16 8) (map told ts)
 all-told [] h = tt
 all-told (t ∷ ts) h = (h .0, all-told ts (h .1))
 
@@ -68,7 +68,7 @@ pub most-range : Range Most
 unfolding One
 most-range = record { low = lit≤ tt; high = lit≤ tt }
 
-total-bounded : (ts : List sums.Term) → length ts ≤ 646 → All Small ts → Bounded Most (total 0·0 ts)
+total-bounded : (ts : List sums.Addend) → length ts ≤ 646 → All Small ts → Bounded Most (total 0·0 ts)
 total-bounded ts h q =
     subst (Bounded Most) (sym (as-mixed 0·0 ts))
     (mixed-bounded 16 8 (lit< tt) 646 82688 (map told ts) (le-trans (le-of-eq (length-map told ts)) h) (lit≤ tt) (lit≤ tt) (all-told ts q))
@@ -118,7 +118,7 @@ bed-modest b c h = routed-modest (routeOf (b .code)) (b .code) (b .gain) c h
 
 -- ---- all of them
 -- at most n, and small
-record Fewer (n : ℕ) (ts : List sums.Term) : Type 0 where
+record Fewer (n : ℕ) (ts : List sums.Addend) : Type 0 where
   few : length ts ≤ n
   small : All Small ts
 
@@ -136,7 +136,7 @@ modest-by ks x m h = record { few = le-trans (le-of-eq (count ks)) (m .few); sma
 one-more : (n : ℕ) → 19 + n * 19 ≡ suc n * 19
 one-more n = omega arith
 
-joined : {m n : ℕ} (ss ts : List sums.Term) → Fewer m ss → Fewer n ts → Fewer (m + n) (ss ++ ts)
+joined : {m n : ℕ} (ss ts : List sums.Addend) → Fewer m ss → Fewer n ts → Fewer (m + n) (ss ++ ts)
 joined ss ts a b = let e = length-append ss ts in record { few = omega arith; small = all-append Small ss ts (a .small) (b .small) }
 
 fed-fewer : (ks : List Float) (code : ℕ) (codes : List ℕ) (f : Found) (inputs : ℕ → Float) → Judged code codes f → Modest ks

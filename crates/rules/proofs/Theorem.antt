@@ -13,7 +13,7 @@ use Rattle.rules.specs.Refusals.{Args, Found, clear, stop, room}
 use Rattle.rules.specs.Calls.{Call, push, flush, reset, found, asked, drained, step, final}
 use Rattle.rules.specs.Promises.{CallHolds, AllHold}
 use Rattle.rules.specs.Ringing.{fedSince, AllRing}
-use Rattle.rules.specs.Block.{Layout, outOf, strideOf, left, finalOn, Seen, seen, seenOn, told}
+use Rattle.rules.specs.Block.{Layout, outOf, strideOf, left, finalOn, Seen, asSeen, seenOn, told}
 use Rattle.rules.specs.Claim.{GivenOut, AllClean, Lent, AllLent, AllGivenOut, Demand3, EveryList}
 use Rattle.rules.proofs.Facts.{Facts, InRanges}
 use Rattle.rules.proofs.Kept.{Rest, fresh-rest}
@@ -92,7 +92,7 @@ module _ (L : Leaves) (B : Layout L) (F : Facts L B) where
       record {
         range = (subst (GivenOut (strideOf c) (outOf c)) (sym is) (d .range (B .encode r)), subst (λ (b : List ℕ). AllGivenOut L B b cs) (sym at) (n .range));
         seen = ap₂ (λ (y : Seen L B) (ys : List (Seen L B)). y ∷ ys)
-            (ap (seen L B) is ∙ same-seen L B F (x .answer) (x .next) (outOf c) (strideOf c) (B .encode r)) (ap (λ (b : List ℕ). seenOn L B b cs) at ∙ n .seen);
+            (ap (asSeen L B) is ∙ same-seen L B F (x .answer) (x .next) (outOf c) (strideOf c) (B .encode r)) (ap (λ (b : List ℕ). seenOn L B b cs) at ∙ n .seen);
         block = ap (λ (b : List ℕ). finalOn L B b cs) at ∙ n .block;
         clean = (kept.clean L B F r (g .rest) (g .fed), n .clean);
         calls = (call-holds r c g (h .0), n .calls);

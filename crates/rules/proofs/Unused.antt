@@ -10,8 +10,8 @@ use Rattle.mixing.specs.Samples.{allPass}
 use Rattle.beds.specs.Matching.{counted}
 use Rattle.rules.specs.Leaves.{Leaves, Shape}
 use Rattle.rules.specs.Samples.{State}
-use Rattle.rules.specs.Refusals.{Args, Found, clear, stop, _then_, unless, room, sized, listed, early, bedsFound, Sent, objectsMatch, countsAt, shapeAt, walk, none, later}
-use Rattle.rules.specs.Calls.{Call, push, flush, reset, Answer, refused, rendered, nothing, cleared, sentOf, found, asked, drained, step}
+use Rattle.rules.specs.Refusals.{Args, Found, clear, stop, _then_, unless, room, sized, listed, early, bedsFound, Announced, objectsMatch, countsAt, shapeAt, walk, noneSent, later}
+use Rattle.rules.specs.Calls.{Call, push, flush, reset, Answer, refused, rendered, nothing, cleared, announced, found, asked, drained, step}
 use Rattle.rules.specs.Block.{Layout, outOf, strideOf, left, takes, made}
 
 -- ---- what stops, if anything, is not 7
@@ -48,11 +48,11 @@ free-beds beds codes [] = none-stops
 free-beds beds codes (c ∷ cs) =
     (other (not (eqb (counted c codes) 0)) 13 (counted c beds) 0 (λ e. omega arith) and-then other (not (eqb c 6)) 14 c 0 (λ e. omega arith)) and-then free-beds beds codes cs
 
-module _ (us : List Sent) (objects : ℕ) (codes : List ℕ) where
+module _ (us : List Announced) (objects : ℕ) (codes : List ℕ) where
   free-objects : (s : Shape) → Free (objectsMatch us objects codes s)
   free-objects s = other (eqb (s .objects) objects) 11 (s .objects) objects (λ e. omega arith)
 
-  free-counts : (t : ℕ) (vs : List Sent) → Free (countsAt us objects codes t vs)
+  free-counts : (t : ℕ) (vs : List Announced) → Free (countsAt us objects codes t vs)
   free-counts t [] = none-stops
   free-counts t (v ∷ vs) = where-so (eqb (v .offset) t) (free-objects (v .shape)) and-then free-counts t vs
 
@@ -66,7 +66,7 @@ module _ (us : List Sent) (objects : ℕ) (codes : List ℕ) where
   free-later n rate old s =
       let first = shapeAt us objects codes 0 us s in
       other (eqb old 0 || eqb old rate) 9 old rate (λ e. omega arith)
-      and-then other (s .started || not (none us objects codes us)) 10 0 0 (λ e. omega arith)
+      and-then other (s .started || not (noneSent us objects codes us)) 10 0 0 (λ e. omega arith)
       and-then free-counts 0 us
       and-then other (not (eqb n 0)) 12 0 0 (λ e. omega arith)
       and-then where-so (first .started) (free-objects first)
@@ -84,7 +84,7 @@ module _ (L : Leaves) where
       and-then other (allPass (a .pcm) 0 ((length (a .codes) + a .objects) * a .samples)) 8 0 0 (λ e. omega arith)
 
   free-found : (r : State L) (a : Args) → Free (found L r a)
-  free-found r a = free-early r a and-then free-later (sentOf L (L .updates (a .meta))) (a .objects) (a .codes) (a .samples) (a .rate) (r .rate) (L .shape (r .meta))
+  free-found r a = free-early r a and-then free-later (announced L (L .updates (a .meta))) (a .objects) (a .codes) (a .samples) (a .rate) (r .rate) (L .shape (r .meta))
 
   pub no-seven : (r : State L) (a : Args) (x y : ℕ) → found L r a ≡ stop 7 x y → ⊥
   no-seven r a x y e = free-found r a .never (ap number e)

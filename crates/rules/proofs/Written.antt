@@ -26,7 +26,7 @@ word-at s at zero i d h = absurd (not-suc-le-zero h)
 word-at s at (suc n) zero d h = ap (word s) (omega arith)
 word-at s at (suc n) (suc i) d h = word-at s (at + 4) n i d (omega arith) ∙ ap (word s) (omega arith)
 
-pub bits-words : (xs : List Float) → All units.Tame xs → Words (map (toBits binary32) xs)
+pub bits-words : (xs : List Float) → All units.Unitary xs → Words (map (toBits binary32) xs)
 bits-words [] h = tt
 bits-words (x ∷ xs) h = (toBits-lt binary32 x (h .0 .f32 .fit), bits-words xs (h .1))
 
@@ -113,12 +113,12 @@ module _ (given : Channels) (stride n : ℕ) (few : n ≤ stride) where
     unfolding written
     written-reads out r c i l h = reads 12 0 c out i zero-le l l h (omega arith)
 
-  pub written-tame : ((c : ℕ) → c < 12 → All units.Tame (given c)) → ((c : ℕ) → c < 12 → length (given c) ≡ n) → (out : List ℕ) → 48 * stride ≤ length out
+  pub written-tame : ((c : ℕ) → c < 12 → All units.Unitary (given c)) → ((c : ℕ) → c < 12 → length (given c) ≡ n) → (out : List ℕ) → 48 * stride ≤ length out
       → (c i : ℕ) → c < 12 → i < n → Tame (floatAt (written given stride out) (4 * (c * stride + i)))
   unfolding floatAt
   written-tame tamed long out r c i l h =
       let x = getD (given c) i 0·0 in
-      let q = all-at units.Tame (given c) i 0·0 (let e = long c l in omega arith) (tamed c l) in
+      let q = all-at units.Unitary (given c) i 0·0 (let e = long c l in omega arith) (tamed c l) in
       let bits : (c : ℕ) → c < 12 → Words (map (toBits binary32) (given c)) = λ c l. bits-words (given c) (tamed c l) in
       subst Tame (sym (ap (ofBits binary32) (written-reads bits long out r c i l h) ∙ ofBits-toBits binary32 x (q .f32 .fit))) (tame x q)
 

@@ -83,14 +83,14 @@ module _ (L : Leaves) (B : Layout L) where
     pub answer : Answer
     pub out : List ℕ
 
-  abbrev pub seen : Outcome → Seen
-  seen o = record { answer = o .answer; out = o .out }
+  abbrev pub asSeen : Outcome → Seen
+  asSeen o = record { answer = o .answer; out = o .out }
 
   abbrev pub seenOn : List ℕ → List Call → List Seen
   seenOn b [] = []
-  seenOn b (c ∷ cs) = seen (made c b) ∷ seenOn (made c b .state) cs
+  seenOn b (c ∷ cs) = asSeen (made c b) ∷ seenOn (made c b .state) cs
 
   -- the same from the rules alone, with no block
   abbrev pub told : State L → List Call → List Seen
   told r [] = []
-  told r (c ∷ cs) = let x = step L r c in seen (left (x .answer) (x .next) (outOf c) (strideOf c) []) ∷ told (x .next) cs
+  told r (c ∷ cs) = let x = step L r c in asSeen (left (x .answer) (x .next) (outOf c) (strideOf c) []) ∷ told (x .next) cs

@@ -8,7 +8,7 @@ use Rattle.rules.specs.Parts.{Channels, none}
 use Rattle.rules.specs.Leaves.{Leaves}
 use Rattle.rules.specs.Mix.{Moment}
 use Rattle.rules.specs.Samples.{Frame, State, fresh, pushed, flushed}
-use Rattle.rules.specs.Refusals.{Args, Found, clear, stop, _then_, room, early, Sent, later}
+use Rattle.rules.specs.Refusals.{Args, Found, clear, stop, _then_, room, early, Announced, later}
 
 -- A call, with all that the host lends besides the state block. Later requests add their calls here.
 pub data Call : Type 0 where
@@ -45,14 +45,14 @@ module _ (L : Leaves) where
   frameOf a = record { rate = a .rate; samples = a .samples; codes = a .codes; objects = a .objects; pcm = a .pcm; updates = L .updates (a .meta) }
 
   -- the updates as 9 to 14 see them
-  abbrev pub sentOf : List (L .Update) → List Sent
-  sentOf us = map (λ (u : L .Update). record { offset = L .offset u; shape = L .sent u }) us
+  abbrev pub announced : List (L .Update) → List Announced
+  announced us = map (λ (u : L .Update). record { offset = L .offset u; shape = L .sent u }) us
 
   -- refusals 1 to 14 of a push
   abbrev pub found : State L → Args → Found
   found r a =
       early L r a
-      then later (sentOf (L .updates (a .meta))) (a .objects) (a .codes) (a .samples) (a .rate) (r .rate) (L .shape (r .meta))
+      then later (announced (L .updates (a .meta))) (a .objects) (a .codes) (a .samples) (a .rate) (r .rate) (L .shape (r .meta))
 
   pub record Result : Type 0 where
     pub answer : Answer

@@ -41,22 +41,22 @@ samplesAt pcm n (suc k) i t = sampleAt pcm n i t ∷ samplesAt pcm n k (suc i) t
 -- ---- sums
 
 -- each coefficient with the sample x
-abbrev pub scaledBy : List Float → Float → List sums.Term
+abbrev pub scaledBy : List Float → Float → List sums.Addend
 scaledBy [] x = []
 scaledBy (k ∷ ks) x = record { coef = k; sample = x } ∷ scaledBy ks x
 
 -- a bed takes the input that matches it; without one, which refusal 13 keeps out, it adds nothing
-abbrev pub fedBy : List Float → Found → (ℕ → Float) → List sums.Term
+abbrev pub fedBy : List Float → Found → (ℕ → Float) → List sums.Addend
 fedBy ks (At i) inputs = scaledBy ks (inputs i)
 fedBy ks Nothing inputs = []
 
 -- the beds in order; `codes` are the frame's, and `inputs` its bed channels' samples
-abbrev pub bedsOn : ℕ → List Bed → List ℕ → (ℕ → Float) → List sums.Term
+abbrev pub bedsOn : ℕ → List Bed → List ℕ → (ℕ → Float) → List sums.Addend
 bedsOn c [] codes inputs = []
 bedsOn c (b ∷ bs) codes inputs = fedBy (addsOf b c) (matching (b .code) codes) inputs ++ bedsOn c bs codes inputs
 
 -- the objects in order, each with its own sample
-abbrev pub objectsOn : ℕ → List Source → List Float → List sums.Term
+abbrev pub objectsOn : ℕ → List Source → List Float → List sums.Addend
 objectsOn c [] own = []
 objectsOn c (s ∷ ss) [] = []
 objectsOn c (s ∷ ss) (x ∷ own) = scaledBy (objectAdds s c) x ++ objectsOn c ss own

@@ -8,14 +8,14 @@ use Rattle.ieee.specs.Bounds.{All}
 
 module _ {A : Type 0} (offset : A → ℕ) where
   -- those at t, in the order sent
-  abbrev pub at : ℕ → List A → List A
-  at t [] = []
-  at t (u ∷ us) = cond (eqb (offset u) t) (u ∷ at t us) (at t us)
+  abbrev pub atOffset : ℕ → List A → List A
+  atOffset t [] = []
+  atOffset t (u ∷ us) = cond (eqb (offset u) t) (u ∷ atOffset t us) (atOffset t us)
 
   -- those of the n samples from t on, as time meets them
   abbrev pub taken : ℕ → ℕ → List A → List A
   taken zero t us = []
-  taken (suc n) t us = at t us ++ taken n (suc t) us
+  taken (suc n) t us = atOffset t us ++ taken n (suc t) us
 
   -- no offset below one before it
   abbrev pub Rises : List A → Type 0
@@ -25,5 +25,5 @@ module _ {A : Type 0} (offset : A → ℕ) where
   -- vs is the stable order of those updates of us that are below n: by rising offset, and at each offset as they were sent
   pub record Stable (us : List A) (n : ℕ) (vs : List A) : Type 0 where
     pub rises : Rises vs
-    pub same : (t : ℕ) → t < n → at t vs ≡ at t us
+    pub same : (t : ℕ) → t < n → atOffset t vs ≡ atOffset t us
     pub below : All (λ (u : A). offset u < n) vs

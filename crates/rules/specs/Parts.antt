@@ -1,17 +1,11 @@
 -- Samples of twelve channels, and what a sample may be. Assumes nothing.
 use Prim.Native.Nat.{ℕ, suc}
-use mathlib.Core.Bool.{false, cond}
+use mathlib.Core.Bool.{cond}
 use mathlib.Core.List.{List, [], _∷_, _++_, map}
 use lib.ListN.{set, replicate}
 use lib.Dec.{T, ltb}
-use lib.IntN.{pos}
-use lib.Ieee.{Float, fin, binary32, neg, le, ofBits, toBits}
-
-abbrev pub 0·0 : Float
-0·0 = fin false 0 (pos 0)
-
-abbrev pub 1·0 : Float
-1·0 = fin false 1 (pos 0)
+use lib.Ieee.{Float, binary32, neg, le, ofBits, toBits}
+pub use Rattle.ieee.specs.Numbers.{0·0, 1·0}
 
 -- Document 01, demand 3: "finite and from -1 to 1". No NaN and no infinity compares so.
 pub record Tame (x : Float) : Type 0 where

@@ -21,8 +21,8 @@ use Rattle.rules.specs.Mix.{objectTerms, objectAdds, sampleAt, samplesAt
 use Rattle.rules.specs.Samples.{State, fresh, limited, gainAfter, slotted, pushed, waiting}
 use Rattle.rules.specs.Refusals.{Args, clear, stop, room}
 use Rattle.rules.specs.Calls.{Call, push, flush, reset, refused, rendered, nothing, cleared, given, frameOf, found, Result, step}
-use Rattle.rules.specs.Order.{at}
-use Rattle.rules.specs.Sounds.{gainAt, limitedBlocks, appliedAll, before, met, momentAt, soundAt, unlimited, whole}
+use Rattle.rules.specs.Order.{atOffset}
+use Rattle.rules.specs.Sounds.{gainBefore, limitedBlocks, appliedAll, before, met, momentAt, soundAt, unlimited, whole}
 
 -- ---- an object
 
@@ -61,8 +61,8 @@ withPcm qcm a = record { pcm = qcm; meta = a .meta; out = a .out; codes = a .cod
 
 module _ (L : Leaves) where
   -- object j at sample t
-  abbrev pub objectAt : State L → Args → ℕ → ℕ → Source
-  objectAt r a t j = getD (momentAt L r a t .objects) j nobody
+  abbrev pub objectHeard : State L → Args → ℕ → ℕ → Source
+  objectHeard r a t j = getD (momentAt L r a t .objects) j nobody
 
   -- an update was applied before the push, or one of its own at an offset up to t is
   abbrev pub upTo : ℕ → List (L .Update) → Bool
@@ -75,7 +75,7 @@ module _ (L : Leaves) where
   -- ---- sample t
   pub record AtSample (r : State L) (a : Args) (t : ℕ) : Type 0 where
     -- it finds the updates at t applied in the order sent, and a slot begun where one begins
-    pub finds : met L r a t ≡ slotted L (appliedAll L t (at (L .offset) t (L .updates (a .meta))) (before L r a t))
+    pub finds : met L r a t ≡ slotted L (appliedAll L t (atOffset (L .offset) t (L .updates (a .meta))) (before L r a t))
     -- it is heard with the beds and objects of the timed state, "silent samples pan no object", and with its own samples of the PCM
     pub beds : momentAt L r a t .beds ≡ cond (begun r a t) (L .beds (met L r a t .meta)) []
     pub objects : momentAt L r a t .objects ≡ cond (begun r a t) (L .objects (met L r a t .meta)) []
@@ -109,17 +109,17 @@ module _ (L : Leaves) where
     pub rate : pushed L (frameOf L a) r .next .rate ≡ a .rate
     -- every block is limited by the gain that it meets, and what waits is what no whole block took
     pub gives : (c : ℕ) → c < 12 → pushed L (frameOf L a) r .given c ≡ limitedBlocks (a .rate) (r .gain) (unlimited L r a) (whole L r a) c
-    pub gain : pushed L (frameOf L a) r .next .gain ≡ gainAt (a .rate) (r .gain) (unlimited L r a) (whole L r a)
+    pub gain : pushed L (frameOf L a) r .next .gain ≡ gainBefore (a .rate) (r .gain) (unlimited L r a) (whole L r a)
     pub rest : (c : ℕ) → c < 12 → waiting L (pushed L (frameOf L a) r .next) c ≡ drop (64 * whole L r a) (unlimited L r a c)
     -- a moment for each sample
     pub moments : length (pushed L (frameOf L a) r .moments) ≡ a .samples
     pub samples : (t : ℕ) → t < a .samples → AtSample r a t
     -- "each object of size zero puts nothing into the bass feed": with its row of the PCM replaced by any that refusal 8 lets pass, the push is accepted and the same number is fed
-    pub bass : (t j : ℕ) → t < a .samples → j < a .objects → T (eq (objectAt r a t j .size) 0·0) → (qcm : List ℕ) → Replaced (a .samples) (length (a .codes) + j) (a .pcm) qcm
+    pub bass : (t j : ℕ) → t < a .samples → j < a .objects → T (eq (objectHeard r a t j .size) 0·0) → (qcm : List ℕ) → Replaced (a .samples) (length (a .codes) + j) (a .pcm) qcm
         → (found L r (withPcm qcm a) ≡ clear) × (fed (momentAt L r (withPcm qcm a) t) ≡ fed (momentAt L r a t))
     -- objects that are there and of size zero: the squares; "at gain 0 the coefficients are zero", at any size
-    pub squares : (t j : ℕ) → j < length (momentAt L r a t .objects) → T (eq (objectAt r a t j .size) 0·0) → Squares (objectAt r a t j)
-    pub still : (t j : ℕ) → j < length (momentAt L r a t .objects) → T (eq (objectAt r a t j .gain) 0·0) → objectTerms (objectAt r a t j) ≡ []
+    pub squares : (t j : ℕ) → j < length (momentAt L r a t .objects) → T (eq (objectHeard r a t j .size) 0·0) → Squares (objectHeard r a t j)
+    pub still : (t j : ℕ) → j < length (momentAt L r a t .objects) → T (eq (objectHeard r a t j .gain) 0·0) → objectTerms (objectHeard r a t j) ≡ []
 
   -- ---- a flush with room for its samples, and a reset
 

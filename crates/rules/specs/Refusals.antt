@@ -79,21 +79,21 @@ bedsFound beds codes [] = clear
 bedsFound beds codes (c ∷ cs) = bedFound beds codes c then bedsFound beds codes cs
 
 -- an update as the walk over time sees it
-pub record Sent : Type 0 where
+pub record Announced : Type 0 where
   pub offset : ℕ
   pub shape : Shape
 
-module _ (us : List Sent) (objects : ℕ) (codes : List ℕ) where
+module _ (us : List Announced) (objects : ℕ) (codes : List ℕ) where
   abbrev pub objectsMatch : Shape → Found
   objectsMatch s = unless (eqb (s .objects) objects) 11 (s .objects) objects
 
   -- 11 for each update at t, in the order sent
-  abbrev pub countsAt : ℕ → List Sent → Found
+  abbrev pub countsAt : ℕ → List Announced → Found
   countsAt t [] = clear
   countsAt t (u ∷ vs) = cond (eqb (u .offset) t) (objectsMatch (u .shape)) clear then countsAt t vs
 
   -- the shape after the updates at t
-  abbrev pub shapeAt : ℕ → List Sent → Shape → Shape
+  abbrev pub shapeAt : ℕ → List Announced → Shape → Shape
   shapeAt t [] s = s
   shapeAt t (u ∷ vs) s = shapeAt t vs (cond (eqb (u .offset) t) (u .shape) s)
 
@@ -105,16 +105,16 @@ module _ (us : List Sent) (objects : ℕ) (codes : List ℕ) where
   walk zero t s = clear
   walk (suc n) t s = countsAt t us then (mixes (shapeAt t us s) then walk n (suc t) (shapeAt t us s))
 
-  abbrev pub none : List Sent → Bool
-  none [] = true
-  none (u ∷ vs) = false
+  abbrev pub noneSent : List Announced → Bool
+  noneSent [] = true
+  noneSent (u ∷ vs) = false
 
   -- "After 8: 9, 10, 11 for updates at offset 0, 12, 11 for the present state, then 11, 13, 14 as they arise in time": n samples at a rate, the state's rate and shape
   abbrev pub later : ℕ → ℕ → ℕ → Shape → Found
   later n rate old s =
       let first = shapeAt 0 us s in
       unless (eqb old 0 || eqb old rate) 9 old rate
-      then unless (s .started || not (none us)) 10 0 0
+      then unless (s .started || not (noneSent us)) 10 0 0
       then countsAt 0 us
       then unless (not (eqb n 0)) 12 0 0
       then cond (first .started) (objectsMatch first) clear

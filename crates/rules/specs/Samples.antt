@@ -64,8 +64,8 @@ module _ (L : Leaves) where
   -- ---- updates and slots
 
   -- "The first update, and any at a frame's offset 0, starts a new slot there."
-  abbrev pub applied : ℕ → L .Update → State → State
-  applied t u r =
+  abbrev pub appliedAt : ℕ → L .Update → State → State
+  appliedAt t u r =
       let new = not (started L (r .meta)) || eqb t 0 in
       record {
         rate = r .rate;
@@ -82,7 +82,7 @@ module _ (L : Leaves) where
   -- "Updates are taken in stable order of sample offset": those whose offset is t, in the order sent. One at or past the frame's end is never reached.
   abbrev pub updated : ℕ → List (L .Update) → State → State
   updated t [] r = r
-  updated t (u ∷ us) r = updated t us (cond (eqb (L .offset u) t) (applied t u r) r)
+  updated t (u ∷ us) r = updated t us (cond (eqb (L .offset u) t) (appliedAt t u r) r)
 
   -- "At the start of each 64-sample slot"
   abbrev pub slotted : State → State

@@ -9,33 +9,33 @@ use Rattle.lowpass.specs.Lowpass.{output}
 use Rattle.rules.specs.Parts.{0·0, Channels, none, joined}
 use Rattle.rules.specs.Leaves.{Leaves}
 use Rattle.rules.specs.Mix.{Moment, heard, fed}
-use Rattle.rules.specs.Samples.{State, limited, gainAfter, applied, updated, slotted, framed, opened, pushed, waiting}
+use Rattle.rules.specs.Samples.{State, limited, gainAfter, appliedAt, updated, slotted, framed, opened, pushed, waiting}
 use Rattle.rules.specs.Refusals.{Args}
 use Rattle.rules.specs.Calls.{frameOf}
 
 -- ---- blocks of 64 samples, one behind the other
 
 -- block k
-abbrev pub blockAt : Channels → ℕ → Channels
-blockAt f k c = take 64 (drop (64 * k) (f c))
+abbrev pub nthBlock : Channels → ℕ → Channels
+nthBlock f k c = take 64 (drop (64 * k) (f c))
 
 module _ (rate : ℕ) (g : Float) (f : Channels) where
   -- the gain that block k meets: g, then what the block before left, "g grows by length / rate, at most 1"
-  abbrev pub gainAt : ℕ → Float
-  gainAt zero = g
-  gainAt (suc k) = gainAfter 64 rate (gainAt k) (blockAt f k)
+  abbrev pub gainBefore : ℕ → Float
+  gainBefore zero = g
+  gainBefore (suc k) = gainAfter 64 rate (gainBefore k) (nthBlock f k)
 
   -- the first n blocks, each limited by the gain that it meets
   abbrev pub limitedBlocks : ℕ → Channels
   limitedBlocks zero = none
-  limitedBlocks (suc n) = joined (limitedBlocks n) (limited (gainAt n) (blockAt f n))
+  limitedBlocks (suc n) = joined (limitedBlocks n) (limited (gainBefore n) (nthBlock f n))
 
 -- ---- a push on the renderer r
 
 -- updates at sample t, one after the other
 abbrev pub appliedAll : (L : Leaves) → ℕ → List (L .Update) → State L → State L
 appliedAll L t [] r = r
-appliedAll L t (u ∷ us) r = appliedAll L t us (applied L t u r)
+appliedAll L t (u ∷ us) r = appliedAll L t us (appliedAt L t u r)
 
 abbrev pub silent : Moment
 silent = record { beds = []; objects = []; codes = []; inputs = λ i. 0·0; own = [] }

@@ -19,9 +19,9 @@ use Rattle.rules.specs.Parts.{Places}
 use Rattle.store.specs.declared.Small.{Small}
 use Rattle.store.specs.Singles.{Brief}
 use Rattle.store.specs.Fields.{elementFormat, smallOf}
-use Rattle.store.specs.Layout.{smallWidth, infosAt, placesAt, size, joined, infosOf, placesOf, decode}
+use Rattle.store.specs.Layout.{smallWidth, infosAt, placesAt, size, assembled, infosOf, placesOf, decode}
 use Rattle.store.specs.Ranges.{clockIn, countsIn, elementRelated, leastFlags, smallPart, smallValid, headsValid, valid}
-use Rattle.store.specs.Ranged.{ElementRanged, StateRanged, InfosRanged, PlacesRanged, Ranged}
+use Rattle.store.specs.Ranged.{ElementRanged, StateRanged, InfosRanged, PlacesRanged, BlockRanged}
 use Rattle.store.proofs.Back.{lawful-small-part}
 
 all-out : {A : Type 0} (P : A → Type 0) (d : A) (xs : List A) → All P xs → (i : ℕ) → i < length xs → P (getD xs i d)
@@ -113,7 +113,7 @@ module _ (s : Small) (h : smallPart .In s) where
         elements = element-ranged;
       }
 
-  pub small-ranged : (is : List ℕ) (ps : Places) → InfosRanged is → PlacesRanged ps → Ranged (joined s is ps)
+  pub small-ranged : (is : List ℕ) (ps : Places) → InfosRanged is → PlacesRanged ps → BlockRanged (assembled s is ps)
   small-ranged is ps i p =
       let (rate, (phase, (position, (start, (gain, (filter, pending)))))) = h .0 .0 in
       record {
@@ -175,6 +175,6 @@ module _ (b : List ℕ) (bs : Bytes b) (v : T (valid b)) where
         none = λ c l. rw (le-ltb c 12 l) refl;
       }
 
-  pub decode-ranged : Ranged (decode b)
+  pub decode-ranged : BlockRanged (decode b)
   unfolding decode
   decode-ranged = small-ranged (smallOf (wordsAt b 0 smallWidth)) small-in (infosOf b) (placesOf b) infos-ranged places-ranged

@@ -20,9 +20,9 @@ use Rattle.formats.specs.Format.{puts}
 use Rattle.store.specs.Bytes.{bytesOf}
 use Rattle.store.specs.Fields.{smallWords}
 use Rattle.store.specs.Places.{limiterGainAt, remainingIn, firstAt, secondAt, infosAt}
-use Rattle.store.specs.Layout.{size, small, rows, encode, still, noBlocks, blank, fresh, marked, filled}
+use Rattle.store.specs.Layout.{size, small, placeRows, encode, still, noBlocks, blank, freshRenderer, marked, filled}
 use Rattle.store.specs.Ranges.{leastFlags, headValid, headsValid}
-use Rattle.store.specs.Ranged.{Single, Singles, SourceSingles, TrackSingles, ElementRanged, StateRanged, InfosRanged, PlacesRanged, Ranged}
+use Rattle.store.specs.Ranged.{Single, Singles, SourceSingles, TrackSingles, ElementRanged, StateRanged, InfosRanged, PlacesRanged, BlockRanged}
 use Rattle.store.proofs.Bytes.{written-front}
 use Rattle.formats.proofs.Places.{and-in}
 
@@ -131,7 +131,7 @@ state-fresh =
           (subst (λ (n : ℕ). ElementRanged n noBlocks) (sym (none-less i (blank .state) refl)) blocks-ranged);
     }
 
-pub fresh-ranged : Ranged fresh
+pub fresh-ranged : BlockRanged freshRenderer
 unfolding blank
 fresh-ranged =
     record {
@@ -166,8 +166,8 @@ unfolding bytesOf withNumber
 bytes-zero zero = refl
 bytes-zero (suc n) = ap (λ (t : List ℕ). 0 ∷ 0 ∷ 0 ∷ 0 ∷ t) (bytes-zero n) ∙ ap (λ (k : ℕ). replicate k 0) (let e : suc (suc (suc (suc (4 * n)))) ≡ 4 * suc n = omega arith in e)
 
-zero-rows : (n k : ℕ) → n + k ≤ 12 → rows n k zeros ≡ replicate (n * 256) 0
-unfolding rows
+zero-rows : (n k : ℕ) → n + k ≤ 12 → placeRows n k zeros ≡ replicate (n * 256) 0
+unfolding placeRows
 zero-rows zero k l = refl
 zero-rows (suc n) k l =
     let z : zeros k ≡ replicate 64 0 = let m : k < 12 = omega arith in rw (lt-ltb k 12 m) refl in
@@ -186,14 +186,14 @@ marked-front s t l =
     ∙ ap (λ (x : List ℕ). withLong x Q middle) (written-front a t R 8 middle (omega arith))
     ∙ written-front b t Q 8 middle (omega arith)
 
-small-fresh : bytesOf (smallWords (small fresh)) ≡ marked (replicate infosAt 0)
+small-fresh : bytesOf (smallWords (small freshRenderer)) ≡ marked (replicate infosAt 0)
 unfolding bytesOf smallWords puts blank withNumber toBits
 small-fresh = refl
 
-tail-fresh : (n m : ℕ) → n ≡ 22528 → m ≡ 12 → replicate n 0 ++ rows m 0 zeros ≡ replicate (n + m * 256) 0
+tail-fresh : (n m : ℕ) → n ≡ 22528 → m ≡ 12 → replicate n 0 ++ placeRows m 0 zeros ≡ replicate (n + m * 256) 0
 tail-fresh n m e f = ap (λ (t : List ℕ). replicate n 0 ++ t) (zero-rows m 0 (omega arith)) ∙ replicate-append-replicate n (m * 256) 0
 
-pub encode-fresh : encode fresh ≡ filled
+pub encode-fresh : encode freshRenderer ≡ filled
 unfolding encode blank filled
 encode-fresh =
     ap₂ (λ (a b : List ℕ). a ++ b) small-fresh (tail-fresh 22528 12 refl refl)
@@ -201,6 +201,6 @@ encode-fresh =
     ∙ ap marked (replicate-append-replicate infosAt 25600 0)
 
 -- what reset writes
-pub refilled : (n : ℕ) → n ≡ size → marked (replicate n 0) ≡ encode fresh
+pub refilled : (n : ℕ) → n ≡ size → marked (replicate n 0) ≡ encode freshRenderer
 unfolding filled
 refilled n e = ap (λ (k : ℕ). marked (replicate k 0)) e ∙ sym encode-fresh

@@ -12,11 +12,11 @@ use Rattle.rules.specs.Samples.{Renderer}
 use Rattle.store.specs.Fields.{smallWords}
 use Rattle.store.specs.Layout.{smallWidth, size, small, infosOf, encode}
 use Rattle.store.specs.Ranges.{smallPart, smallValid, headsValid, valid}
-use Rattle.store.specs.Ranged.{Ranged}
+use Rattle.store.specs.Ranged.{BlockRanged}
 use Rattle.store.proofs.Back.{lawful-small-part}
 use Rattle.store.proofs.Whole.{small-full, words-back, infos-back, encode-long}
 
-module _ (r : Renderer Timed) (h : Ranged r) where
+module _ (r : Renderer Timed) (h : BlockRanged r) where
   small-valid : T (smallValid (smallWords (small r)))
   unfolding smallValid smallWords
   small-valid = passes smallPart lawful-small-part (small r) (small-full r h) (smallWords (small r)) 0 (stands-all (smallWords (small r)))

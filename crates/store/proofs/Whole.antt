@@ -22,9 +22,9 @@ use Rattle.rules.specs.Samples.{Renderer}
 use Rattle.store.specs.Bytes.{bytesOf}
 use Rattle.store.specs.Singles.{Brief}
 use Rattle.store.specs.Fields.{elementFormat, stateFormat, smallWords, smallOf}
-use Rattle.store.specs.Layout.{smallWidth, infosAt, placesAt, size, small, joined, infosOf, placesOf, decode, rows, encode}
+use Rattle.store.specs.Layout.{smallWidth, infosAt, placesAt, size, small, assembled, infosOf, placesOf, decode, placeRows, encode}
 use Rattle.store.specs.Ranges.{clockIn, countsIn, leastFlags, related, elementRelated}
-use Rattle.store.specs.Ranged.{ElementRanged, StateRanged, PlacesRanged, Ranged}
+use Rattle.store.specs.Ranged.{ElementRanged, StateRanged, PlacesRanged, BlockRanged}
 use Rattle.store.proofs.Bytes.{words-drop, bytes-length, bytes-bytes, bytes-back, stored}
 use Rattle.store.proofs.Back.{SmallFull, small-long, small-words, small-back}
 
@@ -75,7 +75,7 @@ idle-test rate pending h = by (eqb rate 0) refl
     by true e = rw (h (eqb→eq rate 0 (subst T (sym e) tt))) (eqb-refl 0)
     by false e = tt
 
-related-full : (r : Renderer Timed) → Ranged r → T (related (small r))
+related-full : (r : Renderer Timed) → BlockRanged r → T (related (small r))
 related-full r h =
     let w = h .state .within in
     let m = r .meta .state in
@@ -91,7 +91,7 @@ related-full r h =
     (and-in (countsIn (m .objects) (m .isf) (m .beds)) (elementRelated (small r) 0 && elementRelated (small r) 1) n
     (and-in (elementRelated (small r) 0) (elementRelated (small r) 1) (e 0 (lit< tt)) (e 1 (lit< tt))))
 
-pub small-full : (r : Renderer Timed) → Ranged r → SmallFull (small r)
+pub small-full : (r : Renderer Timed) → BlockRanged r → SmallFull (small r)
 small-full r h =
     let p = h .position in
     let s = h .start in (
@@ -105,32 +105,32 @@ module _ (p : Places) (h : PlacesRanged p) where
   row-long : (c : ℕ) → c < 12 → length (bytesOf (p c)) ≡ 256
   row-long c l = bytes-length (p c) ∙ ap (λ (n : ℕ). 4 * n) (h .lengths c l)
 
-  rows-long : (n k : ℕ) → n + k ≤ 12 → length (rows n k p) ≡ n * 256
-  unfolding rows
+  rows-long : (n k : ℕ) → n + k ≤ 12 → length (placeRows n k p) ≡ n * 256
+  unfolding placeRows
   rows-long zero k l = refl
   rows-long (suc n) k l =
-      length-append (bytesOf (p k)) (rows n (suc k) p) ∙ (let a = row-long k (omega arith) in let b = rows-long n (suc k) (omega arith) in omega arith)
+      length-append (bytesOf (p k)) (placeRows n (suc k) p) ∙ (let a = row-long k (omega arith) in let b = rows-long n (suc k) (omega arith) in omega arith)
 
-  rows-back : (n k c : ℕ) → n + k ≤ 12 → c < n → wordsAt (rows n k p) (256 * c) 64 ≡ p (k + c)
-  unfolding rows
+  rows-back : (n k c : ℕ) → n + k ≤ 12 → c < n → wordsAt (placeRows n k p) (256 * c) 64 ≡ p (k + c)
+  unfolding placeRows
   rows-back zero k c l m = absurd (omega arith)
   rows-back (suc n) k zero l m =
-      ap (λ (w : ℕ). wordsAt (bytesOf (p k) ++ rows n (suc k) p) 0 w) (sym (h .lengths k (omega arith)))
-      ∙ bytes-back (p k) (rows n (suc k) p) (h .words k (omega arith)) ∙ ap p (sym (add-zero k))
+      ap (λ (w : ℕ). wordsAt (bytesOf (p k) ++ placeRows n (suc k) p) 0 w) (sym (h .lengths k (omega arith)))
+      ∙ bytes-back (p k) (placeRows n (suc k) p) (h .words k (omega arith)) ∙ ap p (sym (add-zero k))
   rows-back (suc n) k (suc c) l m =
       let e : 256 * suc c ≡ 256 + 256 * c = omega arith in
       let f : suc k + c ≡ k + suc c = omega arith in
-      rw (e, words-drop (bytesOf (p k) ++ rows n (suc k) p) 256 (256 * c) 64, drop-at (bytesOf (p k)) (rows n (suc k) p) 256 (row-long k (omega arith)))
+      rw (e, words-drop (bytesOf (p k) ++ placeRows n (suc k) p) 256 (256 * c) 64, drop-at (bytesOf (p k)) (placeRows n (suc k) p) 256 (row-long k (omega arith)))
       (rows-back n (suc k) c (omega arith) (omega arith) ∙ ap p f)
 
 -- ---- the block
 
-module _ (r : Renderer Timed) (h : Ranged r) where
+module _ (r : Renderer Timed) (h : BlockRanged r) where
   abbrev W : List ℕ
   W = smallWords (small r)
 
   abbrev R : List ℕ
-  R = rows 12 0 (r .places)
+  R = placeRows 12 0 (r .places)
 
   front-long : length (bytesOf W) ≡ infosAt
   front-long = bytes-length W ∙ ap (λ (n : ℕ). 4 * n) (small-long (small r) (small-full r h))
@@ -161,7 +161,7 @@ module _ (r : Renderer Timed) (h : Ranged r) where
 
   pub decode-encode : decode (encode r) ≡ r
   unfolding decode
-  decode-encode = λ i. joined ((ap smallOf words-back ∙ small-back (small r) (small-full r h)) i) (infos-back i) (λ c. place-back c i)
+  decode-encode = λ i. assembled ((ap smallOf words-back ∙ small-back (small r) (small-full r h)) i) (infos-back i) (λ c. place-back c i)
 
   pub encode-long : length (encode r) ≡ size
   unfolding encode
@@ -176,25 +176,25 @@ bytes-append [] b p q i = q i
 bytes-append (x ∷ a) b p q zero = p 0
 bytes-append (x ∷ a) b p q (suc i) = bytes-append a b (λ j. p (suc j)) q i
 
-rows-bytes : (p : Places) (n k : ℕ) → Bytes (rows n k p)
-unfolding rows
+rows-bytes : (p : Places) (n k : ℕ) → Bytes (placeRows n k p)
+unfolding placeRows
 rows-bytes p zero k = bytes-bytes []
-rows-bytes p (suc n) k = bytes-append (bytesOf (p k)) (rows n (suc k) p) (bytes-bytes (p k)) (rows-bytes p n (suc k))
+rows-bytes p (suc n) k = bytes-append (bytesOf (p k)) (placeRows n (suc k) p) (bytes-bytes (p k)) (rows-bytes p n (suc k))
 
 pub encode-bytes : (r : Renderer Timed) → Bytes (r .meta .infos) → Bytes (encode r)
 unfolding encode
 encode-bytes r h =
-    bytes-append (bytesOf (smallWords (small r))) (r .meta .infos ++ rows 12 0 (r .places)) (bytes-bytes (smallWords (small r)))
-    (bytes-append (r .meta .infos) (rows 12 0 (r .places)) h (rows-bytes (r .places) 12 0))
+    bytes-append (bytesOf (smallWords (small r))) (r .meta .infos ++ placeRows 12 0 (r .places)) (bytes-bytes (smallWords (small r)))
+    (bytes-append (r .meta .infos) (placeRows 12 0 (r .places)) h (rows-bytes (r .places) 12 0))
 
 -- ---- a block that was saved
 
 -- the small part of r stored into a block that has r's infos and places
-pub saved-encode : (b : List ℕ) (r : Renderer Timed) → length b ≡ size → length (smallWords (small r)) ≡ smallWidth → infosOf b ≡ r .meta .infos → drop placesAt b ≡ rows 12 0 (r .places)
+pub saved-encode : (b : List ℕ) (r : Renderer Timed) → length b ≡ size → length (smallWords (small r)) ≡ smallWidth → infosOf b ≡ r .meta .infos → drop placesAt b ≡ placeRows 12 0 (r .places)
     → withWords b 0 (smallWords (small r)) ≡ encode r
 unfolding encode
 saved-encode b r l n i p =
     let w = smallWords (small r) in
-    let t : drop infosAt b ≡ r .meta .infos ++ rows 12 0 (r .places) =
+    let t : drop infosAt b ≡ r .meta .infos ++ placeRows 12 0 (r .places) =
     sym (take-append-drop 22528 (drop infosAt b)) ∙ ap₂ (λ (x y : List ℕ). x ++ y) i (drop-drop 22528 infosAt b ∙ p) in
     stored w b (omega arith) ∙ ap (λ (k : ℕ). bytesOf w ++ drop (4 * k) b) n ∙ ap (λ (x : List ℕ). bytesOf w ++ x) t

@@ -25,8 +25,8 @@ small r =
     record { rate = r .rate; phase = r .phase; position = r .position; start = r .start; gain = r .gain; filter = r .filter; pending = r .pending; state = r .meta .state }
 
 -- the small part, with infos and places
-abbrev pub joined : Small → List ℕ → Places → Renderer Timed
-joined s is ps =
+abbrev pub assembled : Small → List ℕ → Places → Renderer Timed
+assembled s is ps =
     record {
       rate = s .rate;
       position = s .position;
@@ -49,17 +49,17 @@ placesOf b c = cond (ltb c rowCount) (wordsAt b (placesAt + rowBytes * c) rowPla
 
 unfoldable pub decode : List ℕ → Renderer Timed
 unfolding smallOf
-decode b = joined (smallOf (wordsAt b 0 smallWidth)) (infosOf b) (placesOf b)
+decode b = assembled (smallOf (wordsAt b 0 smallWidth)) (infosOf b) (placesOf b)
 
 -- n rows from row c on
-unfoldable pub rows : ℕ → ℕ → Places → List ℕ
+unfoldable pub placeRows : ℕ → ℕ → Places → List ℕ
 unfolding bytesOf
-rows zero c p = []
-rows (suc n) c p = bytesOf (p c) ++ rows n (suc c) p
+placeRows zero c p = []
+placeRows (suc n) c p = bytesOf (p c) ++ placeRows n (suc c) p
 
 unfoldable pub encode : Renderer Timed → List ℕ
-unfolding smallWords bytesOf rows
-encode r = bytesOf (smallWords (small r)) ++ (r .meta .infos ++ rows rowCount 0 (r .places))
+unfolding smallWords bytesOf placeRows
+encode r = bytesOf (smallWords (small r)) ++ (r .meta .infos ++ placeRows rowCount 0 (r .places))
 
 -- ---- a fresh renderer
 
@@ -95,9 +95,9 @@ blank =
       infos = replicate infosBytes 0;
     }
 
--- what a block that reset has filled decodes to; `fresh` of the rules, with `blank`
-abbrev pub fresh : Renderer Timed
-fresh = record { rate = 0; position = 0; phase = 0; start = 0; gain = 1·0; filter = idle; meta = blank; pending = 0; places = zeros }
+-- what a block that reset has filled decodes to; `freshRenderer` of the rules, with `blank`
+abbrev pub freshRenderer : Renderer Timed
+freshRenderer = record { rate = 0; position = 0; phase = 0; start = 0; gain = 1·0; filter = idle; meta = blank; pending = 0; places = zeros }
 
 -- its block: zeros, but for the limiter gain 1.0 and the two remaining ramps 0, which stand plus 2^47
 abbrev pub marked : List ℕ → List ℕ

@@ -3,7 +3,7 @@ ghost use mathlib.Core.Path.{_≡_};
 ghost use lib.ListN.{length, replicate};
 ghost use Rattle.words.specs.Words.{wordsAt};
 ghost use Rattle.store.specs.Fields.{smallOf};
-ghost use Rattle.store.specs.Layout.{smallWidth, size, encode, fresh};
+ghost use Rattle.store.specs.Layout.{smallWidth, size, encode, freshRenderer};
 use formats::areas;
 use lowpass::BiquadLowpassState;
 use timed::state::MetadataRendererState;
@@ -62,7 +62,7 @@ fn zeros(s: &mut [u8])
 // A fresh block: the limiter's gain 1.0, and no ramp left in either element.
 pub fn reset(state: &mut [u8])
     requires { ⌜ length (now state) ≡ size ⌝ }
-    ensures { λ _. ⌜ now (state .exit) ≡ encode fresh ⌝ }
+    ensures { λ _. ⌜ now (state .exit) ≡ encode freshRenderer ⌝ }
 {
     zeros(state);
     words::put_u32(state, LIMITER_GAIN, 0x3f80_0000);

@@ -4,7 +4,7 @@ use lib.Dec.{eqb}
 use Rattle.timed.specs.Rules.{active}
 use Rattle.timed.specs.Bounds.{InRange, Within}
 use Rattle.timed.specs.Slot.{updatedSources}
-use Rattle.timed.specs.State.{Timed, noElement, elementOf, taken, timingOf, reachOf, slotOf, slotAt}
+use Rattle.timed.specs.State.{Timed, noElement, elementOf, elementTaken, timingOf, reachOf, slotOf, slotAt}
 use Rattle.timed.specs.declared.state.MetadataRendererState.{MetadataRendererState}
 use Rattle.timed.specs.declared.slot.Timing.{Timing}
 use Rattle.timed.proofs.Keeps.{cond-keeps, set-each}
@@ -31,7 +31,7 @@ pub slot-within : (p start : ℕ) (t : Timed) → start ≤ p → Within p (t .s
 unfolding slotAt
 slot-within p start t early h =
     let w = timingOf start (t .state) in
-    let i = taken w (t .state .states) (t .state .elements) in
+    let i = elementTaken w (t .state .states) (t .state .elements) in
     cond-keeps (λ (x : Timed). Within p (x .state)) (eqb (t .state .elements) 0) t _ (λ _. h)
     (λ _. cond-keeps (λ (x : Timed). Within p (x .state)) (active (elementOf (t .state) i)) (slotOf w i t) t (λ _. slot-of-within p w i t early h) (λ _. h))
 

@@ -10,7 +10,7 @@ use Rattle.vectors.specs.declared.Placed.{Placed}
 use Rattle.vectors.specs.Target.{placed}
 use Rattle.timed.specs.declared.state.DynamicSourceState.{DynamicSourceState}
 use Rattle.timed.specs.Infos.{blockPosition}
-use Rattle.timed.specs.Objects.{moved, afterMove}
+use Rattle.timed.specs.Objects.{objectMoved, afterMove}
 unfoldable pub use Rattle.timed.specs.Turns.{times}
 
 -- one turn
@@ -26,6 +26,6 @@ unfolding times
 ended n i f s e = rw e
 
 -- an applied block, from what was read
-pub moved-by : (arrived : Bool) (k : ℕ) (s : DynamicSourceState) (is : List ℕ) (b : BlockPosition) (p : Placed) → b ≡ blockPosition is k → p ≡ placed b (s .place) → moved arrived k s is ≡ afterMove arrived k s is b p
-unfolding moved
+pub moved-by : (arrived : Bool) (k : ℕ) (s : DynamicSourceState) (is : List ℕ) (b : BlockPosition) (p : Placed) → b ≡ blockPosition is k → p ≡ placed b (s .place) → objectMoved arrived k s is ≡ afterMove arrived k s is b p
+unfolding objectMoved
 moved-by arrived k s is b p e f = rw (f, e)

@@ -11,7 +11,7 @@ use Rattle.timed.proofs.Shifted.{due-shifted, left-shifted, over-shifte
 use Rattle.timed.proofs.Keeps.{times-in, cond-keeps, set-each}
 use Rattle.timed.specs.Rules.{middle, noBlock, due, leftAfter, remainingOf, rampOver}
 use Rattle.timed.specs.Bounds.{Ramps, InRange}
-use Rattle.timed.specs.Slot.{Work, blockApplied, blockAt, blocksApplied, rampApplied, updatedSources}
+use Rattle.timed.specs.Slot.{SlotWork, blockApplied, blockTurn, blocksApplied, rampApplied, updatedSources}
 use Rattle.timed.specs.declared.state.BlockState.{BlockState}
 use Rattle.timed.specs.declared.state.Track.{Track}
 use Rattle.timed.specs.declared.state.DynamicSourceState.{DynamicSourceState}
@@ -27,7 +27,7 @@ both : (u t : Bool) → cond u false t ≡ true → t ≡ true
 both true t e = absurd (subst T (sym e) tt)
 both false t e = e
 
-abbrev pub InSlot : ℕ → Work → Type 0
+abbrev pub InSlot : ℕ → SlotWork → Type 0
 InSlot p k = Ramps p (k .slot .schedule) (k .slot .remaining)
 
 most : (ramp offset payload start : ℕ) → ramp ≤ 2097152 → payload + offset < start + 1048576 → middle + ramp + offset + payload - (start + 2097152) ≤ 140737489403904
@@ -38,7 +38,7 @@ least p ramp offset payload start l = omega arith
 
 -- a slot that starts no later than the stream position p
 module _ (p : ℕ) (w : Timing) (r : Reach) (early : w .start ≤ p) where
-  applied-ramps : (b : ℕ) (k : Work) → b < 8 → due w (getD (k .slot .schedule) b noBlock) ≡ true → InSlot p k → InSlot p (blockApplied w r b k)
+  applied-ramps : (b : ℕ) (k : SlotWork) → b < 8 → due w (getD (k .slot .schedule) b noBlock) ≡ true → InSlot p k → InSlot p (blockApplied w r b k)
   unfolding blockApplied
   applied-ramps b k l d h =
       let x = getD (k .slot .schedule) b noBlock in
@@ -51,10 +51,10 @@ module _ (p : ℕ) (w : Timing) (r : Reach) (early : w .start ≤ p) where
         least = rw (left-shifted w x) (least p (x .ramp) (x .offset) (w .payload) (w .start) early);
       }
 
-  pub blocks-ramps : (n : ℕ) (k : Work) → n ≤ 8 → InSlot p k → InSlot p (blocksApplied w r n k)
+  pub blocks-ramps : (n : ℕ) (k : SlotWork) → n ≤ 8 → InSlot p k → InSlot p (blocksApplied w r n k)
   unfolding blocksApplied
   blocks-ramps n k few h =
-      times-in (InSlot p) (blockAt w r) n
+      times-in (InSlot p) (blockTurn w r) n
       (λ b s l i. cond-keeps (InSlot p) (due w (getD (s .slot .schedule) b noBlock)) (blockApplied w r b s) s (λ d. applied-ramps b s (omega arith) d i) (λ _. i))
       n 0 (omega arith) k h
 

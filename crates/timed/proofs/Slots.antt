@@ -10,15 +10,15 @@ use Rattle.timed.proofs.Keeps.{cond-keeps}
 use Rattle.timed.specs.Rules.{begins, active}
 use Rattle.timed.specs.Slot.{updatedSources}
 use Rattle.timed.specs.Contracts.{IsUpdated, IsTimed}
-use Rattle.timed.specs.State.{Timed, noElement, taken, elementOf, timingOf, slotLeft, slotOf, slotAt}
+use Rattle.timed.specs.State.{Timed, noElement, elementTaken, elementOf, timingOf, slotLeft, slotOf, slotAt}
 use Rattle.timed.specs.declared.state.ElementRendererState.{ElementRendererState}
 use Rattle.timed.specs.declared.state.MetadataRendererState.{MetadataRendererState}
 use Rattle.timed.specs.declared.slot.Timing.{Timing}
 use Rattle.timed.specs.declared.slot.Updated.{Updated}
 
 -- one step of the downward search
-pub taken-more : (w : Timing) (es : List ElementRendererState) (i : ℕ) → (i ≡ 0 → ⊥) → taken w es i ≡ cond (begins w (getD es (i - 1) noElement)) (i - 1) (taken w es (i - 1))
-unfolding taken
+pub taken-more : (w : Timing) (es : List ElementRendererState) (i : ℕ) → (i ≡ 0 → ⊥) → elementTaken w es i ≡ cond (begins w (getD es (i - 1) noElement)) (i - 1) (elementTaken w es (i - 1))
+unfolding elementTaken
 taken-more w es zero h = absurd (h refl)
 taken-more w es (suc i) h = let e : suc i - 1 ≡ i = omega arith in rw e
 
@@ -32,17 +32,17 @@ slot-left w i s is n u out e h =
     let g = rw e at h in
     record { state = rw (g .updated); infos = g .infos }
 
-pub taken-low : (w : Timing) (es : List ElementRendererState) (n : ℕ) → n ≤ 2 → taken w es n < 2
-unfolding taken
+pub taken-low : (w : Timing) (es : List ElementRendererState) (n : ℕ) → n ≤ 2 → elementTaken w es n < 2
+unfolding elementTaken
 taken-low w es zero h = omega arith
-taken-low w es (suc i) h = cond-keeps (λ (x : ℕ). x < 2) (begins w (getD es i noElement)) i (taken w es i) (λ _. omega arith) (λ _. taken-low w es i (omega arith))
+taken-low w es (suc i) h = cond-keeps (λ (x : ℕ). x < 2) (begins w (getD es i noElement)) i (elementTaken w es i) (λ _. omega arith) (λ _. taken-low w es i (omega arith))
 
 -- no element: nothing happens
 pub slot-empty : (start : ℕ) (t : Timed) → t .state .elements ≡ 0 → IsTimed (slotAt start t) (t .state) (t .infos)
 unfolding slotAt
 slot-empty start t e = let q = eq-eqb (t .state .elements) 0 e in record { state = rw q; infos = rw q }
 
-module _ (start : ℕ) (t : Timed) (i : ℕ) (some : t .state .elements ≡ 0 → ⊥) (found : i ≡ taken (timingOf start (t .state)) (t .state .states) (t .state .elements)) where
+module _ (start : ℕ) (t : Timed) (i : ℕ) (some : t .state .elements ≡ 0 → ⊥) (found : i ≡ elementTaken (timingOf start (t .state)) (t .state .states) (t .state .elements)) where
   -- the element taken does nothing
   pub slot-idle : active (elementOf (t .state) i) ≡ false → IsTimed (slotAt start t) (t .state) (t .infos)
   unfolding slotAt

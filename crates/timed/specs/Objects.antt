@@ -38,12 +38,12 @@ orElse Absent x = x
 orElse (Value y) x = y
 
 -- an object with its track, and the infos after it
-pub record After : Type 0 where
+pub record ObjectAfter : Type 0 where
   pub moved : Moved
   pub infos : List ℕ
 
 -- what block position b and its target p make of an object, for info k
-abbrev pub afterMove : Bool → ℕ → DynamicSourceState → List ℕ → BlockPosition → Placed → After
+abbrev pub afterMove : Bool → ℕ → DynamicSourceState → List ℕ → BlockPosition → Placed → ObjectAfter
 afterMove arrived k s is b p =
     record {
       moved = record {
@@ -60,26 +60,26 @@ afterMove arrived k s is b p =
 
 -- Info k for one object: gain and size where present; its target; the object put there where no ramp remains (`arrived`).
 -- The info then holds the position that was used, and the last absolute one.
-unfoldable pub moved : Bool → ℕ → DynamicSourceState → List ℕ → After
+unfoldable pub objectMoved : Bool → ℕ → DynamicSourceState → List ℕ → ObjectAfter
 unfolding blockPosition
-moved arrived k s is = afterMove arrived k s is (blockPosition is k) (placed (blockPosition is k) (s .place))
+objectMoved arrived k s is = afterMove arrived k s is (blockPosition is k) (placed (blockPosition is k) (s .place))
 
 -- the dynamic objects, and the infos
-pub record Work : Type 0 where
+pub record ObjectsWork : Type 0 where
   pub moving : Moving
   pub infos : List ℕ
 
-abbrev pub movedAt : Bool → ℕ → ℕ → Work → Work
+abbrev pub movedAt : Bool → ℕ → ℕ → ObjectsWork → ObjectsWork
 movedAt arrived first d w =
-    let a = moved arrived (first + mostBlocks * d) (getD (w .moving .sources) d noSource) (w .infos) in
+    let a = objectMoved arrived (first + mostBlocks * d) (getD (w .moving .sources) d noSource) (w .infos) in
     record {
       moving = record { sources = set (w .moving .sources) d (a .moved .source); tracks = set (w .moving .tracks) d (a .moved .track) };
       infos = a .infos;
     }
 
 -- the first `count` objects in order; the info of object d is first + 8 d
-unfoldable pub movedAll : Bool → ℕ → ℕ → Moving → List ℕ → Work
-unfolding times moved
+unfoldable pub movedAll : Bool → ℕ → ℕ → Moving → List ℕ → ObjectsWork
+unfolding times objectMoved
 movedAll arrived first count m is = times count 0 (movedAt arrived first) (record { moving = m; infos = is })
 
 abbrev pub bedAt : List ℕ → ℕ → ℕ → List Float → List Float

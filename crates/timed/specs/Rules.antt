@@ -10,7 +10,7 @@ use lib.Signed.{ltZ, leZ}
 use lib.ListN.{getD}
 use lib.Ieee.{Float, binary32, ofBits, ofInt, div}
 use Rattle.ieee.specs.Small.{smaller}
-use Rattle.vectors.specs.Vectors.{1·0}
+use Rattle.vectors.specs.Vectors.{1·0f}
 use Rattle.timed.specs.declared.state.BlockState.{BlockState}
 use Rattle.timed.specs.declared.state.ElementRendererState.{ElementRendererState}
 use Rattle.timed.specs.declared.state.MetadataRendererState.{MetadataRendererState}
@@ -82,7 +82,7 @@ abbrev pub 64·0 : Float
 
 -- "A ramp moves by 64 / remaining, at most 1"
 unfoldable pub share : ℤ → Float
-share remaining = smaller (div binary32 64·0 (ofInt binary32 remaining)) 1·0
+share remaining = smaller (div binary32 64·0 (ofInt binary32 remaining)) 1·0f
 
 -- a slot takes 64 samples of it
 abbrev pub slotLess : ℤ → ℤ

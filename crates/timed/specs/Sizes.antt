@@ -1,6 +1,7 @@
 -- The numbers of the infos, in document 01's limits: "An update has up to 32 objects in all, .. 2 elements, 8 blocks each". Each object in each block of each element has an
 -- info, a record of eleven words: head, gain, size, distance, screen factor, position (x, y, z), last absolute position (x, y, z). Assumes nothing.
 use Prim.Native.Nat.{ℕ, _+_, _*_}
+pub use Rattle.formats.specs.Areas.{infoBytes}
 
 abbrev pub mostElements : ℕ
 mostElements = 2
@@ -20,9 +21,6 @@ abbrev pub allInfos : ℕ
 allInfos = mostElements * elementInfos
 
 -- ---- bytes
-
-abbrev pub infoBytes : ℕ
-infoBytes = 44
 
 -- of all infos: 22,528
 abbrev pub allBytes : ℕ

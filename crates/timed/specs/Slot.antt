@@ -21,12 +21,12 @@ use Rattle.timed.specs.declared.slot.Updated.{Updated}
 -- ---- blocks
 
 -- a slot in work, and the infos
-pub record Work : Type 0 where
+pub record SlotWork : Type 0 where
   pub slot : Slot
   pub infos : List ℕ
 
 -- block b, applied: it counts as used, its ramp remains, beds take its gains and objects its gains, sizes and targets
-unfoldable pub blockApplied : Timing → Reach → ℕ → Work → Work
+unfoldable pub blockApplied : Timing → Reach → ℕ → SlotWork → SlotWork
 unfolding movedAll bedGains
 blockApplied w r b k =
     let s = k .slot in
@@ -44,13 +44,13 @@ blockApplied w r b k =
       infos = m .infos;
     }
 
-abbrev pub blockAt : Timing → Reach → ℕ → Work → Work
-blockAt w r b k = cond (due w (getD (k .slot .schedule) b noBlock)) (blockApplied w r b k) k
+abbrev pub blockTurn : Timing → Reach → ℕ → SlotWork → SlotWork
+blockTurn w r b k = cond (due w (getD (k .slot .schedule) b noBlock)) (blockApplied w r b k) k
 
 -- the first n blocks in order
-unfoldable pub blocksApplied : Timing → Reach → ℕ → Work → Work
+unfoldable pub blocksApplied : Timing → Reach → ℕ → SlotWork → SlotWork
 unfolding times blockApplied
-blocksApplied w r n k = times n 0 (blockAt w r) k
+blocksApplied w r n k = times n 0 (blockTurn w r) k
 
 -- ---- the ramp
 

@@ -20,10 +20,10 @@ pub record Timed : Type 0 where
   pub infos : List ℕ
 
 -- Document 01, item 5: "take the last element whose first block offset is from 0 up to the timecode, ending the search there, else element 0"; i counts those not yet seen.
-unfoldable pub taken : Timing → List ElementRendererState → ℕ → ℕ
+unfoldable pub elementTaken : Timing → List ElementRendererState → ℕ → ℕ
 unfolding begins
-taken w es zero = 0
-taken w es (suc i) = cond (begins w (getD es i noElement)) i (taken w es i)
+elementTaken w es zero = 0
+elementTaken w es (suc i) = cond (begins w (getD es i noElement)) i (elementTaken w es i)
 
 -- where element i finds its infos
 abbrev pub reachOf : MetadataRendererState → ℕ → Reach
@@ -59,8 +59,8 @@ timingOf start s = record { start = start; payload = s .payload .0 }
 
 -- "At the start of each 64-sample slot, take the last element .. An element with no blocks, or a first offset below 0, does nothing."
 unfoldable pub slotAt : ℕ → Timed → Timed
-unfolding taken slotOf active
+unfolding elementTaken slotOf active
 slotAt start t =
     let w = timingOf start (t .state) in
-    let i = taken w (t .state .states) (t .state .elements) in
+    let i = elementTaken w (t .state .states) (t .state .elements) in
     cond (eqb (t .state .elements) 0) t (cond (active (elementOf (t .state) i)) (slotOf w i t) t)

@@ -6,7 +6,7 @@ ghost use mathlib.Core.Path.{_≡_};
 ghost use Prim.Native.Nat.{ℕ, _+_, _*_, _<_, _≤_};
 ghost use lib.ListN.{length};
 ghost use Rattle.timed.specs.Sizes.{mostBlocks, allInfos, infoBytes, allBytes, infoAt};
-ghost use Rattle.timed.specs.Objects.{orElse, moved, movedAll, bedGains, ramped, rampedAll};
+ghost use Rattle.timed.specs.Objects.{orElse, objectMoved, movedAll, bedGains, ramped, rampedAll};
 ghost use Rattle.timed.specs.Contracts.{IsMoved, IsMovedAll};
 use crate::infos;
 use crate::infos::BLOCKS;
@@ -43,7 +43,7 @@ fn update_source_state(
     arrived: bool,
 ) -> Moved
     requires { ⌜ (infoAt k + infoBytes ≤ length (now infos)) × (k < allInfos) ⌝ }
-    ensures { λ r. ⌜ IsMoved (moved arrived k source (now (infos .entry))) r (now (infos .exit)) ⌝ }
+    ensures { λ r. ⌜ IsMoved (objectMoved arrived k source (now (infos .entry))) r (now (infos .exit)) ⌝ }
 {
     let gain = or_else(infos::maybe_at(infos, k, 4, GAIN), source.gain);
     let size = or_else(infos::maybe_at(infos, k, 32, SIZE), source.size);

@@ -9,7 +9,7 @@ ghost use Rattle.timed.specs.Sizes.{mostBlocks, allBytes};
 ghost use Rattle.timed.specs.Rules.{remainingOf, keptAs, due, leftAfter, share, active, begins};
 ghost use Rattle.timed.specs.Slot.{blockApplied, blocksApplied, rampApplied, updatedSources};
 ghost use Rattle.timed.specs.Bounds.{InTime, InRange, Reaches};
-ghost use Rattle.timed.specs.Contracts.{IsWork, IsUpdated};
+ghost use Rattle.timed.specs.Contracts.{IsSlotWork, IsUpdated};
 use crate::objects;
 use crate::objects::Moving;
 use crate::state::BlockState;
@@ -74,7 +74,7 @@ impl Slot {
     // Block b, applied.
     fn apply_block(self, infos: &mut [u8], b: usize, when: Timing, reach: Reach) -> Slot
         requires { ⌜ (length (now infos) ≡ allBytes) × (b < mostBlocks) × InTime when × Reaches reach ⌝ }
-        ensures { λ r. ⌜ IsWork (blockApplied when reach b (record { slot = self; infos = now (infos .entry) })) r (now (infos .exit)) ⌝ }
+        ensures { λ r. ⌜ IsSlotWork (blockApplied when reach b (record { slot = self; infos = now (infos .entry) })) r (now (infos .exit)) ⌝ }
     {
         let mut schedule = self.schedule;
         let block = schedule[b];
@@ -112,7 +112,7 @@ impl Slot {
     // The first n blocks in order, each applied where it is due.
     fn apply_blocks(self, infos: &mut [u8], n: usize, when: Timing, reach: Reach) -> Slot
         requires { ⌜ (length (now infos) ≡ allBytes) × (n ≤ mostBlocks) × InTime when × Reaches reach ⌝ }
-        ensures { λ r. ⌜ IsWork (blocksApplied when reach n (record { slot = self; infos = now (infos .entry) })) r (now (infos .exit)) ⌝ }
+        ensures { λ r. ⌜ IsSlotWork (blocksApplied when reach n (record { slot = self; infos = now (infos .entry) })) r (now (infos .exit)) ⌝ }
     {
         let mut next = self;
         let mut b = 0usize;

@@ -6,7 +6,7 @@ ghost use mathlib.Core.Path.{_≡_};
 ghost use Prim.Native.Nat.{_+_, _<_, _≤_};
 ghost use lib.ListN.{length};
 ghost use Rattle.timed.specs.Sizes.{mostElements, allBytes};
-ghost use Rattle.timed.specs.State.{taken, slotOf, slotAt};
+ghost use Rattle.timed.specs.State.{elementTaken, slotOf, slotAt};
 ghost use Rattle.timed.specs.Bounds.{InTime, Within};
 ghost use Rattle.timed.specs.Contracts.{IsTimed};
 use crate::clock::StreamSample;
@@ -21,7 +21,7 @@ impl MetadataRendererState {
     // The last element whose first block offset is from 0 up to the timecode, else element 0.
     fn element_at(self, when: Timing) -> usize
         requires { ⌜ (self .elements ≤ mostElements) × InTime when ⌝ }
-        ensures { λ r. ⌜ r ≡ taken when (self .states) (self .elements) ⌝ }
+        ensures { λ r. ⌜ r ≡ elementTaken when (self .states) (self .elements) ⌝ }
     {
         let states = self.states;
         let mut i = self.elements;

@@ -13,7 +13,7 @@ use Rattle.timed.specs.declared.state.BlockState.{BlockState}
 use Rattle.timed.specs.declared.state.ElementRendererState.{ElementRendererState}
 use Rattle.timed.proofs.Keeps.{times-in, cond-keeps, set-each}
 use Rattle.updates.specs.Whole.{WholeElement, WholeUpdate}
-use Rattle.updates.specs.Said.{elementOf, updateOf}
+use Rattle.updates.specs.Said.{elementSaid, updateOf}
 use Rattle.updates.specs.Applied.{Work, blockGiven, scheduled, elementNext, isKept, elementGiven, elementsApplied, isSame, applied}
 
 -- ---- an element
@@ -21,15 +21,15 @@ use Rattle.updates.specs.Applied.{Work, blockGiven, scheduled, elementNe
 abbrev Fit : (BlockState → ℕ) → List BlockState → Type 0
 Fit f s = (b : ℕ) → b < 8 → f (getD s b noBlock) ≤ 2097152
 
-schedule-fits : (f : BlockState → ℕ) (m : List ℕ) (p : ℕ) (s : List BlockState) → ((b : ℕ) → b < elementOf m p .blocks → f (record { offset = elementOf m p .block b .offset; ramp = elementOf m p .block b .ramp; used = false }) ≤ 2097152) → Fit f s →
-    Fit f (scheduled (elementOf m p) s)
+schedule-fits : (f : BlockState → ℕ) (m : List ℕ) (p : ℕ) (s : List BlockState) → ((b : ℕ) → b < elementSaid m p .blocks → f (record { offset = elementSaid m p .block b .offset; ramp = elementSaid m p .block b .ramp; used = false }) ≤ 2097152) → Fit f s →
+    Fit f (scheduled (elementSaid m p) s)
 unfolding scheduled
 schedule-fits f m p s g h =
-    times-in (Fit f) (blockGiven (elementOf m p)) (elementOf m p .blocks)
-    (λ b t l i. set-each (λ (k : ℕ) (x : BlockState). k < 8 → f x ≤ 2097152) t b (record { offset = elementOf m p .block b .offset; ramp = elementOf m p .block b .ramp; used = false }) noBlock (λ _. g b l) i)
-    (elementOf m p .blocks) 0 (omega arith) s h
+    times-in (Fit f) (blockGiven (elementSaid m p)) (elementSaid m p .blocks)
+    (λ b t l i. set-each (λ (k : ℕ) (x : BlockState). k < 8 → f x ≤ 2097152) t b (record { offset = elementSaid m p .block b .offset; ramp = elementSaid m p .block b .ramp; used = false }) noBlock (λ _. g b l) i)
+    (elementSaid m p .blocks) 0 (omega arith) s h
 
-element-range : (position : ℕ) (kept : Bool) (dynamic : ℕ) (m : List ℕ) (n p : ℕ) (s : ElementRendererState) → WholeElement m n p → InRange position s → InRange position (elementNext kept dynamic (elementOf m p) s)
+element-range : (position : ℕ) (kept : Bool) (dynamic : ℕ) (m : List ℕ) (n p : ℕ) (s : ElementRendererState) → WholeElement m n p → InRange position s → InRange position (elementNext kept dynamic (elementSaid m p) s)
 unfolding elementNext
 element-range position kept dynamic m n p s w h =
     record {
@@ -55,7 +55,7 @@ elements-range position same m u states is w h =
     times-in (Ranged position) (elementGiven same (updateOf m u)) n
     (λ e k l i.
     let s = getD (k .states) e noElement in
-    let x = elementOf m (elementAt m u e) in
+    let x = elementSaid m (elementAt m u e) in
     set-each (λ (j : ℕ) (y : ElementRendererState). j < 2 → InRange position y) (k .states) e (elementNext (isKept same (s .blocks) (x .blocks)) (updateOf m u .objects - updateOf m u .isf) x s) noElement
     (λ j. element-range position (isKept same (s .blocks) (x .blocks)) (updateOf m u .objects - updateOf m u .isf) m (objects m u) (elementAt m u e) s (w .each e l) (i e j)) i)
     n 0 (omega arith) (record { states = states; infos = is }) h

@@ -19,7 +19,7 @@ use Rattle.fields.specs.Update.{objects, headerOf}
 use Rattle.fields.specs.declared.update.Header.{Header}
 use Rattle.records.specs.Laid.{elementAt, elementEnd}
 use Rattle.updates.specs.declared.element.Counts.{Counts}
-use Rattle.updates.specs.Said.{elementOf, updateOf}
+use Rattle.updates.specs.Said.{elementSaid, updateOf}
 use Rattle.updates.specs.Contracts.{IsCounts, IsElement, IsWork}
 use Rattle.updates.specs.Applied.{Work, elementGiven, elementsApplied, codesGiven, nextGains, nextSources, applied}
 
@@ -35,7 +35,7 @@ element-more m u e = rw add-one
 -- the turn of one element
 pub element-turn :
     (same : Bool) (m : List ℕ) (u : ℕ) (c : Counts) (p e : ℕ) (es : List ElementRendererState) (is : List ℕ) (r : ElementRendererState) (out : List ℕ) → IsCounts c (updateOf m u) →
-    p ≡ elementAt m u e → IsElement same c (elementOf m p) (e * 256) (getD es e noElement) is r out →
+    p ≡ elementAt m u e → IsElement same c (elementSaid m p) (e * 256) (getD es e noElement) is r out →
     _≡_ {A = Work} (record { states = set es e r; infos = out }) (elementGiven same (updateOf m u) e (record { states = es; infos = is }))
 unfolding elementGiven
 element-turn same m u c p e es is r out k q h = rw (h .element, h .infos, k .objects, k .isf, k .dynamic, q)

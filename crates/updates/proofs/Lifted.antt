@@ -27,7 +27,7 @@ use Rattle.timed.proofs.Theorems.{remaining-shifted}
 use Rattle.updates.specs.Said.{Element, Update}
 use Rattle.updates.specs.Stored.{withThree, cleared, withPlace, headOf, withHead, withInfo, infoGiven, objectStored, objectGiven, objectsStored}
 use Rattle.updates.specs.Applied.{Work, isSame, scheduled, elementNext, elementGiven, elementsApplied, applied}
-use Rattle.updates.specs.Lifted.{Fits, Afresh}
+use Rattle.updates.specs.Lifted.{WithinCounts, Afresh}
 use Rattle.updates.proofs.Written.{Stored, head-stored, place-stored, three, info-stored, object-stored, objects-stored}
 use Rattle.updates.proofs.Elements.{turned-at, element-at}
 
@@ -186,7 +186,7 @@ given-unapplied x s b n few l =
     ap (λ (y : BlockState). y .used) (turned-at (λ j _. record { offset = x .block j .offset; ramp = x .block j .ramp; used = false }) noBlock (x .blocks) b s l (omega arith))
 
 -- an element of an update whose number of dynamic objects differs from the last applied one's
-pub lifted : (n : ℕ) (u : Update) (t : Timed) → Fits u t → (t .state .objects - t .state .isf ≡ u .objects - u .isf → ⊥) → (e : ℕ) → e < u .elements → Afresh u e (applied n u t)
+pub lifted : (n : ℕ) (u : Update) (t : Timed) → WithinCounts u t → (t .state .objects - t .state .isf ≡ u .objects - u .isf → ⊥) → (e : ℕ) → e < u .elements → Afresh u e (applied n u t)
 unfolding applied elementsApplied elementNext
 lifted n u t f ne e l =
     let d = not-same (t .state) u ne in

@@ -5,7 +5,7 @@ use mathlib.Core.List.{List}
 use lib.Dec.{eqb}
 use lib.ListN.{getD, set, replicate}
 use lib.Ieee.{Float, binary32, ofBits}
-use Rattle.vectors.specs.Vectors.{0·0, zeroVec3}
+use Rattle.vectors.specs.Vectors.{0·0f, zeroVec3}
 use Rattle.timed.specs.Turns.{times}
 use Rattle.timed.specs.Sizes.{elementInfos}
 use Rattle.timed.specs.Rules.{middle}
@@ -25,7 +25,7 @@ abbrev pub 0·707 : Float
 
 -- "Objects start at gain 0.707, size 0 and the origin"
 abbrev pub newSource : DynamicSourceState
-newSource = record { gain = 0·707; size = 0·0; place = zeroVec3; placed = false }
+newSource = record { gain = 0·707; size = 0·0f; place = zeroVec3; placed = false }
 
 abbrev pub newTrack : Track
 newTrack = record { now = false; future = zeroVec3 }
@@ -99,8 +99,8 @@ abbrev pub isSame : MetadataRendererState → Update → Bool
 isSame s u = eqb (s .elements) (u .elements) && eqb (s .objects) (u .objects) && eqb (s .objects - s .isf) (u .objects - u .isf)
 
 -- the state and the infos once an update is applied at a stream position, from the elements that it leaves
-abbrev pub updated : ℕ → Update → MetadataRendererState → Work → Timed
-updated position u s w =
+abbrev pub stateGiven : ℕ → Update → MetadataRendererState → Work → Timed
+stateGiven position u s w =
     record {
       state = record {
         initialized = true;
@@ -119,4 +119,4 @@ updated position u s w =
 
 unfoldable pub applied : ℕ → Update → Timed → Timed
 unfolding elementsApplied codesGiven nextGains nextSources
-applied position u t = updated position u (t .state) (elementsApplied (isSame (t .state) u) u (t .state .states) (t .infos))
+applied position u t = stateGiven position u (t .state) (elementsApplied (isSame (t .state) u) u (t .state .states) (t .infos))

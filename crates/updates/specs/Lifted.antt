@@ -14,7 +14,7 @@ use Rattle.updates.specs.Said.{Update}
 use Rattle.updates.specs.Applied.{newTrack}
 
 -- What the limits of document 01 leave of a state and of an update: "2 elements, up to 8 blocks each", "up to 32 objects". Every block in range and every update that refusal 5 lets pass is so.
-pub record Fits (u : Update) (t : Timed) : Type 0 where
+pub record WithinCounts (u : Update) (t : Timed) : Type 0 where
   pub states : length (t .state .states) ≡ mostElements
   pub schedules : (e : ℕ) → e < mostElements → length (elementOf (t .state) e .schedule) ≡ mostBlocks
   pub infos : length (t .infos) ≡ allBytes

@@ -6,7 +6,7 @@ use Rattle.fields.specs.declared.object.Info.{Info}
 use Rattle.fields.specs.Update.{objects, bedOrIsf, beds, elements, code}
 use Rattle.fields.specs.Block.{blocks}
 use Rattle.fields.specs.Raised.{raisedOf}
-use Rattle.fields.specs.Infos.{infoOf}
+use Rattle.fields.specs.Infos.{storedInfo}
 use Rattle.records.specs.Laid.{blockAt, objectAt, elementAt}
 
 pub record Element : Type 0 where
@@ -24,9 +24,9 @@ pub record Update : Type 0 where
   pub element : ℕ → Element
 
 -- the element at record p of the metadata
-abbrev pub elementOf : List ℕ → ℕ → Element
-elementOf m p = record { blocks = blocks m p; block = λ b. raisedOf m (blockAt p b); info = λ o b. infoOf m (objectAt m p (o * blocks m p + b)) }
+abbrev pub elementSaid : List ℕ → ℕ → Element
+elementSaid m p = record { blocks = blocks m p; block = λ b. raisedOf m (blockAt p b); info = λ o b. storedInfo m (objectAt m p (o * blocks m p + b)) }
 
 -- the update at record u
 abbrev pub updateOf : List ℕ → ℕ → Update
-updateOf m u = record { objects = objects m u; isf = bedOrIsf m u; beds = beds m u; elements = elements m u; code = code m u; element = λ e. elementOf m (elementAt m u e) }
+updateOf m u = record { objects = objects m u; isf = bedOrIsf m u; beds = beds m u; elements = elements m u; code = code m u; element = λ e. elementSaid m (elementAt m u e) }

@@ -10,7 +10,7 @@ ghost use Rattle.timed.specs.Sizes.{mostObjects, mostBlocks, elementInfos, allI
 ghost use Rattle.fields.specs.Block.{blocks};
 ghost use Rattle.records.specs.Laid.{objectAt};
 ghost use Rattle.updates.specs.Whole.{WholeBlocks, WholeElement};
-ghost use Rattle.updates.specs.Said.{elementOf};
+ghost use Rattle.updates.specs.Said.{elementSaid};
 ghost use Rattle.updates.specs.Stored.{objectStored, objectsStored};
 ghost use Rattle.updates.specs.Applied.{newTrack, isKept, scheduled, elementNext};
 ghost use Rattle.updates.specs.Contracts.{IsElement};
@@ -45,7 +45,7 @@ fn put_object(
     bed: bool,
 )
     requires { ⌜ (length (now infos) ≡ allBytes) × (n ≡ blocks (now meta) p) × (n ≤ mostBlocks) × (first + mostBlocks ≤ allInfos) × (o ≤ mostObjects) × (40 * p + 40 ≤ length (now meta)) × ((b : ℕ) → b < n → 40 * objectAt (now meta) p (o * blocks (now meta) p + b) + 40 ≤ length (now meta)) ⌝ }
-    ensures { λ _. ⌜ now (infos .exit) ≡ objectStored fresh bed (elementOf (now (meta .entry)) p) first o (now (infos .entry)) ⌝ }
+    ensures { λ _. ⌜ now (infos .exit) ≡ objectStored fresh bed (elementSaid (now (meta .entry)) p) first o (now (infos .entry)) ⌝ }
 {
     let mut b = 0usize;
     while b < n {
@@ -66,7 +66,7 @@ fn put_objects(
     fresh: bool,
 )
     requires { ⌜ (length (now infos) ≡ allBytes) × (n ≡ blocks (now meta) p) × (first + elementInfos ≤ allInfos) × (counts .objects ≤ mostObjects) × WholeElement (now meta) (counts .objects) p ⌝ }
-    ensures { λ _. ⌜ now (infos .exit) ≡ objectsStored fresh (counts .isf) (elementOf (now (meta .entry)) p) first (counts .objects) (now (infos .entry)) ⌝ }
+    ensures { λ _. ⌜ now (infos .exit) ≡ objectsStored fresh (counts .isf) (elementSaid (now (meta .entry)) p) first (counts .objects) (now (infos .entry)) ⌝ }
 {
     let objects = counts.objects;
     let isf = counts.isf;
@@ -80,7 +80,7 @@ fn put_objects(
 // Offsets and ramps of n blocks, none of them applied.
 fn schedule_of(schedule: [BlockState; 8], meta: &[u8], p: usize, n: usize) -> [BlockState; 8]
     requires { ⌜ (n ≡ blocks (now meta) p) × WholeBlocks (now meta) p ⌝ }
-    ensures { λ r. ⌜ r ≡ scheduled (elementOf (now (meta .entry)) p) schedule ⌝ }
+    ensures { λ r. ⌜ r ≡ scheduled (elementSaid (now (meta .entry)) p) schedule ⌝ }
 {
     let mut next = schedule;
     let mut b = 0usize;
@@ -132,7 +132,7 @@ fn next_element(
     kept: bool,
 ) -> ElementRendererState
     requires { ⌜ (n ≡ blocks (now meta) p) × WholeElement (now meta) (counts .objects) p ⌝ }
-    ensures { λ r. ⌜ r ≡ elementNext kept (counts .dynamic) (elementOf (now (meta .entry)) p) element ⌝ }
+    ensures { λ r. ⌜ r ≡ elementNext kept (counts .dynamic) (elementSaid (now (meta .entry)) p) element ⌝ }
 {
     let before = element.schedule;
     let schedule = schedule_of(before, meta, p, n);
@@ -167,7 +167,7 @@ pub fn apply_element(
     same: bool,
 ) -> ElementRendererState
     requires { ⌜ (length (now infos) ≡ allBytes) × (first + elementInfos ≤ allInfos) × (counts .objects ≤ mostObjects) × WholeElement (now meta) (counts .objects) p ⌝ }
-    ensures { λ r. ⌜ IsElement same counts (elementOf (now (meta .entry)) p) first element (now (infos .entry)) r (now (infos .exit)) ⌝ }
+    ensures { λ r. ⌜ IsElement same counts (elementSaid (now (meta .entry)) p) first element (now (infos .entry)) r (now (infos .exit)) ⌝ }
 {
     let n = blocks_at(meta, p);
     let kept = is_kept(same, element.blocks, n);

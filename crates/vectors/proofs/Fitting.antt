@@ -12,9 +12,9 @@ use Rattle.vectors.specs.declared.Anchor.{Anchor}
 use Rattle.vectors.specs.declared.Anchor.the-variants.{Room, Screen, Speaker}
 use Rattle.vectors.specs.declared.BlockPosition.{BlockPosition}
 use Rattle.vectors.specs.declared.Placed.{Placed}
-use Rattle.vectors.specs.Vectors.{0·0, 1·0, zeroVec3, largest, pairwise, vecMulScalar, mapToCube, lerp, lerpVec3}
+use Rattle.vectors.specs.Vectors.{0·0f, 1·0f, zeroVec3, largestSize, pairwise, vecMulScalar, mapToCube, lerp, lerpVec3}
 use Rattle.vectors.specs.Anchors.{usedDistance, roomAnchored, screenAnchored}
-use Rattle.vectors.specs.Target.{summed, differentialPosition, cubical, anchored, nextPosition, nextLast, movable, moved, kept, placed}
+use Rattle.vectors.specs.Target.{summed, differentialPosition, cubical, anchored, nextPosition, nextLast, movable, moved, unmoved, placed}
 use Rattle.vectors.specs.Fit.{VecFits, BlockFits, PlacedFits}
 
 -- an operation on f32 gives f32, whatever it is handed
@@ -35,7 +35,7 @@ zero-fits = record { x-fits = tt; y-fits = tt; z-fits = tt }
 pub map-to-cube-fits : (v : Vec3) → VecFits (mapToCube v)
 unfolding mapToCube
 map-to-cube-fits v =
-    chosen-fits (eq (largest v) 0·0) zeroVec3 (vecMulScalar v (div binary32 1·0 (largest v))) zero-fits
+    chosen-fits (eq (largestSize v) 0·0f) zeroVec3 (vecMulScalar v (div binary32 1·0f (largestSize v))) zero-fits
     (record { x-fits = mul-fits binary32 _ _; y-fits = mul-fits binary32 _ _; z-fits = mul-fits binary32 _ _ })
 
 pub room-fits : (p : Vec3) (d : Maybe) → VecFits p → VecFits (roomAnchored p d)
@@ -51,7 +51,7 @@ summed-fits : (a b : Float) → T (fits binary32 (summed a b))
 unfolding clamped ofBits fits
 summed-fits a b =
     let s = add binary32 a b in
-    cond-fits binary32 (lt s 0·0) 0·0 (cond (lt 1·0 s) 1·0 s) tt (cond-fits binary32 (lt 1·0 s) 1·0 s tt (add-fits binary32 a b))
+    cond-fits binary32 (lt s 0·0f) 0·0f (cond (lt 1·0f s) 1·0f s) tt (cond-fits binary32 (lt 1·0f s) 1·0f s tt (add-fits binary32 a b))
 
 cubical-fits : (p : Vec3) → VecFits p → VecFits (cubical p)
 cubical-fits p h = record { x-fits = sub-fits binary32 _ _; y-fits = h .z-fits; z-fits = add-fits binary32 _ _ }
@@ -76,6 +76,6 @@ pub placed-fits : (b : BlockPosition) (here : Vec3) → BlockFits b → VecFits 
 unfolding placed
 placed-fits b here h k = go (b .valid && movable (b .anchor))
   where
-    go : (t : Bool) → PlacedFits (cond t (moved b) (kept b here))
+    go : (t : Bool) → PlacedFits (cond t (moved b) (unmoved b here))
     go true = moved-fits b h
     go false = record { target-fits = k; position-fits = h .position-fits; last-fits = h .last-fits }

@@ -7,14 +7,12 @@ use Rattle.roots.specs.declared.Depth.{Depth}
 use Rattle.vectors.specs.declared.Vec3.{Vec3}
 use Rattle.vectors.specs.declared.Maybe.{Maybe}
 use Rattle.vectors.specs.declared.Maybe.the-variants.{Absent, Value}
-use Rattle.vectors.specs.Vectors.{0·0, 1·0, vec3, vecAdd, vecSub, vecMulScalar, vecMulComponents, vecLength, mapToCube}
+use Rattle.vectors.specs.Vectors.{0·0f, 1·0f, vec3, vecAdd, vecSub, vecMulScalar, vecMulComponents, vecLength, mapToCube}
+-- 0·9f is `SCREEN_SIZE_X`
+pub use Rattle.ieee.specs.Numbers.{0·9f}
 
 abbrev pub 0·5 : Float
 0·5 = ofBits binary32 0x3f000000
-
--- `SCREEN_SIZE_X`
-abbrev pub 0·9 : Float
-0·9 = ofBits binary32 0x3f666666
 
 -- `SCREEN_SIZE_Z`
 abbrev pub 0·486 : Float
@@ -36,11 +34,11 @@ usedDistance (Value d) = Value (finiteDistance d)
 
 -- `ROOM_CENTER`
 abbrev pub roomCenter : Vec3
-roomCenter = vec3 0·5 0·5 0·0
+roomCenter = vec3 0·5 0·5 0·0f
 
 -- k of the way from the room's centre to c
 abbrev pub fromCenter : Float → Vec3 → Vec3
-fromCenter k c = vecAdd (vecMulScalar c k) (vecMulScalar roomCenter (sub binary32 1·0 k))
+fromCenter k c = vecAdd (vecMulScalar c k) (vecMulScalar roomCenter (sub binary32 1·0f k))
 
 -- where a distance is given, the position on the cube, drawn to the centre by its own distance over the given one
 unfoldable pub roomAnchored : Vec3 → Maybe → Vec3
@@ -52,12 +50,12 @@ roomAnchored p (Value d) = fromCenter (div binary32 (vecLength (mapToCube p)) d)
 -- the position's place on the screen
 abbrev pub reference : Vec3 → Vec3
 reference p =
-    vec3 (add binary32 (mul binary32 (sub binary32 (p .x) 0·5) 0·9) 0·5) (p .y)
-    (mul binary32 (add binary32 (p .z) 1·0) 0·486)
+    vec3 (add binary32 (mul binary32 (sub binary32 (p .x) 0·5) 0·9f) 0·5) (p .y)
+    (mul binary32 (add binary32 (p .z) 1·0f) 0·486)
 
 -- a factor for x and z, with 1 for y
 abbrev pub multiplier : Float → Vec3
-multiplier k = vec3 k 1·0 k
+multiplier k = vec3 k 1·0f k
 
 -- d * ((s * p + r) - s * r) + (r - d * r), for the multipliers d and s
 abbrev pub onScreen : Vec3 → Vec3 → Vec3 → Vec3 → Vec3

@@ -1,22 +1,17 @@
 -- Vectors, component by component: each definition is the function of the source of that name, every operation in f32 and in the source's order. Assumes nothing.
 use mathlib.Core.Bool.{cond}
-use lib.Ieee.{Float, binary32, ofBits, add, sub, mul, div, eq}
+use lib.Ieee.{Float, binary32, add, sub, mul, div, eq}
 use Rattle.ieee.specs.Small.{absolute, larger}
 use Rattle.roots.specs.Root.{root}
 use Rattle.vectors.specs.declared.Vec3.{Vec3}
-
-abbrev pub 0·0 : Float
-0·0 = ofBits binary32 0
-
-abbrev pub 1·0 : Float
-1·0 = ofBits binary32 0x3f800000
+pub use Rattle.ieee.specs.Numbers.{0·0f, 1·0f}
 
 abbrev pub vec3 : Float → Float → Float → Vec3
 vec3 x y z = record { x = x; y = y; z = z }
 
 -- `ZERO_VEC3`
 abbrev pub zeroVec3 : Vec3
-zeroVec3 = vec3 0·0 0·0 0·0
+zeroVec3 = vec3 0·0f 0·0f 0·0f
 
 -- o between the components of a and b
 abbrev pub pairwise : (Float → Float → Float) → Vec3 → Vec3 → Vec3
@@ -45,9 +40,9 @@ abbrev pub lerpVec3 : Vec3 → Vec3 → Float → Vec3
 lerpVec3 a b t = pairwise (lerp t) a b
 
 -- The largest size of a component. Document 01, item 2: "f32 max passes over a NaN".
-abbrev pub largest : Vec3 → Float
-largest v = larger (larger (absolute (v .x)) (absolute (v .y))) (absolute (v .z))
+abbrev pub largestSize : Vec3 → Float
+largestSize v = larger (larger (absolute (v .x)) (absolute (v .y))) (absolute (v .z))
 
 -- onto the surface of the cube; the origin where the largest size is 0
 unfoldable pub mapToCube : Vec3 → Vec3
-mapToCube v = cond (eq (largest v) 0·0) zeroVec3 (vecMulScalar v (div binary32 1·0 (largest v)))
+mapToCube v = cond (eq (largestSize v) 0·0f) zeroVec3 (vecMulScalar v (div binary32 1·0f (largestSize v)))

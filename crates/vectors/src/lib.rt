@@ -4,9 +4,9 @@
 // Vectors and anchors of the renderer: `Vec3` of types.rs, the vector functions of render.rs, and the target of a block for an object.
 ghost use mathlib.Core.Path.{_≡_};
 ghost use lib.Ieee.{binary32};
-ghost use Rattle.vectors.specs.Vectors.{zeroVec3, vecAdd, vecSub, vecMulScalar, vecMulComponents, vecLength, largest, mapToCube, lerp, lerpVec3};
+ghost use Rattle.vectors.specs.Vectors.{zeroVec3, vecAdd, vecSub, vecMulScalar, vecMulComponents, vecLength, largestSize, mapToCube, lerp, lerpVec3};
 ghost use Rattle.vectors.specs.Anchors.{finiteDistance, usedDistance, roomCenter, fromCenter, roomAnchored, reference, multiplier, onScreen, screenAnchored};
-ghost use Rattle.vectors.specs.Target.{summed, differentialPosition, cubical, anchored, nextPosition, nextLast, movable, moved, kept, placed};
+ghost use Rattle.vectors.specs.Target.{summed, differentialPosition, cubical, anchored, nextPosition, nextLast, movable, moved, unmoved, placed};
 use roots::Depth;
 
 // x grows to the right, y upwards, z to the front.
@@ -99,7 +99,7 @@ pub fn lerp_vec3(from: Vec3, to: Vec3, t: f32) -> Vec3
 
 // The largest size of a component; a NaN is passed over.
 fn largest(vector: Vec3) -> f32
-    ensures { λ r. ⌜ r ≡ largest vector ⌝ }
+    ensures { λ r. ⌜ r ≡ largestSize vector ⌝ }
 {
     let first = ieee::max(ieee::abs(vector.x), ieee::abs(vector.y));
     ieee::max(first, ieee::abs(vector.z))
@@ -315,7 +315,7 @@ fn moved(block: BlockPosition) -> Placed
 
 // What a block does that leaves its object where it is.
 fn kept(block: BlockPosition, here: Vec3) -> Placed
-    ensures { λ r. ⌜ r ≡ kept block here ⌝ }
+    ensures { λ r. ⌜ r ≡ unmoved block here ⌝ }
 {
     let position = block.position;
     let last = block.last;

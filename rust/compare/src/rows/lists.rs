@@ -11,9 +11,9 @@ pub fn groups() -> Vec<Group> {
     let parts: [Part; 7] = [
         ("refusals", refusals),
         ("outputs", outputs),
-        ("blocks", blocks),
-        ("beds", beds),
-        ("objects", objects),
+        ("block-rows", blocks),
+        ("bed-rows", beds),
+        ("object-rows", objects),
         ("updates", updates),
         ("slots", slots),
     ];
@@ -132,7 +132,7 @@ fn refusals(rows: &mut Rows) {
     rows.row("both")
         .shows("5 before 6")
         .push(with_object(gain(9.0, SILENT)).spoilt(121, 3));
-    rows.row("samples")
+    rows.row("bad-samples")
         .shows("8: the f32 above 16, NaN, an infinity; -16 passes")
         .pushes([16f32.next_up(), f32::NAN, -f32::INFINITY, -16.0].map(loud));
     let wrong = with_object(gain(9.0, SILENT)).pcm(&[17.0]);
@@ -183,7 +183,7 @@ fn refusals(rows: &mut Rows) {
 }
 
 fn outputs(rows: &mut Rows) {
-    rows.row("waiting")
+    rows.row("flush-waits")
         .shows("a flush gives what waits, a second says none")
         .push(half())
         .flush()
@@ -235,7 +235,7 @@ pub fn order_matters() -> bool {
 }
 
 fn blocks(rows: &mut Rows) {
-    rows.row("lowered")
+    rows.row("loud-block")
         .shows("a loud block lowers the gain, which grows by length / rate and limits the next")
         .push(loud(-16.0))
         .flush()
@@ -323,7 +323,7 @@ fn objects(rows: &mut Rows) {
         .each(&[size(0.25, place), size(1.0, loud), size(0.25, quiet)]);
     let nan = at(f32::NAN, f32::NAN, f32::NAN);
     let infinite = at(f32::INFINITY, 0.5, -f32::INFINITY);
-    rows.row("positions")
+    rows.row("odd-positions")
         .shows("a NaN, infinities, none given, one that is not valid")
         .each(&[nan, infinite, valid(true, SILENT), valid(false, place)]);
     let three = at_once(0, &[SILENT, near(), place]);
@@ -390,7 +390,7 @@ fn updates(rows: &mut Rows) {
         .push(frame(&[], &[[0.5], [0.0]]).with(update(0, &[], 2, &[])))
         .flush();
     let resting = update(0, &[], 1, &[element([(0, 0), (5, 0)], &[[SILENT; 2]])]);
-    rows.row("kept")
+    rows.row("kept-element")
         .shows("a kept element keeps flag, target and ramp: half of the way, then the rest")
         .push(moved(0, near()))
         .push(moved(129, far()))
@@ -403,7 +403,7 @@ fn updates(rows: &mut Rows) {
         .push(moved(129, far()))
         .flush();
     let longer = element([(0, 0), (-1, 129), (5, 0)], &[[SILENT, far(), SILENT]]);
-    rows.row("new")
+    rows.row("new-element")
         .shows("a new element has no flag: straight to the target; and no ramp: there it stays")
         .push(moved(0, near()))
         .push(of_object().with(update(0, &[], 1, &[longer])))

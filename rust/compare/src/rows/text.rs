@@ -11,9 +11,9 @@ use mathlib.Core.List.{List, [], _∷_, _++_}
 use lib.ListN.{replicate}
 use Rattle.rules.specs.Calls.{reset}
 use Rattle.rows.specs.Rows.{Row, _⇒_, refusal, ready, none, renewed}
-use Rattle.rows.specs.Notation.{joined, row, rowAt, sent, sentAt, ofBed, ofObject, flushAt, short, quiet, diagonal, silence, only}
-use Rattle.rows.specs.Notation.{update, bed, spoilt, element, atOnce, block, minus, object, at, valid, place, differential, gain, distance, size}
-use Rattle.rows.specs.Notation.{screen, depth, onScreen, onSpeakers}
+use Rattle.rows.specs.Notation.{concat, asRow, rowAt, sent, sentBy, ofBed, ofObject, flushAt, short, quiet, diagonalWords, silence, only}
+use Rattle.rows.specs.Notation.{update, bed, spoilt, element, atOnce, blockFrom, minus, object, at, validPosition, place, differential, gain, distance, withSize}
+use Rattle.rows.specs.Notation.{screen, depth, screenAnchor, onSpeakers}
 ";
 
 /// The most columns of a line.
@@ -40,13 +40,13 @@ pub fn text(groups: &[Group]) -> String {
         "\n-- ---- all\n\nabbrev pub groups : List (List Row)\ngroups =\n{}",
         lines(&names)
     );
-    text + "\nabbrev pub rows : List Row\nrows = joined groups\n"
+    text + "\nabbrev pub rows : List Row\nrows = concat groups\n"
 }
 
 fn row_text(row: &Row) -> String {
     let Row { name, shows, .. } = row;
     let head = match row.start {
-        0 => "row".to_string(),
+        0 => "asRow".to_string(),
         start => format!("rowAt {start}"),
     };
     let mut text = format!("-- {shows}\nabbrev pub {name} : Row\n{name} =\n    {head}\n");
@@ -103,7 +103,7 @@ fn push_text(push: &Push) -> String {
     };
     let head = match (push.stride, push.rate) {
         (64, 48_000) => "sent".to_string(),
-        (stride, rate) => format!("sentAt {stride} {rate}"),
+        (stride, rate) => format!("sentBy {stride} {rate}"),
     };
     let bits: Vec<u32> = push.pcm.iter().map(|x| x.to_bits()).collect();
     let (samples, codes) = (push.samples, within(codes(&push.codes)));
@@ -145,7 +145,7 @@ fn element_text(element: &Element) -> String {
         let objects = objects(&mut element.objects.iter().map(|o| &o[1]));
         return format!("atOnce {} {objects}", signed(ramp));
     }
-    let block = |b: &Block| format!("block {} {}", signed(b.offset), signed(b.ramp));
+    let block = |b: &Block| format!("blockFrom {} {}", signed(b.offset), signed(b.ramp));
     let blocks = within(list(" ", element.blocks.iter().map(block)));
     let objects = objects(&mut element.objects.iter().flatten());
     format!("element {blocks}{BREAK}{objects}")
@@ -155,13 +155,13 @@ fn object_text(object: &Object) -> String {
     let place = object.position.map(|p| p.map(float).join(" "));
     let mut text = match (object.position_valid, place) {
         (false, None) => "object".to_string(),
-        (true, None) => "valid object".to_string(),
+        (true, None) => "validPosition object".to_string(),
         (false, Some(place)) => format!("place {place} object"),
         (true, Some(place)) => format!("at {place}"),
     };
     let anchor = match object.anchor {
         Anchor::Room => None,
-        Anchor::Screen => Some("onScreen".to_string()),
+        Anchor::Screen => Some("screenAnchor".to_string()),
         Anchor::Speaker => Some("onSpeakers".to_string()),
     };
     let given = |name: &str, x: Option<f32>| x.map(|x| format!("{name} {}", float(x)));
@@ -170,7 +170,7 @@ fn object_text(object: &Object) -> String {
         object.differential.then(|| "differential".to_string()),
         given("gain", object.gain),
         given("distance", object.distance),
-        given("size", object.size),
+        given("withSize", object.size),
         given("screen", other(object.screen)),
         given("depth", other(object.depth)),
         anchor,
@@ -223,7 +223,7 @@ fn pcm_text(bits: &[u32], samples: usize) -> String {
         && bits.len() == samples * samples
         && (0..bits.len()).all(|k| bits[k] == diagonal(k))
     {
-        return format!("diagonal {samples} {}", word(&bits[0]));
+        return format!("diagonalWords {samples} {}", word(&bits[0]));
     }
     runs(bits, |&w| w == 0, "quiet", " ", word)
 }

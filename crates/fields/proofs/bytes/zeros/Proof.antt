@@ -5,13 +5,13 @@ use mathlib.Core.Bool.{true}
 use native.Mathlib.Omega.{arith}
 use borrow.Author.Needs.{needs}
 use borrow.Author.Tests.{eq-eqb, ne-eqb}
-use Rattle.fields.specs.Bytes.{zeros}
+use Rattle.fields.specs.Bytes.{zeroBytes}
 use Rattle.fields.proofs.All.{all-none, all-more, all-fails, all-passed}
 use Rattle.fields.proofs.bytes.zeros.Statement.{statement}
 use Rattle.fields.proofs.bytes.zeros.Tie as tie
 
 abbrev Inv-loop : tie.InvT-loop
-Inv-loop meta at n k₀ k = (k ≤ n) × (zeros meta at k ≡ true)
+Inv-loop meta at n k₀ k = (k ≤ n) × (zeroBytes meta at k ≡ true)
 
 abbrev μ-loop : tie.MeasureT-loop
 μ-loop meta at n k₀ k = n - k

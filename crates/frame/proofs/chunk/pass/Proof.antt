@@ -8,7 +8,7 @@ use native.Mathlib.Omega.{arith}
 use Rattle.rules.specs.Samples.{Frame}
 use Rattle.claim.specs.Hall.{Sent}
 use Rattle.frame.specs.Held.{held}
-use Rattle.frame.specs.Pass.{frameOf, settled}
+use Rattle.frame.specs.Pass.{frameWith, settled}
 use Rattle.frame.proofs.Passing.{Full, mixed, same-heard, held-settled}
 use Rattle.frame.proofs.chunk.pass.Statement.{statement}
 use Rattle.frame.proofs.chunk.pass.Tie as tie
@@ -29,7 +29,7 @@ abbrev start : tie.After-tick → tie.Start
 start c = c .before .before .before .before .before .before .before .before .before .before .before .before .before .before .before
 
 abbrev frame : tie.After-tick → ℕ → List Sent → Frame Sent
-frame c rate us = let a = start c .args in frameOf rate us (a .codes .now) (a .objects) (a .pcm .now) (a .n)
+frame c rate us = let a = start c .args in frameWith rate us (a .codes .now) (a .objects) (a .pcm .now) (a .n)
 
 -- the block with the rows laid, and the clock after them
 settles : (c : tie.After-tick) (rate : ℕ) (us : List Sent) → let a = start c .args in

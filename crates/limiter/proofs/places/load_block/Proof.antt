@@ -5,14 +5,14 @@ use mathlib.Core.Path.{_≡_, refl, ap, _∙_}
 use mathlib.Core.List.{_++_}
 use Prim.Native.Nat.{_+_, _*_, _≤_}
 use lib.ListN.{length, take, drop}
-use Rattle.limiter.specs.Limiter.{laid}
+use Rattle.limiter.specs.Limiter.{overlaid}
 use Rattle.limiter.specs.Places.{floatsAt, channelsAt}
 use Rattle.limiter.proofs.Rows.{part-length, load-next, load-end}
 use Rattle.limiter.proofs.places.load_block.Statement.{statement}
 use Rattle.limiter.proofs.places.load_block.Tie as tie
 
 abbrev Inv-loop : tie.InvT-loop
-Inv-loop places samples block₀ at₀ left₀ block at left = (at + 64 * left ≡ 768) × (length block ≡ 768) × (take at block ++ laid (channelsAt left samples places (4 * at)) (drop at block) ≡ laid (channelsAt 12 samples places 0) block₀)
+Inv-loop places samples block₀ at₀ left₀ block at left = (at + 64 * left ≡ 768) × (length block ≡ 768) × (take at block ++ overlaid (channelsAt left samples places (4 * at)) (drop at block) ≡ overlaid (channelsAt 12 samples places 0) block₀)
 
 abbrev μ-loop : tie.MeasureT-loop
 μ-loop places samples block₀ at₀ left₀ block at left = left

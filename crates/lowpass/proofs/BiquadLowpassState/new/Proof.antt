@@ -3,7 +3,7 @@ use mathlib.Core.Path.{ap}
 use borrow.Author.Needs.{needs}
 use lib.Ieee.{ofBits}
 use Rattle.angles.proofs.Theorems.{lowpass-only}
-use Rattle.lowpass.specs.Lowpass.{fresh, new}
+use Rattle.lowpass.specs.Lowpass.{unfed, new}
 use Rattle.lowpass.proofs.BiquadLowpassState.new.Statement.{statement}
 use Rattle.lowpass.proofs.BiquadLowpassState.new.Tie as tie
 
@@ -12,7 +12,7 @@ coefficients-requires c κs = search needs
 
 returns : tie.Need-returns
 unfolding new ofBits
-returns c = ap fresh (lowpass-only (c .before .pre) (c .coefficients .ensures))
+returns c = ap unfed (lowpass-only (c .before .pre) (c .coefficients .ensures))
 
 pub new-spec : {M : Type 1} → statement M
 new-spec = tie.close (tie.spec coefficients-requires returns)

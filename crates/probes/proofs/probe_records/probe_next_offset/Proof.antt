@@ -4,7 +4,7 @@ use Prim.Native.Nat.{ℕ}
 use lib.ListN.{getD}
 use Rattle.fields.specs.Update.{offset}
 use Rattle.records.specs.Laid.{updateAt, count}
-use Rattle.records.specs.Order.{next}
+use Rattle.records.specs.Order.{nextOffset}
 use Rattle.records.proofs.Times.{next-same}
 use borrow.Author.Needs.{needs}
 use Rattle.probes.proofs.probe_records.probe_next_offset.Statement.{statement}
@@ -22,7 +22,7 @@ returns c =
     let m = a .meta .now in
     let l = c .before .layout-of in
     c .next-offset .ensures
-    ∙ ap (λ (n : ℕ). next (λ i. getD (l .result .offset) i 0) n (a .t) (a .end)) (l .ensures .counted)
+    ∙ ap (λ (n : ℕ). nextOffset (λ i. getD (l .result .offset) i 0) n (a .t) (a .end)) (l .ensures .counted)
     ∙ next-same (λ i. getD (l .result .offset) i 0) (λ i. offset m (updateAt m i)) (count m) (a .t) (a .end) (l .ensures .offsets)
 
 pub probe-next-offset-spec : {M : Type 1} → statement M

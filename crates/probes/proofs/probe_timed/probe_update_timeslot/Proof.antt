@@ -5,7 +5,7 @@ use native.Mathlib.Omega.{arith}
 use borrow.Author.Tests.{not-true, not-false, eq-eqb, ne-eqb, le-leb, lt-leb}
 use borrow.Author.Needs.{needs}
 use Rattle.timed.proofs.Kept.{within-later}
-use Rattle.probes.specs.Timed.{longest}
+use Rattle.probes.specs.Timed.{lastPosition}
 use Rattle.probes.proofs.Timed.{fits-within}
 use Rattle.probes.proofs.probe_timed.probe_update_timeslot.Statement.{statement}
 use Rattle.probes.proofs.probe_timed.probe_update_timeslot.Tie as tie
@@ -15,7 +15,7 @@ returns c = simp (ne-eqb _ _ (c .if1 .taken)) (record { state = refl; infos = re
 
 returns-2 : tie.Need-returns-2
 returns-2 c =
-    let h : longest < c .before .before .before .args .start = omega arith in
+    let h : lastPosition < c .before .before .before .args .start = omega arith in
     simp (eq-eqb _ _ (c .before .if1 .left), lt-leb _ _ h) (record { state = refl; infos = refl })
 
 state-fits-requires : tie.Need-state-fits-requires

@@ -6,7 +6,7 @@ use native.Mathlib.Omega.{arith}
 use lib.ListN.{length}
 use lib.Ieee.{Float}
 use Rattle.render.specs.Rows.{mixedTerms}
-use Rattle.render.specs.Sources.{bed, bedTerms}
+use Rattle.render.specs.Sources.{bedWith, bedTerms}
 use Rattle.render.proofs.Channels.{reached, zeros-length, row-start, row-length, row-reaches}
 use Rattle.render.proofs.Routes.{by-found, found-inside}
 use Rattle.render.proofs.sources.mix_bed.Statement.{statement}
@@ -22,7 +22,7 @@ enum-told : tie.Need-enum-told
 enum-told c = search needs
 
 returns : tie.Need-returns
-returns c = let a = c .before .before .before .before .before .before .args in by-found (a .pcm .now) (a .n) (a .t) (a .k) (bedTerms (bed (a .code) (a .gain))) (a .rows .now) (sym (c .before .before .find-matching-input-bed-channel .ensures) ∙ c .enum-told .given .1) refl
+returns c = let a = c .before .before .before .before .before .before .args in by-found (a .pcm .now) (a .n) (a .t) (a .k) (bedTerms (bedWith (a .code) (a .gain))) (a .rows .now) (sym (c .before .before .find-matching-input-bed-channel .ensures) ∙ c .enum-told .given .1) refl
 
 silence-requires : tie.Need-silence-requires
 silence-requires c κs = search needs
@@ -68,7 +68,7 @@ returns-2 : tie.Need-returns-2
 returns-2 c =
     let s = c .before .before .before .before .before .before .before .before .before .before .before .before .before .before .before .before in
     let a = s .args in
-    let ts = bedTerms (bed (a .code) (a .gain)) in
+    let ts = bedTerms (bedWith (a .code) (a .gain)) in
     by-found (a .pcm .now) (a .n) (a .t) (a .k) ts (a .rows .now) (sym (c .before .before .before .before .before .before .before .before .before .before .before .before .find-matching-input-bed-channel .ensures) ∙ c .before .before .before .before .before .before .before .before .before .before .found .given .1)
     (c .before .before .mix-routed .ensures ∙ ap (λ (xs : List Float). mixedTerms xs ts (a .rows .now)) (row-start (a .pcm .now) (a .n) (a .t) (a .k) _ (c .before .before .before .before .before .before .before .before .silence .ensures) (s .pre .0 .short) (c .before .before .before .before .before .before .read-channel .ensures)))
 

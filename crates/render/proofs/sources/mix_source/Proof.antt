@@ -6,7 +6,7 @@ use native.Mathlib.Omega.{arith}
 use lib.Ieee.{Float}
 use Rattle.rules.specs.Mix.{objectTerms}
 use Rattle.render.specs.Rows.{mixedTerms}
-use Rattle.render.specs.Sources.{sourceOf}
+use Rattle.render.specs.Sources.{plainSource}
 use Rattle.render.proofs.Channels.{zeros-length, row-start, row-length, row-reaches}
 use Rattle.render.proofs.sources.mix_source.Statement.{statement}
 use Rattle.render.proofs.sources.mix_source.Tie as tie
@@ -53,7 +53,7 @@ returns c =
     let s = c .before .before .before .before .before .before .before .before .before .before .before .before in
     let a = s .args in
     c .before .before .mix-object .ensures
-    ∙ ap (λ (xs : List Float). mixedTerms xs (objectTerms (sourceOf (a .source))) (a .rows .now)) (row-start (a .pcm .now) (a .n) (a .t) (a .k) (a .i) (c .before .before .before .before .before .before .before .before .before .silence .ensures) (s .pre .1) (c .before .before .before .before .before .before .before .read-channel .ensures))
+    ∙ ap (λ (xs : List Float). mixedTerms xs (objectTerms (plainSource (a .source))) (a .rows .now)) (row-start (a .pcm .now) (a .n) (a .t) (a .k) (a .i) (c .before .before .before .before .before .before .before .before .before .silence .ensures) (s .pre .1) (c .before .before .before .before .before .before .before .read-channel .ensures))
 
 pub mix-source-spec : {M : Type 1} → statement M
 mix-source-spec =

@@ -9,12 +9,12 @@ use borrow.Author.Needs.{needs}
 use Rattle.timed.proofs.Laws.{turn, ended}
 use Rattle.timed.specs.Turns.{times}
 use Rattle.updates.specs.Stored.{infoGiven, objectStored}
-use Rattle.updates.specs.Said.{elementOf}
+use Rattle.updates.specs.Said.{elementSaid}
 use Rattle.updates.proofs.element.put_object.Statement.{statement}
 use Rattle.updates.proofs.element.put_object.Tie as tie
 
 abbrev Inv-loop : tie.InvT-loop
-Inv-loop infos₀ meta p n first o fresh bed b₀ infos b = (b ≤ n) × ((length infos ≡ 22528) × (times (n - b) b (infoGiven fresh bed (elementOf meta p) first o) infos ≡ times n 0 (infoGiven fresh bed (elementOf meta p) first o) infos₀))
+Inv-loop infos₀ meta p n first o fresh bed b₀ infos b = (b ≤ n) × ((length infos ≡ 22528) × (times (n - b) b (infoGiven fresh bed (elementSaid meta p) first o) infos ≡ times n 0 (infoGiven fresh bed (elementSaid meta p) first o) infos₀))
 
 abbrev μ-loop : tie.MeasureT-loop
 μ-loop infos₀ meta p n first o fresh bed b₀ infos b = n - b
@@ -47,7 +47,7 @@ loop-again : tie.Need-loop-again Inv-loop μ-loop
 loop-again c =
     let l = c .before .before .before .before .before .before .before .loop in
     let s = c .before .before .before .before .before .before .before .before .before .before .args in
-    (search needs, (omega (arith, c .before .before .put-info .kept), rw (c .before .before .put-info .ensures, c .before .before .before .before .info-at .ensures, c .before .before .before .before .before .object-place .ensures) (sym (turn (s .n) (l .b) (infoGiven (s .fresh) (s .bed) (elementOf (now (s .meta)) (s .p)) (s .first) (s .o)) (l .infos) (search needs)) ∙ l .inv .1 .1)))
+    (search needs, (omega (arith, c .before .before .put-info .kept), rw (c .before .before .put-info .ensures, c .before .before .before .before .info-at .ensures, c .before .before .before .before .before .object-place .ensures) (sym (turn (s .n) (l .b) (infoGiven (s .fresh) (s .bed) (elementSaid (now (s .meta)) (s .p)) (s .first) (s .o)) (l .infos) (search needs)) ∙ l .inv .1 .1)))
 
 same-length : tie.Need-same-length Inv-loop μ-loop
 same-length c = search needs
@@ -57,7 +57,7 @@ unfolding objectStored
 returns c =
     let l = c .before .loop in
     let s = c .before .before .before .before .args in
-    let a = sym (ended (s .n) (l .b) (infoGiven (s .fresh) (s .bed) (elementOf (now (s .meta)) (s .p)) (s .first) (s .o)) (l .infos) (omega arith)) ∙ l .inv .1 .1 in
+    let a = sym (ended (s .n) (l .b) (infoGiven (s .fresh) (s .bed) (elementSaid (now (s .meta)) (s .p)) (s .first) (s .o)) (l .infos) (omega arith)) ∙ l .inv .1 .1 in
     a ∙ rw (c .before .before .before .before .pre .1)
 
 pub put-object-spec : {M : Type 1} → statement M

@@ -9,14 +9,14 @@ use borrow.Author.Needs.{needs}
 use Rattle.fields.specs.Block.{blocks}
 use Rattle.timed.proofs.Laws.{turn, ended}
 use Rattle.timed.specs.Turns.{times}
-use Rattle.updates.specs.Said.{elementOf}
+use Rattle.updates.specs.Said.{elementSaid}
 use Rattle.updates.specs.Stored.{objectGiven, objectsStored}
 use Rattle.updates.proofs.Laws.{cell-below}
 use Rattle.updates.proofs.element.put_objects.Statement.{statement}
 use Rattle.updates.proofs.element.put_objects.Tie as tie
 
 abbrev Inv-loop : tie.InvT-loop
-Inv-loop infos₀ meta p n first fresh objects isf o₀ infos o = (o ≤ objects) × ((length infos ≡ 22528) × (times (objects - o) o (objectGiven fresh isf (elementOf meta p) first) infos ≡ times objects 0 (objectGiven fresh isf (elementOf meta p) first) infos₀))
+Inv-loop infos₀ meta p n first fresh objects isf o₀ infos o = (o ≤ objects) × ((length infos ≡ 22528) × (times (objects - o) o (objectGiven fresh isf (elementSaid meta p) first) infos ≡ times objects 0 (objectGiven fresh isf (elementSaid meta p) first) infos₀))
 
 abbrev μ-loop : tie.MeasureT-loop
 μ-loop infos₀ meta p n first fresh objects isf o₀ infos o = objects - o
@@ -55,7 +55,7 @@ loop-again : tie.Need-loop-again Inv-loop μ-loop
 loop-again c =
     let l = c .before .before .before .before .before .loop in
     let s = c .before .before .before .before .before .before .before .before .args in
-    (search needs, (omega (arith, c .before .before .put-object .kept), rw (c .before .before .put-object .ensures) (sym (turn (s .counts .objects) (l .o) (objectGiven (s .fresh) (s .counts .isf) (elementOf (now (s .meta)) (s .p)) (s .first)) (l .infos) (search needs)) ∙ l .inv .1 .1)))
+    (search needs, (omega (arith, c .before .before .put-object .kept), rw (c .before .before .put-object .ensures) (sym (turn (s .counts .objects) (l .o) (objectGiven (s .fresh) (s .counts .isf) (elementSaid (now (s .meta)) (s .p)) (s .first)) (l .infos) (search needs)) ∙ l .inv .1 .1)))
 
 same-length : tie.Need-same-length Inv-loop μ-loop
 same-length c = search needs
@@ -65,7 +65,7 @@ unfolding objectsStored
 returns c =
     let l = c .before .loop in
     let s = c .before .before .before .before .args in
-    sym (ended (s .counts .objects) (l .o) (objectGiven (s .fresh) (s .counts .isf) (elementOf (now (s .meta)) (s .p)) (s .first)) (l .infos) (omega arith)) ∙ l .inv .1 .1
+    sym (ended (s .counts .objects) (l .o) (objectGiven (s .fresh) (s .counts .isf) (elementSaid (now (s .meta)) (s .p)) (s .first)) (l .infos) (omega arith)) ∙ l .inv .1 .1
 
 pub put-objects-spec : {M : Type 1} → statement M
 put-objects-spec =

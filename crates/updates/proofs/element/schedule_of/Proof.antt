@@ -7,13 +7,13 @@ use denote.Ref.{now}
 use borrow.Author.Needs.{needs}
 use Rattle.timed.proofs.Laws.{turn, ended}
 use Rattle.timed.specs.Turns.{times}
-use Rattle.updates.specs.Said.{elementOf}
+use Rattle.updates.specs.Said.{elementSaid}
 use Rattle.updates.specs.Applied.{blockGiven, scheduled}
 use Rattle.updates.proofs.element.schedule_of.Statement.{statement}
 use Rattle.updates.proofs.element.schedule_of.Tie as tie
 
 abbrev Inv-loop : tie.InvT-loop
-Inv-loop meta p n next₀ b₀ next b = (b ≤ n) × (times (n - b) b (blockGiven (elementOf meta p)) next ≡ times n 0 (blockGiven (elementOf meta p)) next₀)
+Inv-loop meta p n next₀ b₀ next b = (b ≤ n) × (times (n - b) b (blockGiven (elementSaid meta p)) next ≡ times n 0 (blockGiven (elementSaid meta p)) next₀)
 
 abbrev μ-loop : tie.MeasureT-loop
 μ-loop meta p n next₀ b₀ next b = n - b
@@ -57,14 +57,14 @@ loop-again : tie.Need-loop-again Inv-loop μ-loop
 loop-again c =
     let l = c .before .before .before .before .before .loop in
     let s = c .before .before .before .before .before .before .before .args in
-    (search needs, rw (c .before .before .raised-block-at .ensures, c .before .before .before .block-place .ensures) (sym (turn (s .n) (l .b) (blockGiven (elementOf (now (s .meta)) (s .p))) (l .next) (search needs)) ∙ l .inv .1))
+    (search needs, rw (c .before .before .raised-block-at .ensures, c .before .before .before .block-place .ensures) (sym (turn (s .n) (l .b) (blockGiven (elementSaid (now (s .meta)) (s .p))) (l .next) (search needs)) ∙ l .inv .1))
 
 returns : tie.Need-returns Inv-loop μ-loop
 unfolding scheduled
 returns c =
     let l = c .before .loop in
     let s = c .before .before .before .args in
-    let a = sym (ended (s .n) (l .b) (blockGiven (elementOf (now (s .meta)) (s .p))) (l .next) (omega arith)) ∙ l .inv .1 in
+    let a = sym (ended (s .n) (l .b) (blockGiven (elementSaid (now (s .meta)) (s .p))) (l .next) (omega arith)) ∙ l .inv .1 in
     a ∙ rw (c .before .before .before .pre .0)
 
 pub schedule-of-spec : {M : Type 1} → statement M

@@ -8,7 +8,7 @@ use denote.Ref.{now}
 use borrow.Author.Needs.{needs}
 use Rattle.timed.proofs.Laws.{turn}
 use Rattle.timed.specs.Turns.{times}
-use Rattle.timed.specs.Objects.{movedAt, movedAll, Work}
+use Rattle.timed.specs.Objects.{movedAt, movedAll, ObjectsWork}
 use Rattle.timed.proofs.objects.Moving.apply_block.Statement.{statement}
 use Rattle.timed.proofs.objects.Moving.apply_block.Tie as tie
 
@@ -70,8 +70,8 @@ returns c =
     let l = c .before .loop in
     let s = c .before .before .before .args in
     let e : s .count - l .d ≡ 0 = omega arith in
-    let w : _≡_ {A = Work} (record { moving = l .next; infos = l .infos }) (movedAll (s .arrived) (s .first) (s .count) (s .self) (now (s .infos))) = sym (rw e refl) ∙ l .inv .1 .1 in
-    record { objects = ap (λ (w : Work). w .moving) w; infos = ap (λ (w : Work). w .infos) w }
+    let w : _≡_ {A = ObjectsWork} (record { moving = l .next; infos = l .infos }) (movedAll (s .arrived) (s .first) (s .count) (s .self) (now (s .infos))) = sym (rw e refl) ∙ l .inv .1 .1 in
+    record { objects = ap (λ (w : ObjectsWork). w .moving) w; infos = ap (λ (w : ObjectsWork). w .infos) w }
 
 pub apply-block-spec : {M : Type 1} → statement M
 apply-block-spec =

@@ -9,12 +9,12 @@ use denote.Ref.{now}
 use borrow.Author.Needs.{needs}
 use Rattle.timed.proofs.Laws.{turn}
 use Rattle.timed.specs.Turns.{times}
-use Rattle.timed.specs.Slot.{Work, blockAt, blocksApplied}
+use Rattle.timed.specs.Slot.{SlotWork, blockTurn, blocksApplied}
 use Rattle.timed.proofs.slot.Slot.apply_blocks.Statement.{statement}
 use Rattle.timed.proofs.slot.Slot.apply_blocks.Tie as tie
 
 abbrev Inv-loop : tie.InvT-loop
-Inv-loop infos₀ n when reach next₀ b₀ infos next b = (b ≤ n) × ((length infos ≡ 22528) × (times (n - b) b (blockAt when reach) (record { slot = next; infos = infos }) ≡ times n 0 (blockAt when reach) (record { slot = next₀; infos = infos₀ })))
+Inv-loop infos₀ n when reach next₀ b₀ infos next b = (b ≤ n) × ((length infos ≡ 22528) × (times (n - b) b (blockTurn when reach) (record { slot = next; infos = infos }) ≡ times n 0 (blockTurn when reach) (record { slot = next₀; infos = infos₀ })))
 
 abbrev μ-loop : tie.MeasureT-loop
 μ-loop infos₀ n when reach next₀ b₀ infos next b = n - b
@@ -44,8 +44,8 @@ loop-again : tie.Need-loop-again Inv-loop μ-loop
 loop-again c =
     let l = c .before .before .before .before .loop in
     let s = c .before .before .before .before .before .before .args in
-    let k : Work = record { slot = l .next; infos = l .infos } in
-    let t = turn (s .n) (l .b) (blockAt (s .when) (s .reach)) k (search needs) in
+    let k : SlotWork = record { slot = l .next; infos = l .infos } in
+    let t = turn (s .n) (l .b) (blockTurn (s .when) (s .reach)) k (search needs) in
     ⊎-elim
     (λ w. (search needs, (omega (arith, w .2 .kept, ap length (w .5)), rw (w .5, w .6, w .2 .ensures .slot, w .2 .ensures .infos) (sym (rw (← c .before .due .ensures, w .0 .taken) at t) ∙ l .inv .1 .1))))
     (λ w. (search needs, (omega (arith, ap length (w .1)), rw (w .1, w .2) (sym (rw (← c .before .due .ensures, w .0 .left) at t) ∙ l .inv .1 .1))))
@@ -60,8 +60,8 @@ returns c =
     let l = c .before .loop in
     let s = c .before .before .before .args in
     let e : s .n - l .b ≡ 0 = omega arith in
-    let w : _≡_ {A = Work} (record { slot = l .next; infos = l .infos }) (blocksApplied (s .when) (s .reach) (s .n) (record { slot = s .self; infos = now (s .infos) })) = sym (rw e refl) ∙ l .inv .1 .1 in
-    record { slot = ap (λ (w : Work). w .slot) w; infos = ap (λ (w : Work). w .infos) w }
+    let w : _≡_ {A = SlotWork} (record { slot = l .next; infos = l .infos }) (blocksApplied (s .when) (s .reach) (s .n) (record { slot = s .self; infos = now (s .infos) })) = sym (rw e refl) ∙ l .inv .1 .1 in
+    record { slot = ap (λ (w : SlotWork). w .slot) w; infos = ap (λ (w : SlotWork). w .infos) w }
 
 pub apply-blocks-spec : {M : Type 1} → statement M
 apply-blocks-spec =

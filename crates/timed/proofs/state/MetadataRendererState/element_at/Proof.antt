@@ -2,13 +2,13 @@
 use Prim.Native.Nat.{_≤_}
 use mathlib.Core.Path.{_≡_, refl, sym, _∙_}
 use borrow.Author.Needs.{needs}
-use Rattle.timed.specs.State.{taken}
+use Rattle.timed.specs.State.{elementTaken}
 use Rattle.timed.proofs.Slots.{taken-more}
 use Rattle.timed.proofs.state.MetadataRendererState.element_at.Statement.{statement}
 use Rattle.timed.proofs.state.MetadataRendererState.element_at.Tie as tie
 
 abbrev Inv-loop : tie.InvT-loop
-Inv-loop when states i₀ i = (i ≤ 2) × (taken when states i ≡ taken when states i₀)
+Inv-loop when states i₀ i = (i ≤ 2) × (elementTaken when states i ≡ elementTaken when states i₀)
 
 abbrev μ-loop : tie.MeasureT-loop
 μ-loop when states i₀ i = i
@@ -38,7 +38,7 @@ loop-again c =
     (search needs, sym (rw (← c .before .begins .ensures, c .if2 .left) at (taken-more (s .when) (s .self .states) (l .i) (c .before .before .before .if1 .left))) ∙ l .inv .1)
 
 returns : tie.Need-returns Inv-loop μ-loop
-unfolding taken
+unfolding elementTaken
 returns c = rw (c .if1 .taken) at (c .before .loop .inv .1)
 
 returns-2 : tie.Need-returns-2 Inv-loop μ-loop
