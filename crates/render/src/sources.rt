@@ -11,9 +11,9 @@ ghost use Rattle.rules.specs.Parts.{0·0};
 ghost use Rattle.rules.specs.Mix.{objectTerms};
 ghost use Rattle.render.specs.Rows.{Sized, mixedTerms};
 ghost use Rattle.render.specs.Sources.{Framed, Reached, bedWith, bedTerms, bedsOf, plainSource, sourcesOf, channelRow, mixedFound, mixedBeds, mixedObjects};
-use formats::areas;
 use beds::Found;
 use beds::Route;
+use formats::areas;
 use timed::state::DynamicSourceState;
 
 fn silence() -> [f32; areas::ROW_PLACES]

@@ -4,12 +4,6 @@ use borrow.Author.Needs.{needs}
 use Rattle.beds.proofs.bed_channel_matches_input.Statement.{statement}
 use Rattle.beds.proofs.bed_channel_matches_input.Tie as tie
 
-is-low-frequency-bed-requires : tie.Need-is-low-frequency-bed-requires
-is-low-frequency-bed-requires c κs = search needs
-
-is-low-frequency-bed-requires-2 : tie.Need-is-low-frequency-bed-requires-2
-is-low-frequency-bed-requires-2 c κs = search needs
-
 returns : tie.Need-returns
 returns c = simp (eq-eqb _ _ (c .if1 .taken))
 
@@ -27,8 +21,7 @@ pub bed-channel-matches-input-spec : {M : Type 1} → statement M
 bed-channel-matches-input-spec =
     tie.close
     (tie.spec
-    is-low-frequency-bed-requires
-    is-low-frequency-bed-requires-2
+    (λ c κs. search needs) (λ c κs. search needs)
     returns
     returns-2
     returns-3)

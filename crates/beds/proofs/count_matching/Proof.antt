@@ -17,24 +17,9 @@ Inv-loop requested codes n₀ i₀ n i = (i ≤ length codes) × (n ≤ i) × (n
 abbrev μ-loop : tie.MeasureT-loop
 μ-loop requested codes n₀ i₀ n i = length codes - i
 
-loop-holds : tie.Need-loop-holds Inv-loop μ-loop
-loop-holds c = search needs
-
 shared-slice-read-bed-channel-matches-input :
     tie.Need-shared-slice-read-bed-channel-matches-input Inv-loop μ-loop
 shared-slice-read-bed-channel-matches-input c = search needs
-
-bed-channel-matches-input-requires : tie.Need-bed-channel-matches-input-requires Inv-loop μ-loop
-bed-channel-matches-input-requires c κs = search needs
-
-add-n : tie.Need-add-n Inv-loop μ-loop
-add-n c = search needs
-
-add-i : tie.Need-add-i Inv-loop μ-loop
-add-i c = search needs
-
-loop-less : tie.Need-loop-less Inv-loop μ-loop
-loop-less c = search needs
 
 loop-again : tie.Need-loop-again Inv-loop μ-loop
 loop-again c =
@@ -59,11 +44,9 @@ count-matching-spec =
     (tie.spec
     Inv-loop
     μ-loop
-    loop-holds
+    (λ c. search needs)
     shared-slice-read-bed-channel-matches-input
-    bed-channel-matches-input-requires
-    add-n
-    add-i
-    loop-less
+    (λ c κs. search needs)
+    (λ c. search needs) (λ c. search needs) (λ c. search needs)
     loop-again
     returns)

@@ -5,21 +5,6 @@ use borrow.Author.Needs.{needs}
 use Rattle.beds.proofs.find_matching_input_bed_channel.Statement.{statement}
 use Rattle.beds.proofs.find_matching_input_bed_channel.Tie as tie
 
-first-of-requires : tie.Need-first-of-requires
-first-of-requires c κs = search needs
-
-enum-known-exact : tie.Need-enum-known-exact
-enum-known-exact c = search needs
-
-enum-told : tie.Need-enum-told
-enum-told c = search needs
-
-is-low-frequency-bed-requires : tie.Need-is-low-frequency-bed-requires
-is-low-frequency-bed-requires c κs = search needs
-
-first-of-requires-2 : tie.Need-first-of-requires-2
-first-of-requires-2 c κs = search needs
-
 returns : tie.Need-returns
 returns c = by-exact _ _ (sym (c .before .before .before .first-of .ensures) ∙ c .before .exact .given .1)
 
@@ -33,11 +18,9 @@ pub find-matching-input-bed-channel-spec : {M : Type 1} → statement M
 find-matching-input-bed-channel-spec =
     tie.close
     (tie.spec
-    first-of-requires
-    enum-known-exact
-    enum-told
-    is-low-frequency-bed-requires
-    first-of-requires-2
+    (λ c κs. search needs)
+    (λ c. search needs) (λ c. search needs)
+    (λ c κs. search needs) (λ c κs. search needs)
     returns
     returns-2
     returns-3)

@@ -11,18 +11,6 @@ use Rattle.beds.proofs.Range.{between}
 use Rattle.beds.proofs.route_of.Statement.{statement}
 use Rattle.beds.proofs.route_of.Tie as tie
 
-add-t6 : tie.Need-add-t6
-add-t6 c = search needs
-
-sub-t8 : tie.Need-sub-t8
-sub-t8 c = search needs
-
-sub-t10 : tie.Need-sub-t10
-sub-t10 c = search needs
-
-sub-t12 : tie.Need-sub-t12
-sub-t12 c = search needs
-
 returns : tie.Need-returns
 unfolding routeOf
 returns c = ⊎-elim (λ w. rw w) (λ w. rw w) (c .match .keys1)
@@ -72,10 +60,7 @@ pub route-of-spec : {M : Type 1} → statement M
 route-of-spec =
     tie.close
     (tie.spec
-    add-t6
-    sub-t8
-    sub-t10
-    sub-t12
+    (λ c. search needs) (λ c. search needs) (λ c. search needs) (λ c. search needs)
     returns
     returns-2
     returns-3

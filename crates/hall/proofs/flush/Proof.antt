@@ -8,28 +8,10 @@ use borrow.Author.Needs.{needs}
 use Rattle.hall.proofs.flush.Statement.{statement}
 use Rattle.hall.proofs.flush.Tie as tie
 
-is-valid-requires : tie.Need-is-valid-requires
-is-valid-requires c κs = search needs
-
-refusal-requires : tie.Need-refusal-requires
-refusal-requires c κs = search needs
-
-same-length : tie.Need-same-length
-same-length c = search needs
-
 returns : tie.Need-returns
 returns c =
     let a = c .before .before .before .before .before .before .args in
     leaves-as (wrong (flush (a .out .now) (a .stride)) (a .state .now) (sym (c .before .before .is-valid .ensures) ∙ not-true _ (c .before .if1 .taken))) (record { answer = c .refusal .ensures; block = refl; output = refl })
-
-room-requires : tie.Need-room-requires
-room-requires c κs = search needs
-
-refusal-requires-2 : tie.Need-refusal-requires-2
-refusal-requires-2 c κs = search needs
-
-same-length-2 : tie.Need-same-length-2
-same-length-2 c = search needs
 
 returns-2 : tie.Need-returns-2
 returns-2 c =
@@ -39,12 +21,6 @@ returns-2 c =
 
 load-requires : tie.Need-load-requires
 load-requires c κs = valid-long (c .before .before .before .before .before .before .before .before .args .state .now) (sym (c .before .before .before .before .is-valid .ensures) ∙ not-false _ (c .before .before .before .if1 .left))
-
-none-requires : tie.Need-none-requires
-none-requires c κs = search needs
-
-same-length-3 : tie.Need-same-length-3
-same-length-3 c = search needs
 
 returns-3 : tie.Need-returns-3
 returns-3 c =
@@ -61,32 +37,19 @@ drain-requires c κs =
       some = pos-of _ (c .before .before .if3 .left);
     }
 
-same-length-4 : tie.Need-same-length-4
-same-length-4 c = search needs
-
-same-length-5 : tie.Need-same-length-5
-same-length-5 c = search needs
-
-returns-4 : tie.Need-returns-4
-returns-4 c = search needs
-
 pub flush-spec : {M : Type 1} → statement M
 flush-spec =
     tie.close
     (tie.spec
-    is-valid-requires
-    refusal-requires
-    same-length
+    (λ c κs. search needs) (λ c κs. search needs)
+    (λ c. search needs)
     returns
-    room-requires
-    refusal-requires-2
-    same-length-2
+    (λ c κs. search needs) (λ c κs. search needs)
+    (λ c. search needs)
     returns-2
     load-requires
-    none-requires
-    same-length-3
+    (λ c κs. search needs)
+    (λ c. search needs)
     returns-3
     drain-requires
-    same-length-4
-    same-length-5
-    returns-4)
+    (λ c. search needs) (λ c. search needs) (λ c. search needs))

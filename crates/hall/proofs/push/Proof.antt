@@ -12,15 +12,6 @@ use borrow.Author.Needs.{needs}
 use Rattle.hall.proofs.push.Statement.{statement}
 use Rattle.hall.proofs.push.Tie as tie
 
-is-valid-requires : tie.Need-is-valid-requires
-is-valid-requires c κs = search needs
-
-refusal-requires : tie.Need-refusal-requires
-refusal-requires c κs = search needs
-
-same-length : tie.Need-same-length
-same-length c = search needs
-
 returns : tie.Need-returns
 returns c =
     let a = c .before .before .before .before .before .before .before .before .before .args in
@@ -30,9 +21,6 @@ returns c =
 load-requires : tie.Need-load-requires
 load-requires c κs = valid-long (c .before .before .before .before .before .before .before .before .before .args .state .now) (sym (c .before .before .is-valid .ensures) ∙ not-false _ (c .before .if1 .left))
 
-layout-of-requires : tie.Need-layout-of-requires
-layout-of-requires c κs = search needs
-
 push-refusal-requires : tie.Need-push-refusal-requires
 push-refusal-requires c κs =
     let l = c .before in
@@ -41,9 +29,6 @@ push-refusal-requires c κs =
     let valid = sym (e .before .is-valid .ensures) ∙ not-false _ (e .if1 .left) in
     let w = loaded-ranged (k .before .args .state .now) (l .load .result) (l .load .ensures) (λ i. omega (arith, k .slice-known .given i)) valid .meta .state .within in
     (w .beds, w .objects, c .layout-of .ensures)
-
-enum-told : tie.Need-enum-told
-enum-told c = search needs
 
 render-requires : tie.Need-render-requires
 render-requires c κs =
@@ -56,21 +41,6 @@ render-requires c κs =
       clear = sym (f .push-refusal .ensures (a .state .now) (a .out .now) (l .load .ensures) refl) ∙ ap foundOf (c .before .before .enum-told .given .1);
       layout = f .before .layout-of .ensures;
     }
-
-same-length-2 : tie.Need-same-length-2
-same-length-2 c = search needs
-
-same-length-3 : tie.Need-same-length-3
-same-length-3 c = search needs
-
-returns-2 : tie.Need-returns-2
-returns-2 c = search needs
-
-refusal-requires-2 : tie.Need-refusal-requires-2
-refusal-requires-2 c κs = search needs
-
-same-length-4 : tie.Need-same-length-4
-same-length-4 c = search needs
 
 returns-3 : tie.Need-returns-3
 returns-3 c =
@@ -86,18 +56,15 @@ pub push-spec : {M : Type 1} → statement M
 push-spec =
     tie.close
     (tie.spec
-    is-valid-requires
-    refusal-requires
-    same-length
+    (λ c κs. search needs) (λ c κs. search needs)
+    (λ c. search needs)
     returns
     load-requires
-    layout-of-requires
+    (λ c κs. search needs)
     push-refusal-requires
-    enum-told
+    (λ c. search needs)
     render-requires
-    same-length-2
-    same-length-3
-    returns-2
-    refusal-requires-2
-    same-length-4
+    (λ c. search needs) (λ c. search needs) (λ c. search needs)
+    (λ c κs. search needs)
+    (λ c. search needs)
     returns-3)

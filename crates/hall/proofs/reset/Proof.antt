@@ -9,23 +9,11 @@ use borrow.Author.Needs.{needs}
 use Rattle.hall.proofs.reset.Statement.{statement}
 use Rattle.hall.proofs.reset.Tie as tie
 
-refusal-requires : tie.Need-refusal-requires
-refusal-requires c κs = search needs
-
 returns : tie.Need-returns
 returns c =
     let b = c .before .before .before .args .state .now in
     let e = sym (wrong reset b (ne-eqb _ _ (c .before .if1 .taken))) in
     (c .refusal .ensures ∙ ap (λ (o : Outcome). codeOf (o .answer)) e, ap (λ (o : Outcome). o .state) e)
-
-reset-requires : tie.Need-reset-requires
-reset-requires c κs = search needs
-
-fresh-requires : tie.Need-fresh-requires
-fresh-requires c κs = search needs
-
-same-length : tie.Need-same-length
-same-length c = search needs
 
 returns-2 : tie.Need-returns-2
 returns-2 c =
@@ -35,4 +23,9 @@ returns-2 c =
 pub reset-spec : {M : Type 1} → statement M
 reset-spec =
     tie.close
-    (tie.spec refusal-requires returns reset-requires fresh-requires same-length returns-2)
+    (tie.spec
+    (λ c κs. search needs)
+    returns
+    (λ c κs. search needs) (λ c κs. search needs)
+    (λ c. search needs)
+    returns-2)

@@ -8,12 +8,6 @@ use borrow.Author.Needs.{needs}
 use Rattle.hallrender.proofs.frame.Statement.{statement}
 use Rattle.hallrender.proofs.frame.Tie as tie
 
-is-frame-requires : tie.Need-is-frame-requires
-is-frame-requires c κs = search needs
-
-bad-requires : tie.Need-bad-requires
-bad-requires c κs = search needs
-
 returns : tie.Need-returns
 returns c = rw (c .bad .ensures) (λ f z. clash (sym (c .before .before .is-frame .ensures) ∙ not-true _ (c .before .if1 .taken)) f, record { block = refl; output = refl })
 
@@ -23,14 +17,8 @@ metadata-bytes-requires c κs = sym (c .before .is-frame .ensures) ∙ not-false
 pcm-bytes-requires : tie.Need-pcm-bytes-requires
 pcm-bytes-requires c κs = sym (c .before .before .is-frame .ensures) ∙ not-false _ (c .before .if1 .left)
 
-slice-relend-prefix-read-body : tie.Need-slice-relend-prefix-read-body
-slice-relend-prefix-read-body c = search needs
-
 slice-aggregate-read-body : tie.Need-slice-aggregate-read-body
 slice-aggregate-read-body c = sym (length-take-le _ _ (omega arith))
-
-slice-relend-prefix-read-body-2 : tie.Need-slice-relend-prefix-read-body-2
-slice-relend-prefix-read-body-2 c = search needs
 
 slice-aggregate-read-body-2 : tie.Need-slice-aggregate-read-body-2
 slice-aggregate-read-body-2 c = sym (length-take-le _ _ (omega arith))
@@ -38,46 +26,19 @@ slice-aggregate-read-body-2 c = sym (length-take-le _ _ (omega arith))
 read-body-requires : tie.Need-read-body-requires
 read-body-requires c κs = let s = c .before .before .before .before .before .before .before .before .before .before in omega (arith, length-take-le (c .before .before .pcm-bytes .result) (s .args .pcm .now) (omega arith))
 
-bad-requires-2 : tie.Need-bad-requires-2
-bad-requires-2 c κs = search needs
-
-same-length : tie.Need-same-length
-same-length c = search needs
-
-same-length-2 : tie.Need-same-length-2
-same-length-2 c = search needs
-
 returns-2 : tie.Need-returns-2
 returns-2 c =
     let e = c .before .before .before .before .before .before in
     rw (c .bad2 .ensures) (not-alone _ (e .before .before .before .before .metadata-bytes .ensures .0) (e .before .before .before .pcm-bytes .ensures .0) (length-take-le _ _ (search needs)) (length-take-le _ _ (search needs)) (not-true _ (c .before .if2 .taken)) (e .read-body .ensures), record { block = refl; output = refl })
 
-slice-reshare-prefix-push : tie.Need-slice-reshare-prefix-push
-slice-reshare-prefix-push c = search needs
-
 slice-aggregate-push : tie.Need-slice-aggregate-push
 slice-aggregate-push c = sym (length-take-le _ _ (search needs))
-
-slice-reshare-prefix-push-2 : tie.Need-slice-reshare-prefix-push-2
-slice-reshare-prefix-push-2 c = search needs
 
 slice-aggregate-push-2 : tie.Need-slice-aggregate-push-2
 slice-aggregate-push-2 c = sym (length-take-le _ _ (search needs))
 
 push-requires : tie.Need-push-requires
 push-requires c κs = (sym (c .before .before .before .before .before .before .before .before .before .before .before .before .before .before .before .is-frame .ensures) ∙ not-false _ (c .before .before .before .before .before .before .before .before .before .before .before .before .before .before .if1 .left), search needs)
-
-same-length-3 : tie.Need-same-length-3
-same-length-3 c = search needs
-
-same-length-4 : tie.Need-same-length-4
-same-length-4 c = search needs
-
-same-length-5 : tie.Need-same-length-5
-same-length-5 c = search needs
-
-same-length-6 : tie.Need-same-length-6
-same-length-6 c = search needs
 
 returns-3 : tie.Need-returns-3
 returns-3 c =
@@ -89,27 +50,22 @@ pub frame-spec : {M : Type 1} → statement M
 frame-spec =
     tie.close
     (tie.spec
-    is-frame-requires
-    bad-requires
+    (λ c κs. search needs) (λ c κs. search needs)
     returns
     metadata-bytes-requires
     pcm-bytes-requires
-    slice-relend-prefix-read-body
+    (λ c. search needs)
     slice-aggregate-read-body
-    slice-relend-prefix-read-body-2
+    (λ c. search needs)
     slice-aggregate-read-body-2
     read-body-requires
-    bad-requires-2
-    same-length
-    same-length-2
+    (λ c κs. search needs)
+    (λ c. search needs) (λ c. search needs)
     returns-2
-    slice-reshare-prefix-push
+    (λ c. search needs)
     slice-aggregate-push
-    slice-reshare-prefix-push-2
+    (λ c. search needs)
     slice-aggregate-push-2
     push-requires
-    same-length-3
-    same-length-4
-    same-length-5
-    same-length-6
+    (λ c. search needs) (λ c. search needs) (λ c. search needs) (λ c. search needs)
     returns-3)

@@ -13,38 +13,8 @@ Inv-loop pcm₀ at₀ pcm at = (length pcm ≡ length pcm₀) × (at ≤ 34852)
 abbrev μ-loop : tie.MeasureT-loop
 μ-loop pcm₀ at₀ pcm at = 34852 - at
 
-loop-holds : tie.Need-loop-holds Inv-loop μ-loop
-loop-holds c = search needs
-
-sub-read-nine : tie.Need-sub-read-nine Inv-loop μ-loop
-sub-read-nine c = search needs
-
-part-read-nine-start : tie.Need-part-read-nine-start Inv-loop μ-loop
-part-read-nine-start c = search needs
-
-part-read-nine-end : tie.Need-part-read-nine-end Inv-loop μ-loop
-part-read-nine-end c = search needs
-
-read-nine-requires : tie.Need-read-nine-requires Inv-loop μ-loop
-read-nine-requires c κs = search needs
-
-same-length : tie.Need-same-length Inv-loop μ-loop
-same-length c = search needs
-
 returns : tie.Need-returns Inv-loop μ-loop
 returns c = λ e. absurd (omega arith)
-
-add-at : tie.Need-add-at Inv-loop μ-loop
-add-at c = search needs
-
-loop-less : tie.Need-loop-less Inv-loop μ-loop
-loop-less c = search needs
-
-loop-again : tie.Need-loop-again Inv-loop μ-loop
-loop-again c = search needs
-
-same-length-2 : tie.Need-same-length-2 Inv-loop μ-loop
-same-length-2 c = search needs
 
 returns-2 : tie.Need-returns-2 Inv-loop μ-loop
 returns-2 c = λ e. refl
@@ -55,15 +25,9 @@ read-pcm-spec =
     (tie.spec
     Inv-loop
     μ-loop
-    loop-holds
-    sub-read-nine
-    part-read-nine-start
-    part-read-nine-end
-    read-nine-requires
-    same-length
+    (λ c. search needs) (λ c. search needs) (λ c. search needs) (λ c. search needs)
+    (λ c κs. search needs)
+    (λ c. search needs)
     returns
-    add-at
-    loop-less
-    loop-again
-    same-length-2
+    (λ c. search needs) (λ c. search needs) (λ c. search needs) (λ c. search needs)
     returns-2)

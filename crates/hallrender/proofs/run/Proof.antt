@@ -17,44 +17,11 @@ abbrev μ-loop : tie.MeasureT-loop
 loop-holds : tie.Need-loop-holds Inv-loop μ-loop
 loop-holds c = (search needs, search needs, search needs, search needs, λ u v ran. ran)
 
-one-requires : tie.Need-one-requires Inv-loop μ-loop
-one-requires c κs = search needs
-
-same-length : tie.Need-same-length Inv-loop μ-loop
-same-length c = search needs
-
-same-length-2 : tie.Need-same-length-2 Inv-loop μ-loop
-same-length-2 c = search needs
-
-same-length-3 : tie.Need-same-length-3 Inv-loop μ-loop
-same-length-3 c = search needs
-
-same-length-4 : tie.Need-same-length-4 Inv-loop μ-loop
-same-length-4 c = search needs
-
 returns : tie.Need-returns Inv-loop μ-loop
 returns c = let o = c .before .before .before .before .before .before .before .before .before in stops _ _ _ _ _ _ (o .one .result) (not-true _ (c .if1 .taken)) (o .before .before .before .before .before .before .loop .inv .4) (o .one .ensures)
 
-sub-turns : tie.Need-sub-turns Inv-loop μ-loop
-sub-turns c = search needs
-
-loop-less : tie.Need-loop-less Inv-loop μ-loop
-loop-less c = search needs
-
 loop-again : tie.Need-loop-again Inv-loop μ-loop
 loop-again c = let o = c .before .before .before .before .before .before .before .before .before in (search needs, search needs, search needs, search needs, goes _ _ _ _ _ _ (o .one .result) (not-false _ (c .if1 .left)) (search needs) (search needs) (o .before .before .before .before .before .before .loop .inv .4) (o .one .ensures))
-
-same-length-5 : tie.Need-same-length-5 Inv-loop μ-loop
-same-length-5 c = search needs
-
-same-length-6 : tie.Need-same-length-6 Inv-loop μ-loop
-same-length-6 c = search needs
-
-same-length-7 : tie.Need-same-length-7 Inv-loop μ-loop
-same-length-7 c = search needs
-
-same-length-8 : tie.Need-same-length-8 Inv-loop μ-loop
-same-length-8 c = search needs
 
 returns-2 : tie.Need-returns-2 Inv-loop μ-loop
 returns-2 c = c .before .loop .inv .4 _ _ (record { inputs = []; block = refl; output = refl })
@@ -66,17 +33,10 @@ run-spec =
     Inv-loop
     μ-loop
     loop-holds
-    one-requires
-    same-length
-    same-length-2
-    same-length-3
-    same-length-4
+    (λ c κs. search needs)
+    (λ c. search needs) (λ c. search needs) (λ c. search needs) (λ c. search needs)
     returns
-    sub-turns
-    loop-less
+    (λ c. search needs) (λ c. search needs)
     loop-again
-    same-length-5
-    same-length-6
-    same-length-7
-    same-length-8
+    (λ c. search needs) (λ c. search needs) (λ c. search needs) (λ c. search needs)
     returns-2)

@@ -22,35 +22,8 @@ loop-holds : tie.Need-loop-holds Inv-loop μ-loop
 unfolding ofBits
 loop-holds c = (refl, zero-level, refl)
 
-add-end : tie.Need-add-end Inv-loop μ-loop
-add-end c = search needs
-
-mul-max-abs-slice : tie.Need-mul-max-abs-slice Inv-loop μ-loop
-mul-max-abs-slice c = search needs
-
-sub-max-abs-slice : tie.Need-sub-max-abs-slice Inv-loop μ-loop
-sub-max-abs-slice c = search needs
-
-part-max-abs-slice-start : tie.Need-part-max-abs-slice-start Inv-loop μ-loop
-part-max-abs-slice-start c = search needs
-
-part-max-abs-slice-end : tie.Need-part-max-abs-slice-end Inv-loop μ-loop
-part-max-abs-slice-end c = search needs
-
-max-abs-slice-requires : tie.Need-max-abs-slice-requires Inv-loop μ-loop
-max-abs-slice-requires c κs = search needs
-
 raise-requires : tie.Need-raise-requires Inv-loop μ-loop
 raise-requires c κs = c .before .before .before .loop .inv .1
-
-add-at : tie.Need-add-at Inv-loop μ-loop
-add-at c = search needs
-
-sub-left : tie.Need-sub-left Inv-loop μ-loop
-sub-left c = search needs
-
-loop-less : tie.Need-loop-less Inv-loop μ-loop
-loop-less c = search needs
 
 loop-again : tie.Need-loop-again Inv-loop μ-loop
 loop-again c =
@@ -72,15 +45,9 @@ block-peak-spec =
     Inv-loop
     μ-loop
     loop-holds
-    add-end
-    mul-max-abs-slice
-    sub-max-abs-slice
-    part-max-abs-slice-start
-    part-max-abs-slice-end
-    max-abs-slice-requires
+    (λ c. search needs) (λ c. search needs) (λ c. search needs) (λ c. search needs) (λ c. search needs)
+    (λ c κs. search needs)
     raise-requires
-    add-at
-    sub-left
-    loop-less
+    (λ c. search needs) (λ c. search needs) (λ c. search needs)
     loop-again
     returns)

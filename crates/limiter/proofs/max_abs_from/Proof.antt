@@ -19,20 +19,8 @@ abbrev μ-loop : tie.MeasureT-loop
 loop-holds : tie.Need-loop-holds Inv-loop μ-loop
 loop-holds c = (omega arith, c .before .pre, refl)
 
-mul-raise : tie.Need-mul-raise Inv-loop μ-loop
-mul-raise c = search needs
-
-shared-slice-read-raise : tie.Need-shared-slice-read-raise Inv-loop μ-loop
-shared-slice-read-raise c = search needs
-
 raise-requires : tie.Need-raise-requires Inv-loop μ-loop
 raise-requires c κs = c .before .before .loop .inv .1
-
-add-i : tie.Need-add-i Inv-loop μ-loop
-add-i c = search needs
-
-loop-less : tie.Need-loop-less Inv-loop μ-loop
-loop-less c = search needs
 
 loop-again : tie.Need-loop-again Inv-loop μ-loop
 loop-again c =
@@ -50,10 +38,8 @@ max-abs-from-spec =
     Inv-loop
     μ-loop
     loop-holds
-    mul-raise
-    shared-slice-read-raise
+    (λ c. search needs) (λ c. search needs)
     raise-requires
-    add-i
-    loop-less
+    (λ c. search needs) (λ c. search needs)
     loop-again
     returns)

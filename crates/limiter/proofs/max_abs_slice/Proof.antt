@@ -24,59 +24,17 @@ loop-holds : tie.Need-loop-holds Inv-loop μ-loop
 unfolding ofBits
 loop-holds c = (omega arith, lanes-start (c .before .args .samples .now))
 
-sub-loop : tie.Need-sub-loop Inv-loop μ-loop
-sub-loop c = search needs
-
-mul-raise : tie.Need-mul-raise Inv-loop μ-loop
-mul-raise c = search needs
-
-shared-slice-read-raise : tie.Need-shared-slice-read-raise Inv-loop μ-loop
-shared-slice-read-raise c = search needs
-
 raise-requires : tie.Need-raise-requires Inv-loop μ-loop
 raise-requires c κs = c .before .before .loop .inv .1 .a-level
-
-add-raise : tie.Need-add-raise Inv-loop μ-loop
-add-raise c = search needs
-
-mul-raise-2 : tie.Need-mul-raise-2 Inv-loop μ-loop
-mul-raise-2 c = search needs
-
-shared-slice-read-raise-2 : tie.Need-shared-slice-read-raise-2 Inv-loop μ-loop
-shared-slice-read-raise-2 c = search needs
 
 raise-requires-2 : tie.Need-raise-requires-2 Inv-loop μ-loop
 raise-requires-2 c κs = c .before .before .before .before .loop .inv .1 .b-level
 
-add-raise-2 : tie.Need-add-raise-2 Inv-loop μ-loop
-add-raise-2 c = search needs
-
-mul-raise-3 : tie.Need-mul-raise-3 Inv-loop μ-loop
-mul-raise-3 c = search needs
-
-shared-slice-read-raise-3 : tie.Need-shared-slice-read-raise-3 Inv-loop μ-loop
-shared-slice-read-raise-3 c = search needs
-
 raise-requires-3 : tie.Need-raise-requires-3 Inv-loop μ-loop
 raise-requires-3 c κs = c .before .before .before .before .before .before .loop .inv .1 .c-level
 
-add-raise-3 : tie.Need-add-raise-3 Inv-loop μ-loop
-add-raise-3 c = search needs
-
-mul-raise-4 : tie.Need-mul-raise-4 Inv-loop μ-loop
-mul-raise-4 c = search needs
-
-shared-slice-read-raise-4 : tie.Need-shared-slice-read-raise-4 Inv-loop μ-loop
-shared-slice-read-raise-4 c = search needs
-
 raise-requires-4 : tie.Need-raise-requires-4 Inv-loop μ-loop
 raise-requires-4 c κs = c .before .before .before .before .before .before .before .before .loop .inv .1 .d-level
-
-add-i : tie.Need-add-i Inv-loop μ-loop
-add-i c = search needs
-
-loop-less : tie.Need-loop-less Inv-loop μ-loop
-loop-less c = search needs
 
 loop-again : tie.Need-loop-again Inv-loop μ-loop
 loop-again c =
@@ -106,18 +64,6 @@ raise-requires-6 c κs = c .raise5 .ensures .1
 raise-requires-7 : tie.Need-raise-requires-7 Inv-loop μ-loop
 raise-requires-7 c κs = c .raise6 .ensures .1
 
-mul-max-abs-from : tie.Need-mul-max-abs-from Inv-loop μ-loop
-mul-max-abs-from c = search needs
-
-sub-max-abs-from : tie.Need-sub-max-abs-from Inv-loop μ-loop
-sub-max-abs-from c = search needs
-
-part-max-abs-from-start : tie.Need-part-max-abs-from-start Inv-loop μ-loop
-part-max-abs-from-start c = search needs
-
-part-max-abs-from-end : tie.Need-part-max-abs-from-end Inv-loop μ-loop
-part-max-abs-from-end c = search needs
-
 max-abs-from-requires : tie.Need-max-abs-from-requires Inv-loop μ-loop
 max-abs-from-requires c κs = c .before .raise7 .ensures .1
 
@@ -135,31 +81,19 @@ max-abs-slice-spec =
     Inv-loop
     μ-loop
     loop-holds
-    sub-loop
-    mul-raise
-    shared-slice-read-raise
+    (λ c. search needs) (λ c. search needs) (λ c. search needs)
     raise-requires
-    add-raise
-    mul-raise-2
-    shared-slice-read-raise-2
+    (λ c. search needs) (λ c. search needs) (λ c. search needs)
     raise-requires-2
-    add-raise-2
-    mul-raise-3
-    shared-slice-read-raise-3
+    (λ c. search needs) (λ c. search needs) (λ c. search needs)
     raise-requires-3
-    add-raise-3
-    mul-raise-4
-    shared-slice-read-raise-4
+    (λ c. search needs) (λ c. search needs) (λ c. search needs)
     raise-requires-4
-    add-i
-    loop-less
+    (λ c. search needs) (λ c. search needs)
     loop-again
     raise-requires-5
     raise-requires-6
     raise-requires-7
-    mul-max-abs-from
-    sub-max-abs-from
-    part-max-abs-from-start
-    part-max-abs-from-end
+    (λ c. search needs) (λ c. search needs) (λ c. search needs) (λ c. search needs)
     max-abs-from-requires
     returns)

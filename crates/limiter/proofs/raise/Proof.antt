@@ -7,9 +7,6 @@ use Rattle.limiter.proofs.Levels.{raise-taken, raise-left, raised-by}
 use Rattle.limiter.proofs.raise.Statement.{statement}
 use Rattle.limiter.proofs.raise.Tie as tie
 
-abs-requires : tie.Need-abs-requires
-abs-requires c κs = search needs
-
 fit : (c : tie.Start) → T (fits binary32 (c .args .sample))
 fit c = subst T (sym (c .good .1 .0 .1)) tt
 
@@ -27,4 +24,4 @@ returns-2 c =
     (raise-left (a .max) (a .sample) (c .before .abs .result) p (c .before .abs .ensures) (c .if1 .left), p)
 
 pub raise-spec : {M : Type 1} → statement M
-raise-spec = tie.close (tie.spec abs-requires returns returns-2)
+raise-spec = tie.close (tie.spec (λ c κs. search needs) returns returns-2)

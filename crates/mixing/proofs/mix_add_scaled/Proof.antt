@@ -28,34 +28,16 @@ loop-holds c = (search needs, refl, refl)
 mul-output : tie.Need-mul-output Inv-loop μ-loop
 mul-output c = offset c
 
-slice-read-output : tie.Need-slice-read-output Inv-loop μ-loop
-slice-read-output c = search needs
-
 mul-output-2 : tie.Need-mul-output-2 Inv-loop μ-loop
 mul-output-2 c = offset (c .before)
 
-shared-slice-read-output : tie.Need-shared-slice-read-output Inv-loop μ-loop
-shared-slice-read-output c = search needs
-
 mul-output-3 : tie.Need-mul-output-3 Inv-loop μ-loop
 mul-output-3 c = offset (c .before .before)
-
-slice-write-output : tie.Need-slice-write-output Inv-loop μ-loop
-slice-write-output c = search needs
-
-add-k : tie.Need-add-k Inv-loop μ-loop
-add-k c = search needs
-
-loop-less : tie.Need-loop-less Inv-loop μ-loop
-loop-less c = search needs
 
 loop-again : tie.Need-loop-again Inv-loop μ-loop
 loop-again c =
     let l = c .before .before .before in
     (search needs, search needs, rw (l .loop .inv .2) (mixed-step (l .loop .k) (l .before .args .input .now) (l .before .args .gain) (l .before .args .output .now) (omega arith) (omega arith)))
-
-same-length : tie.Need-same-length Inv-loop μ-loop
-same-length c = search needs
 
 returns : tie.Need-returns Inv-loop μ-loop
 returns c =
@@ -70,13 +52,11 @@ mix-add-scaled-spec =
     μ-loop
     loop-holds
     mul-output
-    slice-read-output
+    (λ c. search needs)
     mul-output-2
-    shared-slice-read-output
+    (λ c. search needs)
     mul-output-3
-    slice-write-output
-    add-k
-    loop-less
+    (λ c. search needs) (λ c. search needs) (λ c. search needs)
     loop-again
-    same-length
+    (λ c. search needs)
     returns)

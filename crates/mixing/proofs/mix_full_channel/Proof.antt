@@ -8,14 +8,14 @@ use Rattle.mixing.proofs.mix_full_channel.Tie as tie
 returns : tie.Need-returns
 returns c = full-zero _ _ _ (c .if1 .taken)
 
-mix-add-scaled-requires : tie.Need-mix-add-scaled-requires
-mix-add-scaled-requires c κs = search needs
-
-same-length : tie.Need-same-length
-same-length c = search needs
-
 returns-2 : tie.Need-returns-2
 returns-2 c = c .before .before .mix-add-scaled .ensures ∙ full-mixed _ _ _ (c .before .before .before .before .if1 .left)
 
 pub mix-full-channel-spec : {M : Type 1} → statement M
-mix-full-channel-spec = tie.close (tie.spec returns mix-add-scaled-requires same-length returns-2)
+mix-full-channel-spec =
+    tie.close
+    (tie.spec
+    returns
+    (λ c κs. search needs)
+    (λ c. search needs)
+    returns-2)

@@ -6,27 +6,6 @@ use borrow.Author.Needs.{needs}
 use Rattle.mixing.proofs.mix_segment.Statement.{statement}
 use Rattle.mixing.proofs.mix_segment.Tie as tie
 
-add-end : tie.Need-add-end
-add-end c = search needs
-
-mul-mix-full-channel : tie.Need-mul-mix-full-channel
-mul-mix-full-channel c = search needs
-
-sub-mix-full-channel : tie.Need-sub-mix-full-channel
-sub-mix-full-channel c = search needs
-
-part-mix-full-channel-start : tie.Need-part-mix-full-channel-start
-part-mix-full-channel-start c = search needs
-
-part-mix-full-channel-end : tie.Need-part-mix-full-channel-end
-part-mix-full-channel-end c = search needs
-
-mix-full-channel-requires : tie.Need-mix-full-channel-requires
-mix-full-channel-requires c κs = search needs
-
-same-length : tie.Need-same-length
-same-length c = search needs
-
 returns : tie.Need-returns
 returns c =
     let a = c .before .before .before .before .before .before .args in
@@ -36,11 +15,7 @@ pub mix-segment-spec : {M : Type 1} → statement M
 mix-segment-spec =
     tie.close
     (tie.spec
-    add-end
-    mul-mix-full-channel
-    sub-mix-full-channel
-    part-mix-full-channel-start
-    part-mix-full-channel-end
-    mix-full-channel-requires
-    same-length
+    (λ c. search needs) (λ c. search needs) (λ c. search needs) (λ c. search needs) (λ c. search needs)
+    (λ c κs. search needs)
+    (λ c. search needs)
     returns)

@@ -19,34 +19,10 @@ Inv-loop pcm at row₀ i₀ row i = (i ≤ length row₀) × (length row ≡ len
 abbrev μ-loop : tie.MeasureT-loop
 μ-loop pcm at row₀ i₀ row i = length row₀ - i
 
-loop-holds : tie.Need-loop-holds Inv-loop μ-loop
-loop-holds c = search needs
-
-mul-u32-at : tie.Need-mul-u32-at Inv-loop μ-loop
-mul-u32-at c = search needs
-
-add-u32-at : tie.Need-add-u32-at Inv-loop μ-loop
-add-u32-at c = search needs
-
-u32-at-requires : tie.Need-u32-at-requires Inv-loop μ-loop
-u32-at-requires c κs = search needs
-
 float-from-bits-row : tie.Need-float-from-bits-row Inv-loop μ-loop
 float-from-bits-row c =
     let l = c .before .before in
     not-above (c .u32-at .result) (rw (c .u32-at .ensures) (l .before .before .before .pre .1 (l .loop .i) (omega arith)))
-
-mul-row : tie.Need-mul-row Inv-loop μ-loop
-mul-row c = search needs
-
-slice-write-row : tie.Need-slice-write-row Inv-loop μ-loop
-slice-write-row c = search needs
-
-add-i : tie.Need-add-i Inv-loop μ-loop
-add-i c = search needs
-
-loop-less : tie.Need-loop-less Inv-loop μ-loop
-loop-less c = search needs
 
 loop-again : tie.Need-loop-again Inv-loop μ-loop
 unfolding floatAt
@@ -54,9 +30,6 @@ loop-again c =
     let l = c .before .before in
     let a = l .before .before .before .args in
     (search needs, search needs, samples-step (a .pcm .now) (a .at) (l .loop .i) (a .row .now) _ _ (omega arith) (l .loop .inv .2) (ap (ofBits binary32) (c .u32-at .ensures)))
-
-same-length : tie.Need-same-length Inv-loop μ-loop
-same-length c = search needs
 
 returns : tie.Need-returns Inv-loop μ-loop
 returns c =
@@ -70,15 +43,10 @@ read-row-spec =
     (tie.spec
     Inv-loop
     μ-loop
-    loop-holds
-    mul-u32-at
-    add-u32-at
-    u32-at-requires
+    (λ c. search needs) (λ c. search needs) (λ c. search needs)
+    (λ c κs. search needs)
     float-from-bits-row
-    mul-row
-    slice-write-row
-    add-i
-    loop-less
+    (λ c. search needs) (λ c. search needs) (λ c. search needs) (λ c. search needs)
     loop-again
-    same-length
+    (λ c. search needs)
     returns)

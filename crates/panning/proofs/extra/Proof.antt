@@ -10,9 +10,6 @@ use Rattle.panning.specs.Terms as terms
 use Rattle.panning.proofs.extra.Statement.{statement}
 use Rattle.panning.proofs.extra.Tie as tie
 
-sqrt-requires : tie.Need-sqrt-requires
-sqrt-requires c κs = search needs
-
 returns : tie.Need-returns
 unfolding terms.extra ofBits
 returns c =
@@ -26,4 +23,4 @@ returns-2 c =
     sym (ap (λ (b : Bool). cond b (mul binary32 (a .gain) (root (div binary32 (a .size) 12·0))) 0·0) (c .if1 .left))
 
 pub extra-spec : {M : Type 1} → statement M
-extra-spec = tie.close (tie.spec sqrt-requires returns returns-2)
+extra-spec = tie.close (tie.spec (λ c κs. search needs) returns returns-2)

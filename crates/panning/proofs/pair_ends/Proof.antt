@@ -4,14 +4,8 @@ use Rattle.panning.proofs.Rows.{ends-of}
 use Rattle.panning.proofs.pair_ends.Statement.{statement}
 use Rattle.panning.proofs.pair_ends.Tie as tie
 
-choose-requires : tie.Need-choose-requires
-choose-requires c κs = search needs
-
-choose-requires-2 : tie.Need-choose-requires-2
-choose-requires-2 c κs = search needs
-
 returns : tie.Need-returns
 returns c = ends-of (c .before .choose .ensures) (c .choose2 .ensures)
 
 pub pair-ends-spec : {M : Type 1} → statement M
-pair-ends-spec = tie.close (tie.spec choose-requires choose-requires-2 returns)
+pair-ends-spec = tie.close (tie.spec (λ c κs. search needs) (λ c κs. search needs) returns)

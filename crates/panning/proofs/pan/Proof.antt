@@ -10,29 +10,14 @@ use Rattle.panning.proofs.Rows.{pan-none, pan-some, none-less, some-les
 use Rattle.panning.proofs.pan.Statement.{statement}
 use Rattle.panning.proofs.pan.Tie as tie
 
-silent-requires : tie.Need-silent-requires
-silent-requires c κs = search needs
-
 returns : tie.Need-returns
 unfolding ofBits
 returns c =
     let s = c .before .before .args in
     record { is = pan-none hall714 fullRange 12·0 (s .place) (s .gain) (s .size) (c .before .if1 .taken) (c .silent .ensures); less = none-less (c .silent .ensures) }
 
-cube-714-requires : tie.Need-cube-714-requires
-cube-714-requires c κs = search needs
-
-inner-gain-requires : tie.Need-inner-gain-requires
-inner-gain-requires c κs = search needs
-
 coefficients-requires : tie.Need-coefficients-requires
 coefficients-requires c κs = let e = c .before .cube-714 .ensures in (subst⁻¹ Inside e (inside (c .before .before .before .args .place)), e)
-
-channels-requires : tie.Need-channels-requires
-channels-requires c κs = search needs
-
-extra-requires : tie.Need-extra-requires
-extra-requires c κs = search needs
 
 returns-2 : tie.Need-returns-2
 unfolding ofBits
@@ -49,11 +34,9 @@ pub pan-spec : {M : Type 1} → statement M
 pan-spec =
     tie.close
     (tie.spec
-    silent-requires
+    (λ c κs. search needs)
     returns
-    cube-714-requires
-    inner-gain-requires
+    (λ c κs. search needs) (λ c κs. search needs)
     coefficients-requires
-    channels-requires
-    extra-requires
+    (λ c κs. search needs) (λ c κs. search needs)
     returns-2)

@@ -5,9 +5,6 @@ use borrow.Author.Needs.{needs}
 use Rattle.panning.proofs.side.Statement.{statement}
 use Rattle.panning.proofs.side.Tie as tie
 
-sqrt-requires : tie.Need-sqrt-requires
-sqrt-requires c κs = search needs
-
 returns : tie.Need-returns
 unfolding ofBits
 returns c = side-yes _ _ (c .before .if1 .taken) (c .sqrt .ensures)
@@ -17,4 +14,4 @@ unfolding ofBits
 returns-2 c = side-no _ _ (c .if1 .left)
 
 pub side-spec : {M : Type 1} → statement M
-side-spec = tie.close (tie.spec sqrt-requires returns returns-2)
+side-spec = tie.close (tie.spec (λ c κs. search needs) returns returns-2)

@@ -4,12 +4,9 @@ use lib.Ieee.{ofBits, neg}
 use Rattle.panning.proofs.wide_ends.Statement.{statement}
 use Rattle.panning.proofs.wide_ends.Tie as tie
 
-pair-ends-requires : tie.Need-pair-ends-requires
-pair-ends-requires c κs = search needs
-
 returns : tie.Need-returns
 unfolding ofBits neg
 returns c = c .pair-ends .ensures
 
 pub wide-ends-spec : {M : Type 1} → statement M
-wide-ends-spec = tie.close (tie.spec pair-ends-requires returns)
+wide-ends-spec = tie.close (tie.spec (λ c κs. search needs) returns)

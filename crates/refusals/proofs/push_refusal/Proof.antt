@@ -19,12 +19,6 @@ use borrow.Author.Needs.{needs}
 use Rattle.refusals.proofs.push_refusal.Statement.{statement}
 use Rattle.refusals.proofs.push_refusal.Tie as tie
 
-refusal-requires : tie.Need-refusal-requires
-refusal-requires c κs = search needs
-
-enum-told : tie.Need-enum-told
-enum-told c = search needs
-
 returns : tie.Need-returns
 returns c b out e l =
     let a = c .before .before .before .before .before .args in
@@ -56,4 +50,11 @@ returns-2 c b out e l =
     (c .refusal2 .ensures ∙ ap at (loaded b (a .s) e))
 
 pub push-refusal-spec : {M : Type 1} → statement M
-push-refusal-spec = tie.close (tie.spec refusal-requires enum-told returns refusal-requires-2 returns-2)
+push-refusal-spec =
+    tie.close
+    (tie.spec
+    (λ c κs. search needs)
+    (λ c. search needs)
+    returns
+    refusal-requires-2
+    returns-2)

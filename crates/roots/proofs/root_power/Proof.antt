@@ -36,13 +36,19 @@ returns-3 : tie.Need-returns-3
 unfolding ofBits
 returns-3 c = low-power _ _ (low-is _ (c .if3 .taken))
 
-nan-requires : tie.Need-nan-requires
-nan-requires c κs = search needs
-
 returns-4 : tie.Need-returns-4
 unfolding ofBits
 returns-4 c = c .nan .ensures ∙ neither _ (c .before .before .before .if1 .left) (c .before .before .if2 .left) .power-is _ (c .before .if3 .left)
 
 pub root-power-spec : {M : Type 1} → statement M
 root-power-spec =
-    tie.close (tie.spec positive-root-requires returns returns-2 float-from-bits-if3 float-from-bits-result returns-3 nan-requires returns-4)
+    tie.close
+    (tie.spec
+    positive-root-requires
+    returns
+    returns-2
+    float-from-bits-if3
+    float-from-bits-result
+    returns-3
+    (λ c κs. search needs)
+    returns-4)

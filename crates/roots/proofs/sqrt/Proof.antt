@@ -19,12 +19,16 @@ returns-2 : tie.Need-returns-2
 unfolding ofBits
 returns-2 c = zero-is _ (c .if2 .taken) .root-is
 
-nan-requires : tie.Need-nan-requires
-nan-requires c κs = search needs
-
 returns-3 : tie.Need-returns-3
 unfolding ofBits
 returns-3 c = c .nan .ensures ∙ neither _ (c .before .before .if1 .left) (c .before .if2 .left) .root-is
 
 pub sqrt-spec : {M : Type 1} → statement M
-sqrt-spec = tie.close (tie.spec positive-root-requires returns returns-2 nan-requires returns-3)
+sqrt-spec =
+    tie.close
+    (tie.spec
+    positive-root-requires
+    returns
+    returns-2
+    (λ c κs. search needs)
+    returns-3)

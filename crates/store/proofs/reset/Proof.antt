@@ -11,21 +11,6 @@ use Rattle.store.proofs.Fresh.{refilled}
 use Rattle.store.proofs.reset.Statement.{statement}
 use Rattle.store.proofs.reset.Tie as tie
 
-zeros-requires : tie.Need-zeros-requires
-zeros-requires c κs = search needs
-
-put-u32-requires : tie.Need-put-u32-requires
-put-u32-requires c κs = search needs
-
-put-u64-requires : tie.Need-put-u64-requires
-put-u64-requires c κs = search needs
-
-put-u64-requires-2 : tie.Need-put-u64-requires-2
-put-u64-requires-2 c κs = search needs
-
-same-length : tie.Need-same-length
-same-length c = search needs
-
 returns : tie.Need-returns
 returns c =
     let p = c .before .before in
@@ -43,9 +28,6 @@ pub reset-spec : {M : Type 1} → statement M
 reset-spec =
     tie.close
     (tie.spec
-    zeros-requires
-    put-u32-requires
-    put-u64-requires
-    put-u64-requires-2
-    same-length
+    (λ c κs. search needs) (λ c κs. search needs) (λ c κs. search needs) (λ c κs. search needs)
+    (λ c. search needs)
     returns)

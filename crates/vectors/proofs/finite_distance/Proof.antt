@@ -3,9 +3,6 @@ use borrow.Author.Needs.{needs}
 use Rattle.vectors.proofs.finite_distance.Statement.{statement}
 use Rattle.vectors.proofs.finite_distance.Tie as tie
 
-is-infinite-requires : tie.Need-is-infinite-requires
-is-infinite-requires c κs = search needs
-
 returns : tie.Need-returns
 returns c = rw (← c .before .is-infinite .ensures, c .if1 .taken)
 
@@ -13,4 +10,4 @@ returns-2 : tie.Need-returns-2
 returns-2 c = rw (← c .before .is-infinite .ensures, c .if1 .left)
 
 pub finite-distance-spec : {M : Type 1} → statement M
-finite-distance-spec = tie.close (tie.spec is-infinite-requires returns returns-2)
+finite-distance-spec = tie.close (tie.spec (λ c κs. search needs) returns returns-2)

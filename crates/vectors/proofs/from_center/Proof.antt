@@ -5,17 +5,12 @@ use Rattle.vectors.specs.Vectors.{vecAdd}
 use Rattle.vectors.proofs.from_center.Statement.{statement}
 use Rattle.vectors.proofs.from_center.Tie as tie
 
-vec-mul-scalar-requires : tie.Need-vec-mul-scalar-requires
-vec-mul-scalar-requires c κs = search needs
-
-vec-mul-scalar-requires-2 : tie.Need-vec-mul-scalar-requires-2
-vec-mul-scalar-requires-2 c κs = search needs
-
-vec-add-requires : tie.Need-vec-add-requires
-vec-add-requires c κs = search needs
-
 returns : tie.Need-returns
 returns c = c .vec-add .ensures ∙ ap₂ vecAdd (c .before .before .vec-mul-scalar .ensures) (c .before .vec-mul-scalar2 .ensures)
 
 pub from-center-spec : {M : Type 1} → statement M
-from-center-spec = tie.close (tie.spec vec-mul-scalar-requires vec-mul-scalar-requires-2 vec-add-requires returns)
+from-center-spec =
+    tie.close
+    (tie.spec
+    (λ c κs. search needs) (λ c κs. search needs) (λ c κs. search needs)
+    returns)

@@ -5,18 +5,6 @@ use Rattle.vectors.specs.Target.{cubical, anchored, nextPosition, moved}
 use Rattle.vectors.proofs.moved.Statement.{statement}
 use Rattle.vectors.proofs.moved.Tie as tie
 
-next-position-requires : tie.Need-next-position-requires
-next-position-requires c κs = search needs
-
-next-last-requires : tie.Need-next-last-requires
-next-last-requires c κs = search needs
-
-anchored-position-requires : tie.Need-anchored-position-requires
-anchored-position-requires c κs = search needs
-
-cubical-requires : tie.Need-cubical-requires
-cubical-requires c κs = search needs
-
 returns : tie.Need-returns
 unfolding moved
 returns c =
@@ -31,8 +19,5 @@ pub moved-spec : {M : Type 1} → statement M
 moved-spec =
     tie.close
     (tie.spec
-    next-position-requires
-    next-last-requires
-    anchored-position-requires
-    cubical-requires
+    (λ c κs. search needs) (λ c κs. search needs) (λ c κs. search needs) (λ c κs. search needs)
     returns)

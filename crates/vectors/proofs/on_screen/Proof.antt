@@ -6,30 +6,6 @@ use Rattle.vectors.specs.Vectors.{vecAdd, vecSub, vecMulComponents}
 use Rattle.vectors.proofs.on_screen.Statement.{statement}
 use Rattle.vectors.proofs.on_screen.Tie as tie
 
-vec-mul-components-requires : tie.Need-vec-mul-components-requires
-vec-mul-components-requires c κs = search needs
-
-vec-add-requires : tie.Need-vec-add-requires
-vec-add-requires c κs = search needs
-
-vec-mul-components-requires-2 : tie.Need-vec-mul-components-requires-2
-vec-mul-components-requires-2 c κs = search needs
-
-vec-sub-requires : tie.Need-vec-sub-requires
-vec-sub-requires c κs = search needs
-
-vec-mul-components-requires-3 : tie.Need-vec-mul-components-requires-3
-vec-mul-components-requires-3 c κs = search needs
-
-vec-mul-components-requires-4 : tie.Need-vec-mul-components-requires-4
-vec-mul-components-requires-4 c κs = search needs
-
-vec-sub-requires-2 : tie.Need-vec-sub-requires-2
-vec-sub-requires-2 c κs = search needs
-
-vec-add-requires-2 : tie.Need-vec-add-requires-2
-vec-add-requires-2 c κs = search needs
-
 returns : tie.Need-returns
 returns c =
     let right = c .before in
@@ -50,12 +26,6 @@ pub on-screen-spec : {M : Type 1} → statement M
 on-screen-spec =
     tie.close
     (tie.spec
-    vec-mul-components-requires
-    vec-add-requires
-    vec-mul-components-requires-2
-    vec-sub-requires
-    vec-mul-components-requires-3
-    vec-mul-components-requires-4
-    vec-sub-requires-2
-    vec-add-requires-2
+    (λ c κs. search needs) (λ c κs. search needs) (λ c κs. search needs) (λ c κs. search needs) (λ c κs. search needs) (λ c κs. search needs) (λ c κs. search needs)
+    (λ c κs. search needs)
     returns)

@@ -8,21 +8,6 @@ use Rattle.vectors.specs.Anchors.{fromCenter, roomAnchored}
 use Rattle.vectors.proofs.room_anchored_position.Statement.{statement}
 use Rattle.vectors.proofs.room_anchored_position.Tie as tie
 
-enum-told : tie.Need-enum-told
-enum-told c = search needs
-
-enum-known-distance : tie.Need-enum-known-distance
-enum-known-distance c = search needs
-
-map-to-cube-requires : tie.Need-map-to-cube-requires
-map-to-cube-requires c κs = search needs
-
-vec-length-requires : tie.Need-vec-length-requires
-vec-length-requires c κs = search needs
-
-from-center-requires : tie.Need-from-center-requires
-from-center-requires c κs = search needs
-
 returns : tie.Need-returns
 unfolding roomAnchored
 returns c = sym (ap (roomAnchored (c .before .before .args .position)) (c .enum-told .given .1))
@@ -40,10 +25,7 @@ pub room-anchored-position-spec : {M : Type 1} → statement M
 room-anchored-position-spec =
     tie.close
     (tie.spec
-    enum-told
-    enum-known-distance
-    map-to-cube-requires
-    vec-length-requires
-    from-center-requires
+    (λ c. search needs) (λ c. search needs)
+    (λ c κs. search needs) (λ c κs. search needs) (λ c κs. search needs)
     returns
     returns-2)

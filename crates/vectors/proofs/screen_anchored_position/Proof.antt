@@ -6,21 +6,6 @@ use Rattle.vectors.specs.Anchors.{multiplier, onScreen, screenAnchored}
 use Rattle.vectors.proofs.screen_anchored_position.Statement.{statement}
 use Rattle.vectors.proofs.screen_anchored_position.Tie as tie
 
-power-requires : tie.Need-power-requires
-power-requires c κs = search needs
-
-multiplier-requires : tie.Need-multiplier-requires
-multiplier-requires c κs = search needs
-
-multiplier-requires-2 : tie.Need-multiplier-requires-2
-multiplier-requires-2 c κs = search needs
-
-reference-requires : tie.Need-reference-requires
-reference-requires c κs = search needs
-
-on-screen-requires : tie.Need-on-screen-requires
-on-screen-requires c κs = search needs
-
 returns : tie.Need-returns
 unfolding screenAnchored
 returns c =
@@ -36,9 +21,5 @@ pub screen-anchored-position-spec : {M : Type 1} → statement M
 screen-anchored-position-spec =
     tie.close
     (tie.spec
-    power-requires
-    multiplier-requires
-    multiplier-requires-2
-    reference-requires
-    on-screen-requires
+    (λ c κs. search needs) (λ c κs. search needs) (λ c κs. search needs) (λ c κs. search needs) (λ c κs. search needs)
     returns)

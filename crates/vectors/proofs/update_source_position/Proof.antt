@@ -6,25 +6,13 @@ use Rattle.vectors.specs.Target.{placed}
 use Rattle.vectors.proofs.update_source_position.Statement.{statement}
 use Rattle.vectors.proofs.update_source_position.Tie as tie
 
-kept-requires : tie.Need-kept-requires
-kept-requires c κs = search needs
-
 returns : tie.Need-returns
 unfolding placed
 returns c = c .kept .ensures ∙ rw (not-true (c .before .before .before .args .block .valid) (c .before .if1 .taken))
 
-movable-requires : tie.Need-movable-requires
-movable-requires c κs = search needs
-
-moved-requires : tie.Need-moved-requires
-moved-requires c κs = search needs
-
 returns-2 : tie.Need-returns-2
 unfolding placed
 returns-2 c = c .moved .ensures ∙ rw (not-false (c .before .before .before .before .before .args .block .valid) (c .before .before .before .if1 .left), ← c .before .before .movable .ensures, c .before .if2 .taken)
-
-kept-requires-2 : tie.Need-kept-requires-2
-kept-requires-2 c κs = search needs
 
 returns-3 : tie.Need-returns-3
 unfolding placed
@@ -34,10 +22,9 @@ pub update-source-position-spec : {M : Type 1} → statement M
 update-source-position-spec =
     tie.close
     (tie.spec
-    kept-requires
+    (λ c κs. search needs)
     returns
-    movable-requires
-    moved-requires
+    (λ c κs. search needs) (λ c κs. search needs)
     returns-2
-    kept-requires-2
+    (λ c κs. search needs)
     returns-3)

@@ -6,21 +6,14 @@ use Rattle.vectors.specs.Anchors.{usedDistance}
 use Rattle.vectors.proofs.used_distance.Statement.{statement}
 use Rattle.vectors.proofs.used_distance.Tie as tie
 
-enum-told : tie.Need-enum-told
-enum-told c = search needs
-
-enum-known-distance : tie.Need-enum-known-distance
-enum-known-distance c = search needs
-
-finite-distance-requires : tie.Need-finite-distance-requires
-finite-distance-requires c κs = search needs
-
-returns : tie.Need-returns
-returns c = search needs
-
 returns-2 : tie.Need-returns-2
 returns-2 c = ap Value (c .finite-distance .ensures) ∙ sym (ap usedDistance (c .before .before .distance .given .1))
 
 pub used-distance-spec : {M : Type 1} → statement M
 used-distance-spec =
-    tie.close (tie.spec enum-told enum-known-distance finite-distance-requires returns returns-2)
+    tie.close
+    (tie.spec
+    (λ c. search needs) (λ c. search needs)
+    (λ c κs. search needs)
+    (λ c. search needs)
+    returns-2)

@@ -12,8 +12,5 @@ returns c = above (c .before .args .n) (c .if1 .taken)
 float-from-bits-result : tie.Need-float-from-bits-result
 float-from-bits-result c = not-above (c .before .args .n) (c .if1 .left)
 
-returns-2 : tie.Need-returns-2
-returns-2 c = search needs
-
 pub f32-of-spec : {M : Type 1} → statement M
-f32-of-spec = tie.close (tie.spec returns float-from-bits-result returns-2)
+f32-of-spec = tie.close (tie.spec returns float-from-bits-result (λ c. search needs))

@@ -17,39 +17,12 @@ Inv-loop s at ws₀ i₀ ws i = (i ≤ length ws) × (length ws ≡ length ws₀
 abbrev μ-loop : tie.MeasureT-loop
 μ-loop s at ws₀ i₀ ws i = length ws₀ - i
 
-loop-holds : tie.Need-loop-holds Inv-loop μ-loop
-loop-holds c = search needs
-
-mul-u32-at : tie.Need-mul-u32-at Inv-loop μ-loop
-mul-u32-at c = search needs
-
-add-u32-at : tie.Need-add-u32-at Inv-loop μ-loop
-add-u32-at c = search needs
-
-u32-at-requires : tie.Need-u32-at-requires Inv-loop μ-loop
-u32-at-requires c κs = search needs
-
-mul-ws : tie.Need-mul-ws Inv-loop μ-loop
-mul-ws c = search needs
-
-slice-write-ws : tie.Need-slice-write-ws Inv-loop μ-loop
-slice-write-ws c = search needs
-
-add-i : tie.Need-add-i Inv-loop μ-loop
-add-i c = search needs
-
-loop-less : tie.Need-loop-less Inv-loop μ-loop
-loop-less c = search needs
-
 loop-again : tie.Need-loop-again Inv-loop μ-loop
 loop-again c =
     let l = c .before .before in
     let a = l .before .before .before .args in
     let h : l .loop .i < length (l .loop .ws) = omega arith in
     (simp length-set (omega arith), simp length-set (omega arith), rw (add-one, take-suc-set (l .loop .ws) (l .loop .i) (c .u32-at .result) h, l .loop .inv .2, c .u32-at .ensures) (sym (read-more (a .s .now) (a .at) (l .loop .i))))
-
-same-length : tie.Need-same-length Inv-loop μ-loop
-same-length c = search needs
 
 returns : tie.Need-returns Inv-loop μ-loop
 returns c =
@@ -64,14 +37,9 @@ get-words-spec =
     (tie.spec
     Inv-loop
     μ-loop
-    loop-holds
-    mul-u32-at
-    add-u32-at
-    u32-at-requires
-    mul-ws
-    slice-write-ws
-    add-i
-    loop-less
+    (λ c. search needs) (λ c. search needs) (λ c. search needs)
+    (λ c κs. search needs)
+    (λ c. search needs) (λ c. search needs) (λ c. search needs) (λ c. search needs)
     loop-again
-    same-length
+    (λ c. search needs)
     returns)

@@ -8,15 +8,6 @@ use borrow.Author.Needs.{needs}
 use Rattle.words.proofs.put_i64.Statement.{statement}
 use Rattle.words.proofs.put_i64.Tie as tie
 
-bits-of-signed-requires : tie.Need-bits-of-signed-requires
-bits-of-signed-requires c κs = search needs
-
-put-u64-requires : tie.Need-put-u64-requires
-put-u64-requires c κs = search needs
-
-same-length : tie.Need-same-length
-same-length c = search needs
-
 returns : tie.Need-returns
 returns c =
     let b = c .before .before .before .before .before .before in
@@ -24,4 +15,9 @@ returns c =
     c .before .before .put-u64 .ensures ∙ ap (withLong (b .args .s .now) (b .args .at)) (e ∙ ap (ofZ w64) (toZ-ofZ (b .fits .z)))
 
 pub put-i64-spec : {M : Type 1} → statement M
-put-i64-spec = tie.close (tie.spec bits-of-signed-requires put-u64-requires same-length returns)
+put-i64-spec =
+    tie.close
+    (tie.spec
+    (λ c κs. search needs) (λ c κs. search needs)
+    (λ c. search needs)
+    returns)

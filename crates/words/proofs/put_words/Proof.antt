@@ -19,30 +19,6 @@ Inv-loop s₀ at ws i₀ s i = (i ≤ length ws) × (length s ≡ length s₀) �
 abbrev μ-loop : tie.MeasureT-loop
 μ-loop s₀ at ws i₀ s i = length ws - i
 
-loop-holds : tie.Need-loop-holds Inv-loop μ-loop
-loop-holds c = search needs
-
-mul-put-u32 : tie.Need-mul-put-u32 Inv-loop μ-loop
-mul-put-u32 c = search needs
-
-add-put-u32 : tie.Need-add-put-u32 Inv-loop μ-loop
-add-put-u32 c = search needs
-
-mul-put-u32-2 : tie.Need-mul-put-u32-2 Inv-loop μ-loop
-mul-put-u32-2 c = search needs
-
-shared-slice-read-put-u32 : tie.Need-shared-slice-read-put-u32 Inv-loop μ-loop
-shared-slice-read-put-u32 c = search needs
-
-put-u32-requires : tie.Need-put-u32-requires Inv-loop μ-loop
-put-u32-requires c κs = search needs
-
-add-i : tie.Need-add-i Inv-loop μ-loop
-add-i c = search needs
-
-loop-less : tie.Need-loop-less Inv-loop μ-loop
-loop-less c = search needs
-
 loop-again : tie.Need-loop-again Inv-loop μ-loop
 loop-again c =
     let l = c .before .before .before .before .before .before in
@@ -55,9 +31,6 @@ loop-again c =
     let t : take (i + 1) ws ≡ take i ws ++ (getD ws i 0 ∷ []) = rw add-one (take-suc ws i 0 h) in
     let e = c .before .before .put-u32 .ensures in
     (omega arith, ap length e ∙ length-kept (l .loop .s) (a .at + 4 * i) 4 (getD ws i 0) ∙ l .loop .inv .1, e ∙ ap₂ (λ (b : mathlib.Core.List.List ℕ) (j : ℕ). withWord b (a .at + 4 * j) (getD ws i 0)) (l .loop .inv .2) (sym k) ∙ write-more s0 (a .at) (take i ws) (getD ws i 0) ∙ ap (withWords s0 (a .at)) (sym t))
-
-same-length : tie.Need-same-length Inv-loop μ-loop
-same-length c = search needs
 
 returns : tie.Need-returns Inv-loop μ-loop
 returns c =
@@ -72,14 +45,9 @@ put-words-spec =
     (tie.spec
     Inv-loop
     μ-loop
-    loop-holds
-    mul-put-u32
-    add-put-u32
-    mul-put-u32-2
-    shared-slice-read-put-u32
-    put-u32-requires
-    add-i
-    loop-less
+    (λ c. search needs) (λ c. search needs) (λ c. search needs) (λ c. search needs) (λ c. search needs)
+    (λ c κs. search needs)
+    (λ c. search needs) (λ c. search needs)
     loop-again
-    same-length
+    (λ c. search needs)
     returns)

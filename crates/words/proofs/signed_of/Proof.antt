@@ -17,18 +17,6 @@ m c = 18446744073709551615 - c .before .args .n
 m-low : (c : tie.Else1) → m c < 2 ^ 63
 m-low c = omega arith
 
-cast-result : tie.Need-cast-result
-cast-result c = search needs
-
-returns : tie.Need-returns
-returns c = search needs
-
-sub-m : tie.Need-sub-m
-sub-m c = search needs
-
-cast-result-2 : tie.Need-cast-result-2
-cast-result-2 c = search needs
-
 sub-result : tie.Need-sub-result
 sub-result c = simp (toZ-pos w64 (m c) (m-low c), below-zero) (record { sfits = m-low c })
 
@@ -36,4 +24,9 @@ returns-2 : tie.Need-returns-2
 returns-2 c = simp (toZ-pos w64 (m c) (m-low c), below-zero, toZ-ofZ {w = w64} {z = negsuc (m c)} (record { sfits = m-low c })) (sym (high (c .before .args .n) (omega arith) (omega arith)))
 
 pub signed-of-spec : {M : Type 1} → statement M
-signed-of-spec = tie.close (tie.spec cast-result returns sub-m cast-result-2 sub-result returns-2)
+signed-of-spec =
+    tie.close
+    (tie.spec
+    (λ c. search needs) (λ c. search needs) (λ c. search needs) (λ c. search needs)
+    sub-result
+    returns-2)

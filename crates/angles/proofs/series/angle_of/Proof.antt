@@ -18,9 +18,6 @@ angle : (r : ℕ) {s q : ℕ} → s ≡ stepOf r → q ≡ closest 3238329057280
 unfolding angleOf
 angle r {s} e f = ap (λ (x : ℕ). x * s) f ∙ ap (λ (x : ℕ). closest 3238329057280 (r * x) * x) e
 
-step-of-requires : tie.Need-step-of-requires
-step-of-requires c κs = search needs
-
 mul-closest : tie.Need-mul-closest
 mul-closest c = let d = divisor (c .before .pre) (c .step-of .ensures) in record { fits = omega (arith, d .1) }
 
@@ -34,4 +31,11 @@ returns : tie.Need-returns
 returns c = angle _ (c .before .step-of .ensures) (c .closest .ensures)
 
 pub angle-of-spec : {M : Type 1} → statement M
-angle-of-spec = tie.close (tie.spec step-of-requires mul-closest closest-requires mul-result returns)
+angle-of-spec =
+    tie.close
+    (tie.spec
+    (λ c κs. search needs)
+    mul-closest
+    closest-requires
+    mul-result
+    returns)

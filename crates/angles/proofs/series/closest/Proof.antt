@@ -7,12 +7,6 @@ use Rattle.ieee.proofs.Closest.{closest-down, closest-up, closest-even}
 use Rattle.angles.proofs.series.closest.Statement.{statement}
 use Rattle.angles.proofs.series.closest.Tie as tie
 
-div-q : tie.Need-div-q
-div-q c = search needs
-
-rem-rest : tie.Need-rem-rest
-rem-rest c = search needs
-
 mul-rest : tie.Need-mul-rest
 mul-rest c = omega (arith, mod-lt (c .args .n) (c .pre .0))
 
@@ -32,4 +26,13 @@ returns-3 : tie.Need-returns-3
 returns-3 c = sym (closest-even (c .before .before .args .n) (c .before .before .args .d) (omega arith))
 
 pub closest-spec : {M : Type 1} → statement M
-closest-spec = tie.close (tie.spec div-q rem-rest mul-rest returns add-result returns-2 add-result-2 returns-3)
+closest-spec =
+    tie.close
+    (tie.spec
+    (λ c. search needs) (λ c. search needs)
+    mul-rest
+    returns
+    add-result
+    returns-2
+    add-result-2
+    returns-3)

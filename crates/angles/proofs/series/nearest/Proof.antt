@@ -8,12 +8,6 @@ use Rattle.angles.proofs.Halves.{two-parts}
 use Rattle.angles.proofs.series.nearest.Statement.{statement}
 use Rattle.angles.proofs.series.nearest.Tie as tie
 
-mul-m : tie.Need-mul-m
-mul-m c = search needs
-
-add-m : tie.Need-add-m
-add-m c = search needs
-
 int-to-float-result : tie.Need-int-to-float-result
 int-to-float-result c = in-float _ (omega arith)
 
@@ -25,4 +19,10 @@ unfolding ofBits
 returns c = two-parts (2 * (c .before .before .args .n / 8192) + 1) (omega arith) (omega arith)
 
 pub nearest-spec : {M : Type 1} → statement M
-nearest-spec = tie.close (tie.spec mul-m add-m int-to-float-result int-to-float-result-2 returns)
+nearest-spec =
+    tie.close
+    (tie.spec
+    (λ c. search needs) (λ c. search needs)
+    int-to-float-result
+    int-to-float-result-2
+    returns)

@@ -7,12 +7,6 @@ use Rattle.angles.proofs.Terms.{falls}
 use Rattle.angles.proofs.series.next_term.Statement.{statement}
 use Rattle.angles.proofs.series.next_term.Tie as tie
 
-high-product-requires : tie.Need-high-product-requires
-high-product-requires c κs = search needs
-
-div-result : tie.Need-div-result
-div-result c = search needs
-
 returns : tie.Need-returns
 returns c =
     let a = c .before .args in
@@ -20,4 +14,4 @@ returns c =
     (e, le-trans (le-of-eq e) (falls (a .y) (a .t) (a .n) (c .before .pre .0)))
 
 pub next-term-spec : {M : Type 1} → statement M
-next-term-spec = tie.close (tie.spec high-product-requires div-result returns)
+next-term-spec = tie.close (tie.spec (λ c κs. search needs) (λ c. search needs) returns)

@@ -11,18 +11,6 @@ use borrow.Author.Needs.{needs}
 use Rattle.fields.proofs.block.block_in_range.Statement.{statement}
 use Rattle.fields.proofs.block.block_in_range.Tie as tie
 
-mul-at : tie.Need-mul-at
-mul-at c = search needs
-
-add-i64-at : tie.Need-add-i64-at
-add-i64-at c = search needs
-
-i64-at-requires : tie.Need-i64-at-requires
-i64-at-requires c κs = search needs
-
-within-requires : tie.Need-within-requires
-within-requires c κs = search needs
-
 returns : tie.Need-returns
 returns c =
     let i = c .before .before .i64-at in
@@ -30,15 +18,6 @@ returns c =
     let k : toZ w64 (ofZ w64 (i .result)) ≡ i .result = search needs in
     let e = c .before .within .ensures ∙ ap within (k ∙ i .ensures) in
     sym (ap (λ (b : Bool). b && within (signedAt (a .meta .now) (40 * a .r + 16))) (sym e ∙ not-true _ (c .if1 .taken)))
-
-add-i64-at-2 : tie.Need-add-i64-at-2
-add-i64-at-2 c = search needs
-
-i64-at-requires-2 : tie.Need-i64-at-requires-2
-i64-at-requires-2 c κs = search needs
-
-within-requires-2 : tie.Need-within-requires-2
-within-requires-2 c κs = search needs
 
 returns-2 : tie.Need-returns-2
 returns-2 c =
@@ -56,12 +35,9 @@ pub block-in-range-spec : {M : Type 1} → statement M
 block-in-range-spec =
     tie.close
     (tie.spec
-    mul-at
-    add-i64-at
-    i64-at-requires
-    within-requires
+    (λ c. search needs) (λ c. search needs)
+    (λ c κs. search needs) (λ c κs. search needs)
     returns
-    add-i64-at-2
-    i64-at-requires-2
-    within-requires-2
+    (λ c. search needs)
+    (λ c κs. search needs) (λ c κs. search needs)
     returns-2)

@@ -6,31 +6,13 @@ use borrow.Author.Needs.{needs}
 use Rattle.fields.proofs.block.is_block.Statement.{statement}
 use Rattle.fields.proofs.block.is_block.Tie as tie
 
-mul-at : tie.Need-mul-at
-mul-at c = search needs
-
-shared-slice-read-if1 : tie.Need-shared-slice-read-if1
-shared-slice-read-if1 c = search needs
-
 returns : tie.Need-returns
 unfolding isBlock
 returns c = simp (ne-eqb _ _ (c .if1 .taken))
 
-add-zeros : tie.Need-add-zeros
-add-zeros c = search needs
-
-zeros-requires : tie.Need-zeros-requires
-zeros-requires c κs = search needs
-
 returns-2 : tie.Need-returns-2
 unfolding isBlock
 returns-2 c = simp (eq-eqb _ _ (c .before .before .if1 .left), sym (c .before .zeros .ensures) ∙ not-true _ (c .if2 .taken))
-
-add-zeros-2 : tie.Need-add-zeros-2
-add-zeros-2 c = search needs
-
-zeros-requires-2 : tie.Need-zeros-requires-2
-zeros-requires-2 c κs = search needs
 
 returns-3 : tie.Need-returns-3
 unfolding isBlock
@@ -40,12 +22,11 @@ pub is-block-spec : {M : Type 1} → statement M
 is-block-spec =
     tie.close
     (tie.spec
-    mul-at
-    shared-slice-read-if1
+    (λ c. search needs) (λ c. search needs)
     returns
-    add-zeros
-    zeros-requires
+    (λ c. search needs)
+    (λ c κs. search needs)
     returns-2
-    add-zeros-2
-    zeros-requires-2
+    (λ c. search needs)
+    (λ c κs. search needs)
     returns-3)

@@ -5,31 +5,13 @@ use borrow.Author.Needs.{needs}
 use Rattle.fields.proofs.block.is_element.Statement.{statement}
 use Rattle.fields.proofs.block.is_element.Tie as tie
 
-mul-at : tie.Need-mul-at
-mul-at c = search needs
-
-shared-slice-read-if1 : tie.Need-shared-slice-read-if1
-shared-slice-read-if1 c = search needs
-
 returns : tie.Need-returns
 unfolding isElement
 returns c = simp (ne-eqb _ _ (c .if1 .taken))
 
-add-if2 : tie.Need-add-if2
-add-if2 c = search needs
-
-shared-slice-read-if2 : tie.Need-shared-slice-read-if2
-shared-slice-read-if2 c = search needs
-
 returns-2 : tie.Need-returns-2
 unfolding isElement
 returns-2 c = simp (eq-eqb _ _ (c .before .before .if1 .left), lt-leb _ _ (c .if2 .taken))
-
-add-zeros : tie.Need-add-zeros
-add-zeros c = search needs
-
-zeros-requires : tie.Need-zeros-requires
-zeros-requires c κs = search needs
 
 returns-3 : tie.Need-returns-3
 unfolding isElement
@@ -39,12 +21,10 @@ pub is-element-spec : {M : Type 1} → statement M
 is-element-spec =
     tie.close
     (tie.spec
-    mul-at
-    shared-slice-read-if1
+    (λ c. search needs) (λ c. search needs)
     returns
-    add-if2
-    shared-slice-read-if2
+    (λ c. search needs) (λ c. search needs)
     returns-2
-    add-zeros
-    zeros-requires
+    (λ c. search needs)
+    (λ c κs. search needs)
     returns-3)

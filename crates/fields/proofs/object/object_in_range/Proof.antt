@@ -6,15 +6,9 @@ use borrow.Author.Needs.{needs}
 use Rattle.fields.proofs.object.object_in_range.Statement.{statement}
 use Rattle.fields.proofs.object.object_in_range.Tie as tie
 
-up-to-requires : tie.Need-up-to-requires
-up-to-requires c κs = search needs
-
 returns : tie.Need-returns
 unfolding ofBits
 returns c = simp (sym (c .before .up-to .ensures) ∙ not-true _ (c .if1 .taken))
-
-up-to-requires-2 : tie.Need-up-to-requires-2
-up-to-requires-2 c κs = search needs
 
 returns-2 : tie.Need-returns-2
 unfolding ofBits
@@ -26,4 +20,10 @@ returns-3 c = simp (sym (c .before .before .before .before .up-to .ensures) ∙ 
 
 pub object-in-range-spec : {M : Type 1} → statement M
 object-in-range-spec =
-    tie.close (tie.spec up-to-requires returns up-to-requires-2 returns-2 returns-3)
+    tie.close
+    (tie.spec
+    (λ c κs. search needs)
+    returns
+    (λ c κs. search needs)
+    returns-2
+    returns-3)

@@ -5,24 +5,6 @@ use borrow.Author.Needs.{needs}
 use Rattle.fields.proofs.object.position_at.Statement.{statement}
 use Rattle.fields.proofs.object.position_at.Tie as tie
 
-has-requires : tie.Need-has-requires
-has-requires c κs = search needs
-
-f32-at-requires : tie.Need-f32-at-requires
-f32-at-requires c κs = search needs
-
-add-f32-at : tie.Need-add-f32-at
-add-f32-at c = search needs
-
-f32-at-requires-2 : tie.Need-f32-at-requires-2
-f32-at-requires-2 c κs = search needs
-
-add-f32-at-2 : tie.Need-add-f32-at-2
-add-f32-at-2 c = search needs
-
-f32-at-requires-3 : tie.Need-f32-at-requires-3
-f32-at-requires-3 c κs = search needs
-
 returns : tie.Need-returns
 unfolding positionOf
 returns c = simp (sym (c .before .before .before .before .has .ensures) ∙ c .before .before .before .if1 .taken) (cc)
@@ -35,11 +17,10 @@ pub position-at-spec : {M : Type 1} → statement M
 position-at-spec =
     tie.close
     (tie.spec
-    has-requires
-    f32-at-requires
-    add-f32-at
-    f32-at-requires-2
-    add-f32-at-2
-    f32-at-requires-3
+    (λ c κs. search needs) (λ c κs. search needs)
+    (λ c. search needs)
+    (λ c κs. search needs)
+    (λ c. search needs)
+    (λ c κs. search needs)
     returns
     returns-2)

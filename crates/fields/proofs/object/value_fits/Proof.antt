@@ -4,17 +4,17 @@ use borrow.Author.Needs.{needs}
 use Rattle.fields.proofs.object.value_fits.Statement.{statement}
 use Rattle.fields.proofs.object.value_fits.Tie as tie
 
-has-requires : tie.Need-has-requires
-has-requires c κs = search needs
-
 returns : tie.Need-returns
 returns c = simp (sym (c .before .has .ensures) ∙ c .if1 .taken)
-
-zeros-requires : tie.Need-zeros-requires
-zeros-requires c κs = search needs
 
 returns-2 : tie.Need-returns-2
 returns-2 c = simp (sym (c .before .before .has .ensures) ∙ c .before .if1 .left) (c .zeros .ensures)
 
 pub value-fits-spec : {M : Type 1} → statement M
-value-fits-spec = tie.close (tie.spec has-requires returns zeros-requires returns-2)
+value-fits-spec =
+    tie.close
+    (tie.spec
+    (λ c κs. search needs)
+    returns
+    (λ c κs. search needs)
+    returns-2)

@@ -7,9 +7,6 @@ use Rattle.fields.proofs.update.counts_fit.Tie as tie
 returns : tie.Need-returns
 returns c = simp (lt-leb _ _ (c .if1 .taken))
 
-dynamic-requires : tie.Need-dynamic-requires
-dynamic-requires c κs = search needs
-
 returns-2 : tie.Need-returns-2
 returns-2 c = simp (le-leb _ _ (c .before .before .if1 .left), lt-leb _ _ (rw (c .before .dynamic .ensures) at (c .if2 .taken)))
 
@@ -24,4 +21,11 @@ returns-5 c = simp (le-leb _ _ (c .before .before .before .before .if1 .left), l
 
 pub counts-fit-spec : {M : Type 1} → statement M
 counts-fit-spec =
-    tie.close (tie.spec returns dynamic-requires returns-2 returns-3 returns-4 returns-5)
+    tie.close
+    (tie.spec
+    returns
+    (λ c κs. search needs)
+    returns-2
+    returns-3
+    returns-4
+    returns-5)

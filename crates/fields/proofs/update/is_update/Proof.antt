@@ -6,51 +6,21 @@ use borrow.Author.Needs.{needs}
 use Rattle.fields.proofs.update.is_update.Statement.{statement}
 use Rattle.fields.proofs.update.is_update.Tie as tie
 
-mul-at : tie.Need-mul-at
-mul-at c = search needs
-
-shared-slice-read-if1 : tie.Need-shared-slice-read-if1
-shared-slice-read-if1 c = search needs
-
 returns : tie.Need-returns
 unfolding isUpdate
 returns c = simp (ne-eqb _ _ (c .if1 .taken))
-
-add-if2 : tie.Need-add-if2
-add-if2 c = search needs
-
-shared-slice-read-if2 : tie.Need-shared-slice-read-if2
-shared-slice-read-if2 c = search needs
 
 returns-2 : tie.Need-returns-2
 unfolding isUpdate
 returns-2 c = simp (eq-eqb _ _ (c .before .before .if1 .left), ne-eqb _ _ (c .if2 .taken))
 
-header-at-requires : tie.Need-header-at-requires
-header-at-requires c κs = search needs
-
-counts-fit-requires : tie.Need-counts-fit-requires
-counts-fit-requires c κs = search needs
-
 returns-3 : tie.Need-returns-3
 unfolding isUpdate
 returns-3 c = simp (eq-eqb _ _ (c .before .before .before .before .before .if1 .left), eq-eqb _ _ (c .before .before .before .if2 .left), sym (rw (c .before .before .header-at .ensures) at (c .before .counts-fit .ensures)) ∙ not-true _ (c .if3 .taken))
 
-add-codes-fit : tie.Need-add-codes-fit
-add-codes-fit c = search needs
-
-codes-fit-requires : tie.Need-codes-fit-requires
-codes-fit-requires c κs = search needs
-
 returns-4 : tie.Need-returns-4
 unfolding isUpdate
 returns-4 c = let a = c .before .before in simp (eq-eqb _ _ (a .before .before .before .before .before .if1 .left), eq-eqb _ _ (a .before .before .before .if2 .left), sym (rw (a .before .before .header-at .ensures) at (a .before .counts-fit .ensures)) ∙ not-false _ (a .if3 .left), sym (rw (a .before .before .header-at .ensures) at (c .before .codes-fit .ensures)) ∙ not-true _ (c .if4 .taken))
-
-add-zeros : tie.Need-add-zeros
-add-zeros c = search needs
-
-zeros-requires : tie.Need-zeros-requires
-zeros-requires c κs = search needs
 
 returns-5 : tie.Need-returns-5
 unfolding isUpdate
@@ -60,18 +30,15 @@ pub is-update-spec : {M : Type 1} → statement M
 is-update-spec =
     tie.close
     (tie.spec
-    mul-at
-    shared-slice-read-if1
+    (λ c. search needs) (λ c. search needs)
     returns
-    add-if2
-    shared-slice-read-if2
+    (λ c. search needs) (λ c. search needs)
     returns-2
-    header-at-requires
-    counts-fit-requires
+    (λ c κs. search needs) (λ c κs. search needs)
     returns-3
-    add-codes-fit
-    codes-fit-requires
+    (λ c. search needs)
+    (λ c κs. search needs)
     returns-4
-    add-zeros
-    zeros-requires
+    (λ c. search needs)
+    (λ c κs. search needs)
     returns-5)

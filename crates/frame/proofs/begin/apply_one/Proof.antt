@@ -9,39 +9,12 @@ use Rattle.frame.proofs.Begins.{one-applied}
 use Rattle.frame.proofs.begin.apply_one.Statement.{statement}
 use Rattle.frame.proofs.begin.apply_one.Tie as tie
 
-starts-slot-requires : tie.Need-starts-slot-requires
-starts-slot-requires c κs = search needs
-
-sub-apply-update : tie.Need-sub-apply-update
-sub-apply-update c = search needs
-
-part-apply-update-start : tie.Need-part-apply-update-start
-part-apply-update-start c = search needs
-
-part-apply-update-end : tie.Need-part-apply-update-end
-part-apply-update-end c = search needs
-
-apply-update-requires : tie.Need-apply-update-requires
-apply-update-requires c κs = search needs
-
-with-state-requires : tie.Need-with-state-requires
-with-state-requires c κs = search needs
-
-at-slot-requires : tie.Need-at-slot-requires
-at-slot-requires c κs = search needs
-
-same-length : tie.Need-same-length
-same-length c = search needs
-
 returns : tie.Need-returns
 returns c =
     let s = c .before .before .before .before .before .before .before .before .before .before .before .args in
     let p = c .before .before .before .before .before .before .before .before .before .before .before .pre in
     let u = c .before .before .before .before .before .apply-update in
     one-applied (s .t) (updateOf (now (s .meta)) (s .u)) (s .s) (now (s .state)) true (s .at .0) (u .result) (u .last .1 .0) (c .at-slot .result) (p .0) (search needs) (cc) (p .1) (u .ensures) (c .at-slot .ensures ∙ ap atSlot (c .before .before .with-state .ensures))
-
-same-length-2 : tie.Need-same-length-2
-same-length-2 c = search needs
 
 returns-2 : tie.Need-returns-2
 returns-2 c =
@@ -54,14 +27,10 @@ pub apply-one-spec : {M : Type 1} → statement M
 apply-one-spec =
     tie.close
     (tie.spec
-    starts-slot-requires
-    sub-apply-update
-    part-apply-update-start
-    part-apply-update-end
-    apply-update-requires
-    with-state-requires
-    at-slot-requires
-    same-length
+    (λ c κs. search needs)
+    (λ c. search needs) (λ c. search needs) (λ c. search needs)
+    (λ c κs. search needs) (λ c κs. search needs) (λ c κs. search needs)
+    (λ c. search needs)
     returns
-    same-length-2
+    (λ c. search needs)
     returns-2)

@@ -17,24 +17,6 @@ returns-2 c =
     let s = c .before .before .before .before .before .before .args in
     slot-rests (s .s) (now (s .state)) (c .before .before .before .before .before .before .pre .0) (rw (not-false (s .s .state .initialized) (c .before .before .if1 .left), ne-eqb (s .s .phase) 0 (λ z. omega arith)))
 
-sub-update-timeslot : tie.Need-sub-update-timeslot
-sub-update-timeslot c = search needs
-
-part-update-timeslot-start : tie.Need-part-update-timeslot-start
-part-update-timeslot-start c = search needs
-
-part-update-timeslot-end : tie.Need-part-update-timeslot-end
-part-update-timeslot-end c = search needs
-
-update-timeslot-requires : tie.Need-update-timeslot-requires
-update-timeslot-requires c κs = search needs
-
-with-state-requires : tie.Need-with-state-requires
-with-state-requires c κs = search needs
-
-same-length : tie.Need-same-length
-same-length c = search needs
-
 returns-3 : tie.Need-returns-3
 returns-3 c =
     let s = c .before .before .before .before .before .before .before .before .before .before .before .args in
@@ -47,10 +29,7 @@ start-slot-spec =
     (tie.spec
     returns
     returns-2
-    sub-update-timeslot
-    part-update-timeslot-start
-    part-update-timeslot-end
-    update-timeslot-requires
-    with-state-requires
-    same-length
+    (λ c. search needs) (λ c. search needs) (λ c. search needs)
+    (λ c κs. search needs) (λ c κs. search needs)
+    (λ c. search needs)
     returns-3)

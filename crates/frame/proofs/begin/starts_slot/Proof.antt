@@ -3,11 +3,8 @@ use borrow.Author.Needs.{needs}
 use Rattle.frame.proofs.begin.starts_slot.Statement.{statement}
 use Rattle.frame.proofs.begin.starts_slot.Tie as tie
 
-returns : tie.Need-returns
-returns c = search needs
-
 returns-2 : tie.Need-returns-2
 returns-2 c = rw (c .if1 .left)
 
 pub starts-slot-spec : {M : Type 1} → statement M
-starts-slot-spec = tie.close (tie.spec returns returns-2)
+starts-slot-spec = tie.close (tie.spec (λ c. search needs) returns-2)

@@ -4,21 +4,6 @@ use Rattle.frame.proofs.Laying.{fit-all, lay-laid}
 use Rattle.frame.proofs.chunk.lay.Statement.{statement}
 use Rattle.frame.proofs.chunk.lay.Tie as tie
 
-sub-append-rows : tie.Need-sub-append-rows
-sub-append-rows c = search needs
-
-part-append-rows-start : tie.Need-part-append-rows-start
-part-append-rows-start c = search needs
-
-part-append-rows-end : tie.Need-part-append-rows-end
-part-append-rows-end c = search needs
-
-append-rows-requires : tie.Need-append-rows-requires
-append-rows-requires c κs = search needs
-
-same-length : tie.Need-same-length
-same-length c = search needs
-
 returns : tie.Need-returns
 returns c =
     let s = c .before .before .before .before .before .before in
@@ -30,9 +15,7 @@ pub lay-spec : {M : Type 1} → statement M
 lay-spec =
     tie.close
     (tie.spec
-    sub-append-rows
-    part-append-rows-start
-    part-append-rows-end
-    append-rows-requires
-    same-length
+    (λ c. search needs) (λ c. search needs) (λ c. search needs)
+    (λ c κs. search needs)
+    (λ c. search needs)
     returns)

@@ -5,12 +5,6 @@ use Rattle.frame.proofs.Passing.{count-within, framed-within}
 use Rattle.frame.proofs.chunk.mix.Statement.{statement}
 use Rattle.frame.proofs.chunk.mix.Tie as tie
 
-audible-requires : tie.Need-audible-requires
-audible-requires c κs = search needs
-
-audible-requires-2 : tie.Need-audible-requires-2
-audible-requires-2 c κs = search needs
-
 pass-run-requires : tie.Need-pass-run-requires
 pass-run-requires c κs =
     let s = c .before .before .before .before .before .before .before .before .before in
@@ -19,9 +13,6 @@ pass-run-requires c κs =
     let n = c .before .before .audible .ensures in
     let d = c .before .audible2 .ensures in
     (framed-within q (a .pcm .now) (length (a .codes .now)) (a .objects) (a .n) (a .t) (a .k) d (s .pre .0), s .pre .1, s .pre .2, count-within q n (s .pre .3), count-within q d (s .pre .4))
-
-same-length : tie.Need-same-length
-same-length c = search needs
 
 returns : tie.Need-returns
 returns c =
@@ -32,4 +23,9 @@ returns c =
 
 pub mix-spec : {M : Type 1} → statement M
 mix-spec =
-    tie.close (tie.spec audible-requires audible-requires-2 pass-run-requires same-length returns)
+    tie.close
+    (tie.spec
+    (λ c κs. search needs) (λ c κs. search needs)
+    pass-run-requires
+    (λ c. search needs)
+    returns)

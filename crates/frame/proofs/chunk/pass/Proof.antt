@@ -2,7 +2,7 @@
 use borrow.Author.Needs.{needs}
 use mathlib.Core.Path.{_≡_, sym, _∙_}
 use lib.ListN.{length, length-map}
-use Prim.Native.Nat.{ℕ, _+_, _≤_}
+use Prim.Native.Nat.{ℕ}
 use mathlib.Core.List.{List}
 use native.Mathlib.Omega.{arith}
 use Rattle.rules.specs.Samples.{Frame}
@@ -42,34 +42,20 @@ settles c rate us =
     (same-heard rate us (a .codes .now) (a .pcm .now) (a .objects) (a .n) (a .s) (a .state .now) (full (start c)) (start c .pre .dynamic)) (mx .last .1 .1 .0) (mx .result) (mx .ensures)
     (ly .lay .last .0) (ly .lay .ensures) (c .tick .ensures)
 
-slice-aggregate-mix : tie.Need-slice-aggregate-mix
-slice-aggregate-mix c = search needs
-
-mix-requires : tie.Need-mix-requires
-mix-requires c κs = search needs
-
-cast-lay : tie.Need-cast-lay
-cast-lay c = search needs
-
-slice-aggregate-lay : tie.Need-slice-aggregate-lay
-slice-aggregate-lay c = search needs
-
-lay-requires : tie.Need-lay-requires
-lay-requires c κs = search needs
-
-cast-tick : tie.Need-cast-tick
-cast-tick c = search needs
-
-tick-requires : tie.Need-tick-requires
-tick-requires c κs = search needs
-
-same-length : tie.Need-same-length
-same-length c = search needs
-
 returns : tie.Need-returns
 returns c =
     let l = c .before .before .before .lay .ensures in
     λ rate us. record { holds = record { is = settles c rate us; long = l .long }; small = l .small }
 
 pub pass-spec : {M : Type 1} → statement M
-pass-spec = tie.close (tie.spec slice-aggregate-mix mix-requires slice-aggregate-lay cast-lay lay-requires cast-tick tick-requires same-length returns)
+pass-spec =
+    tie.close
+    (tie.spec
+    (λ c. search needs)
+    (λ c κs. search needs)
+    (λ c. search needs) (λ c. search needs)
+    (λ c κs. search needs)
+    (λ c. search needs)
+    (λ c κs. search needs)
+    (λ c. search needs)
+    returns)

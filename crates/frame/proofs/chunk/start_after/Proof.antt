@@ -4,20 +4,17 @@ use borrow.Author.Tests.{le-leb, lt-leb}
 use Rattle.frame.proofs.chunk.start_after.Statement.{statement}
 use Rattle.frame.proofs.chunk.start_after.Tie as tie
 
-add-if2 : tie.Need-add-if2
-add-if2 c = search needs
-
-add-result : tie.Need-add-result
-add-result c = search needs
-
 returns : tie.Need-returns
 returns c = rw (c .before .if1 .taken, le-leb _ _ (c .if2 .taken))
 
 returns-2 : tie.Need-returns-2
 returns-2 c = rw (c .before .if1 .taken, lt-leb _ _ (c .if2 .left))
 
-returns-3 : tie.Need-returns-3
-returns-3 c = search needs
-
 pub start-after-spec : {M : Type 1} → statement M
-start-after-spec = tie.close (tie.spec add-if2 add-result returns returns-2 returns-3)
+start-after-spec =
+    tie.close
+    (tie.spec
+    (λ c. search needs) (λ c. search needs)
+    returns
+    returns-2
+    (λ c. search needs))

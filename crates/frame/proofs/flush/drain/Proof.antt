@@ -8,12 +8,6 @@ use Rattle.frame.proofs.Given.{behind-written}
 use Rattle.frame.proofs.flush.drain.Statement.{statement}
 use Rattle.frame.proofs.flush.drain.Tie as tie
 
-give-requires : tie.Need-give-requires
-give-requires c κs = search needs
-
-same-length : tie.Need-same-length
-same-length c = search needs
-
 returns : tie.Need-returns
 returns c =
     let g = c .before .before .give .ensures in
@@ -21,4 +15,4 @@ returns c =
     (g .next, g .given ∙ behind-written (flushed hall (held (a .s) (a .state .now)) .given) (a .stride) (a .out .now))
 
 pub drain-spec : {M : Type 1} → statement M
-drain-spec = tie.close (tie.spec give-requires same-length returns)
+drain-spec = tie.close (tie.spec (λ c κs. search needs) (λ c. search needs) returns)

@@ -8,9 +8,6 @@ use Rattle.frame.proofs.Begins.{past, slot-begins}
 use Rattle.frame.proofs.push.begins.Statement.{statement}
 use Rattle.frame.proofs.push.begins.Tie as tie
 
-sent-at-requires : tie.Need-sent-at-requires
-sent-at-requires c κs = search needs
-
 returns : tie.Need-returns
 returns c =
     λ h.
@@ -27,4 +24,4 @@ returns-3 : tie.Need-returns-3
 returns-3 c = record { none = past (c .before .before .before .sent-at .ensures) (omega arith); slot = rw (c .if2 .left) }
 
 pub begins-spec : {M : Type 1} → statement M
-begins-spec = tie.close (tie.spec sent-at-requires returns returns-2 returns-3)
+begins-spec = tie.close (tie.spec (λ c κs. search needs) returns returns-2 returns-3)

@@ -8,11 +8,8 @@ use Rattle.frame.proofs.push.open.Tie as tie
 returns : tie.Need-returns
 returns c b = let a = c .before .before .args in opened-before hall (a .rate) (held (a .s) b) (c .if1 .taken)
 
-new-requires : tie.Need-new-requires
-new-requires c κs = search needs
-
 returns-2 : tie.Need-returns-2
 returns-2 c b = let a = c .before .before .before .before .args in opened-first hall (a .rate) (held (a .s) b) (c .new .result) (c .before .before .if1 .left) (c .new .ensures)
 
 pub open-spec : {M : Type 1} → statement M
-open-spec = tie.close (tie.spec returns new-requires returns-2)
+open-spec = tie.close (tie.spec returns (λ c κs. search needs) returns-2)

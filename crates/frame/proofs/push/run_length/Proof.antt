@@ -3,18 +3,6 @@ use Rattle.frame.proofs.Opening.{run-started, run-silent}
 use Rattle.frame.proofs.push.run_length.Statement.{statement}
 use Rattle.frame.proofs.push.run_length.Tie as tie
 
-sub-least : tie.Need-sub-least
-sub-least c = search needs
-
-least-requires : tie.Need-least-requires
-least-requires c κs = search needs
-
-sub-least-2 : tie.Need-sub-least-2
-sub-least-2 c = search needs
-
-least-requires-2 : tie.Need-least-requires-2
-least-requires-2 c κs = search needs
-
 returns : tie.Need-returns
 returns c =
     let a = c .before .before .before .args in
@@ -27,4 +15,11 @@ returns-2 c =
 
 pub run-length-spec : {M : Type 1} → statement M
 run-length-spec =
-    tie.close (tie.spec sub-least least-requires sub-least-2 least-requires-2 returns returns-2)
+    tie.close
+    (tie.spec
+    (λ c. search needs)
+    (λ c κs. search needs)
+    (λ c. search needs)
+    (λ c κs. search needs)
+    returns
+    returns-2)

@@ -15,18 +15,6 @@ drain-requires c κs =
 save-requires : tie.Need-save-requires
 save-requires c κs = valid-long (c .before .before .before .before .before .before .before .before .args .state .now) (c .before .before .before .before .before .before .before .before .pre .loaded .valid)
 
-cast-ready : tie.Need-cast-ready
-cast-ready c = search needs
-
-ready-requires : tie.Need-ready-requires
-ready-requires c κs = search needs
-
-same-length : tie.Need-same-length
-same-length c = search needs
-
-same-length-2 : tie.Need-same-length-2
-same-length-2 c = search needs
-
 returns : tie.Need-returns
 returns c =
     let a = c .before .before .before .before .before .before .before .before .before .before .before .before .before .args in
@@ -38,4 +26,10 @@ returns c =
 pub drain-spec : {M : Type 1} → statement M
 drain-spec =
     tie.close
-    (tie.spec drain-requires save-requires cast-ready ready-requires same-length same-length-2 returns)
+    (tie.spec
+    drain-requires
+    save-requires
+    (λ c. search needs)
+    (λ c κs. search needs)
+    (λ c. search needs) (λ c. search needs)
+    returns)

@@ -14,15 +14,6 @@ render-requires c κs =
 save-requires : tie.Need-save-requires
 save-requires c κs = c .before .before .before .before .before .before .render .ensures .next .holds .long
 
-ready-requires : tie.Need-ready-requires
-ready-requires c κs = search needs
-
-same-length : tie.Need-same-length
-same-length c = search needs
-
-same-length-2 : tie.Need-same-length-2
-same-length-2 c = search needs
-
 returns : tie.Need-returns
 returns c =
     let e = c .before .before .before in
@@ -38,4 +29,11 @@ returns c =
     (c .ready .result) (e .save .last .0) (f .render .last .1 .1 .1 .1 .0) (c .ready .ensures) (e .save .ensures) (d .given)
 
 pub render-spec : {M : Type 1} → statement M
-render-spec = tie.close (tie.spec render-requires save-requires ready-requires same-length same-length-2 returns)
+render-spec =
+    tie.close
+    (tie.spec
+    render-requires
+    save-requires
+    (λ c κs. search needs)
+    (λ c. search needs) (λ c. search needs)
+    returns)

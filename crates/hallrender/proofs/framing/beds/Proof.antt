@@ -5,11 +5,8 @@ use borrow.Author.Needs.{needs}
 use Rattle.hallrender.proofs.framing.beds.Statement.{statement}
 use Rattle.hallrender.proofs.framing.beds.Tie as tie
 
-byte-at-requires : tie.Need-byte-at-requires
-byte-at-requires c κs = search needs
-
 returns : tie.Need-returns
 returns c = (c .byte-at .ensures .0, let l = frame-limits _ (c .before .before .pre) in omega (arith, l .beds, c .byte-at .ensures .0))
 
 pub beds-spec : {M : Type 1} → statement M
-beds-spec = tie.close (tie.spec byte-at-requires returns)
+beds-spec = tie.close (tie.spec (λ c κs. search needs) returns)

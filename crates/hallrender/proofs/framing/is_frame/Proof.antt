@@ -8,32 +8,17 @@ use borrow.Author.Needs.{needs}
 use Rattle.hallrender.proofs.framing.is_frame.Statement.{statement}
 use Rattle.hallrender.proofs.framing.is_frame.Tie as tie
 
-element-copy-out-if1 : tie.Need-element-copy-out-if1
-element-copy-out-if1 c = search needs
-
 returns : tie.Need-returns
 unfolding isFrame
 returns c = simp (ne-eqb _ _ (c .if1 .taken))
-
-in-limits-requires : tie.Need-in-limits-requires
-in-limits-requires c κs = search needs
 
 returns-2 : tie.Need-returns-2
 unfolding isFrame
 returns-2 c = simp (eq-eqb _ _ (c .before .before .if1 .left), sym (c .before .in-limits .ensures) ∙ not-true _ (c .if2 .taken))
 
-zeros-requires : tie.Need-zeros-requires
-zeros-requires c κs = search needs
-
 returns-3 : tie.Need-returns-3
 unfolding isFrame
 returns-3 c = simp (eq-eqb _ _ (c .before .before .before .before .before .if1 .left), sym (c .before .before .before .before .in-limits .ensures) ∙ not-false _ (c .before .before .before .if2 .left), sym (c .before .zeros .ensures) ∙ not-true _ (c .if3 .taken))
-
-byte-at-requires : tie.Need-byte-at-requires
-byte-at-requires c κs = search needs
-
-add-zeros : tie.Need-add-zeros
-add-zeros c = search needs
 
 sub-zeros : tie.Need-sub-zeros
 sub-zeros c = let l = in-limits _ (sym (c .before .before .before .before .before .before .before .in-limits .ensures) ∙ not-false _ (c .before .before .before .before .before .before .if2 .left)) in omega (arith, l .beds, c .before .byte-at .ensures .0)
@@ -49,14 +34,14 @@ pub is-frame-spec : {M : Type 1} → statement M
 is-frame-spec =
     tie.close
     (tie.spec
-    element-copy-out-if1
+    (λ c. search needs)
     returns
-    in-limits-requires
+    (λ c κs. search needs)
     returns-2
-    zeros-requires
+    (λ c κs. search needs)
     returns-3
-    byte-at-requires
-    add-zeros
+    (λ c κs. search needs)
+    (λ c. search needs)
     sub-zeros
     zeros-requires-2
     returns-4)

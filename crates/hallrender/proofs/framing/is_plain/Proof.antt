@@ -5,22 +5,13 @@ use borrow.Author.Needs.{needs}
 use Rattle.hallrender.proofs.framing.is_plain.Statement.{statement}
 use Rattle.hallrender.proofs.framing.is_plain.Tie as tie
 
-element-copy-out-if1 : tie.Need-element-copy-out-if1
-element-copy-out-if1 c = search needs
-
 returns : tie.Need-returns
 unfolding isPlain
 returns c = simp (lt-leb _ _ (c .if1 .taken))
 
-element-copy-out-if2 : tie.Need-element-copy-out-if2
-element-copy-out-if2 c = search needs
-
 returns-2 : tie.Need-returns-2
 unfolding isPlain
 returns-2 c = simp (le-leb _ _ (c .before .before .if1 .left), lt-leb _ _ (c .if2 .taken))
-
-zeros-requires : tie.Need-zeros-requires
-zeros-requires c κs = search needs
 
 returns-3 : tie.Need-returns-3
 unfolding isPlain
@@ -29,4 +20,10 @@ returns-3 c = simp (le-leb _ _ (c .before .before .before .before .if1 .left), l
 pub is-plain-spec : {M : Type 1} → statement M
 is-plain-spec =
     tie.close
-    (tie.spec element-copy-out-if1 returns element-copy-out-if2 returns-2 zeros-requires returns-3)
+    (tie.spec
+    (λ c. search needs)
+    returns
+    (λ c. search needs)
+    returns-2
+    (λ c κs. search needs)
+    returns-3)

@@ -7,17 +7,13 @@ use borrow.Author.Needs.{needs}
 use Rattle.hallrender.proofs.framing.metadata_bytes.Statement.{statement}
 use Rattle.hallrender.proofs.framing.metadata_bytes.Tie as tie
 
-u16-at-requires : tie.Need-u16-at-requires
-u16-at-requires c κs = search needs
-
-cast-result : tie.Need-cast-result
-cast-result c = search needs
-
-mul-result : tie.Need-mul-result
-mul-result c = search needs
-
 returns : tie.Need-returns
 returns c = (ap (λ (n : ℕ). 40 * n) (c .u16-at .ensures), let l = frame-limits _ (c .before .before .pre) in omega (arith, l .records, c .u16-at .ensures))
 
 pub metadata-bytes-spec : {M : Type 1} → statement M
-metadata-bytes-spec = tie.close (tie.spec u16-at-requires cast-result mul-result returns)
+metadata-bytes-spec =
+    tie.close
+    (tie.spec
+    (λ c κs. search needs)
+    (λ c. search needs) (λ c. search needs)
+    returns)

@@ -5,21 +5,6 @@ use borrow.Author.Needs.{needs}
 use Rattle.hallrender.proofs.framing.pcm_bytes.Statement.{statement}
 use Rattle.hallrender.proofs.framing.pcm_bytes.Tie as tie
 
-byte-at-requires : tie.Need-byte-at-requires
-byte-at-requires c κs = search needs
-
-byte-at-requires-2 : tie.Need-byte-at-requires-2
-byte-at-requires-2 c κs = search needs
-
-add-channels : tie.Need-add-channels
-add-channels c = search needs
-
-u16-at-requires : tie.Need-u16-at-requires
-u16-at-requires c κs = search needs
-
-cast-result : tie.Need-cast-result
-cast-result c = search needs
-
 mul-result : tie.Need-mul-result
 mul-result c = let m = pcm-fits _ (frame-limits _ (c .before .before .before .before .before .before .pre)) (c .before .before .before .before .byte-at .ensures .0) (c .before .before .byte-at2 .ensures .0) (c .u16-at .ensures) in omega (arith, m)
 
@@ -33,11 +18,10 @@ pub pcm-bytes-spec : {M : Type 1} → statement M
 pcm-bytes-spec =
     tie.close
     (tie.spec
-    byte-at-requires
-    byte-at-requires-2
-    add-channels
-    u16-at-requires
-    cast-result
+    (λ c κs. search needs) (λ c κs. search needs)
+    (λ c. search needs)
+    (λ c κs. search needs)
+    (λ c. search needs)
     mul-result
     mul-result-2
     returns)

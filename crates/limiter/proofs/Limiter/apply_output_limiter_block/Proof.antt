@@ -10,36 +10,6 @@ use borrow.Author.Needs.{needs}
 use Rattle.limiter.proofs.Limiter.apply_output_limiter_block.Statement.{statement}
 use Rattle.limiter.proofs.Limiter.apply_output_limiter_block.Tie as tie
 
-slice-aggregate-load-block : tie.Need-slice-aggregate-load-block
-slice-aggregate-load-block c = search needs
-
-load-block-requires : tie.Need-load-block-requires
-load-block-requires c κs = search needs
-
-slice-aggregate-block-peak : tie.Need-slice-aggregate-block-peak
-slice-aggregate-block-peak c = search needs
-
-block-peak-requires : tie.Need-block-peak-requires
-block-peak-requires c κs = search needs
-
-lower-requires : tie.Need-lower-requires
-lower-requires c κs = search needs
-
-slice-aggregate-store-block : tie.Need-slice-aggregate-store-block
-slice-aggregate-store-block c = search needs
-
-store-block-requires : tie.Need-store-block-requires
-store-block-requires c κs = search needs
-
-cast-grow : tie.Need-cast-grow
-cast-grow c = search needs
-
-grow-requires : tie.Need-grow-requires
-grow-requires c κs = search needs
-
-same-length : tie.Need-same-length
-same-length c = search needs
-
 returns : tie.Need-returns
 returns c =
     let b = c .before .before .before in
@@ -63,14 +33,13 @@ pub apply-output-limiter-block-spec : {M : Type 1} → statement M
 apply-output-limiter-block-spec =
     tie.close
     (tie.spec
-    slice-aggregate-load-block
-    load-block-requires
-    slice-aggregate-block-peak
-    block-peak-requires
-    lower-requires
-    slice-aggregate-store-block
-    store-block-requires
-    cast-grow
-    grow-requires
-    same-length
+    (λ c. search needs)
+    (λ c κs. search needs)
+    (λ c. search needs)
+    (λ c κs. search needs) (λ c κs. search needs)
+    (λ c. search needs)
+    (λ c κs. search needs)
+    (λ c. search needs)
+    (λ c κs. search needs)
+    (λ c. search needs)
     returns)

@@ -20,36 +20,6 @@ abbrev μ-loop : tie.MeasureT-loop
 loop-holds : tie.Need-loop-holds Inv-loop μ-loop
 loop-holds c = (refl, c .before .before .pre .1, refl)
 
-add-end : tie.Need-add-end Inv-loop μ-loop
-add-end c = search needs
-
-mul-load-samples : tie.Need-mul-load-samples Inv-loop μ-loop
-mul-load-samples c = search needs
-
-mul-load-samples-2 : tie.Need-mul-load-samples-2 Inv-loop μ-loop
-mul-load-samples-2 c = search needs
-
-sub-load-samples : tie.Need-sub-load-samples Inv-loop μ-loop
-sub-load-samples c = search needs
-
-part-load-samples-start : tie.Need-part-load-samples-start Inv-loop μ-loop
-part-load-samples-start c = search needs
-
-part-load-samples-end : tie.Need-part-load-samples-end Inv-loop μ-loop
-part-load-samples-end c = search needs
-
-load-samples-requires : tie.Need-load-samples-requires Inv-loop μ-loop
-load-samples-requires c κs = search needs
-
-add-at : tie.Need-add-at Inv-loop μ-loop
-add-at c = search needs
-
-sub-left : tie.Need-sub-left Inv-loop μ-loop
-sub-left c = search needs
-
-loop-less : tie.Need-loop-less Inv-loop μ-loop
-loop-less c = search needs
-
 loop-again : tie.Need-loop-again Inv-loop μ-loop
 loop-again c =
     let l = c .before .before .before .before .before .loop in
@@ -59,9 +29,6 @@ loop-again c =
     let e : z .last .1 .1 .0 ≡ floatsAt (a .places .now) (4 * l .at) (a .samples) = z .ensures ∙ ap (floatsAt (a .places .now) (4 * l .at)) (part-length (a .samples) (l .at) (l .block) h) in
     let n = load-next (a .places .now) (l .left) (a .samples) (l .at) (l .block) (z .last .1 .1 .0) (omega arith) (omega arith) (omega arith) e in
     (omega arith, n .0 ∙ l .inv .1, n .1 ∙ l .inv .2)
-
-same-length : tie.Need-same-length Inv-loop μ-loop
-same-length c = search needs
 
 returns : tie.Need-returns Inv-loop μ-loop
 returns c =
@@ -76,16 +43,9 @@ load-block-spec =
     Inv-loop
     μ-loop
     loop-holds
-    add-end
-    mul-load-samples
-    mul-load-samples-2
-    sub-load-samples
-    part-load-samples-start
-    part-load-samples-end
-    load-samples-requires
-    add-at
-    sub-left
-    loop-less
+    (λ c. search needs) (λ c. search needs) (λ c. search needs) (λ c. search needs) (λ c. search needs) (λ c. search needs)
+    (λ c κs. search needs)
+    (λ c. search needs) (λ c. search needs) (λ c. search needs)
     loop-again
-    same-length
+    (λ c. search needs)
     returns)

@@ -17,39 +17,12 @@ Inv-loop places at samples₀ i₀ samples i = (i ≤ length samples) × (length
 abbrev μ-loop : tie.MeasureT-loop
 μ-loop places at samples₀ i₀ samples i = length samples₀ - i
 
-loop-holds : tie.Need-loop-holds Inv-loop μ-loop
-loop-holds c = search needs
-
-mul-f32-at : tie.Need-mul-f32-at Inv-loop μ-loop
-mul-f32-at c = search needs
-
-add-f32-at : tie.Need-add-f32-at Inv-loop μ-loop
-add-f32-at c = search needs
-
-f32-at-requires : tie.Need-f32-at-requires Inv-loop μ-loop
-f32-at-requires c κs = search needs
-
-mul-samples : tie.Need-mul-samples Inv-loop μ-loop
-mul-samples c = search needs
-
-slice-write-samples : tie.Need-slice-write-samples Inv-loop μ-loop
-slice-write-samples c = search needs
-
-add-i : tie.Need-add-i Inv-loop μ-loop
-add-i c = search needs
-
-loop-less : tie.Need-loop-less Inv-loop μ-loop
-loop-less c = search needs
-
 loop-again : tie.Need-loop-again Inv-loop μ-loop
 loop-again c =
     let l = c .before .before in
     let a = l .before .before .before .args in
     let h : l .loop .i < length (l .loop .samples) = omega arith in
     (simp length-set (omega arith), simp length-set (omega arith), rw (add-one, take-suc-set (l .loop .samples) (l .loop .i) (c .f32-at .result) h, l .loop .inv .2, c .f32-at .ensures) (sym (read-more (a .places .now) (a .at) (l .loop .i))))
-
-same-length : tie.Need-same-length Inv-loop μ-loop
-same-length c = search needs
 
 returns : tie.Need-returns Inv-loop μ-loop
 returns c =
@@ -65,14 +38,9 @@ load-samples-spec =
     (tie.spec
     Inv-loop
     μ-loop
-    loop-holds
-    mul-f32-at
-    add-f32-at
-    f32-at-requires
-    mul-samples
-    slice-write-samples
-    add-i
-    loop-less
+    (λ c. search needs) (λ c. search needs) (λ c. search needs)
+    (λ c κs. search needs)
+    (λ c. search needs) (λ c. search needs) (λ c. search needs) (λ c. search needs)
     loop-again
-    same-length
+    (λ c. search needs)
     returns)

@@ -7,12 +7,9 @@ use Rattle.lowpass.specs.Lowpass.{unfed, new}
 use Rattle.lowpass.proofs.BiquadLowpassState.new.Statement.{statement}
 use Rattle.lowpass.proofs.BiquadLowpassState.new.Tie as tie
 
-coefficients-requires : tie.Need-coefficients-requires
-coefficients-requires c κs = search needs
-
 returns : tie.Need-returns
 unfolding new ofBits
 returns c = ap unfed (lowpass-only (c .before .pre) (c .coefficients .ensures))
 
 pub new-spec : {M : Type 1} → statement M
-new-spec = tie.close (tie.spec coefficients-requires returns)
+new-spec = tie.close (tie.spec (λ c κs. search needs) returns)

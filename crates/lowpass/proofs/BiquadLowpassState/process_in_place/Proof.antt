@@ -17,39 +17,12 @@ Inv-loop samples₀ filter₀ i₀ samples filter i = (i ≤ length samples) × 
 abbrev μ-loop : tie.MeasureT-loop
 μ-loop samples₀ filter₀ i₀ samples filter i = length samples₀ - i
 
-loop-holds : tie.Need-loop-holds Inv-loop μ-loop
-loop-holds c = search needs
-
-mul-process : tie.Need-mul-process Inv-loop μ-loop
-mul-process c = search needs
-
-slice-read-process : tie.Need-slice-read-process Inv-loop μ-loop
-slice-read-process c = search needs
-
-process-requires : tie.Need-process-requires Inv-loop μ-loop
-process-requires c κs = search needs
-
-mul-samples : tie.Need-mul-samples Inv-loop μ-loop
-mul-samples c = search needs
-
-slice-write-samples : tie.Need-slice-write-samples Inv-loop μ-loop
-slice-write-samples c = search needs
-
-add-i : tie.Need-add-i Inv-loop μ-loop
-add-i c = search needs
-
-loop-less : tie.Need-loop-less Inv-loop μ-loop
-loop-less c = search needs
-
 loop-again : tie.Need-loop-again Inv-loop μ-loop
 loop-again c =
     let l = c .before .before .before .before in
     let e = c .before .process .ensures in
     let h : l .loop .i < length (l .loop .samples) = omega arith in
     (simp length-set (omega arith), simp length-set (omega arith), rw (e .1) (state-more (l .loop .filter) (l .loop .samples) (l .loop .i) h _ ∙ l .loop .inv .2), rw (e .0, e .1) (list-more (l .loop .filter) (l .loop .samples) (l .loop .i) h ∙ l .loop .inv .3))
-
-same-length : tie.Need-same-length Inv-loop μ-loop
-same-length c = search needs
 
 returns : tie.Need-returns Inv-loop μ-loop
 returns c =
@@ -65,14 +38,9 @@ process-in-place-spec =
     (tie.spec
     Inv-loop
     μ-loop
-    loop-holds
-    mul-process
-    slice-read-process
-    process-requires
-    mul-samples
-    slice-write-samples
-    add-i
-    loop-less
+    (λ c. search needs) (λ c. search needs) (λ c. search needs)
+    (λ c κs. search needs)
+    (λ c. search needs) (λ c. search needs) (λ c. search needs) (λ c. search needs)
     loop-again
-    same-length
+    (λ c. search needs)
     returns)

@@ -7,9 +7,6 @@ use Rattle.probes.proofs.Cases.{listed-within, unlisted-below, unlisted
 use Rattle.probes.proofs.probe_angles.probe_angle.Statement.{statement}
 use Rattle.probes.proofs.probe_angles.probe_angle.Tie as tie
 
-angle-requires : tie.Need-angle-requires
-angle-requires c κs = search needs
-
 returns : tie.Need-returns
 returns c = rw (listed-within (c .before .before .before .args .rate) (omega arith) (omega arith)) (c .angle .ensures)
 
@@ -22,4 +19,4 @@ unfolding ofBits
 returns-3 c = rw (unlisted-above (c .before .before .args .rate) (omega arith)) refl
 
 pub probe-angle-spec : {M : Type 1} → statement M
-probe-angle-spec = tie.close (tie.spec angle-requires returns returns-2 returns-3)
+probe-angle-spec = tie.close (tie.spec (λ c κs. search needs) returns returns-2 returns-3)

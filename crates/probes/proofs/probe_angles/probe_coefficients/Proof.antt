@@ -7,9 +7,6 @@ use Rattle.probes.proofs.Cases.{listed-within, unlisted-below, unlisted
 use Rattle.probes.proofs.probe_angles.probe_coefficients.Statement.{statement}
 use Rattle.probes.proofs.probe_angles.probe_coefficients.Tie as tie
 
-coefficients-requires : tie.Need-coefficients-requires
-coefficients-requires c κs = search needs
-
 returns : tie.Need-returns
 returns c = rw (listed-within (c .before .before .before .args .rate) (omega arith) (omega arith)) (c .coefficients .ensures)
 
@@ -22,4 +19,4 @@ unfolding ofBits
 returns-3 c = rw (unlisted-above (c .before .before .args .rate) (omega arith)) refl
 
 pub probe-coefficients-spec : {M : Type 1} → statement M
-probe-coefficients-spec = tie.close (tie.spec coefficients-requires returns returns-2 returns-3)
+probe-coefficients-spec = tie.close (tie.spec (λ c κs. search needs) returns returns-2 returns-3)

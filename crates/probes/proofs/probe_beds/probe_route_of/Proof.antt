@@ -5,21 +5,6 @@ use borrow.Author.Needs.{needs}
 use Rattle.probes.proofs.probe_beds.probe_route_of.Statement.{statement}
 use Rattle.probes.proofs.probe_beds.probe_route_of.Tie as tie
 
-route-of-requires : tie.Need-route-of-requires
-route-of-requires c κs = search needs
-
-enum-known-route : tie.Need-enum-known-route
-enum-known-route c = search needs
-
-enum-told : tie.Need-enum-told
-enum-told c = search needs
-
-enum-told-2 : tie.Need-enum-told-2
-enum-told-2 c = search needs
-
-enum-told-3 : tie.Need-enum-told-3
-enum-told-3 c = search needs
-
 returns : tie.Need-returns
 returns c = sym (ap routeNumber (sym (c .before .before .before .route-of .ensures) ∙ c .before .route .given .1))
 
@@ -36,11 +21,8 @@ pub probe-route-of-spec : {M : Type 1} → statement M
 probe-route-of-spec =
     tie.close
     (tie.spec
-    route-of-requires
-    enum-known-route
-    enum-told
-    enum-told-2
-    enum-told-3
+    (λ c κs. search needs)
+    (λ c. search needs) (λ c. search needs) (λ c. search needs) (λ c. search needs)
     returns
     returns-2
     returns-3

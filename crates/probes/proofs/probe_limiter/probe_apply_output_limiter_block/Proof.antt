@@ -30,21 +30,12 @@ returns-5 c =
     let k : a .step < a .to + 4 * a .samples = omega arith in
     simp (eq-eqb _ _ (c .before .before .before .before .if1 .left), le-leb _ _ (c .before .before .before .if2 .left), le-leb _ _ (c .before .before .if3 .left), le-leb _ _ h, lt-leb _ _ k) (refl, refl)
 
-mul-if6 : tie.Need-mul-if6
-mul-if6 c = search needs
-
 returns-6 : tie.Need-returns-6
 returns-6 c =
     let a = c .before .before .before .before .before .before .before .before .args in
     let h : 12 * a .step ≤ length (a .out .now) = omega arith in
     let k : a .step < a .to + 4 * a .samples = omega arith in
     simp (eq-eqb _ _ (c .before .before .before .before .before .if1 .left), le-leb _ _ (c .before .before .before .before .if2 .left), le-leb _ _ (c .before .before .before .if3 .left), le-leb _ _ h, lt-leb _ _ k) (refl, refl)
-
-apply-output-limiter-block-requires : tie.Need-apply-output-limiter-block-requires
-apply-output-limiter-block-requires c κs = search needs
-
-same-length : tie.Need-same-length
-same-length c = search needs
 
 returns-7 : tie.Need-returns-7
 returns-7 c =
@@ -54,4 +45,16 @@ returns-7 c =
     simp (eq-eqb _ _ (c .before .before .before .before .before .before .before .before .before .if1 .left), le-leb _ _ (c .before .before .before .before .before .before .before .before .if2 .left), le-leb _ _ (c .before .before .before .before .before .before .before .if3 .left), le-leb _ _ h, le-leb _ _ k) (c .before .before .apply-output-limiter-block .ensures)
 
 pub probe-apply-output-limiter-block-spec : {M : Type 1} → statement M
-probe-apply-output-limiter-block-spec = tie.close (tie.spec returns returns-2 returns-3 returns-4 returns-5 mul-if6 returns-6 apply-output-limiter-block-requires same-length returns-7)
+probe-apply-output-limiter-block-spec =
+    tie.close
+    (tie.spec
+    returns
+    returns-2
+    returns-3
+    returns-4
+    returns-5
+    (λ c. search needs)
+    returns-6
+    (λ c κs. search needs)
+    (λ c. search needs)
+    returns-7)

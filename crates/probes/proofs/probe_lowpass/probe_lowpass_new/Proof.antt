@@ -7,9 +7,6 @@ use Rattle.probes.proofs.Cases.{listed-within, unlisted-below, unlisted
 use Rattle.probes.proofs.probe_lowpass.probe_lowpass_new.Statement.{statement}
 use Rattle.probes.proofs.probe_lowpass.probe_lowpass_new.Tie as tie
 
-new-requires : tie.Need-new-requires
-new-requires c κs = search needs
-
 returns : tie.Need-returns
 returns c = rw (listed-within (c .before .before .before .args .rate) (omega arith) (omega arith)) (c .new .ensures)
 
@@ -22,4 +19,4 @@ unfolding ofBits
 returns-3 c = rw (unlisted-above (c .before .before .args .rate) (omega arith)) refl
 
 pub probe-lowpass-new-spec : {M : Type 1} → statement M
-probe-lowpass-new-spec = tie.close (tie.spec new-requires returns returns-2 returns-3)
+probe-lowpass-new-spec = tie.close (tie.spec (λ c κs. search needs) returns returns-2 returns-3)

@@ -4,12 +4,6 @@ use borrow.Author.Needs.{needs}
 use Rattle.probes.proofs.probe_mixing.probe_mix_full_channel.Statement.{statement}
 use Rattle.probes.proofs.probe_mixing.probe_mix_full_channel.Tie as tie
 
-mix-full-channel-requires : tie.Need-mix-full-channel-requires
-mix-full-channel-requires c κs = search needs
-
-same-length : tie.Need-same-length
-same-length c = search needs
-
 returns : tie.Need-returns
 returns c = fits _ (c .before .before .before .before .if1 .taken) (c .before .before .mix-full-channel .ensures)
 
@@ -18,4 +12,9 @@ returns-2 c = unfit _ _ (c .if1 .left)
 
 pub probe-mix-full-channel-spec : {M : Type 1} → statement M
 probe-mix-full-channel-spec =
-    tie.close (tie.spec mix-full-channel-requires same-length returns returns-2)
+    tie.close
+    (tie.spec
+    (λ c κs. search needs)
+    (λ c. search needs)
+    returns
+    returns-2)

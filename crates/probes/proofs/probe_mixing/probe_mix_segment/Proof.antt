@@ -7,15 +7,6 @@ use borrow.Author.Needs.{needs}
 use Rattle.probes.proofs.probe_mixing.probe_mix_segment.Statement.{statement}
 use Rattle.probes.proofs.probe_mixing.probe_mix_segment.Tie as tie
 
-sub-if2 : tie.Need-sub-if2
-sub-if2 c = search needs
-
-mix-segment-requires : tie.Need-mix-segment-requires
-mix-segment-requires c κs = search needs
-
-same-length : tie.Need-same-length
-same-length c = search needs
-
 returns : tie.Need-returns
 returns c =
     let a = c .before .before .before .before .before .before .before .before .args in
@@ -36,4 +27,11 @@ returns-3 c =
 
 pub probe-mix-segment-spec : {M : Type 1} → statement M
 probe-mix-segment-spec =
-    tie.close (tie.spec sub-if2 mix-segment-requires same-length returns returns-2 returns-3)
+    tie.close
+    (tie.spec
+    (λ c. search needs)
+    (λ c κs. search needs)
+    (λ c. search needs)
+    returns
+    returns-2
+    returns-3)

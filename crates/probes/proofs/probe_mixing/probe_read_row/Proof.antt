@@ -9,14 +9,8 @@ use Rattle.probes.proofs.Cases.{chosen, passed-over, fits-and, unfit-an
 use Rattle.probes.proofs.probe_mixing.probe_read_row.Statement.{statement}
 use Rattle.probes.proofs.probe_mixing.probe_read_row.Tie as tie
 
-samples-pass-requires : tie.Need-samples-pass-requires
-samples-pass-requires c κs = search needs
-
 read-row-requires : tie.Need-read-row-requires
 read-row-requires c κs = (search needs, pass-plain _ 0 _ (sym (c .before .before .samples-pass .ensures) ∙ c .before .if2 .taken))
-
-same-length : tie.Need-same-length
-same-length c = search needs
 
 returns : tie.Need-returns
 returns c =
@@ -40,4 +34,10 @@ returns-3 c =
 pub probe-read-row-spec : {M : Type 1} → statement M
 probe-read-row-spec =
     tie.close
-    (tie.spec samples-pass-requires read-row-requires same-length returns returns-2 returns-3)
+    (tie.spec
+    (λ c κs. search needs)
+    read-row-requires
+    (λ c. search needs)
+    returns
+    returns-2
+    returns-3)

@@ -7,9 +7,6 @@ use borrow.Author.Needs.{needs}
 use Rattle.probes.proofs.probe_mixing.probe_samples_pass.Statement.{statement}
 use Rattle.probes.proofs.probe_mixing.probe_samples_pass.Tie as tie
 
-samples-pass-requires : tie.Need-samples-pass-requires
-samples-pass-requires c κs = search needs
-
 returns : tie.Need-returns
 returns c =
     let a = c .before .before .before .args in
@@ -23,4 +20,4 @@ returns-2 c =
     unfit-and _ h
 
 pub probe-samples-pass-spec : {M : Type 1} → statement M
-probe-samples-pass-spec = tie.close (tie.spec samples-pass-requires returns returns-2)
+probe-samples-pass-spec = tie.close (tie.spec (λ c κs. search needs) returns returns-2)

@@ -7,11 +7,8 @@ use Rattle.probes.proofs.probe_records.probe_blocks.Tie as tie
 returns : tie.Need-returns
 returns c = simp (le-ltb _ _ (c .if1 .taken))
 
-blocks-at-requires : tie.Need-blocks-at-requires
-blocks-at-requires c κs = search needs
-
 returns-2 : tie.Need-returns-2
 returns-2 c = simp (lt-ltb _ _ (c .before .if1 .left)) (c .blocks-at .ensures .0)
 
 pub probe-blocks-spec : {M : Type 1} → statement M
-probe-blocks-spec = tie.close (tie.spec returns blocks-at-requires returns-2)
+probe-blocks-spec = tie.close (tie.spec returns (λ c κs. search needs) returns-2)

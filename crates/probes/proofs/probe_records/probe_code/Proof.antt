@@ -10,11 +10,8 @@ returns c = simp (le-ltb _ _ (c .if1 .taken))
 returns-2 : tie.Need-returns-2
 returns-2 c = simp (lt-ltb _ _ (c .before .if1 .left), le-ltb _ _ (c .if2 .taken))
 
-code-at-requires : tie.Need-code-at-requires
-code-at-requires c κs = search needs
-
 returns-3 : tie.Need-returns-3
 returns-3 c = simp (lt-ltb _ _ (c .before .before .if1 .left), lt-ltb _ _ (c .before .if2 .left)) (c .code-at .ensures)
 
 pub probe-code-spec : {M : Type 1} → statement M
-probe-code-spec = tie.close (tie.spec returns returns-2 code-at-requires returns-3)
+probe-code-spec = tie.close (tie.spec returns returns-2 (λ c κs. search needs) returns-3)

@@ -10,17 +10,19 @@ returns c = simp (le-ltb _ _ (c .if1 .taken))
 returns-2 : tie.Need-returns-2
 returns-2 c = simp (lt-ltb _ _ (c .before .if1 .left), lt-leb _ _ (c .if2 .taken))
 
-blocks-at-requires : tie.Need-blocks-at-requires
-blocks-at-requires c κs = search needs
-
 returns-3 : tie.Need-returns-3
 returns-3 c = simp (lt-ltb _ _ (c .before .before .before .if1 .left), le-leb _ _ (c .before .before .if2 .left), lt-leb _ _ (rw (c .before .blocks-at .ensures .0) at (c .if3 .taken)))
-
-element-after-requires : tie.Need-element-after-requires
-element-after-requires c κs = search needs
 
 returns-4 : tie.Need-returns-4
 returns-4 c = simp (lt-ltb _ _ (c .before .before .before .before .if1 .left), le-leb _ _ (c .before .before .before .if2 .left), le-leb _ _ (rw (c .before .before .blocks-at .ensures .0) at (c .before .if3 .left))) (c .element-after .ensures)
 
 pub probe-element-after-spec : {M : Type 1} → statement M
-probe-element-after-spec = tie.close (tie.spec returns returns-2 blocks-at-requires returns-3 element-after-requires returns-4)
+probe-element-after-spec =
+    tie.close
+    (tie.spec
+    returns
+    returns-2
+    (λ c κs. search needs)
+    returns-3
+    (λ c κs. search needs)
+    returns-4)

@@ -7,11 +7,8 @@ use Rattle.probes.proofs.probe_records.probe_header.Tie as tie
 returns : tie.Need-returns
 returns c = simp (le-ltb _ _ (c .if1 .taken))
 
-header-at-requires : tie.Need-header-at-requires
-header-at-requires c κs = search needs
-
 returns-2 : tie.Need-returns-2
 returns-2 c = simp (lt-ltb _ _ (c .before .if1 .left)) (c .header-at .ensures)
 
 pub probe-header-spec : {M : Type 1} → statement M
-probe-header-spec = tie.close (tie.spec returns header-at-requires returns-2)
+probe-header-spec = tie.close (tie.spec returns (λ c κs. search needs) returns-2)

@@ -7,11 +7,8 @@ use Rattle.probes.proofs.probe_records.probe_info.Tie as tie
 returns : tie.Need-returns
 returns c = simp (le-ltb _ _ (c .if1 .taken))
 
-info-at-requires : tie.Need-info-at-requires
-info-at-requires c κs = search needs
-
 returns-2 : tie.Need-returns-2
 returns-2 c = simp (lt-ltb _ _ (c .before .if1 .left)) (c .info-at .ensures)
 
 pub probe-info-spec : {M : Type 1} → statement M
-probe-info-spec = tie.close (tie.spec returns info-at-requires returns-2)
+probe-info-spec = tie.close (tie.spec returns (λ c κs. search needs) returns-2)

@@ -10,12 +10,6 @@ use borrow.Author.Needs.{needs}
 use Rattle.probes.proofs.probe_records.probe_next_offset.Statement.{statement}
 use Rattle.probes.proofs.probe_records.probe_next_offset.Tie as tie
 
-layout-of-requires : tie.Need-layout-of-requires
-layout-of-requires c κs = search needs
-
-next-offset-requires : tie.Need-next-offset-requires
-next-offset-requires c κs = search needs
-
 returns : tie.Need-returns
 returns c =
     let a = c .before .before .before .args in
@@ -26,4 +20,4 @@ returns c =
     ∙ next-same (λ i. getD (l .result .offset) i 0) (λ i. offset m (updateAt m i)) (count m) (a .t) (a .end) (l .ensures .offsets)
 
 pub probe-next-offset-spec : {M : Type 1} → statement M
-probe-next-offset-spec = tie.close (tie.spec layout-of-requires next-offset-requires returns)
+probe-next-offset-spec = tie.close (tie.spec (λ c κs. search needs) (λ c κs. search needs) returns)

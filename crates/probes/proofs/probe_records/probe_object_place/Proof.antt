@@ -13,17 +13,20 @@ returns-2 c = simp (lt-ltb _ _ (c .before .if1 .left), le-ltb _ _ (c .if2 .taken
 returns-3 : tie.Need-returns-3
 returns-3 c = simp (lt-ltb _ _ (c .before .before .if1 .left), lt-ltb _ _ (c .before .if2 .left), le-ltb _ _ (c .if3 .taken))
 
-blocks-at-requires : tie.Need-blocks-at-requires
-blocks-at-requires c κs = search needs
-
 returns-4 : tie.Need-returns-4
 returns-4 c = simp (lt-ltb _ _ (c .before .before .before .before .if1 .left), lt-ltb _ _ (c .before .before .before .if2 .left), lt-ltb _ _ (c .before .before .if3 .left), lt-leb _ _ (rw (c .before .blocks-at .ensures .0) at (c .if4 .taken)))
-
-object-place-requires : tie.Need-object-place-requires
-object-place-requires c κs = search needs
 
 returns-5 : tie.Need-returns-5
 returns-5 c = simp (lt-ltb _ _ (c .before .before .before .before .before .if1 .left), lt-ltb _ _ (c .before .before .before .before .if2 .left), lt-ltb _ _ (c .before .before .before .if3 .left), le-leb _ _ (rw (c .before .before .blocks-at .ensures .0) at (c .before .if4 .left))) (c .object-place .ensures)
 
 pub probe-object-place-spec : {M : Type 1} → statement M
-probe-object-place-spec = tie.close (tie.spec returns returns-2 returns-3 blocks-at-requires returns-4 object-place-requires returns-5)
+probe-object-place-spec =
+    tie.close
+    (tie.spec
+    returns
+    returns-2
+    returns-3
+    (λ c κs. search needs)
+    returns-4
+    (λ c κs. search needs)
+    returns-5)

@@ -11,14 +11,8 @@ use Rattle.records.proofs.Times.{first-same}
 use Rattle.probes.proofs.probe_records.probe_sent_at.Statement.{statement}
 use Rattle.probes.proofs.probe_records.probe_sent_at.Tie as tie
 
-layout-of-requires : tie.Need-layout-of-requires
-layout-of-requires c κs = search needs
-
 returns : tie.Need-returns
 returns c = simp (lt-leb _ _ (rw (c .before .before .layout-of .ensures .counted) at (c .if1 .taken))) refl
-
-sent-at-requires : tie.Need-sent-at-requires
-sent-at-requires c κs = search needs
 
 returns-2 : tie.Need-returns-2
 returns-2 c =
@@ -30,4 +24,10 @@ returns-2 c =
     (subst (λ (n : ℕ). FirstAt (λ i. getD (l .result .offset) i 0) n (a .t) (a .from) (c .sent-at .result)) (l .ensures .counted) (c .sent-at .ensures)))
 
 pub probe-sent-at-spec : {M : Type 1} → statement M
-probe-sent-at-spec = tie.close (tie.spec layout-of-requires returns sent-at-requires returns-2)
+probe-sent-at-spec =
+    tie.close
+    (tie.spec
+    (λ c κs. search needs)
+    returns
+    (λ c κs. search needs)
+    returns-2)

@@ -4,17 +4,8 @@ use borrow.Author.Needs.{needs}
 use Rattle.probes.proofs.probe_records.probe_update_place.Statement.{statement}
 use Rattle.probes.proofs.probe_records.probe_update_place.Tie as tie
 
-layout-of-requires : tie.Need-layout-of-requires
-layout-of-requires c κs = search needs
-
 returns : tie.Need-returns
 returns c = simp (le-ltb _ _ (rw (c .before .before .before .layout-of .ensures .counted) at (c .if1 .taken)))
-
-mul-result : tie.Need-mul-result
-mul-result c = search needs
-
-array-read-result : tie.Need-array-read-result
-array-read-result c = search needs
 
 returns-2 : tie.Need-returns-2
 returns-2 c =
@@ -23,4 +14,10 @@ returns-2 c =
     simp (lt-ltb _ _ h) (l .firsts (c .before .before .before .before .before .args .i) h)
 
 pub probe-update-place-spec : {M : Type 1} → statement M
-probe-update-place-spec = tie.close (tie.spec layout-of-requires returns mul-result array-read-result returns-2)
+probe-update-place-spec =
+    tie.close
+    (tie.spec
+    (λ c κs. search needs)
+    returns
+    (λ c. search needs) (λ c. search needs)
+    returns-2)

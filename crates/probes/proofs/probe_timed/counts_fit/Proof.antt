@@ -13,9 +13,6 @@ returns-2 : tie.Need-returns-2
 unfolding countsSuit
 returns-2 c = simp (le-leb _ _ (c .before .before .if1 .left), lt-leb _ _ (c .if2 .taken))
 
-dynamic-requires : tie.Need-dynamic-requires
-dynamic-requires c κs = search needs
-
 returns-3 : tie.Need-returns-3
 unfolding countsSuit
 returns-3 c = simp (le-leb _ _ (c .before .before .before .before .if1 .left), le-leb _ _ (c .before .before .if2 .left), lt-leb _ _ (rw (c .before .dynamic .ensures) at (c .if3 .taken)))
@@ -33,4 +30,13 @@ unfolding countsSuit
 returns-6 c = rw (le-leb _ _ (c .before .before .before .before .before .before .before .before .before .if1 .left), le-leb _ _ (c .before .before .before .before .before .before .before .if2 .left), le-leb _ _ (rw (c .before .before .before .before .before .before .dynamic .ensures) at (c .before .before .before .before .before .if3 .left)), le-leb _ _ (c .before .before .before .if4 .left), le-leb _ _ (c .before .if5 .left))
 
 pub counts-fit-spec : {M : Type 1} → statement M
-counts-fit-spec = tie.close (tie.spec returns returns-2 dynamic-requires returns-3 returns-4 returns-5 returns-6)
+counts-fit-spec =
+    tie.close
+    (tie.spec
+    returns
+    returns-2
+    (λ c κs. search needs)
+    returns-3
+    returns-4
+    returns-5
+    returns-6)

@@ -10,9 +10,6 @@ returns : tie.Need-returns
 unfolding elementFits
 returns c = simp (lt-leb _ _ (c .if1 .taken))
 
-schedule-fits-requires : tie.Need-schedule-fits-requires
-schedule-fits-requires c κs = search needs
-
 returns-2 : tie.Need-returns-2
 unfolding elementFits
 returns-2 c = simp (le-leb _ _ (c .before .before .before .if1 .left), sym (c .before .schedule-fits .ensures) ∙ not-true _ (c .if2 .taken))
@@ -21,18 +18,17 @@ returns-3 : tie.Need-returns-3
 unfolding elementFits
 returns-3 c = simp (le-leb _ _ (c .before .before .before .before .if1 .left), sym (c .before .before .schedule-fits .ensures) ∙ not-false _ (c .before .if2 .left), lt-leb _ _ (c .if3 .taken))
 
-mul-result : tie.Need-mul-result
-mul-result c = search needs
-
-add-result : tie.Need-add-result
-add-result c = search needs
-
-add-result-2 : tie.Need-add-result-2
-add-result-2 c = search needs
-
 returns-4 : tie.Need-returns-4
 unfolding elementFits
 returns-4 c = simp (le-leb _ _ (c .before .before .before .before .if1 .left), sym (c .before .before .schedule-fits .ensures) ∙ not-false _ (c .before .if2 .left), le-leb _ _ (c .if3 .left))
 
 pub element-fits-spec : {M : Type 1} → statement M
-element-fits-spec = tie.close (tie.spec returns schedule-fits-requires returns-2 returns-3 mul-result add-result add-result-2 returns-4)
+element-fits-spec =
+    tie.close
+    (tie.spec
+    returns
+    (λ c κs. search needs)
+    returns-2
+    returns-3
+    (λ c. search needs) (λ c. search needs) (λ c. search needs)
+    returns-4)

@@ -12,14 +12,8 @@ use Rattle.probes.proofs.probe_timed.probe_apply_update.Tie as tie
 returns : tie.Need-returns
 returns c = simp (ne-eqb _ _ (c .if1 .taken)) (record { state = refl; infos = refl })
 
-layout-of-requires : tie.Need-layout-of-requires
-layout-of-requires c κs = search needs
-
 returns-2 : tie.Need-returns-2
 returns-2 c = simp (eq-eqb _ _ (c .before .before .before .if1 .left), sym (c .before .before .layout-of .ensures .fits) ∙ not-true _ (c .if2 .taken)) (record { state = refl; infos = refl })
-
-in-range-requires : tie.Need-in-range-requires
-in-range-requires c κs = search needs
 
 returns-3 : tie.Need-returns-3
 returns-3 c = simp (eq-eqb _ _ (c .before .before .before .before .before .if1 .left), sym (c .before .before .before .before .layout-of .ensures .fits) ∙ not-false _ (c .before .before .if2 .left), sym (c .before .in-range .ensures) ∙ not-true _ (c .if3 .taken)) (record { state = refl; infos = refl })
@@ -46,9 +40,6 @@ apply-update-requires c κs =
     let fit = sym (c .before .before .before .before .in-range .ensures) ∙ not-false _ (c .before .before .before .if3 .left) in
     (omega arith, rw (g .firsts (a .i) one) (passes m laid fit (λ k. omega (arith, c .before .before .before .before .before .before .before .before .before .shared-slice-known .given k)) (a .i) one))
 
-same-length : tie.Need-same-length
-same-length c = search needs
-
 returns-5 : tie.Need-returns-5
 returns-5 c =
     let a = c .before .before .before .before .before .before .before .before .before .before .before .before .before .before .args in
@@ -58,4 +49,17 @@ returns-5 c =
     (rw (g .firsts (a .i) one) at (c .before .before .apply-update .ensures))
 
 pub probe-apply-update-spec : {M : Type 1} → statement M
-probe-apply-update-spec = tie.close (tie.spec returns layout-of-requires returns-2 in-range-requires returns-3 returns-4 mul-apply-update array-read-apply-update apply-update-requires same-length returns-5)
+probe-apply-update-spec =
+    tie.close
+    (tie.spec
+    returns
+    (λ c κs. search needs)
+    returns-2
+    (λ c κs. search needs)
+    returns-3
+    returns-4
+    mul-apply-update
+    array-read-apply-update
+    apply-update-requires
+    (λ c. search needs)
+    returns-5)

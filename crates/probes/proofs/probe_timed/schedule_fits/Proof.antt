@@ -22,12 +22,6 @@ abbrev μ-loop : tie.MeasureT-loop
 loop-holds : tie.Need-loop-holds Inv-loop μ-loop
 loop-holds c = (search needs, all-none _)
 
-mul-block : tie.Need-mul-block Inv-loop μ-loop
-mul-block c = search needs
-
-array-copy-out-block : tie.Need-array-copy-out-block Inv-loop μ-loop
-array-copy-out-block c = search needs
-
 returns : tie.Need-returns Inv-loop μ-loop
 unfolding scheduleFits
 returns c =
@@ -42,12 +36,6 @@ returns-2 c =
     let x = getD (c .before .before .before .before .before .before .before .args .t1) b noBlock in
     sym (all-fails _ 8 b (omega arith) (simp (le-leb (x .offset) 2097152 (c .before .before .if1 .left), lt-leb (x .ramp) 2097152 (c .if2 .taken))))
 
-add-b : tie.Need-add-b Inv-loop μ-loop
-add-b c = search needs
-
-loop-less : tie.Need-loop-less Inv-loop μ-loop
-loop-less c = search needs
-
 loop-again : tie.Need-loop-again Inv-loop μ-loop
 loop-again c =
     let b = c .before .before .before .before .before .before .loop .b in
@@ -59,4 +47,15 @@ unfolding scheduleFits
 returns-3 c = sym (all-passed _ 8 _ (omega arith) (omega arith) (c .before .loop .inv .1))
 
 pub schedule-fits-spec : {M : Type 1} → statement M
-schedule-fits-spec = tie.close (tie.spec Inv-loop μ-loop loop-holds mul-block array-copy-out-block returns returns-2 add-b loop-less loop-again returns-3)
+schedule-fits-spec =
+    tie.close
+    (tie.spec
+    Inv-loop
+    μ-loop
+    loop-holds
+    (λ c. search needs) (λ c. search needs)
+    returns
+    returns-2
+    (λ c. search needs) (λ c. search needs)
+    loop-again
+    returns-3)

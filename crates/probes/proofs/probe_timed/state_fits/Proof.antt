@@ -8,9 +8,6 @@ use Rattle.probes.specs.Timed.{elementFits, stateFits}
 use Rattle.probes.proofs.probe_timed.state_fits.Statement.{statement}
 use Rattle.probes.proofs.probe_timed.state_fits.Tie as tie
 
-counts-fit-requires : tie.Need-counts-fit-requires
-counts-fit-requires c κs = search needs
-
 returns : tie.Need-returns
 unfolding stateFits
 returns c = simp (sym (c .before .counts-fit .ensures) ∙ not-true _ (c .if1 .taken))
@@ -19,24 +16,12 @@ returns-2 : tie.Need-returns-2
 unfolding stateFits
 returns-2 c = simp (sym (c .before .before .before .before .counts-fit .ensures) ∙ not-false _ (c .before .before .before .if1 .left), lt-leb _ _ (c .if2 .taken))
 
-array-copy-out-first : tie.Need-array-copy-out-first
-array-copy-out-first c = search needs
-
-element-fits-requires : tie.Need-element-fits-requires
-element-fits-requires c κs = search needs
-
 returns-3 : tie.Need-returns-3
 unfolding stateFits
 returns-3 c =
     let a = c .before .before .before .before .before .before .before .before .before .args in
     let first : elementFits (a .position) (elementOf (a .s) 0) ≡ false = sym (c .before .element-fits .ensures) ∙ not-true _ (c .if3 .taken) in
     simp (sym (c .before .before .before .before .before .before .before .before .counts-fit .ensures) ∙ not-false _ (c .before .before .before .before .before .before .before .if1 .left), le-leb _ _ (c .before .before .before .before .if2 .left), first)
-
-array-copy-out-second : tie.Need-array-copy-out-second
-array-copy-out-second c = search needs
-
-element-fits-requires-2 : tie.Need-element-fits-requires-2
-element-fits-requires-2 c κs = search needs
 
 returns-4 : tie.Need-returns-4
 unfolding stateFits
@@ -46,4 +31,15 @@ returns-4 c =
     simp (sym (c .before .before .before .before .before .before .before .before .before .before .counts-fit .ensures) ∙ not-false _ (c .before .before .before .before .before .before .before .before .before .if1 .left), le-leb _ _ (c .before .before .before .before .before .before .if2 .left), first) (c .element-fits2 .ensures)
 
 pub state-fits-spec : {M : Type 1} → statement M
-state-fits-spec = tie.close (tie.spec counts-fit-requires returns returns-2 array-copy-out-first element-fits-requires returns-3 array-copy-out-second element-fits-requires-2 returns-4)
+state-fits-spec =
+    tie.close
+    (tie.spec
+    (λ c κs. search needs)
+    returns
+    returns-2
+    (λ c. search needs)
+    (λ c κs. search needs)
+    returns-3
+    (λ c. search needs)
+    (λ c κs. search needs)
+    returns-4)

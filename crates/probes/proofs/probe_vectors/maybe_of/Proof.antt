@@ -6,8 +6,5 @@ use Rattle.probes.proofs.probe_vectors.maybe_of.Tie as tie
 returns : tie.Need-returns
 returns c = rw (c .if1 .taken)
 
-returns-2 : tie.Need-returns-2
-returns-2 c = search needs
-
 pub maybe-of-spec : {M : Type 1} → statement M
-maybe-of-spec = tie.close (tie.spec returns returns-2)
+maybe-of-spec = tie.close (tie.spec returns (λ c. search needs))

@@ -5,15 +5,12 @@ use Rattle.vectors.specs.Anchors.{screenAnchored}
 use Rattle.probes.proofs.probe_vectors.probe_screen_anchored_position.Statement.{statement}
 use Rattle.probes.proofs.probe_vectors.probe_screen_anchored_position.Tie as tie
 
-depth-of-requires : tie.Need-depth-of-requires
-depth-of-requires c κs = search needs
-
-screen-anchored-position-requires : tie.Need-screen-anchored-position-requires
-screen-anchored-position-requires c κs = search needs
-
 returns : tie.Need-returns
 returns c = let a = c .before .before .args in c .screen-anchored-position .ensures ∙ ap (screenAnchored (a .position) (a .screen)) (c .before .depth-of .ensures)
 
 pub probe-screen-anchored-position-spec : {M : Type 1} → statement M
 probe-screen-anchored-position-spec =
-    tie.close (tie.spec depth-of-requires screen-anchored-position-requires returns)
+    tie.close
+    (tie.spec
+    (λ c κs. search needs) (λ c κs. search needs)
+    returns)

@@ -5,18 +5,6 @@ use Rattle.vectors.specs.Target.{placed}
 use Rattle.probes.proofs.probe_vectors.probe_update_source_position.Statement.{statement}
 use Rattle.probes.proofs.probe_vectors.probe_update_source_position.Tie as tie
 
-anchor-of-requires : tie.Need-anchor-of-requires
-anchor-of-requires c κs = search needs
-
-maybe-of-requires : tie.Need-maybe-of-requires
-maybe-of-requires c κs = search needs
-
-depth-of-requires : tie.Need-depth-of-requires
-depth-of-requires c κs = search needs
-
-update-source-position-requires : tie.Need-update-source-position-requires
-update-source-position-requires c κs = search needs
-
 returns : tie.Need-returns
 returns c =
     let depth = c .before in
@@ -30,8 +18,5 @@ pub probe-update-source-position-spec : {M : Type 1} → statement M
 probe-update-source-position-spec =
     tie.close
     (tie.spec
-    anchor-of-requires
-    maybe-of-requires
-    depth-of-requires
-    update-source-position-requires
+    (λ c κs. search needs) (λ c κs. search needs) (λ c κs. search needs) (λ c κs. search needs)
     returns)

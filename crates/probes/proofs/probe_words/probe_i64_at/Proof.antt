@@ -14,17 +14,11 @@ returns c =
     let h : length (a .s .now) < a .at + 8 = omega arith in
     unfit _ _ h
 
-sub-if2 : tie.Need-sub-if2
-sub-if2 c = search needs
-
 returns-2 : tie.Need-returns-2
 returns-2 c =
     let a = c .before .before .before .args in
     let h : length (a .s .now) < a .at + 8 = omega arith in
     unfit _ _ h
-
-i64-at-requires : tie.Need-i64-at-requires
-i64-at-requires c κs = search needs
 
 returns-3 : tie.Need-returns-3
 returns-3 c =
@@ -33,4 +27,11 @@ returns-3 c =
     simp (le-leb _ _ h) (search needs)
 
 pub probe-i64-at-spec : {M : Type 1} → statement M
-probe-i64-at-spec = tie.close (tie.spec returns sub-if2 returns-2 i64-at-requires returns-3)
+probe-i64-at-spec =
+    tie.close
+    (tie.spec
+    returns
+    (λ c. search needs)
+    returns-2
+    (λ c κs. search needs)
+    returns-3)

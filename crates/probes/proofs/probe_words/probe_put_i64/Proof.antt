@@ -16,20 +16,11 @@ returns c =
     let h : length (a .s .now) < a .at + 8 = omega arith in
     unfit _ _ h
 
-sub-if2 : tie.Need-sub-if2
-sub-if2 c = search needs
-
 returns-2 : tie.Need-returns-2
 returns-2 c =
     let a = c .before .before .before .args in
     let h : length (a .s .now) < a .at + 8 = omega arith in
     unfit _ _ h
-
-put-i64-requires : tie.Need-put-i64-requires
-put-i64-requires c κs = search needs
-
-same-length : tie.Need-same-length
-same-length c = search needs
 
 returns-3 : tie.Need-returns-3
 returns-3 c =
@@ -39,4 +30,12 @@ returns-3 c =
     fits _ h (c .before .before .put-i64 .ensures ∙ ap (withSigned (a .s .now) (a .at)) (toZ-ofZ (s .fits .z)))
 
 pub probe-put-i64-spec : {M : Type 1} → statement M
-probe-put-i64-spec = tie.close (tie.spec returns sub-if2 returns-2 put-i64-requires same-length returns-3)
+probe-put-i64-spec =
+    tie.close
+    (tie.spec
+    returns
+    (λ c. search needs)
+    returns-2
+    (λ c κs. search needs)
+    (λ c. search needs)
+    returns-3)

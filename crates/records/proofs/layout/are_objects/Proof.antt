@@ -20,20 +20,8 @@ abbrev μ-loop : tie.MeasureT-loop
 loop-holds : tie.Need-loop-holds Inv-loop μ-loop
 loop-holds c = (search needs, all-none _)
 
-add-is-object : tie.Need-add-is-object Inv-loop μ-loop
-add-is-object c = search needs
-
-is-object-requires : tie.Need-is-object-requires Inv-loop μ-loop
-is-object-requires c κs = search needs
-
 returns : tie.Need-returns Inv-loop μ-loop
 returns c = sym (all-fails _ _ _ (omega arith) (sym (c .before .is-object .ensures) ∙ not-true _ (c .if1 .taken)))
-
-add-k : tie.Need-add-k Inv-loop μ-loop
-add-k c = search needs
-
-loop-less : tie.Need-loop-less Inv-loop μ-loop
-loop-less c = search needs
 
 loop-again : tie.Need-loop-again Inv-loop μ-loop
 loop-again c = (search needs, all-more _ _ (c .before .before .before .loop .inv .1) (sym (c .before .is-object .ensures) ∙ not-false _ (c .if1 .left)))
@@ -48,10 +36,9 @@ are-objects-spec =
     Inv-loop
     μ-loop
     loop-holds
-    add-is-object
-    is-object-requires
+    (λ c. search needs)
+    (λ c κs. search needs)
     returns
-    add-k
-    loop-less
+    (λ c. search needs) (λ c. search needs)
     loop-again
     returns-2)

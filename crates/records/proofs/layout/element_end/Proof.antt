@@ -17,9 +17,6 @@ returns c =
     let a = c .before .before .args in
     broken-if _ _ (too-long (a .meta .now) (c .before .before .pre .0) (a .objects) (a .e) (omega arith))
 
-is-element-requires : tie.Need-is-element-requires
-is-element-requires c κs = search needs
-
 returns-2 : tie.Need-returns-2
 returns-2 c = broken-if _ _ (no-element _ _ _ (sym (c .before .is-element .ensures) ∙ not-true _ (c .if2 .taken)))
 
@@ -30,20 +27,8 @@ held c = sym (c .before .is-element .ensures) ∙ not-false _ (c .if2 .left)
 few : (c : tie.Else2) → blocks (c .before .before .before .before .args .meta .now) (c .before .before .before .before .args .e) ≤ 8
 few c = few-blocks _ (c .before .before .before .before .pre .0) _ (held c)
 
-blocks-at-requires : tie.Need-blocks-at-requires
-blocks-at-requires c κs = search needs
-
-add-first : tie.Need-add-first
-add-first c = search needs
-
-add-first-2 : tie.Need-add-first-2
-add-first-2 c = search needs
-
 cells-requires : tie.Need-cells-requires
 cells-requires c κs = let k = few (c .before) in (c .before .before .before .before .before .pre .1, omega arith)
-
-add-end : tie.Need-add-end
-add-end c = search needs
 
 returns-3 : tie.Need-returns-3
 returns-3 c =
@@ -52,19 +37,10 @@ returns-3 c =
     let q = end-is (s .args .meta .now) (s .args .objects) (s .args .e) (held (b .before)) _ (b .blocks-at .ensures .0) _ (c .before .cells .ensures .0) in
     broken-if _ _ (too-long (s .args .meta .now) (s .pre .0) (s .args .objects) (s .args .e) (omega arith))
 
-add-are-blocks : tie.Need-add-are-blocks
-add-are-blocks c = search needs
-
-are-blocks-requires : tie.Need-are-blocks-requires
-are-blocks-requires c κs = search needs
-
 returns-4 : tie.Need-returns-4
 returns-4 c =
     let b = c .before .before .before .before in
     broken-if _ _ (no-blocks _ _ _ (held (b .before)) _ (b .blocks-at .ensures .0) (sym (c .before .are-blocks .ensures) ∙ not-true _ (c .if4 .taken)))
-
-are-objects-requires : tie.Need-are-objects-requires
-are-objects-requires c κs = search needs
 
 returns-5 : tie.Need-returns-5
 returns-5 c =
@@ -90,17 +66,16 @@ element-end-spec =
     tie.close
     (tie.spec
     returns
-    is-element-requires
+    (λ c κs. search needs)
     returns-2
-    blocks-at-requires
-    add-first
-    add-first-2
+    (λ c κs. search needs)
+    (λ c. search needs) (λ c. search needs)
     cells-requires
-    add-end
+    (λ c. search needs)
     returns-3
-    add-are-blocks
-    are-blocks-requires
+    (λ c. search needs)
+    (λ c κs. search needs)
     returns-4
-    are-objects-requires
+    (λ c κs. search needs)
     returns-5
     returns-6)

@@ -3,24 +3,6 @@ use borrow.Author.Needs.{needs}
 use Rattle.records.proofs.layout.object_place.Statement.{statement}
 use Rattle.records.proofs.layout.object_place.Tie as tie
 
-blocks-at-requires : tie.Need-blocks-at-requires
-blocks-at-requires c κs = search needs
-
-add-result : tie.Need-add-result
-add-result c = search needs
-
-add-result-2 : tie.Need-add-result-2
-add-result-2 c = search needs
-
-cells-requires : tie.Need-cells-requires
-cells-requires c κs = search needs
-
-add-result-3 : tie.Need-add-result-3
-add-result-3 c = search needs
-
-add-result-4 : tie.Need-add-result-4
-add-result-4 c = search needs
-
 returns : tie.Need-returns
 returns c = simp (c .cells .ensures .0, c .before .blocks-at .ensures .0)
 
@@ -28,10 +10,8 @@ pub object-place-spec : {M : Type 1} → statement M
 object-place-spec =
     tie.close
     (tie.spec
-    blocks-at-requires
-    add-result
-    add-result-2
-    cells-requires
-    add-result-3
-    add-result-4
+    (λ c κs. search needs)
+    (λ c. search needs) (λ c. search needs)
+    (λ c κs. search needs)
+    (λ c. search needs) (λ c. search needs)
     returns)

@@ -25,9 +25,6 @@ Inv-loop meta u n k r₀ e₀ r e =
 abbrev μ-loop : tie.MeasureT-loop
 μ-loop meta u objects elements r₀ e₀ r e = elements - e
 
-is-update-requires : tie.Need-is-update-requires Inv-loop μ-loop
-is-update-requires c κs = search needs
-
 returns : tie.Need-returns Inv-loop μ-loop
 unfolding isWholeUpdate endIf
 returns c = simp (sym (c .before .is-update .ensures) ∙ not-true _ (c .if1 .taken))
@@ -35,12 +32,6 @@ returns c = simp (sym (c .before .is-update .ensures) ∙ not-true _ (c .if1 .ta
 -- an update's record stands at u
 held : (c : tie.Else1 Inv-loop μ-loop) → isUpdate (c .before .before .before .args .meta .now) (c .before .before .before .args .u) ≡ true
 held c = sym (c .before .is-update .ensures) ∙ not-false _ (c .if1 .left)
-
-header-at-requires : tie.Need-header-at-requires Inv-loop μ-loop
-header-at-requires c κs = search needs
-
-add-r : tie.Need-add-r Inv-loop μ-loop
-add-r c = search needs
 
 loop-holds : tie.Need-loop-holds Inv-loop μ-loop
 unfolding elementAt
@@ -55,12 +46,6 @@ element-end-requires c κs =
     let n = update-counts _ (p .0) _ (held (l .before .before)) .few-objects in
     (p .0, rw (l .loop .inv .1) n, l .loop .inv .5)
 
-enum-known-end : tie.Need-enum-known-end Inv-loop μ-loop
-enum-known-end c = search needs
-
-enum-told : tie.Need-enum-told Inv-loop μ-loop
-enum-told c = search needs
-
 returns-2 : tie.Need-returns-2 Inv-loop μ-loop
 unfolding endIf
 returns-2 c =
@@ -69,12 +54,6 @@ returns-2 c =
     let a = l .before .before .before .before .before .args in
     let b : isWholeElement (a .meta .now) (l .before .header-at .result .objects) (l .loop .r) ≡ false = end-broken _ _ (sym (e .element-end .ensures) ∙ c .enum-told .given .1) in
     simp (broken-element (a .meta .now) (a .u) (l .loop .e) (held (l .before .before)) (omega arith) (rw (l .loop .inv .1, l .loop .inv .3) at b))
-
-add-e : tie.Need-add-e Inv-loop μ-loop
-add-e c = search needs
-
-loop-less : tie.Need-loop-less Inv-loop μ-loop
-loop-less c = search needs
 
 loop-again : tie.Need-loop-again Inv-loop μ-loop
 loop-again c =
@@ -103,16 +82,14 @@ update-end-spec =
     (tie.spec
     Inv-loop
     μ-loop
-    is-update-requires
+    (λ c κs. search needs)
     returns
-    header-at-requires
-    add-r
+    (λ c κs. search needs)
+    (λ c. search needs)
     loop-holds
     element-end-requires
-    enum-known-end
-    enum-told
+    (λ c. search needs) (λ c. search needs)
     returns-2
-    add-e
-    loop-less
+    (λ c. search needs) (λ c. search needs)
     loop-again
     returns-3)

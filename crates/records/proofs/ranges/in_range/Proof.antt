@@ -21,18 +21,9 @@ abbrev μ-loop : tie.MeasureT-loop
 loop-holds : tie.Need-loop-holds Inv-loop μ-loop
 loop-holds c = (search needs, all-none _)
 
-record-in-range-requires : tie.Need-record-in-range-requires Inv-loop μ-loop
-record-in-range-requires c κs = search needs
-
 returns : tie.Need-returns Inv-loop μ-loop
 unfolding inRange
 returns c = sym (all-fails _ _ _ (omega arith) (sym (c .before .record-in-range .ensures) ∙ not-true _ (c .if1 .taken)))
-
-add-r : tie.Need-add-r Inv-loop μ-loop
-add-r c = search needs
-
-loop-less : tie.Need-loop-less Inv-loop μ-loop
-loop-less c = search needs
 
 loop-again : tie.Need-loop-again Inv-loop μ-loop
 loop-again c = (search needs, all-more _ _ (c .before .before .before .loop .inv .1) (sym (c .before .record-in-range .ensures) ∙ not-false _ (c .if1 .left)))
@@ -48,9 +39,8 @@ in-range-spec =
     Inv-loop
     μ-loop
     loop-holds
-    record-in-range-requires
+    (λ c κs. search needs)
     returns
-    add-r
-    loop-less
+    (λ c. search needs) (λ c. search needs)
     loop-again
     returns-2)

@@ -6,15 +6,9 @@ use Rattle.records.specs.Ranges.{refusal}
 use Rattle.records.proofs.ranges.refusal.Statement.{statement}
 use Rattle.records.proofs.ranges.refusal.Tie as tie
 
-layout-of-requires : tie.Need-layout-of-requires
-layout-of-requires c κs = search needs
-
 returns : tie.Need-returns
 unfolding refusal
 returns c = simp (sym (c .before .before .layout-of .ensures .fits) ∙ not-true _ (c .if1 .taken))
-
-in-range-requires : tie.Need-in-range-requires
-in-range-requires c κs = search needs
 
 returns-2 : tie.Need-returns-2
 unfolding refusal
@@ -26,4 +20,10 @@ returns-3 c = simp (sym (c .before .before .before .before .layout-of .ensures .
 
 pub refusal-spec : {M : Type 1} → statement M
 refusal-spec =
-    tie.close (tie.spec layout-of-requires returns in-range-requires returns-2 returns-3)
+    tie.close
+    (tie.spec
+    (λ c κs. search needs)
+    returns
+    (λ c κs. search needs)
+    returns-2
+    returns-3)

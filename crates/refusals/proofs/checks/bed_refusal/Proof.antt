@@ -8,12 +8,6 @@ use borrow.Author.Needs.{needs}
 use Rattle.refusals.proofs.checks.bed_refusal.Statement.{statement}
 use Rattle.refusals.proofs.checks.bed_refusal.Tie as tie
 
-count-matching-requires : tie.Need-count-matching-requires
-count-matching-requires c κs = search needs
-
-count-matching-requires-2 : tie.Need-count-matching-requires-2
-count-matching-requires-2 c κs = search needs
-
 returns : tie.Need-returns
 returns c =
     let s = c .before .before .before .before .before .args in
@@ -32,4 +26,8 @@ returns-3 c =
 pub bed-refusal-spec : {M : Type 1} → statement M
 bed-refusal-spec =
     tie.close
-    (tie.spec count-matching-requires count-matching-requires-2 returns returns-2 returns-3)
+    (tie.spec
+    (λ c κs. search needs) (λ c κs. search needs)
+    returns
+    returns-2
+    returns-3)

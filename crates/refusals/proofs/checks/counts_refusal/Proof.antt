@@ -34,9 +34,6 @@ array-read-update-refusal-2 c = omega (arith, c .before .before .before .before 
 update-refusal-requires : tie.Need-update-refusal-requires Inv-loop μ-loop
 update-refusal-requires c κs = c .before .before .before .before .before .pre .1 .all (c .before .loop .i) (omega (arith, c .loop-test))
 
-is-clear-requires : tie.Need-is-clear-requires Inv-loop μ-loop
-is-clear-requires c κs = tt
-
 returns : tie.Need-returns Inv-loop μ-loop
 returns c =
     let s = c .before .before .before .before .before .before .before .before in
@@ -80,7 +77,7 @@ counts-refusal-spec =
     mul-update-refusal-2
     array-read-update-refusal-2
     update-refusal-requires
-    is-clear-requires
+    (λ c κs. tt)
     returns
     add-i
     loop-less

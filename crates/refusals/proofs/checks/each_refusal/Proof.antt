@@ -20,15 +20,6 @@ abbrev μ-loop : tie.MeasureT-loop
 loop-holds : tie.Need-loop-holds Inv-loop μ-loop
 loop-holds c = (omega arith, refl)
 
-shared-slice-read-bed-refusal : tie.Need-shared-slice-read-bed-refusal Inv-loop μ-loop
-shared-slice-read-bed-refusal c = search needs
-
-bed-refusal-requires : tie.Need-bed-refusal-requires Inv-loop μ-loop
-bed-refusal-requires c κs = search needs
-
-is-clear-requires : tie.Need-is-clear-requires Inv-loop μ-loop
-is-clear-requires c κs = search needs
-
 returns : tie.Need-returns Inv-loop μ-loop
 returns c =
     let s = c .before .before .before .before .before .before .before .before .args in
@@ -37,12 +28,6 @@ returns c =
     chain-stops (b .result) (bedFound (now (s .beds)) (now (s .codes)) (getD (now (s .beds)) (l .i) 0)) _ _ (b .ensures)
     (sym (beds-step (now (s .beds)) (now (s .codes)) (l .i) (omega (arith, c .before .before .before .before .loop-test))) ∙ l .inv .1)
     (sym (c .before .is-clear .ensures) ∙ not-true _ (c .if1 .taken))
-
-add-i : tie.Need-add-i Inv-loop μ-loop
-add-i c = search needs
-
-loop-less : tie.Need-loop-less Inv-loop μ-loop
-loop-less c = search needs
 
 loop-again : tie.Need-loop-again Inv-loop μ-loop
 loop-again c =
@@ -68,11 +53,9 @@ each-refusal-spec =
     Inv-loop
     μ-loop
     loop-holds
-    shared-slice-read-bed-refusal
-    bed-refusal-requires
-    is-clear-requires
+    (λ c. search needs)
+    (λ c κs. search needs) (λ c κs. search needs)
     returns
-    add-i
-    loop-less
+    (λ c. search needs) (λ c. search needs)
     loop-again
     returns-2)

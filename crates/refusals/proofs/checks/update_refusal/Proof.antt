@@ -14,12 +14,6 @@ use Rattle.refusals.proofs.checks.update_refusal.Tie as tie
 returns : tie.Need-returns
 returns c = rw (not-true (c .before .before .args .taken) (c .if1 .taken))
 
-header-at-requires : tie.Need-header-at-requires
-header-at-requires c κs = search needs
-
-dynamic-requires : tie.Need-dynamic-requires
-dynamic-requires c κs = search needs
-
 cast-match-refusal : tie.Need-cast-match-refusal
 cast-match-refusal c =
     let s = c .before .before .before .before in
@@ -27,9 +21,6 @@ cast-match-refusal c =
     let h = c .before .header-at .ensures in
     let d = c .dynamic .ensures in
     omega (arith, ap (λ (x : Header). x .objects) h)
-
-match-refusal-requires : tie.Need-match-refusal-requires
-match-refusal-requires c κs = search needs
 
 returns-2 : tie.Need-returns-2
 returns-2 c =
@@ -43,8 +34,7 @@ update-refusal-spec =
     tie.close
     (tie.spec
     returns
-    header-at-requires
-    dynamic-requires
+    (λ c κs. search needs) (λ c κs. search needs)
     cast-match-refusal
-    match-refusal-requires
+    (λ c κs. search needs)
     returns-2)

@@ -11,8 +11,5 @@ mul-result c = record { fits = omega (arith, mul-le-mul-right (c .args .samples)
 mul-result-2 : tie.Need-mul-result-2
 mul-result-2 c = record { fits = omega (arith, mul-le-mul-right (c .args .samples) (c .pre)) }
 
-returns : tie.Need-returns
-returns c = search needs
-
 pub pcm-bytes-spec : {M : Type 1} → statement M
-pcm-bytes-spec = tie.close (tie.spec mul-result mul-result-2 returns)
+pcm-bytes-spec = tie.close (tie.spec mul-result mul-result-2 (λ c. search needs))

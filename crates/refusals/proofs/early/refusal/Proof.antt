@@ -57,32 +57,20 @@ held-6 c out q = more (testsOf (from-6 (c .before)) out) 5 (held-5 (c .before .b
 
 -- ---- the answers
 
-room-requires : tie.Need-room-requires
-room-requires c κs = search needs
-
 returns : tie.Need-returns
 returns c out q r p =
     let s = from-1 (c .before) in
     refuses (s .args .position) r p (given s out) 0 tt (ap (room (s .args .n .stride)) q ∙ failed (c .before .room .ensures) (c .if1 .taken))
-
-sized-requires : tie.Need-sized-requires
-sized-requires c κs = search needs
 
 returns-2 : tie.Need-returns-2
 returns-2 c out q r p =
     let s = from-2 (c .before) in
     refuses (s .args .position) r p (given s out) 1 (held-1 (c .before .before) out q) (failed (c .before .sized .ensures) (c .if2 .taken))
 
-listed-requires : tie.Need-listed-requires
-listed-requires c κs = search needs
-
 returns-3 : tie.Need-returns-3
 returns-3 c out q r p =
     let s = from-3 (c .before) in
     refuses (s .args .position) r p (given s out) 2 (held-2 (c .before .before) out q) (failed (c .before .listed .ensures) (c .if3 .taken))
-
-stays-requires : tie.Need-stays-requires
-stays-requires c κs = search needs
 
 returns-4 : tie.Need-returns-4
 returns-4 c out q r p =
@@ -94,16 +82,10 @@ returns-5 c out q r p =
     let s = from-4 (c .before .before) in
     refuses (s .args .position) r p (given s out) 4 (held-4 (c .before) out q) (failed (s .pre) (c .if5 .taken))
 
-in-range-requires : tie.Need-in-range-requires
-in-range-requires c κs = search needs
-
 returns-6 : tie.Need-returns-6
 returns-6 c out q r p =
     let s = from-6 (c .before) in
     refuses (s .args .position) r p (given s out) 5 (held-5 (c .before .before) out q) (failed (c .before .in-range .ensures) (c .if6 .taken))
-
-samples-pass-requires : tie.Need-samples-pass-requires
-samples-pass-requires c κs = search needs
 
 returns-7 : tie.Need-returns-7
 returns-7 c out q r p =
@@ -121,17 +103,17 @@ pub refusal-spec : {M : Type 1} → statement M
 refusal-spec =
     tie.close
     (tie.spec
-    room-requires
+    (λ c κs. search needs)
     returns
-    sized-requires
+    (λ c κs. search needs)
     returns-2
-    listed-requires
+    (λ c κs. search needs)
     returns-3
-    stays-requires
+    (λ c κs. search needs)
     returns-4
     returns-5
-    in-range-requires
+    (λ c κs. search needs)
     returns-6
-    samples-pass-requires
+    (λ c κs. search needs)
     returns-7
     returns-8)

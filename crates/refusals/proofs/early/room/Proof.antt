@@ -13,11 +13,8 @@ returns-2 c = simp (eq-eqb _ _ (c .before .if1 .left), lt-leb _ _ (c .if2 .taken
 returns-3 : tie.Need-returns-3
 returns-3 c = simp (eq-eqb _ _ (c .before .before .if1 .left), le-leb _ _ (c .before .if2 .left), lt-leb _ _ (c .if3 .taken))
 
-mul-result : tie.Need-mul-result
-mul-result c = search needs
-
 returns-4 : tie.Need-returns-4
 returns-4 c = simp (eq-eqb _ _ (c .before .before .if1 .left), le-leb _ _ (c .before .if2 .left), le-leb _ _ (c .if3 .left))
 
 pub room-spec : {M : Type 1} → statement M
-room-spec = tie.close (tie.spec returns returns-2 returns-3 mul-result returns-4)
+room-spec = tie.close (tie.spec returns returns-2 returns-3 (λ c. search needs) returns-4)

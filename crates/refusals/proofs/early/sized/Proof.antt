@@ -19,9 +19,6 @@ returns-2 c = simp (le-leb _ _ (c .before .if1 .left), lt-leb _ _ (c .if2 .taken
 returns-3 : tie.Need-returns-3
 returns-3 c = simp (le-leb _ _ (c .before .before .if1 .left), le-leb _ _ (c .before .if2 .left), lt-leb _ _ (c .if3 .taken))
 
-codes-listed-requires : tie.Need-codes-listed-requires
-codes-listed-requires c κs = search needs
-
 returns-4 : tie.Need-returns-4
 returns-4 c =
     let l = c .before in
@@ -36,12 +33,6 @@ counts c =
     let l = c .before in
     let t = l .before in
     simp (le-leb _ _ (t .before .before .if1 .left), le-leb _ _ (t .before .if2 .left), le-leb _ _ (t .if3 .left), passed (l .codes-listed .ensures) (c .if4 .left))
-
-add-channels : tie.Need-add-channels
-add-channels c = search needs
-
-pcm-bytes-requires : tie.Need-pcm-bytes-requires
-pcm-bytes-requires c κs = search needs
 
 returns-5 : tie.Need-returns-5
 returns-5 c = simp (counts (c .before .before), ne-eqb _ _ (λ e. c .if5 .taken (e ∙ sym (c .before .pcm-bytes .ensures))))
@@ -63,11 +54,10 @@ sized-spec =
     returns
     returns-2
     returns-3
-    codes-listed-requires
+    (λ c κs. search needs)
     returns-4
-    (λ c. search needs)
-    add-channels
-    pcm-bytes-requires
+    (λ c. search needs) (λ c. search needs)
+    (λ c κs. search needs)
     returns-5
     returns-6
     returns-7)

@@ -5,11 +5,8 @@ use Rattle.refusals.proofs.Tests.{ends-later}
 use Rattle.refusals.proofs.early.stays.Statement.{statement}
 use Rattle.refusals.proofs.early.stays.Tie as tie
 
-sub-result : tie.Need-sub-result
-sub-result c = search needs
-
 returns : tie.Need-returns
 returns c = ends-later (c .args .position) (c .args .samples) 1099511627776 (omega arith)
 
 pub stays-spec : {M : Type 1} → statement M
-stays-spec = tie.close (tie.spec sub-result returns)
+stays-spec = tie.close (tie.spec (λ c. search needs) returns)

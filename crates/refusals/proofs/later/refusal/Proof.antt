@@ -10,12 +10,6 @@ use borrow.Author.Needs.{needs}
 use Rattle.refusals.proofs.later.refusal.Statement.{statement}
 use Rattle.refusals.proofs.later.refusal.Tie as tie
 
-start-refusal-requires : tie.Need-start-refusal-requires
-start-refusal-requires c κs = search needs
-
-is-clear-requires : tie.Need-is-clear-requires
-is-clear-requires c κs = search needs
-
 returns : tie.Need-returns
 returns c =
     let b = c .before .before in
@@ -23,12 +17,6 @@ returns c =
     let a = s .args in
     start-stops (now (a .meta)) (a .l) (s .pre .0) (a .n .objects) (now (a .codes)) (a .n .samples) (a .n .rate) (a .rate-before) (shapeOf (a .state))
     (b .start-refusal .result) (b .start-refusal .ensures) (sym (c .before .is-clear .ensures) ∙ not-true _ (c .if1 .taken))
-
-counts-refusal-requires : tie.Need-counts-refusal-requires
-counts-refusal-requires c κs = search needs
-
-is-clear-requires-2 : tie.Need-is-clear-requires-2
-is-clear-requires-2 c κs = search needs
 
 returns-2 : tie.Need-returns-2
 returns-2 c =
@@ -54,17 +42,8 @@ returns-3 c =
     (k .counts-refusal .result) (k .counts-refusal .ensures) (sym (e .before .is-clear2 .ensures) ∙ not-false _ (e .if2 .left))
     (c .if3 .taken)
 
-present-of-requires : tie.Need-present-of-requires
-present-of-requires c κs = search needs
-
 present-after-requires : tie.Need-present-after-requires
 present-after-requires c κs = let beds = ap (λ (p : Present). p .beds) (c .present-of .ensures) in search needs
-
-objects-refusal-requires : tie.Need-objects-refusal-requires
-objects-refusal-requires c κs = search needs
-
-is-clear-requires-3 : tie.Need-is-clear-requires-3
-is-clear-requires-3 c κs = search needs
 
 returns-4 : tie.Need-returns-4
 returns-4 c =
@@ -107,17 +86,14 @@ pub refusal-spec : {M : Type 1} → statement M
 refusal-spec =
     tie.close
     (tie.spec
-    start-refusal-requires
-    is-clear-requires
+    (λ c κs. search needs) (λ c κs. search needs)
     returns
-    counts-refusal-requires
-    is-clear-requires-2
+    (λ c κs. search needs) (λ c κs. search needs)
     returns-2
     returns-3
-    present-of-requires
+    (λ c κs. search needs)
     present-after-requires
-    objects-refusal-requires
-    is-clear-requires-3
+    (λ c κs. search needs) (λ c κs. search needs)
     returns-4
     (λ c κs. search needs)
     walk-refusal-requires

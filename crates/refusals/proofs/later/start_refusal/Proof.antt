@@ -9,16 +9,10 @@ use borrow.Author.Needs.{needs}
 use Rattle.refusals.proofs.later.start_refusal.Statement.{statement}
 use Rattle.refusals.proofs.later.start_refusal.Tie as tie
 
-either-requires : tie.Need-either-requires
-either-requires c κs = search needs
-
 returns : tie.Need-returns
 returns c =
     let s = c .before .before .args in
     unless-stops (eqb (s .rate-before) 0 || eqb (s .rate-before) (s .rate)) 9 (s .rate-before) (s .rate) (unless (s .started || not (eqb (s .updates) 0)) 10 0 0) (sym (c .before .either .ensures) ∙ not-true _ (c .if1 .taken))
-
-either-requires-2 : tie.Need-either-requires-2
-either-requires-2 c κs = search needs
 
 returns-2 : tie.Need-returns-2
 returns-2 c =
@@ -36,4 +30,10 @@ returns-3 c =
 
 pub start-refusal-spec : {M : Type 1} → statement M
 start-refusal-spec =
-    tie.close (tie.spec either-requires returns either-requires-2 returns-2 returns-3)
+    tie.close
+    (tie.spec
+    (λ c κs. search needs)
+    returns
+    (λ c κs. search needs)
+    returns-2
+    returns-3)

@@ -25,9 +25,6 @@ loop-holds c = (omega arith, c .before .before .pre .3, simp unary-clauses)
 counts-refusal-requires : tie.Need-counts-refusal-requires Inv-loop μ-loop
 counts-refusal-requires c κs = (c .before .before .before .before .pre .0, c .before .before .before .before .pre .1)
 
-is-clear-requires : tie.Need-is-clear-requires Inv-loop μ-loop
-is-clear-requires c κs = tt
-
 returns : tie.Need-returns Inv-loop μ-loop
 returns c =
     let s = c .before .before .before .before .before .before .before in
@@ -44,9 +41,6 @@ present-after-requires c κs = (c .before .before .before .before .before .befor
 
 beds-refusal-requires : tie.Need-beds-refusal-requires Inv-loop μ-loop
 beds-refusal-requires c κs = (c .present-after .ensures .few, c .before .before .before .before .before .before .before .before .pre .2)
-
-is-clear-requires-2 : tie.Need-is-clear-requires-2 Inv-loop μ-loop
-is-clear-requires-2 c κs = tt
 
 returns-2 : tie.Need-returns-2 Inv-loop μ-loop
 returns-2 c =
@@ -101,11 +95,11 @@ walk-refusal-spec =
     μ-loop
     loop-holds
     counts-refusal-requires
-    is-clear-requires
+    (λ c κs. tt)
     returns
     present-after-requires
     beds-refusal-requires
-    is-clear-requires-2
+    (λ c κs. tt)
     returns-2
     next-offset-requires
     loop-less

@@ -15,15 +15,6 @@ use Rattle.refusals.proofs.present.present_next.Tie as tie
 returns : tie.Need-returns
 returns c = (rw (not-true (c .before .before .args .taken) (c .if1 .taken)), c .before .before .pre .1)
 
-header-at-requires : tie.Need-header-at-requires
-header-at-requires c κs = search needs
-
-next-codes-requires : tie.Need-next-codes-requires
-next-codes-requires c κs = search needs
-
-dynamic-requires : tie.Need-dynamic-requires
-dynamic-requires c κs = search needs
-
 cast-t10 : tie.Need-cast-t10
 cast-t10 c =
     let s = c .before .before .before .before .before in
@@ -46,4 +37,8 @@ returns-2 c =
 pub present-next-spec : {M : Type 1} → statement M
 present-next-spec =
     tie.close
-    (tie.spec returns header-at-requires next-codes-requires dynamic-requires cast-t10 returns-2)
+    (tie.spec
+    returns
+    (λ c κs. search needs) (λ c κs. search needs) (λ c κs. search needs)
+    cast-t10
+    returns-2)

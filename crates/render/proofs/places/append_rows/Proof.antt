@@ -16,50 +16,11 @@ Inv-loop rows places₀ pending k from₀ to₀ left₀ places from to left = (f
 abbrev μ-loop : tie.MeasureT-loop
 μ-loop rows places₀ pending k from₀ to₀ left₀ places from to left = left
 
-mul-to : tie.Need-mul-to Inv-loop μ-loop
-mul-to c = search needs
-
-loop-holds : tie.Need-loop-holds Inv-loop μ-loop
-loop-holds c = search needs
-
-add-end : tie.Need-add-end Inv-loop μ-loop
-add-end c = search needs
-
-mul-store-samples : tie.Need-mul-store-samples Inv-loop μ-loop
-mul-store-samples c = search needs
-
-sub-store-samples : tie.Need-sub-store-samples Inv-loop μ-loop
-sub-store-samples c = search needs
-
-part-store-samples-start : tie.Need-part-store-samples-start Inv-loop μ-loop
-part-store-samples-start c = search needs
-
-part-store-samples-end : tie.Need-part-store-samples-end Inv-loop μ-loop
-part-store-samples-end c = search needs
-
-store-samples-requires : tie.Need-store-samples-requires Inv-loop μ-loop
-store-samples-requires c κs = search needs
-
-add-from : tie.Need-add-from Inv-loop μ-loop
-add-from c = search needs
-
-add-to : tie.Need-add-to Inv-loop μ-loop
-add-to c = search needs
-
-sub-left : tie.Need-sub-left Inv-loop μ-loop
-sub-left c = search needs
-
-loop-less : tie.Need-loop-less Inv-loop μ-loop
-loop-less c = search needs
-
 loop-again : tie.Need-loop-again Inv-loop μ-loop
 loop-again c =
     let l = c .before .before .before .before .before .before in
     let a = l .before .before .before .args in
     (search needs, search needs, search needs, channel-step (l .loop .from) (l .loop .to) (l .loop .left) (a .k) (a .rows .now) (l .loop .places) (omega arith) (c .before .before .store-samples .ensures) (l .loop .inv .3))
-
-same-length : tie.Need-same-length Inv-loop μ-loop
-same-length c = search needs
 
 returns : tie.Need-returns Inv-loop μ-loop
 returns c =
@@ -73,18 +34,9 @@ append-rows-spec =
     (tie.spec
     Inv-loop
     μ-loop
-    mul-to
-    loop-holds
-    add-end
-    mul-store-samples
-    sub-store-samples
-    part-store-samples-start
-    part-store-samples-end
-    store-samples-requires
-    add-from
-    add-to
-    sub-left
-    loop-less
+    (λ c. search needs) (λ c. search needs) (λ c. search needs) (λ c. search needs) (λ c. search needs) (λ c. search needs) (λ c. search needs)
+    (λ c κs. search needs)
+    (λ c. search needs) (λ c. search needs) (λ c. search needs) (λ c. search needs)
     loop-again
-    same-length
+    (λ c. search needs)
     returns)

@@ -18,35 +18,11 @@ abbrev μ-loop : tie.MeasureT-loop
 loop-holds : tie.Need-loop-holds Inv-loop μ-loop
 loop-holds c = let a = c .before .before .args in (search needs, refl, store-start (a .places .now) (a .at) (a .samples .now))
 
-mul-put-f32 : tie.Need-mul-put-f32 Inv-loop μ-loop
-mul-put-f32 c = search needs
-
-add-put-f32 : tie.Need-add-put-f32 Inv-loop μ-loop
-add-put-f32 c = search needs
-
-mul-put-f32-2 : tie.Need-mul-put-f32-2 Inv-loop μ-loop
-mul-put-f32-2 c = search needs
-
-shared-slice-read-put-f32 : tie.Need-shared-slice-read-put-f32 Inv-loop μ-loop
-shared-slice-read-put-f32 c = search needs
-
-put-f32-requires : tie.Need-put-f32-requires Inv-loop μ-loop
-put-f32-requires c κs = search needs
-
-add-i : tie.Need-add-i Inv-loop μ-loop
-add-i c = search needs
-
-loop-less : tie.Need-loop-less Inv-loop μ-loop
-loop-less c = search needs
-
 loop-again : tie.Need-loop-again Inv-loop μ-loop
 loop-again c =
     let l = c .before .before .before .before .before .before in
     let a = l .before .before .before .args in
     (search needs, search needs, store-step (a .at) (l .loop .i) (a .samples .now) (l .loop .places) (omega arith) (c .before .before .put-f32 .ensures) (l .loop .inv .2))
-
-same-length : tie.Need-same-length Inv-loop μ-loop
-same-length c = search needs
 
 returns : tie.Need-returns Inv-loop μ-loop
 returns c =
@@ -61,13 +37,9 @@ store-samples-spec =
     Inv-loop
     μ-loop
     loop-holds
-    mul-put-f32
-    add-put-f32
-    mul-put-f32-2
-    shared-slice-read-put-f32
-    put-f32-requires
-    add-i
-    loop-less
+    (λ c. search needs) (λ c. search needs) (λ c. search needs) (λ c. search needs)
+    (λ c κs. search needs)
+    (λ c. search needs) (λ c. search needs)
     loop-again
-    same-length
+    (λ c. search needs)
     returns)

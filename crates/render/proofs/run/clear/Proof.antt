@@ -17,29 +17,11 @@ Inv-loop rows₀ i₀ rows i = (i ≤ length rows₀) × (length rows ≡ length
 abbrev μ-loop : tie.MeasureT-loop
 μ-loop rows₀ i₀ rows i = length rows₀ - i
 
-loop-holds : tie.Need-loop-holds Inv-loop μ-loop
-loop-holds c = search needs
-
-mul-rows : tie.Need-mul-rows Inv-loop μ-loop
-mul-rows c = search needs
-
-slice-write-rows : tie.Need-slice-write-rows Inv-loop μ-loop
-slice-write-rows c = search needs
-
-add-i : tie.Need-add-i Inv-loop μ-loop
-add-i c = search needs
-
-loop-less : tie.Need-loop-less Inv-loop μ-loop
-loop-less c = search needs
-
 loop-again : tie.Need-loop-again Inv-loop μ-loop
 unfolding ofBits
 loop-again c =
     let l = c .before in
     (search needs, search needs, clear-step 0·0 nan (l .loop .i) (l .before .args .rows .now) (l .loop .rows) (omega arith) (l .loop .inv .2))
-
-same-length : tie.Need-same-length Inv-loop μ-loop
-same-length c = search needs
 
 returns : tie.Need-returns Inv-loop μ-loop
 returns c = let l = c .before in clear-done 0·0 nan (l .loop .i) (l .before .args .rows .now) (l .loop .rows) (omega arith) (omega arith) (l .loop .inv .2)
@@ -50,11 +32,7 @@ clear-spec =
     (tie.spec
     Inv-loop
     μ-loop
-    loop-holds
-    mul-rows
-    slice-write-rows
-    add-i
-    loop-less
+    (λ c. search needs) (λ c. search needs) (λ c. search needs) (λ c. search needs) (λ c. search needs)
     loop-again
-    same-length
+    (λ c. search needs)
     returns)

@@ -9,27 +9,6 @@ use Rattle.lowpass.specs.Lowpass.{filtered, afterAll}
 use Rattle.render.proofs.run.filter_bass.Statement.{statement}
 use Rattle.render.proofs.run.filter_bass.Tie as tie
 
-add-end : tie.Need-add-end
-add-end c = search needs
-
-mul-process-in-place : tie.Need-mul-process-in-place
-mul-process-in-place c = search needs
-
-sub-process-in-place : tie.Need-sub-process-in-place
-sub-process-in-place c = search needs
-
-part-process-in-place-start : tie.Need-part-process-in-place-start
-part-process-in-place-start c = search needs
-
-part-process-in-place-end : tie.Need-part-process-in-place-end
-part-process-in-place-end c = search needs
-
-process-in-place-requires : tie.Need-process-in-place-requires
-process-in-place-requires c κs = search needs
-
-same-length : tie.Need-same-length
-same-length c = search needs
-
 returns : tie.Need-returns
 returns c =
     let a = c .before .before .before .before .before .args in
@@ -41,11 +20,7 @@ pub filter-bass-spec : {M : Type 1} → statement M
 filter-bass-spec =
     tie.close
     (tie.spec
-    add-end
-    mul-process-in-place
-    sub-process-in-place
-    part-process-in-place-start
-    part-process-in-place-end
-    process-in-place-requires
-    same-length
+    (λ c. search needs) (λ c. search needs) (λ c. search needs) (λ c. search needs) (λ c. search needs)
+    (λ c κs. search needs)
+    (λ c. search needs)
     returns)

@@ -8,17 +8,8 @@ use Rattle.render.proofs.Moments.{run-heard}
 use Rattle.render.proofs.run.mix_run.Statement.{statement}
 use Rattle.render.proofs.run.mix_run.Tie as tie
 
-clear-requires : tie.Need-clear-requires
-clear-requires c κs = search needs
-
 mix-beds-requires : tie.Need-mix-beds-requires
 mix-beds-requires c κs = let s = c .before .before .before .before .before .before .before .before in let a = s .args in (fewer (a .pcm .now) (length (a .codes .now)) (a .objects) (a .n) (a .t) (a .k) (s .pre .0), search needs, search needs)
-
-mix-sources-requires : tie.Need-mix-sources-requires
-mix-sources-requires c κs = search needs
-
-same-length : tie.Need-same-length
-same-length c = search needs
 
 returns : tie.Need-returns
 returns c =
@@ -32,4 +23,10 @@ returns c =
 
 pub mix-run-spec : {M : Type 1} → statement M
 mix-run-spec =
-    tie.close (tie.spec clear-requires mix-beds-requires mix-sources-requires same-length returns)
+    tie.close
+    (tie.spec
+    (λ c κs. search needs)
+    mix-beds-requires
+    (λ c κs. search needs)
+    (λ c. search needs)
+    returns)

@@ -6,15 +6,6 @@ use Rattle.render.proofs.Filters.{passed}
 use Rattle.render.proofs.run.pass_run.Statement.{statement}
 use Rattle.render.proofs.run.pass_run.Tie as tie
 
-mix-run-requires : tie.Need-mix-run-requires
-mix-run-requires c κs = search needs
-
-filter-bass-requires : tie.Need-filter-bass-requires
-filter-bass-requires c κs = search needs
-
-same-length : tie.Need-same-length
-same-length c = search needs
-
 returns : tie.Need-returns
 returns c =
     let s = c .before .before .before .before .before .before .before .before .before .before .before in
@@ -24,4 +15,9 @@ returns c =
     (c .before .before .before .before .before .before .mix-run .last .0) (f .last .0) (f .result) (c .before .before .before .before .before .before .mix-run .ensures) (s .pre .0 .short) (f .ensures .1) (f .ensures .0)
 
 pub pass-run-spec : {M : Type 1} → statement M
-pass-run-spec = tie.close (tie.spec mix-run-requires filter-bass-requires same-length returns)
+pass-run-spec =
+    tie.close
+    (tie.spec
+    (λ c κs. search needs) (λ c κs. search needs)
+    (λ c. search needs)
+    returns)

@@ -12,23 +12,8 @@ use Rattle.render.proofs.Routes.{by-found, found-inside}
 use Rattle.render.proofs.sources.mix_bed.Statement.{statement}
 use Rattle.render.proofs.sources.mix_bed.Tie as tie
 
-find-matching-input-bed-channel-requires : tie.Need-find-matching-input-bed-channel-requires
-find-matching-input-bed-channel-requires c κs = search needs
-
-enum-known-found : tie.Need-enum-known-found
-enum-known-found c = search needs
-
-enum-told : tie.Need-enum-told
-enum-told c = search needs
-
 returns : tie.Need-returns
 returns c = let a = c .before .before .before .before .before .before .args in by-found (a .pcm .now) (a .n) (a .t) (a .k) (bedTerms (bedWith (a .code) (a .gain))) (a .rows .now) (sym (c .before .before .find-matching-input-bed-channel .ensures) ∙ c .enum-told .given .1) refl
-
-silence-requires : tie.Need-silence-requires
-silence-requires c κs = search needs
-
-array-borrow-prefix-row : tie.Need-array-borrow-prefix-row
-array-borrow-prefix-row c = search needs
 
 slice-aggregate-read-channel : tie.Need-slice-aggregate-read-channel
 slice-aggregate-read-channel c = sym (zeros-length (c .before .before .before .before .before .before .before .before .before .args .k) (c .before .silence .ensures) (c .before .before .before .before .before .before .before .before .before .pre .0 .short))
@@ -61,9 +46,6 @@ mix-routed-requires c κs =
       whole = s .pre .1;
     }
 
-same-length : tie.Need-same-length
-same-length c = search needs
-
 returns-2 : tie.Need-returns-2
 returns-2 c =
     let s = c .before .before .before .before .before .before .before .before .before .before .before .before .before .before .before .before in
@@ -76,16 +58,15 @@ pub mix-bed-spec : {M : Type 1} → statement M
 mix-bed-spec =
     tie.close
     (tie.spec
-    find-matching-input-bed-channel-requires
-    enum-known-found
-    enum-told
+    (λ c κs. search needs)
+    (λ c. search needs) (λ c. search needs)
     returns
-    silence-requires
-    array-borrow-prefix-row
+    (λ c κs. search needs)
+    (λ c. search needs)
     slice-aggregate-read-channel
     read-channel-requires
     array-share-prefix-row
     slice-aggregate-mix-routed
     mix-routed-requires
-    same-length
+    (λ c. search needs)
     returns-2)

@@ -18,32 +18,11 @@ abbrev μ-loop : tie.MeasureT-loop
 loop-holds : tie.Need-loop-holds Inv-loop μ-loop
 loop-holds c = let a = c .before .before .before .args in (search needs, refl, beds-start (a .pcm .now) (a .n) (a .t) (a .k) (a .codes .now) (a .count) (a .t4) (a .t5) (a .rows .now))
 
-array-read-mix-bed : tie.Need-array-read-mix-bed Inv-loop μ-loop
-array-read-mix-bed c = search needs
-
-mul-mix-bed : tie.Need-mul-mix-bed Inv-loop μ-loop
-mul-mix-bed c = search needs
-
-array-read-mix-bed-2 : tie.Need-array-read-mix-bed-2 Inv-loop μ-loop
-array-read-mix-bed-2 c = search needs
-
-mix-bed-requires : tie.Need-mix-bed-requires Inv-loop μ-loop
-mix-bed-requires c κs = search needs
-
-add-j : tie.Need-add-j Inv-loop μ-loop
-add-j c = search needs
-
-loop-less : tie.Need-loop-less Inv-loop μ-loop
-loop-less c = search needs
-
 loop-again : tie.Need-loop-again Inv-loop μ-loop
 loop-again c =
     let l = c .before .before .before .before .before in
     let a = l .before .before .before .before .args in
     (search needs, search needs, bed-step (a .pcm .now) (a .n) (a .t) (a .k) (a .codes .now) (l .loop .j) (a .count) (a .t4) (a .t5) (l .loop .rows) (omega arith) (search needs) (search needs) (c .before .before .mix-bed .ensures) (l .loop .inv .2))
-
-same-length : tie.Need-same-length Inv-loop μ-loop
-same-length c = search needs
 
 returns : tie.Need-returns Inv-loop μ-loop
 returns c =
@@ -58,12 +37,9 @@ mix-beds-spec =
     Inv-loop
     μ-loop
     loop-holds
-    array-read-mix-bed
-    mul-mix-bed
-    array-read-mix-bed-2
-    mix-bed-requires
-    add-j
-    loop-less
+    (λ c. search needs) (λ c. search needs) (λ c. search needs)
+    (λ c κs. search needs)
+    (λ c. search needs) (λ c. search needs)
     loop-again
-    same-length
+    (λ c. search needs)
     returns)

@@ -11,12 +11,6 @@ use Rattle.render.proofs.Channels.{zeros-length, row-start, row-length,
 use Rattle.render.proofs.sources.mix_source.Statement.{statement}
 use Rattle.render.proofs.sources.mix_source.Tie as tie
 
-silence-requires : tie.Need-silence-requires
-silence-requires c κs = search needs
-
-array-borrow-prefix-row : tie.Need-array-borrow-prefix-row
-array-borrow-prefix-row c = search needs
-
 slice-aggregate-read-channel : tie.Need-slice-aggregate-read-channel
 slice-aggregate-read-channel c = sym (zeros-length (c .before .before .before .before .args .k) (c .before .silence .ensures) (c .before .before .before .before .pre .1))
 
@@ -44,9 +38,6 @@ mix-object-requires c κs =
       whole = s .pre .2;
     }
 
-same-length : tie.Need-same-length
-same-length c = search needs
-
 returns : tie.Need-returns
 unfolding objectTerms
 returns c =
@@ -59,12 +50,12 @@ pub mix-source-spec : {M : Type 1} → statement M
 mix-source-spec =
     tie.close
     (tie.spec
-    silence-requires
-    array-borrow-prefix-row
+    (λ c κs. search needs)
+    (λ c. search needs)
     slice-aggregate-read-channel
     read-channel-requires
     array-share-prefix-row
     slice-aggregate-mix-object
     mix-object-requires
-    same-length
+    (λ c. search needs)
     returns)

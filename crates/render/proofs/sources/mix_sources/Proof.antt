@@ -19,15 +19,6 @@ abbrev μ-loop : tie.MeasureT-loop
 loop-holds : tie.Need-loop-holds Inv-loop μ-loop
 loop-holds c = let a = c .before .before .args in (search needs, refl, objects-start (a .pcm .now) (a .n) (a .t) (a .k) (a .first) (a .count) (a .t4) (a .rows .now))
 
-add-mix-source : tie.Need-add-mix-source Inv-loop μ-loop
-add-mix-source c = search needs
-
-mul-mix-source : tie.Need-mul-mix-source Inv-loop μ-loop
-mul-mix-source c = search needs
-
-array-copy-out-mix-source : tie.Need-array-copy-out-mix-source Inv-loop μ-loop
-array-copy-out-mix-source c = search needs
-
 mix-source-requires : tie.Need-mix-source-requires Inv-loop μ-loop
 mix-source-requires c κs =
     let l = c .before .before .before in
@@ -35,20 +26,11 @@ mix-source-requires c κs =
     let a = s .args in
     (reached (a .pcm .now) (a .first + l .loop .object) (a .first + a .count) (a .n) (a .t) (a .k) (s .pre .0) (omega arith), s .pre .0 .short, search needs)
 
-add-object : tie.Need-add-object Inv-loop μ-loop
-add-object c = search needs
-
-loop-less : tie.Need-loop-less Inv-loop μ-loop
-loop-less c = search needs
-
 loop-again : tie.Need-loop-again Inv-loop μ-loop
 loop-again c =
     let l = c .before .before .before .before .before .before in
     let a = l .before .before .before .args in
     (search needs, search needs, object-step (a .pcm .now) (a .n) (a .t) (a .k) (a .first) (l .loop .object) (a .count) _ (a .t4) (l .loop .rows) (omega arith) (search needs) (c .before .before .mix-source .ensures) (l .loop .inv .2))
-
-same-length : tie.Need-same-length Inv-loop μ-loop
-same-length c = search needs
 
 returns : tie.Need-returns Inv-loop μ-loop
 returns c =
@@ -63,12 +45,9 @@ mix-sources-spec =
     Inv-loop
     μ-loop
     loop-holds
-    add-mix-source
-    mul-mix-source
-    array-copy-out-mix-source
+    (λ c. search needs) (λ c. search needs) (λ c. search needs)
     mix-source-requires
-    add-object
-    loop-less
+    (λ c. search needs) (λ c. search needs)
     loop-again
-    same-length
+    (λ c. search needs)
     returns)

@@ -9,17 +9,8 @@ use Rattle.render.proofs.Mixed.{mixed-panned}
 use Rattle.render.proofs.terms.mix_object.Statement.{statement}
 use Rattle.render.proofs.terms.mix_object.Tie as tie
 
-pan-requires : tie.Need-pan-requires
-pan-requires c κs = search needs
-
-mix-spread-requires : tie.Need-mix-spread-requires
-mix-spread-requires c κs = search needs
-
 mix-corners-requires : tie.Need-mix-corners-requires
 mix-corners-requires c κs = (search needs, c .before .before .before .before .before .before .before .pan .ensures .less)
-
-same-length : tie.Need-same-length
-same-length c = search needs
 
 returns : tie.Need-returns
 returns c =
@@ -33,4 +24,9 @@ returns c =
 
 pub mix-object-spec : {M : Type 1} → statement M
 mix-object-spec =
-    tie.close (tie.spec pan-requires mix-spread-requires mix-corners-requires same-length returns)
+    tie.close
+    (tie.spec
+    (λ c κs. search needs) (λ c κs. search needs)
+    mix-corners-requires
+    (λ c. search needs)
+    returns)

@@ -16,26 +16,11 @@ Inv-loop rows₀ samples from to gain c₀ rows c = (from ≤ c) × (c ≤ to) �
 abbrev μ-loop : tie.MeasureT-loop
 μ-loop rows₀ samples from to gain c₀ rows c = to - c
 
-loop-holds : tie.Need-loop-holds Inv-loop μ-loop
-loop-holds c = search needs
-
-mix-term-requires : tie.Need-mix-term-requires Inv-loop μ-loop
-mix-term-requires c κs = search needs
-
-add-c : tie.Need-add-c Inv-loop μ-loop
-add-c c = search needs
-
-loop-less : tie.Need-loop-less Inv-loop μ-loop
-loop-less c = search needs
-
 loop-again : tie.Need-loop-again Inv-loop μ-loop
 loop-again c =
     let l = c .before .before .before .before .before in
     let a = l .before .before .before .args in
     (search needs, search needs, search needs, range-step (a .samples .now) (l .loop .c) (a .to) (a .gain) (l .loop .rows) (omega arith) (c .before .before .mix-term .ensures) (l .loop .inv .3))
-
-same-length : tie.Need-same-length Inv-loop μ-loop
-same-length c = search needs
 
 returns : tie.Need-returns Inv-loop μ-loop
 returns c =
@@ -49,10 +34,9 @@ mix-range-spec =
     (tie.spec
     Inv-loop
     μ-loop
-    loop-holds
-    mix-term-requires
-    add-c
-    loop-less
+    (λ c. search needs)
+    (λ c κs. search needs)
+    (λ c. search needs) (λ c. search needs)
     loop-again
-    same-length
+    (λ c. search needs)
     returns)

@@ -11,15 +11,6 @@ use Rattle.render.proofs.terms.mix_spread.Tie as tie
 returns : tie.Need-returns
 returns c = sym (spread-none _ fullRange _ _ (c .if1 .taken))
 
-mix-range-requires : tie.Need-mix-range-requires
-mix-range-requires c κs = search needs
-
-mix-range-requires-2 : tie.Need-mix-range-requires-2
-mix-range-requires-2 c κs = search needs
-
-same-length : tie.Need-same-length
-same-length c = search needs
-
 returns-2 : tie.Need-returns-2
 returns-2 c =
     let a = c .before .before .before .before .before .before .before .before .before .before .before .args in
@@ -27,4 +18,9 @@ returns-2 c =
 
 pub mix-spread-spec : {M : Type 1} → statement M
 mix-spread-spec =
-    tie.close (tie.spec returns mix-range-requires mix-range-requires-2 same-length returns-2)
+    tie.close
+    (tie.spec
+    returns
+    (λ c κs. search needs) (λ c κs. search needs)
+    (λ c. search needs)
+    returns-2)

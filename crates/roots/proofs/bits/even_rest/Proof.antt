@@ -11,12 +11,6 @@ use Rattle.roots.proofs.bits.even_rest.Tie as tie
 two : (e : ℕ) → e % 2 < 2
 two e = omega arith
 
-mul-result : tie.Need-mul-result
-mul-result c = search needs
-
-sub-result : tie.Need-sub-result
-sub-result c = search needs
-
 mul-result-2 : tie.Need-mul-result-2
 mul-result-2 c =
     let r = even-range _ (two (c .args .e)) in
@@ -30,4 +24,4 @@ returns c =
     (ap (λ (x : ℕ). c .args .m * x) (even-factor _ (two (c .args .e))), omega (arith, b .0), omega (arith, b .1), ranged-square _ (omega (arith, b .0)) (omega (arith, b .1)))
 
 pub even-rest-spec : {M : Type 1} → statement M
-even-rest-spec = tie.close (tie.spec mul-result sub-result mul-result-2 returns)
+even-rest-spec = tie.close (tie.spec (λ c. search needs) (λ c. search needs) mul-result-2 returns)

@@ -11,21 +11,6 @@ use Rattle.roots.proofs.bits.fourth_rest.Tie as tie
 four : (e : ℕ) → (e + 3) % 4 < 4
 four e = omega arith
 
-add-s : tie.Need-add-s
-add-s c = search needs
-
-mul-result : tie.Need-mul-result
-mul-result c = search needs
-
-add-result : tie.Need-add-result
-add-result c = search needs
-
-mul-result-2 : tie.Need-mul-result-2
-mul-result-2 c = search needs
-
-add-result-2 : tie.Need-add-result-2
-add-result-2 c = search needs
-
 mul-result-3 : tie.Need-mul-result-3
 mul-result-3 c = let r = fourth-range _ (four (c .args .e)) in record { fits = omega (arith, r .1) }
 
@@ -45,11 +30,7 @@ pub fourth-rest-spec : {M : Type 1} → statement M
 fourth-rest-spec =
     tie.close
     (tie.spec
-    add-s
-    mul-result
-    add-result
-    mul-result-2
-    add-result-2
+    (λ c. search needs) (λ c. search needs) (λ c. search needs) (λ c. search needs) (λ c. search needs)
     mul-result-3
     mul-result-4
     returns)

@@ -7,17 +7,17 @@ use borrow.Author.Needs.{needs}
 use Rattle.roots.proofs.bits.root_bits.Statement.{statement}
 use Rattle.roots.proofs.bits.root_bits.Tie as tie
 
-fourth-bits-requires : tie.Need-fourth-bits-requires
-fourth-bits-requires c κs = search needs
-
 returns : tie.Need-returns
 returns c = (c .fourth-bits .ensures .0, ap (λ (t : Bool). rootUnits (cond t 4 2) (unitsOf (c .before .before .args .b))) (c .before .if1 .taken) ∙ c .fourth-bits .ensures .1)
-
-square-bits-requires : tie.Need-square-bits-requires
-square-bits-requires c κs = search needs
 
 returns-2 : tie.Need-returns-2
 returns-2 c = (c .square-bits .ensures .1, ap (λ (t : Bool). rootUnits (cond t 4 2) (unitsOf (c .before .before .args .b))) (c .before .if1 .left) ∙ c .square-bits .ensures .2)
 
 pub root-bits-spec : {M : Type 1} → statement M
-root-bits-spec = tie.close (tie.spec fourth-bits-requires returns square-bits-requires returns-2)
+root-bits-spec =
+    tie.close
+    (tie.spec
+    (λ c κs. search needs)
+    returns
+    (λ c κs. search needs)
+    returns-2)

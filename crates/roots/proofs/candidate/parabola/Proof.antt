@@ -16,17 +16,11 @@ raised d t h k = let x : d ≤ 16384 = omega arith in mul-le-mul x (arch t k)
 slope : (b t : ℕ) → b < 1048576 → t < 131072 → b * t ≤ 137438953472
 slope b t h k = let x : b ≤ 1048576 = omega arith in let y : t ≤ 131072 = omega arith in mul-le-mul x y
 
-sub-arch : tie.Need-sub-arch
-sub-arch c = search needs
-
 mul-arch : tie.Need-mul-arch
 mul-arch c = let x = arch (c .args .t) (c .pre .3) in record { fits = omega (arith, x) }
 
 mul-arch-2 : tie.Need-mul-arch-2
 mul-arch-2 c = let x = raised (c .args .d) (c .args .t) (c .pre .2) (c .pre .3) in record { fits = omega (arith, x) }
-
-mul-result : tie.Need-mul-result
-mul-result c = search needs
 
 mul-result-2 : tie.Need-mul-result-2
 mul-result-2 c = let x = slope (c .args .b) (c .args .t) (c .pre .1) (c .pre .3) in record { fits = omega (arith, x) }
@@ -43,4 +37,12 @@ returns c = let x = slope (c .args .b) (c .args .t) (c .pre .1) (c .pre .3) in l
 pub parabola-spec : {M : Type 1} → statement M
 parabola-spec =
     tie.close
-    (tie.spec sub-arch mul-arch mul-arch-2 mul-result mul-result-2 add-result add-result-2 returns)
+    (tie.spec
+    (λ c. search needs)
+    mul-arch
+    mul-arch-2
+    (λ c. search needs)
+    mul-result-2
+    add-result
+    add-result-2
+    returns)

@@ -17,23 +17,11 @@ abbrev μ-loop : tie.MeasureT-loop
 loop-holds : tie.Need-loop-holds Inv-loop μ-loop
 loop-holds c = (omega arith, omega arith, omega arith, c .pre .first, c .pre .past)
 
-sub-loop : tie.Need-sub-loop Inv-loop μ-loop
-sub-loop c = omega arith
-
-add-mid : tie.Need-add-mid Inv-loop μ-loop
-add-mid c = omega arith
-
 top-requires : tie.Need-top-requires Inv-loop μ-loop
 top-requires c κs = (omega arith, omega arith)
 
-loop-less : tie.Need-loop-less Inv-loop μ-loop
-loop-less c = omega arith
-
 loop-again : tie.Need-loop-again Inv-loop μ-loop
 loop-again c = (omega arith, omega arith, omega arith, below (c .before .top .ensures) (c .if1 .taken), omega arith)
-
-loop-less-2 : tie.Need-loop-less-2 Inv-loop μ-loop
-loop-less-2 c = omega arith
 
 loop-again-2 : tie.Need-loop-again-2 Inv-loop μ-loop
 loop-again-2 c = (omega arith, omega arith, omega arith, omega arith, not-below (c .before .top .ensures) (c .if1 .left))
@@ -53,11 +41,10 @@ by-halves-spec =
     Inv-loop
     μ-loop
     loop-holds
-    sub-loop
-    add-mid
+    (λ c. omega arith) (λ c. omega arith)
     top-requires
-    loop-less
+    (λ c. omega arith)
     loop-again
-    loop-less-2
+    (λ c. omega arith)
     loop-again-2
     returns)

@@ -5,27 +5,6 @@ use borrow.Author.Needs.{needs}
 use Rattle.roots.proofs.nearest.nearest_whole.Statement.{statement}
 use Rattle.roots.proofs.nearest.nearest_whole.Tie as tie
 
-add-top : tie.Need-add-top
-add-top c = search needs
-
-top-requires : tie.Need-top-requires
-top-requires c κs = search needs
-
-add-top-2 : tie.Need-add-top-2
-add-top-2 c = search needs
-
-top-requires-2 : tie.Need-top-requires-2
-top-requires-2 c κs = search needs
-
-by-halves-requires : tie.Need-by-halves-requires
-by-halves-requires c κs = search needs
-
-returns : tie.Need-returns
-returns c = search needs
-
-add-result : tie.Need-add-result
-add-result c = search needs
-
 returns-2 : tie.Need-returns-2
 returns-2 c =
     let p = c .before .before .before .before .pre in
@@ -54,23 +33,15 @@ returns-4 c =
     let l = large _ _ (c .before .before .before .before .before .before .pre .0) _ (not-below (c .before .before .before .before .before .top .ensures) (c .before .before .before .before .if1 .left)) in
     near _ _ (p .0) _ _ (omega (arith, l)) (below (c .before .top4 .ensures) (c .if4 .taken)) (not-below (c .before .before .before .top3 .ensures) (c .before .before .if3 .left))
 
-by-halves-requires-2 : tie.Need-by-halves-requires-2
-by-halves-requires-2 c κs = search needs
-
-returns-5 : tie.Need-returns-5
-returns-5 c = search needs
-
 pub nearest-whole-spec : {M : Type 1} → statement M
 nearest-whole-spec =
     tie.close
     (tie.spec
-    add-top
-    top-requires
-    add-top-2
-    top-requires-2
-    by-halves-requires
-    returns
-    add-result
+    (λ c. search needs)
+    (λ c κs. search needs)
+    (λ c. search needs)
+    (λ c κs. search needs) (λ c κs. search needs)
+    (λ c. search needs) (λ c. search needs)
     returns-2
     top-requires-3
     returns-3
@@ -78,5 +49,5 @@ nearest-whole-spec =
     top-requires-4
     sub-result
     returns-4
-    by-halves-requires-2
-    returns-5)
+    (λ c κs. search needs)
+    (λ c. search needs))

@@ -12,24 +12,9 @@ use Rattle.roots.proofs.nearest.top.Tie as tie
 as-told : {f g : Bool} (r : ℕ) → f ≡ g → topOf g r ≡ topOf f r
 as-told r e = ap (λ (x : Bool). topOf x r) (sym e)
 
-mul-squared : tie.Need-mul-squared
-mul-squared c = search needs
-
-sub-squared : tie.Need-sub-squared
-sub-squared c = search needs
-
-squared-requires : tie.Need-squared-requires
-squared-requires c κs = search needs
-
-high-square-requires : tie.Need-high-square-requires
-high-square-requires c κs = search needs
-
 returns : tie.Need-returns
 unfolding topOf
 returns c = c .high-square .ensures ∙ ap (λ (x : ℕ). x * x / 2 ^ 64) (c .before .squared .ensures .0) ∙ as-told _ (c .before .before .if1 .taken)
-
-sub-result : tie.Need-sub-result
-sub-result c = search needs
 
 small : {a b : ℕ} → a ≤ 2 ^ 26 → b ≤ 2 ^ 26 → a * b < 2 ^ 64
 small {a} {b} h k = let l = mul-le-mul h k in omega (arith, l)
@@ -43,4 +28,11 @@ returns-2 c = as-told _ (c .if1 .left)
 
 pub top-spec : {M : Type 1} → statement M
 top-spec =
-    tie.close (tie.spec mul-squared sub-squared squared-requires high-square-requires returns sub-result mul-result returns-2)
+    tie.close
+    (tie.spec
+    (λ c. search needs) (λ c. search needs)
+    (λ c κs. search needs) (λ c κs. search needs)
+    returns
+    (λ c. search needs)
+    mul-result
+    returns-2)

@@ -30,20 +30,17 @@ normal b l h =
       is = ap (λ (y : ℕ). y * 8388608) (sym (high-units b l)) ∙ mul-assoc m (2 ^ (f - 1)) (2 ^ 23) ∙ ap (λ (y : ℕ). m * y) (sym (pow-add 2 (f - 1) 23) ∙ ap (λ (y : ℕ). 2 ^ y) x);
     }
 
-subnormal-requires : tie.Need-subnormal-requires
-subnormal-requires c κs = search needs
-
 returns : tie.Need-returns
 returns c = subst (λ (n : ℕ). Normal n (c .subnormal .result .m) (c .subnormal .result .e)) (low-units _ (c .before .if1 .taken)) (c .subnormal .ensures)
-
-add-t5 : tie.Need-add-t5
-add-t5 c = search needs
-
-add-t7 : tie.Need-add-t7
-add-t7 c = search needs
 
 returns-2 : tie.Need-returns-2
 returns-2 c = normal _ (omega arith) (omega arith)
 
 pub parts-spec : {M : Type 1} → statement M
-parts-spec = tie.close (tie.spec subnormal-requires returns add-t5 add-t7 returns-2)
+parts-spec =
+    tie.close
+    (tie.spec
+    (λ c κs. search needs)
+    returns
+    (λ c. search needs) (λ c. search needs)
+    returns-2)

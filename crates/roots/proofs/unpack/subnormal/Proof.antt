@@ -26,14 +26,8 @@ step m (suc e) h = ap (λ (x : ℕ). m * x) (pow-succ' 2 e) ∙ sym (mul-assoc m
 loop-holds : tie.Need-loop-holds Inv-loop μ-loop
 loop-holds c = (omega arith, omega arith, omega arith, omega arith)
 
-mul-m : tie.Need-mul-m Inv-loop μ-loop
-mul-m c = omega arith
-
 sub-e : tie.Need-sub-e Inv-loop μ-loop
 sub-e c = let h = more (c .before .before .args .t) (c .before .loop .m) (c .before .loop .e) (omega arith) (omega arith) (c .before .loop .inv .3) in omega (arith, h)
-
-loop-less : tie.Need-loop-less Inv-loop μ-loop
-loop-less c = omega arith
 
 loop-again : tie.Need-loop-again Inv-loop μ-loop
 loop-again c =
@@ -45,4 +39,13 @@ returns c = record { low = omega arith; high = omega arith; few = omega arith; i
 
 pub subnormal-spec : {M : Type 1} → statement M
 subnormal-spec =
-    tie.close (tie.spec Inv-loop μ-loop loop-holds mul-m sub-e loop-less loop-again returns)
+    tie.close
+    (tie.spec
+    Inv-loop
+    μ-loop
+    loop-holds
+    (λ c. omega arith)
+    sub-e
+    (λ c. omega arith)
+    loop-again
+    returns)

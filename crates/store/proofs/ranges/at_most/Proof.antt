@@ -1,13 +1,11 @@
 -- What is left to test, from entry `i` on, decides. Assumes nothing.
 use borrow.Author.Needs.{needs}
-use mathlib.Core.Path.{_≡_, sym, ap, _∙_}
+use mathlib.Core.Path.{_≡_, sym, _∙_}
 use mathlib.Core.Bool.{true, false}
-use Prim.Native.Nat.{ℕ, _+_, _-_, _*_, _≤_}
+use Prim.Native.Nat.{_+_, _-_, _*_, _≤_}
 use native.Mathlib.Nat.{mul-zero, add-zero, sub-zero}
 use native.Mathlib.Omega.{arith}
 use borrow.Author.Tests.{le-leb, lt-leb}
-use lib.Dec.{leb}
-use lib.ListN.{getD}
 use Rattle.formats.specs.Format.{allAt}
 use Rattle.formats.proofs.Loops.{room, all-step, all-stop, all-done}
 use Rattle.store.proofs.Tables.{most}
@@ -19,9 +17,6 @@ Inv-loop w at j k n limit p₀ i₀ p i = (i ≤ n) × (p ≡ at + j + k * i) ×
 
 abbrev μ-loop : tie.MeasureT-loop
 μ-loop w at j k n limit p₀ i₀ p i = n - i
-
-add-p : tie.Need-add-p Inv-loop μ-loop
-add-p c = search needs
 
 loop-holds : tie.Need-loop-holds Inv-loop μ-loop
 loop-holds c = (omega arith, omega arith, rw (mul-zero, add-zero, sub-zero))
@@ -41,14 +36,8 @@ returns c =
     let e : most (a .w .now) (a .j) (a .limit) (a .at + a .k * l .i) ≡ false = rw (← p) (lt-leb _ _ (c .if1 .taken)) in
     sym (l .inv .2 ∙ all-stop (a .k) (most (a .w .now) (a .j) (a .limit)) (a .at) (l .i) (a .n) (t .loop-test .taken) e)
 
-add-i : tie.Need-add-i Inv-loop μ-loop
-add-i c = search needs
-
 add-p-2 : tie.Need-add-p-2 Inv-loop μ-loop
 add-p-2 c = record { fits = omega (arith, room (c .before .before .before .before .args .k) (c .before .before .loop-test .taken)) }
-
-loop-less : tie.Need-loop-less Inv-loop μ-loop
-loop-less c = search needs
 
 loop-again : tie.Need-loop-again Inv-loop μ-loop
 loop-again c =
@@ -71,13 +60,13 @@ at-most-spec =
     (tie.spec
     Inv-loop
     μ-loop
-    add-p
+    (λ c. search needs)
     loop-holds
     mul-if1
     element-copy-out-if1
     returns
-    add-i
+    (λ c. search needs)
     add-p-2
-    loop-less
+    (λ c. search needs)
     loop-again
     returns-2)

@@ -6,9 +6,6 @@ use Rattle.store.proofs.Tables.{fields-good, fields-bad}
 use Rattle.store.proofs.ranges.small_valid.Statement.{statement}
 use Rattle.store.proofs.ranges.small_valid.Tie as tie
 
-fields-valid-requires : tie.Need-fields-valid-requires
-fields-valid-requires c κs = search needs
-
 returns : tie.Need-returns
 returns c = sym (fields-bad (c .before .before .args .w .now) (sym (c .before .fields-valid .ensures) ∙ not-true _ (c .if1 .taken)))
 
@@ -20,4 +17,4 @@ returns-2 c =
     c .related .ensures ∙ sym (fields-good (c .before .before .before .args .w .now) (sym (c .before .before .fields-valid .ensures) ∙ not-false _ (c .before .if1 .left)))
 
 pub small-valid-spec : {M : Type 1} → statement M
-small-valid-spec = tie.close (tie.spec fields-valid-requires returns related-requires returns-2)
+small-valid-spec = tie.close (tie.spec (λ c κs. search needs) returns related-requires returns-2)

@@ -1,7 +1,7 @@
 -- The entries before `i` are read. Assumes nothing.
 use borrow.Author.Needs.{needs}
-use mathlib.Core.Path.{_≡_, refl, ap, _∙_}
-use Prim.Native.Nat.{ℕ, _+_, _-_, _*_, _%_, _≤_, _<_}
+use mathlib.Core.Path.{_≡_, refl, ap}
+use Prim.Native.Nat.{_+_, _-_, _*_, _%_, _≤_, _<_}
 use native.Mathlib.Omega.{arith}
 use lib.ListN.{length, getD, take, length-set}
 use Rattle.formats.specs.Format.{gets, array, u8To}
@@ -18,27 +18,6 @@ abbrev μ-loop : tie.MeasureT-loop
 loop-holds : tie.Need-loop-holds Inv-loop μ-loop
 unfolding gets
 loop-holds c = (omega arith, refl, refl)
-
-add-a : tie.Need-add-a Inv-loop μ-loop
-add-a c = search needs
-
-mul-a : tie.Need-mul-a Inv-loop μ-loop
-mul-a c = search needs
-
-element-copy-out-a : tie.Need-element-copy-out-a Inv-loop μ-loop
-element-copy-out-a c = search needs
-
-cast-a : tie.Need-cast-a Inv-loop μ-loop
-cast-a c = search needs
-
-array-write-a : tie.Need-array-write-a Inv-loop μ-loop
-array-write-a c = search needs
-
-add-i : tie.Need-add-i Inv-loop μ-loop
-add-i c = search needs
-
-loop-less : tie.Need-loop-less Inv-loop μ-loop
-loop-less c = search needs
 
 loop-again : tie.Need-loop-again Inv-loop μ-loop
 loop-again c =
@@ -65,12 +44,6 @@ codes-spec =
     Inv-loop
     μ-loop
     loop-holds
-    add-a
-    mul-a
-    element-copy-out-a
-    cast-a
-    array-write-a
-    add-i
-    loop-less
+    (λ c. search needs) (λ c. search needs) (λ c. search needs) (λ c. search needs) (λ c. search needs) (λ c. search needs) (λ c. search needs)
     loop-again
     returns)

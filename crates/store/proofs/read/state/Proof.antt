@@ -8,51 +8,6 @@ use Rattle.store.proofs.Back.{lawful-element}
 use Rattle.store.proofs.read.state.Statement.{statement}
 use Rattle.store.proofs.read.state.Tie as tie
 
-codes-requires : tie.Need-codes-requires
-codes-requires c κs = search needs
-
-gains-requires : tie.Need-gains-requires
-gains-requires c κs = search needs
-
-sources-requires : tie.Need-sources-requires
-sources-requires c κs = search needs
-
-element-requires : tie.Need-element-requires
-element-requires c κs = search needs
-
-element-requires-2 : tie.Need-element-requires-2
-element-requires-2 c κs = search needs
-
-long-requires : tie.Need-long-requires
-long-requires c κs = search needs
-
-element-copy-out-t12 : tie.Need-element-copy-out-t12
-element-copy-out-t12 c = search needs
-
-element-copy-out-count : tie.Need-element-copy-out-count
-element-copy-out-count c = search needs
-
-count-requires : tie.Need-count-requires
-count-requires c κs = search needs
-
-element-copy-out-count-2 : tie.Need-element-copy-out-count-2
-element-copy-out-count-2 c = search needs
-
-count-requires-2 : tie.Need-count-requires-2
-count-requires-2 c κs = search needs
-
-element-copy-out-count-3 : tie.Need-element-copy-out-count-3
-element-copy-out-count-3 c = search needs
-
-count-requires-3 : tie.Need-count-requires-3
-count-requires-3 c κs = search needs
-
-element-copy-out-count-4 : tie.Need-element-copy-out-count-4
-element-copy-out-count-4 c = search needs
-
-count-requires-4 : tie.Need-count-requires-4
-count-requires-4 c κs = search needs
-
 returns : tie.Need-returns
 unfolding gets
 returns c =
@@ -84,19 +39,13 @@ pub state-spec : {M : Type 1} → statement M
 state-spec =
     tie.close
     (tie.spec
-    codes-requires
-    gains-requires
-    sources-requires
-    element-requires
-    element-requires-2
-    long-requires
-    element-copy-out-t12
-    element-copy-out-count
-    count-requires
-    element-copy-out-count-2
-    count-requires-2
-    element-copy-out-count-3
-    count-requires-3
-    element-copy-out-count-4
-    count-requires-4
+    (λ c κs. search needs) (λ c κs. search needs) (λ c κs. search needs) (λ c κs. search needs) (λ c κs. search needs) (λ c κs. search needs)
+    (λ c. search needs) (λ c. search needs)
+    (λ c κs. search needs)
+    (λ c. search needs)
+    (λ c κs. search needs)
+    (λ c. search needs)
+    (λ c κs. search needs)
+    (λ c. search needs)
+    (λ c κs. search needs)
     returns)

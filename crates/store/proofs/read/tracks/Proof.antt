@@ -17,33 +17,9 @@ Inv-loop w at a₀ i₀ a i = (i ≤ 16) × (length a ≡ 16) × (take i a ≡ a
 abbrev μ-loop : tie.MeasureT-loop
 μ-loop w at a₀ i₀ a i = 16 - i
 
-track-requires : tie.Need-track-requires Inv-loop μ-loop
-track-requires c κs = search needs
-
 loop-holds : tie.Need-loop-holds Inv-loop μ-loop
 unfolding gets
 loop-holds c = (omega arith, refl, refl)
-
-mul-track : tie.Need-mul-track Inv-loop μ-loop
-mul-track c = search needs
-
-add-track : tie.Need-add-track Inv-loop μ-loop
-add-track c = search needs
-
-track-requires-2 : tie.Need-track-requires-2 Inv-loop μ-loop
-track-requires-2 c κs = search needs
-
-mul-a : tie.Need-mul-a Inv-loop μ-loop
-mul-a c = search needs
-
-array-set-from-a : tie.Need-array-set-from-a Inv-loop μ-loop
-array-set-from-a c = search needs
-
-add-i : tie.Need-add-i Inv-loop μ-loop
-add-i c = search needs
-
-loop-less : tie.Need-loop-less Inv-loop μ-loop
-loop-less c = search needs
 
 loop-again : tie.Need-loop-again Inv-loop μ-loop
 loop-again c =
@@ -69,14 +45,10 @@ tracks-spec =
     (tie.spec
     Inv-loop
     μ-loop
-    track-requires
+    (λ c κs. search needs)
     loop-holds
-    mul-track
-    add-track
-    track-requires-2
-    mul-a
-    array-set-from-a
-    add-i
-    loop-less
+    (λ c. search needs) (λ c. search needs)
+    (λ c κs. search needs)
+    (λ c. search needs) (λ c. search needs) (λ c. search needs) (λ c. search needs)
     loop-again
     returns)

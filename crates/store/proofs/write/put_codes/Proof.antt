@@ -1,6 +1,6 @@
 -- The entries before `i` are stored. Assumes nothing.
 use borrow.Author.Needs.{needs}
-use mathlib.Core.Path.{_≡_, refl, sym}
+use mathlib.Core.Path.{_≡_, refl}
 use mathlib.Core.List.{[], _∷_}
 use Prim.Native.Nat.{_+_, _-_, _*_, _≤_, _<_}
 use native.Mathlib.Omega.{arith}
@@ -22,27 +22,6 @@ abbrev μ-loop : tie.MeasureT-loop
 loop-holds : tie.Need-loop-holds Inv-loop μ-loop
 loop-holds c = let a = c .before .args in (omega arith, refl, store-none (u8To 17) (lawful-u8-to 17 (lit< tt)) (a .s .now) (a .at) (a .t3))
 
-mul-put-u32 : tie.Need-mul-put-u32 Inv-loop μ-loop
-mul-put-u32 c = search needs
-
-add-put-u32 : tie.Need-add-put-u32 Inv-loop μ-loop
-add-put-u32 c = search needs
-
-array-read-put-u32 : tie.Need-array-read-put-u32 Inv-loop μ-loop
-array-read-put-u32 c = search needs
-
-cast-put-u32 : tie.Need-cast-put-u32 Inv-loop μ-loop
-cast-put-u32 c = search needs
-
-put-u32-requires : tie.Need-put-u32-requires Inv-loop μ-loop
-put-u32-requires c κs = search needs
-
-add-i : tie.Need-add-i Inv-loop μ-loop
-add-i c = search needs
-
-loop-less : tie.Need-loop-less Inv-loop μ-loop
-loop-less c = search needs
-
 loop-again : tie.Need-loop-again Inv-loop μ-loop
 loop-again c =
     let p = c .before .before in
@@ -52,9 +31,6 @@ loop-again c =
     let q = store-turn (u8To 17) (lawful-u8-to 17 (lit< tt)) 0 (a .s .now) (l .s) (p .put-u32 .last .0) (a .at) (l .i) (a .at + 4 * l .i)
     (a .t3) (getD (a .t3) (l .i) 0 ∷ []) h (omega arith) refl refl (l .inv .2) (p .put-u32 .ensures) in
     (omega arith, q .0, q .1)
-
-same-length : tie.Need-same-length Inv-loop μ-loop
-same-length c = search needs
 
 returns : tie.Need-returns Inv-loop μ-loop
 returns c =
@@ -69,13 +45,9 @@ put-codes-spec =
     Inv-loop
     μ-loop
     loop-holds
-    mul-put-u32
-    add-put-u32
-    array-read-put-u32
-    cast-put-u32
-    put-u32-requires
-    add-i
-    loop-less
+    (λ c. search needs) (λ c. search needs) (λ c. search needs) (λ c. search needs)
+    (λ c κs. search needs)
+    (λ c. search needs) (λ c. search needs)
     loop-again
-    same-length
+    (λ c. search needs)
     returns)

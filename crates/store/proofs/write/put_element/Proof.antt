@@ -13,30 +13,6 @@ use Rattle.store.proofs.Stores.{element-stored}
 use Rattle.store.proofs.write.put_element.Statement.{statement}
 use Rattle.store.proofs.write.put_element.Tie as tie
 
-head-words-requires : tie.Need-head-words-requires
-head-words-requires c κs = search needs
-
-slice-aggregate-put-words : tie.Need-slice-aggregate-put-words
-slice-aggregate-put-words c = search needs
-
-put-words-requires : tie.Need-put-words-requires
-put-words-requires c κs = search needs
-
-add-blocks : tie.Need-add-blocks
-add-blocks c = search needs
-
-add-rows : tie.Need-add-rows
-add-rows c = search needs
-
-put-schedule-requires : tie.Need-put-schedule-requires
-put-schedule-requires c κs = search needs
-
-put-tracks-requires : tie.Need-put-tracks-requires
-put-tracks-requires c κs = search needs
-
-same-length : tie.Need-same-length
-same-length c = search needs
-
 returns : tie.Need-returns
 returns c =
     let t = c .before .before in
@@ -55,12 +31,10 @@ pub put-element-spec : {M : Type 1} → statement M
 put-element-spec =
     tie.close
     (tie.spec
-    head-words-requires
-    slice-aggregate-put-words
-    put-words-requires
-    add-blocks
-    add-rows
-    put-schedule-requires
-    put-tracks-requires
-    same-length
+    (λ c κs. search needs)
+    (λ c. search needs)
+    (λ c κs. search needs)
+    (λ c. search needs) (λ c. search needs)
+    (λ c κs. search needs) (λ c κs. search needs)
+    (λ c. search needs)
     returns)

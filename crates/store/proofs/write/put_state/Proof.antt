@@ -15,39 +15,6 @@ use Rattle.store.proofs.Stores.{state-stored}
 use Rattle.store.proofs.write.put_state.Statement.{statement}
 use Rattle.store.proofs.write.put_state.Tie as tie
 
-counts-words-requires : tie.Need-counts-words-requires
-counts-words-requires c κs = search needs
-
-slice-aggregate-put-words : tie.Need-slice-aggregate-put-words
-slice-aggregate-put-words c = search needs
-
-put-words-requires : tie.Need-put-words-requires
-put-words-requires c κs = search needs
-
-put-codes-requires : tie.Need-put-codes-requires
-put-codes-requires c κs = search needs
-
-put-gains-requires : tie.Need-put-gains-requires
-put-gains-requires c κs = search needs
-
-put-sources-requires : tie.Need-put-sources-requires
-put-sources-requires c κs = search needs
-
-array-copy-out-first : tie.Need-array-copy-out-first
-array-copy-out-first c = search needs
-
-put-element-requires : tie.Need-put-element-requires
-put-element-requires c κs = search needs
-
-array-copy-out-second : tie.Need-array-copy-out-second
-array-copy-out-second c = search needs
-
-put-element-requires-2 : tie.Need-put-element-requires-2
-put-element-requires-2 c κs = search needs
-
-same-length : tie.Need-same-length
-same-length c = search needs
-
 returns : tie.Need-returns
 returns c =
     let e2 = c .before .before in
@@ -73,15 +40,12 @@ pub put-state-spec : {M : Type 1} → statement M
 put-state-spec =
     tie.close
     (tie.spec
-    counts-words-requires
-    slice-aggregate-put-words
-    put-words-requires
-    put-codes-requires
-    put-gains-requires
-    put-sources-requires
-    array-copy-out-first
-    put-element-requires
-    array-copy-out-second
-    put-element-requires-2
-    same-length
+    (λ c κs. search needs)
+    (λ c. search needs)
+    (λ c κs. search needs) (λ c κs. search needs) (λ c κs. search needs) (λ c κs. search needs)
+    (λ c. search needs)
+    (λ c κs. search needs)
+    (λ c. search needs)
+    (λ c κs. search needs)
+    (λ c. search needs)
     returns)

@@ -13,21 +13,6 @@ use Rattle.store.proofs.Stores.{small-stored}
 use Rattle.store.proofs.write.save.Statement.{statement}
 use Rattle.store.proofs.write.save.Tie as tie
 
-clock-words-requires : tie.Need-clock-words-requires
-clock-words-requires c κs = search needs
-
-slice-aggregate-put-words : tie.Need-slice-aggregate-put-words
-slice-aggregate-put-words c = search needs
-
-put-words-requires : tie.Need-put-words-requires
-put-words-requires c κs = search needs
-
-put-state-requires : tie.Need-put-state-requires
-put-state-requires c κs = search needs
-
-same-length : tie.Need-same-length
-same-length c = search needs
-
 returns : tie.Need-returns
 returns c =
     let t = c .before .before in
@@ -44,9 +29,8 @@ pub save-spec : {M : Type 1} → statement M
 save-spec =
     tie.close
     (tie.spec
-    clock-words-requires
-    slice-aggregate-put-words
-    put-words-requires
-    put-state-requires
-    same-length
+    (λ c κs. search needs)
+    (λ c. search needs)
+    (λ c κs. search needs) (λ c κs. search needs)
+    (λ c. search needs)
     returns)

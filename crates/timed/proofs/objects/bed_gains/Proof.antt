@@ -20,35 +20,11 @@ abbrev μ-loop : tie.MeasureT-loop
 loop-holds : tie.Need-loop-holds Inv-loop μ-loop
 loop-holds c = (search needs, simp unary-clauses)
 
-mul-maybe-at : tie.Need-mul-maybe-at Inv-loop μ-loop
-mul-maybe-at c = search needs
-
 add-maybe-at : tie.Need-add-maybe-at Inv-loop μ-loop
 add-maybe-at c = omega (arith, c .before .before .before .pre .2 (c .before .loop .i) (search needs))
 
 maybe-at-requires : tie.Need-maybe-at-requires Inv-loop μ-loop
 maybe-at-requires c κs = let h = c .before .before .before .pre .2 (c .before .loop .i) (search needs) in (omega arith, omega arith, omega arith, omega arith)
-
-mul-or-else : tie.Need-mul-or-else Inv-loop μ-loop
-mul-or-else c = search needs
-
-array-read-or-else : tie.Need-array-read-or-else Inv-loop μ-loop
-array-read-or-else c = search needs
-
-or-else-requires : tie.Need-or-else-requires Inv-loop μ-loop
-or-else-requires c κs = search needs
-
-mul-next : tie.Need-mul-next Inv-loop μ-loop
-mul-next c = search needs
-
-array-write-next : tie.Need-array-write-next Inv-loop μ-loop
-array-write-next c = search needs
-
-add-i : tie.Need-add-i Inv-loop μ-loop
-add-i c = search needs
-
-loop-less : tie.Need-loop-less Inv-loop μ-loop
-loop-less c = search needs
 
 loop-again : tie.Need-loop-again Inv-loop μ-loop
 loop-again c =
@@ -71,15 +47,11 @@ bed-gains-spec =
     Inv-loop
     μ-loop
     loop-holds
-    mul-maybe-at
+    (λ c. search needs)
     add-maybe-at
     maybe-at-requires
-    mul-or-else
-    array-read-or-else
-    or-else-requires
-    mul-next
-    array-write-next
-    add-i
-    loop-less
+    (λ c. search needs) (λ c. search needs)
+    (λ c κs. search needs)
+    (λ c. search needs) (λ c. search needs) (λ c. search needs) (λ c. search needs)
     loop-again
     returns)

@@ -4,9 +4,6 @@ use Rattle.timed.specs.Objects.{ramped}
 use Rattle.timed.proofs.objects.ramp_one.Statement.{statement}
 use Rattle.timed.proofs.objects.ramp_one.Tie as tie
 
-lerp-vec3-requires : tie.Need-lerp-vec3-requires
-lerp-vec3-requires c κs = search needs
-
 returns : tie.Need-returns
 unfolding ramped
 returns c = rw (c .before .before .before .if1 .taken, c .before .before .if2 .taken, c .before .if3 .taken, c .lerp-vec3 .ensures)
@@ -24,4 +21,4 @@ unfolding ramped
 returns-4 c = rw (c .if1 .left)
 
 pub ramp-one-spec : {M : Type 1} → statement M
-ramp-one-spec = tie.close (tie.spec lerp-vec3-requires returns returns-2 returns-3 returns-4)
+ramp-one-spec = tie.close (tie.spec (λ c κs. search needs) returns returns-2 returns-3 returns-4)

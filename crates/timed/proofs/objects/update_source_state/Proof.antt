@@ -6,24 +6,6 @@ use Rattle.timed.proofs.Laws.{moved-by}
 use Rattle.timed.proofs.objects.update_source_state.Statement.{statement}
 use Rattle.timed.proofs.objects.update_source_state.Tie as tie
 
-maybe-at-requires : tie.Need-maybe-at-requires
-maybe-at-requires c κs = search needs
-
-or-else-requires : tie.Need-or-else-requires
-or-else-requires c κs = search needs
-
-maybe-at-requires-2 : tie.Need-maybe-at-requires-2
-maybe-at-requires-2 c κs = search needs
-
-or-else-requires-2 : tie.Need-or-else-requires-2
-or-else-requires-2 c κs = search needs
-
-block-position-requires : tie.Need-block-position-requires
-block-position-requires c κs = search needs
-
-update-source-position-requires : tie.Need-update-source-position-requires
-update-source-position-requires c κs = search needs
-
 mul-put-vec : tie.Need-mul-put-vec
 mul-put-vec c = omega (arith, c .before .before .before .before .before .before .before .before .before .before .before .before .before .pre)
 
@@ -42,9 +24,6 @@ add-put-vec-2 c = omega (arith, c .before .before .before .before .before .befor
 put-vec-requires-2 : tie.Need-put-vec-requires-2
 put-vec-requires-2 c κs = omega (arith, c .before .before .before .before .before .before .before .before .before .before .before .before .before .before .before .before .before .pre, c .before .before .before .put-vec .kept)
 
-same-length : tie.Need-same-length
-same-length c = search needs
-
 returns : tie.Need-returns
 returns c =
     let s = c .before .before .before .before .before .before .before .before .before .before .before .before .before .before .before .before .before .before .before .before .before .before .args in
@@ -56,9 +35,6 @@ returns c =
       infos = rw (e, c .before .before .before .before .put-vec2 .ensures, c .before .before .before .before .before .before .before .before .put-vec .ensures);
     }
 
-same-length-2 : tie.Need-same-length-2
-same-length-2 c = search needs
-
 returns-2 : tie.Need-returns-2
 returns-2 c =
     let s = c .before .before .before .before .before .before .before .before .before .before .before .before .before .before .before .before .before .before .before .before .before .before .args in
@@ -69,9 +45,6 @@ returns-2 c =
       object = rw (e, c .before .if1 .taken, c .if2 .left, c .before .before .before .before .before .before .before .before .before .before .before .before .before .before .before .before .before .before .or-else .ensures, c .before .before .before .before .before .before .before .before .before .before .before .before .before .before .before .before .before .before .before .maybe-at .ensures, c .before .before .before .before .before .before .before .before .before .before .before .before .before .before .before .or-else2 .ensures, c .before .before .before .before .before .before .before .before .before .before .before .before .before .before .before .before .maybe-at2 .ensures);
       infos = rw (e, c .before .before .before .before .put-vec2 .ensures, c .before .before .before .before .before .before .before .before .put-vec .ensures);
     }
-
-same-length-3 : tie.Need-same-length-3
-same-length-3 c = search needs
 
 returns-3 : tie.Need-returns-3
 returns-3 c =
@@ -88,21 +61,16 @@ pub update-source-state-spec : {M : Type 1} → statement M
 update-source-state-spec =
     tie.close
     (tie.spec
-    maybe-at-requires
-    or-else-requires
-    maybe-at-requires-2
-    or-else-requires-2
-    block-position-requires
-    update-source-position-requires
+    (λ c κs. search needs) (λ c κs. search needs) (λ c κs. search needs) (λ c κs. search needs) (λ c κs. search needs) (λ c κs. search needs)
     mul-put-vec
     add-put-vec
     put-vec-requires
     mul-put-vec-2
     add-put-vec-2
     put-vec-requires-2
-    same-length
+    (λ c. search needs)
     returns
-    same-length-2
+    (λ c. search needs)
     returns-2
-    same-length-3
+    (λ c. search needs)
     returns-3)

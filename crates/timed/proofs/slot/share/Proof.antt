@@ -7,18 +7,18 @@ use Rattle.timed.proofs.Shifted.{remaining-shifted}
 use Rattle.timed.proofs.slot.share.Statement.{statement}
 use Rattle.timed.proofs.slot.share.Tie as tie
 
-sub-min : tie.Need-sub-min
-sub-min c = search needs
-
 int-to-float-min : tie.Need-int-to-float-min
 int-to-float-min c = in-float _ (omega arith)
-
-min-requires : tie.Need-min-requires
-min-requires c κs = search needs
 
 returns : tie.Need-returns
 unfolding share
 returns c = rw (remaining-shifted (c .before .before .args .remaining) (c .before .before .pre .0)) (c .min .ensures)
 
 pub share-spec : {M : Type 1} → statement M
-share-spec = tie.close (tie.spec sub-min int-to-float-min min-requires returns)
+share-spec =
+    tie.close
+    (tie.spec
+    (λ c. search needs)
+    int-to-float-min
+    (λ c κs. search needs)
+    returns)

@@ -3,21 +3,6 @@ use borrow.Author.Needs.{needs}
 use Rattle.updates.proofs.element.apply_element.Statement.{statement}
 use Rattle.updates.proofs.element.apply_element.Tie as tie
 
-blocks-at-requires : tie.Need-blocks-at-requires
-blocks-at-requires c κs = search needs
-
-is-kept-requires : tie.Need-is-kept-requires
-is-kept-requires c κs = search needs
-
-put-objects-requires : tie.Need-put-objects-requires
-put-objects-requires c κs = search needs
-
-next-element-requires : tie.Need-next-element-requires
-next-element-requires c κs = search needs
-
-same-length : tie.Need-same-length
-same-length c = search needs
-
 returns : tie.Need-returns
 returns c =
     let k = c .before .before .before .before .before .is-kept .ensures in
@@ -28,9 +13,6 @@ pub apply-element-spec : {M : Type 1} → statement M
 apply-element-spec =
     tie.close
     (tie.spec
-    blocks-at-requires
-    is-kept-requires
-    put-objects-requires
-    next-element-requires
-    same-length
+    (λ c κs. search needs) (λ c κs. search needs) (λ c κs. search needs) (λ c κs. search needs)
+    (λ c. search needs)
     returns)

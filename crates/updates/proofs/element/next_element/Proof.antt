@@ -4,12 +4,6 @@ use Rattle.updates.specs.Applied.{elementNext}
 use Rattle.updates.proofs.element.next_element.Statement.{statement}
 use Rattle.updates.proofs.element.next_element.Tie as tie
 
-schedule-of-requires : tie.Need-schedule-of-requires
-schedule-of-requires c κs = search needs
-
-next-tracks-requires : tie.Need-next-tracks-requires
-next-tracks-requires c κs = search needs
-
 returns : tie.Need-returns
 unfolding elementNext
 returns c = rw (c .before .next-tracks .ensures, c .if1 .taken, c .before .before .before .schedule-of .ensures, c .before .before .before .before .before .before .pre .0)
@@ -19,4 +13,9 @@ unfolding elementNext
 returns-2 c = rw (c .before .next-tracks .ensures, c .if1 .left, c .before .before .before .schedule-of .ensures, c .before .before .before .before .before .before .pre .0)
 
 pub next-element-spec : {M : Type 1} → statement M
-next-element-spec = tie.close (tie.spec schedule-of-requires next-tracks-requires returns returns-2)
+next-element-spec =
+    tie.close
+    (tie.spec
+    (λ c κs. search needs) (λ c κs. search needs)
+    returns
+    returns-2)

@@ -3,14 +3,8 @@ use borrow.Author.Needs.{needs}
 use Rattle.updates.proofs.element.next_tracks.Statement.{statement}
 use Rattle.updates.proofs.element.next_tracks.Tie as tie
 
-returns : tie.Need-returns
-returns c = search needs
-
-zero-vec3-requires : tie.Need-zero-vec3-requires
-zero-vec3-requires c κs = search needs
-
 returns-2 : tie.Need-returns-2
 returns-2 c = rw (c .before .if1 .left, c .zero-vec3 .ensures)
 
 pub next-tracks-spec : {M : Type 1} → statement M
-next-tracks-spec = tie.close (tie.spec returns zero-vec3-requires returns-2)
+next-tracks-spec = tie.close (tie.spec (λ c. search needs) (λ c κs. search needs) returns-2)

@@ -22,35 +22,14 @@ abbrev μ-loop : tie.MeasureT-loop
 loop-holds : tie.Need-loop-holds Inv-loop μ-loop
 loop-holds c = (search needs, (search needs, simp unary-clauses))
 
-object-place-requires : tie.Need-object-place-requires Inv-loop μ-loop
-object-place-requires c κs = search needs
-
 info-at-requires : tie.Need-info-at-requires Inv-loop μ-loop
 info-at-requires c κs = rw (c .object-place .ensures) (c .before .before .before .before .before .pre .6 (c .before .before .loop .b) (search needs))
-
-add-put-info : tie.Need-add-put-info Inv-loop μ-loop
-add-put-info c = search needs
-
-mul-put-info : tie.Need-mul-put-info Inv-loop μ-loop
-mul-put-info c = search needs
-
-put-info-requires : tie.Need-put-info-requires Inv-loop μ-loop
-put-info-requires c κs = search needs
-
-add-b : tie.Need-add-b Inv-loop μ-loop
-add-b c = search needs
-
-loop-less : tie.Need-loop-less Inv-loop μ-loop
-loop-less c = search needs
 
 loop-again : tie.Need-loop-again Inv-loop μ-loop
 loop-again c =
     let l = c .before .before .before .before .before .before .before .loop in
     let s = c .before .before .before .before .before .before .before .before .before .before .args in
     (search needs, (omega (arith, c .before .before .put-info .kept), rw (c .before .before .put-info .ensures, c .before .before .before .before .info-at .ensures, c .before .before .before .before .before .object-place .ensures) (sym (turn (s .n) (l .b) (infoGiven (s .fresh) (s .bed) (elementSaid (now (s .meta)) (s .p)) (s .first) (s .o)) (l .infos) (search needs)) ∙ l .inv .1 .1)))
-
-same-length : tie.Need-same-length Inv-loop μ-loop
-same-length c = search needs
 
 returns : tie.Need-returns Inv-loop μ-loop
 unfolding objectStored
@@ -67,13 +46,11 @@ put-object-spec =
     Inv-loop
     μ-loop
     loop-holds
-    object-place-requires
+    (λ c κs. search needs)
     info-at-requires
-    add-put-info
-    mul-put-info
-    put-info-requires
-    add-b
-    loop-less
+    (λ c. search needs) (λ c. search needs)
+    (λ c κs. search needs)
+    (λ c. search needs) (λ c. search needs)
     loop-again
-    same-length
+    (λ c. search needs)
     returns)

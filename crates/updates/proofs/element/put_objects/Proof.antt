@@ -24,12 +24,6 @@ abbrev μ-loop : tie.MeasureT-loop
 loop-holds : tie.Need-loop-holds Inv-loop μ-loop
 loop-holds c = (search needs, (search needs, simp unary-clauses))
 
-mul-put-object : tie.Need-mul-put-object Inv-loop μ-loop
-mul-put-object c = search needs
-
-add-put-object : tie.Need-add-put-object Inv-loop μ-loop
-add-put-object c = search needs
-
 put-object-requires : tie.Need-put-object-requires Inv-loop μ-loop
 put-object-requires c κs =
     let s = c .before .before .before .before .before .args in
@@ -45,20 +39,11 @@ put-object-requires c κs =
       λ b i. omega (arith, cell-below (l .o) (s .counts .objects) b (blocks (now (s .meta)) (s .p)) (omega arith) (omega arith), w .within),
     )
 
-add-o : tie.Need-add-o Inv-loop μ-loop
-add-o c = search needs
-
-loop-less : tie.Need-loop-less Inv-loop μ-loop
-loop-less c = search needs
-
 loop-again : tie.Need-loop-again Inv-loop μ-loop
 loop-again c =
     let l = c .before .before .before .before .before .loop in
     let s = c .before .before .before .before .before .before .before .before .args in
     (search needs, (omega (arith, c .before .before .put-object .kept), rw (c .before .before .put-object .ensures) (sym (turn (s .counts .objects) (l .o) (objectGiven (s .fresh) (s .counts .isf) (elementSaid (now (s .meta)) (s .p)) (s .first)) (l .infos) (search needs)) ∙ l .inv .1 .1)))
-
-same-length : tie.Need-same-length Inv-loop μ-loop
-same-length c = search needs
 
 returns : tie.Need-returns Inv-loop μ-loop
 unfolding objectsStored
@@ -74,11 +59,9 @@ put-objects-spec =
     Inv-loop
     μ-loop
     loop-holds
-    mul-put-object
-    add-put-object
+    (λ c. search needs) (λ c. search needs)
     put-object-requires
-    add-o
-    loop-less
+    (λ c. search needs) (λ c. search needs)
     loop-again
-    same-length
+    (λ c. search needs)
     returns)

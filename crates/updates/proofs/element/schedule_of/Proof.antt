@@ -21,9 +21,6 @@ abbrev μ-loop : tie.MeasureT-loop
 loop-holds : tie.Need-loop-holds Inv-loop μ-loop
 loop-holds c = (search needs, simp unary-clauses)
 
-block-place-requires : tie.Need-block-place-requires Inv-loop μ-loop
-block-place-requires c κs = search needs
-
 raised-block-at-requires : tie.Need-raised-block-at-requires Inv-loop μ-loop
 raised-block-at-requires c κs = omega (arith, c .block-place .ensures, c .before .before .before .before .pre)
 
@@ -40,18 +37,6 @@ cast-t12 c =
     let w = c .before .before .before .before .before .before .before .pre in
     let h : c .before .before .raised-block-at .result .ramp ≤ 2097152 = rw (c .before .before .raised-block-at .ensures, c .before .before .before .block-place .ensures) (w .1 .ramps (l .b) (omega (arith, w .0, c .before .before .before .before .loop-test))) in
     omega arith
-
-mul-next : tie.Need-mul-next Inv-loop μ-loop
-mul-next c = search needs
-
-array-set-from-next : tie.Need-array-set-from-next Inv-loop μ-loop
-array-set-from-next c = search needs
-
-add-b : tie.Need-add-b Inv-loop μ-loop
-add-b c = search needs
-
-loop-less : tie.Need-loop-less Inv-loop μ-loop
-loop-less c = search needs
 
 loop-again : tie.Need-loop-again Inv-loop μ-loop
 loop-again c =
@@ -74,13 +59,10 @@ schedule-of-spec =
     Inv-loop
     μ-loop
     loop-holds
-    block-place-requires
+    (λ c κs. search needs)
     raised-block-at-requires
     cast-t11
     cast-t12
-    mul-next
-    array-set-from-next
-    add-b
-    loop-less
+    (λ c. search needs) (λ c. search needs) (λ c. search needs) (λ c. search needs)
     loop-again
     returns)

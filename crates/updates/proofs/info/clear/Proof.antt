@@ -4,18 +4,6 @@ use Rattle.updates.specs.Stored.{cleared}
 use Rattle.updates.proofs.info.clear.Statement.{statement}
 use Rattle.updates.proofs.info.clear.Tie as tie
 
-put-three-requires : tie.Need-put-three-requires
-put-three-requires c κs = search needs
-
-add-put-three : tie.Need-add-put-three
-add-put-three c = search needs
-
-put-three-requires-2 : tie.Need-put-three-requires-2
-put-three-requires-2 c κs = search needs
-
-same-length : tie.Need-same-length
-same-length c = search needs
-
 returns : tie.Need-returns
 unfolding cleared
 returns c = rw (c .before .before .before .before .before .before .before .before .if1 .taken, c .before .before .put-three2 .ensures, c .before .before .before .before .before .before .put-three .ensures)
@@ -27,4 +15,10 @@ returns-2 c = rw (c .if1 .left)
 pub clear-spec : {M : Type 1} → statement M
 clear-spec =
     tie.close
-    (tie.spec put-three-requires add-put-three put-three-requires-2 same-length returns returns-2)
+    (tie.spec
+    (λ c κs. search needs)
+    (λ c. search needs)
+    (λ c κs. search needs)
+    (λ c. search needs)
+    returns
+    returns-2)

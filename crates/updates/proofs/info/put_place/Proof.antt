@@ -6,12 +6,6 @@ use Rattle.updates.specs.Stored.{withPlace}
 use Rattle.updates.proofs.info.put_place.Statement.{statement}
 use Rattle.updates.proofs.info.put_place.Tie as tie
 
-put-three-requires : tie.Need-put-three-requires
-put-three-requires c κs = search needs
-
-same-length : tie.Need-same-length
-same-length c = search needs
-
 returns : tie.Need-returns
 unfolding withPlace
 returns c = rw (eq-eqb (c .before .before .before .before .before .before .before .args .i .head / 8 % 2) 1 (c .before .before .before .before .if1 .taken), c .before .before .put-three .ensures)
@@ -21,4 +15,4 @@ unfolding withPlace
 returns-2 c = rw (ne-eqb (c .before .before .before .args .i .head / 8 % 2) 1 (c .if1 .left))
 
 pub put-place-spec : {M : Type 1} → statement M
-put-place-spec = tie.close (tie.spec put-three-requires same-length returns returns-2)
+put-place-spec = tie.close (tie.spec (λ c κs. search needs) (λ c. search needs) returns returns-2)

@@ -57,12 +57,6 @@ element-after-requires c κs =
     let w : WholeElement (now (c .before .before .before .before .before .before .before .before .before .args .meta)) (c .before .before .before .before .before .before .before .before .before .args .counts .objects) (l .p) = (rw (h .2 .objects, l .inv .1 .1 .0) (h .3 .each (l .e) (omega (arith, h .1, c .before .before .before .before .before .loop-test)))) in
     (omega (arith, w .given .within), rw (h .2 .objects) (h .3 .few-objects), w .given .few)
 
-add-e : tie.Need-add-e Inv-loop μ-loop
-add-e c = search needs
-
-loop-less : tie.Need-loop-less Inv-loop μ-loop
-loop-less c = search needs
-
 loop-again : tie.Need-loop-again Inv-loop μ-loop
 loop-again c =
     let l = c .before .before .before .before .before .before .before .loop in
@@ -80,9 +74,6 @@ loop-again c =
         ),
       ),
     )
-
-same-length : tie.Need-same-length Inv-loop μ-loop
-same-length c = search needs
 
 returns : tie.Need-returns Inv-loop μ-loop
 unfolding elementsApplied
@@ -108,8 +99,7 @@ apply-elements-spec =
     mul-next
     array-set-from-next
     element-after-requires
-    add-e
-    loop-less
+    (λ c. search needs) (λ c. search needs)
     loop-again
-    same-length
+    (λ c. search needs)
     returns)

@@ -7,18 +7,6 @@ use Rattle.updates.proofs.Laws.{update-done}
 use Rattle.updates.proofs.update.apply_update.Statement.{statement}
 use Rattle.updates.proofs.update.apply_update.Tie as tie
 
-header-at-requires : tie.Need-header-at-requires
-header-at-requires c κs = search needs
-
-dynamic-requires : tie.Need-dynamic-requires
-dynamic-requires c κs = search needs
-
-dynamic-requires-2 : tie.Need-dynamic-requires-2
-dynamic-requires-2 c κs = search needs
-
-same-counts-requires : tie.Need-same-counts-requires
-same-counts-requires c κs = search needs
-
 apply-elements-requires : tie.Need-apply-elements-requires
 apply-elements-requires c κs =
     let d = c .before .before .before .before in
@@ -26,18 +14,6 @@ apply-elements-requires c κs =
     let s = h .before .before .before in
     let e = h .header-at .ensures in
     (omega (arith, s .pre .0), rw e, record { objects = rw e; isf = rw e; dynamic = d .dynamic .ensures ∙ rw e }, s .pre .1)
-
-next-codes-requires : tie.Need-next-codes-requires
-next-codes-requires c κs = search needs
-
-next-gains-requires : tie.Need-next-gains-requires
-next-gains-requires c κs = search needs
-
-next-sources-requires : tie.Need-next-sources-requires
-next-sources-requires c κs = search needs
-
-same-length : tie.Need-same-length
-same-length c = search needs
 
 returns : tie.Need-returns
 returns c =
@@ -57,13 +33,8 @@ pub apply-update-spec : {M : Type 1} → statement M
 apply-update-spec =
     tie.close
     (tie.spec
-    header-at-requires
-    dynamic-requires
-    dynamic-requires-2
-    same-counts-requires
+    (λ c κs. search needs) (λ c κs. search needs) (λ c κs. search needs) (λ c κs. search needs)
     apply-elements-requires
-    next-codes-requires
-    next-gains-requires
-    next-sources-requires
-    same-length
+    (λ c κs. search needs) (λ c κs. search needs) (λ c κs. search needs)
+    (λ c. search needs)
     returns)

@@ -9,12 +9,9 @@ returns : tie.Need-returns
 unfolding nextSources
 returns c = rw (eq-eqb (c .before .args .was) (c .before .args .count) (c .if1 .taken))
 
-zero-vec3-requires : tie.Need-zero-vec3-requires
-zero-vec3-requires c κs = search needs
-
 returns-2 : tie.Need-returns-2
 unfolding nextSources
 returns-2 c = rw (ne-eqb (c .before .before .args .was) (c .before .before .args .count) (c .before .if1 .left), c .zero-vec3 .ensures)
 
 pub next-sources-spec : {M : Type 1} → statement M
-next-sources-spec = tie.close (tie.spec returns zero-vec3-requires returns-2)
+next-sources-spec = tie.close (tie.spec returns (λ c κs. search needs) returns-2)

@@ -21,38 +21,11 @@ abbrev μ-loop : tie.MeasureT-loop
 loop-holds : tie.Need-loop-holds Inv-loop μ-loop
 loop-holds c = (search needs, (search needs, simp unary-clauses))
 
-mul-source : tie.Need-mul-source Inv-loop μ-loop
-mul-source c = search needs
-
-element-copy-out-source : tie.Need-element-copy-out-source Inv-loop μ-loop
-element-copy-out-source c = search needs
-
-mul-update-source-state : tie.Need-mul-update-source-state Inv-loop μ-loop
-mul-update-source-state c = search needs
-
 add-update-source-state : tie.Need-add-update-source-state Inv-loop μ-loop
 add-update-source-state c = omega (arith, c .before .before .before .before .before .pre .2 (c .before .before .before .loop .d) (search needs))
 
 update-source-state-requires : tie.Need-update-source-state-requires Inv-loop μ-loop
 update-source-state-requires c κs = let h = c .before .before .before .before .before .pre .2 (c .before .before .before .loop .d) (search needs) in (omega arith, omega arith)
-
-mul-s : tie.Need-mul-s Inv-loop μ-loop
-mul-s c = search needs
-
-element-set-from-s : tie.Need-element-set-from-s Inv-loop μ-loop
-element-set-from-s c = search needs
-
-mul-t : tie.Need-mul-t Inv-loop μ-loop
-mul-t c = search needs
-
-element-set-from-t : tie.Need-element-set-from-t Inv-loop μ-loop
-element-set-from-t c = search needs
-
-add-d : tie.Need-add-d Inv-loop μ-loop
-add-d c = search needs
-
-loop-less : tie.Need-loop-less Inv-loop μ-loop
-loop-less c = search needs
 
 loop-again : tie.Need-loop-again Inv-loop μ-loop
 loop-again c =
@@ -60,9 +33,6 @@ loop-again c =
     let s = c .before .before .before .before .before .before .before .before .before .before .args in
     let m = c .before .before .before .before .update-source-state in
     (search needs, (omega (arith, m .kept), rw (m .ensures .object, m .ensures .infos) (sym (turn (s .count) (l .d) (movedAt (s .arrived) (s .first)) (record { moving = l .next; infos = l .infos }) (search needs)) ∙ l .inv .1 .1)))
-
-same-length : tie.Need-same-length Inv-loop μ-loop
-same-length c = search needs
 
 returns : tie.Need-returns Inv-loop μ-loop
 unfolding movedAll times
@@ -80,17 +50,10 @@ apply-block-spec =
     Inv-loop
     μ-loop
     loop-holds
-    mul-source
-    element-copy-out-source
-    mul-update-source-state
+    (λ c. search needs) (λ c. search needs) (λ c. search needs)
     add-update-source-state
     update-source-state-requires
-    mul-s
-    element-set-from-s
-    mul-t
-    element-set-from-t
-    add-d
-    loop-less
+    (λ c. search needs) (λ c. search needs) (λ c. search needs) (λ c. search needs) (λ c. search needs) (λ c. search needs)
     loop-again
-    same-length
+    (λ c. search needs)
     returns)

@@ -19,39 +19,6 @@ abbrev μ-loop : tie.MeasureT-loop
 loop-holds : tie.Need-loop-holds Inv-loop μ-loop
 loop-holds c = (search needs, simp unary-clauses)
 
-mul-source : tie.Need-mul-source Inv-loop μ-loop
-mul-source c = search needs
-
-element-copy-out-source : tie.Need-element-copy-out-source Inv-loop μ-loop
-element-copy-out-source c = search needs
-
-mul-track : tie.Need-mul-track Inv-loop μ-loop
-mul-track c = search needs
-
-element-copy-out-track : tie.Need-element-copy-out-track Inv-loop μ-loop
-element-copy-out-track c = search needs
-
-mul-last : tie.Need-mul-last Inv-loop μ-loop
-mul-last c = search needs
-
-array-copy-out-last : tie.Need-array-copy-out-last Inv-loop μ-loop
-array-copy-out-last c = search needs
-
-ramp-one-requires : tie.Need-ramp-one-requires Inv-loop μ-loop
-ramp-one-requires c κs = search needs
-
-mul-t12 : tie.Need-mul-t12 Inv-loop μ-loop
-mul-t12 c = search needs
-
-element-set-from-next : tie.Need-element-set-from-next Inv-loop μ-loop
-element-set-from-next c = search needs
-
-add-d : tie.Need-add-d Inv-loop μ-loop
-add-d c = search needs
-
-loop-less : tie.Need-loop-less Inv-loop μ-loop
-loop-less c = search needs
-
 loop-again : tie.Need-loop-again Inv-loop μ-loop
 loop-again c =
     let l = c .before .before .before .before .before .loop in
@@ -73,16 +40,8 @@ ramp-spec =
     Inv-loop
     μ-loop
     loop-holds
-    mul-source
-    element-copy-out-source
-    mul-track
-    element-copy-out-track
-    mul-last
-    array-copy-out-last
-    ramp-one-requires
-    mul-t12
-    element-set-from-next
-    add-d
-    loop-less
+    (λ c. search needs) (λ c. search needs) (λ c. search needs) (λ c. search needs) (λ c. search needs) (λ c. search needs)
+    (λ c κs. search needs)
+    (λ c. search needs) (λ c. search needs) (λ c. search needs) (λ c. search needs)
     loop-again
     returns)

@@ -6,35 +6,11 @@ use Rattle.timed.proofs.Shifted.{left-shifted, left-over}
 use Rattle.timed.proofs.slot.Slot.apply_block.Statement.{statement}
 use Rattle.timed.proofs.slot.Slot.apply_block.Tie as tie
 
-mul-block : tie.Need-mul-block
-mul-block c = search needs
-
-array-copy-out-block : tie.Need-array-copy-out-block
-array-copy-out-block c = search needs
-
-left-requires : tie.Need-left-requires
-left-requires c κs = search needs
-
-mul-schedule : tie.Need-mul-schedule
-mul-schedule c = search needs
-
-array-set-from-schedule : tie.Need-array-set-from-schedule
-array-set-from-schedule c = search needs
-
-add-bed-gains : tie.Need-add-bed-gains
-add-bed-gains c = search needs
-
 bed-gains-requires : tie.Need-bed-gains-requires
 bed-gains-requires c κs = (search needs, search needs, λ d h. omega (arith, c .before .before .before .before .before .before .before .pre .3 .beds d h))
 
-add-apply-block : tie.Need-add-apply-block
-add-apply-block c = search needs
-
 apply-block-requires : tie.Need-apply-block-requires
 apply-block-requires c κs = (search needs, search needs, λ d h. omega (arith, c .before .before .before .before .before .before .before .before .before .before .before .before .pre .3 .objects d h))
-
-same-length : tie.Need-same-length
-same-length c = search needs
 
 returns : tie.Need-returns
 unfolding blockApplied
@@ -48,14 +24,11 @@ pub apply-block-spec : {M : Type 1} → statement M
 apply-block-spec =
     tie.close
     (tie.spec
-    mul-block
-    array-copy-out-block
-    left-requires
-    mul-schedule
-    array-set-from-schedule
-    add-bed-gains
+    (λ c. search needs) (λ c. search needs)
+    (λ c κs. search needs)
+    (λ c. search needs) (λ c. search needs) (λ c. search needs)
     bed-gains-requires
-    add-apply-block
+    (λ c. search needs)
     apply-block-requires
-    same-length
+    (λ c. search needs)
     returns)

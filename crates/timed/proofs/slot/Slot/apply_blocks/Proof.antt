@@ -22,24 +22,6 @@ abbrev μ-loop : tie.MeasureT-loop
 loop-holds : tie.Need-loop-holds Inv-loop μ-loop
 loop-holds c = (search needs, (search needs, simp unary-clauses))
 
-mul-block : tie.Need-mul-block Inv-loop μ-loop
-mul-block c = search needs
-
-element-copy-out-block : tie.Need-element-copy-out-block Inv-loop μ-loop
-element-copy-out-block c = search needs
-
-due-requires : tie.Need-due-requires Inv-loop μ-loop
-due-requires c κs = search needs
-
-apply-block-requires : tie.Need-apply-block-requires Inv-loop μ-loop
-apply-block-requires c κs = search needs
-
-add-b : tie.Need-add-b Inv-loop μ-loop
-add-b c = search needs
-
-loop-less : tie.Need-loop-less Inv-loop μ-loop
-loop-less c = search needs
-
 loop-again : tie.Need-loop-again Inv-loop μ-loop
 loop-again c =
     let l = c .before .before .before .before .loop in
@@ -50,9 +32,6 @@ loop-again c =
     (λ w. (search needs, (omega (arith, w .2 .kept, ap length (w .5)), rw (w .5, w .6, w .2 .ensures .slot, w .2 .ensures .infos) (sym (rw (← c .before .due .ensures, w .0 .taken) at t) ∙ l .inv .1 .1))))
     (λ w. (search needs, (omega (arith, ap length (w .1)), rw (w .1, w .2) (sym (rw (← c .before .due .ensures, w .0 .left) at t) ∙ l .inv .1 .1))))
     (c .if1 .came)
-
-same-length : tie.Need-same-length Inv-loop μ-loop
-same-length c = search needs
 
 returns : tie.Need-returns Inv-loop μ-loop
 unfolding blocksApplied times
@@ -70,12 +49,9 @@ apply-blocks-spec =
     Inv-loop
     μ-loop
     loop-holds
-    mul-block
-    element-copy-out-block
-    due-requires
-    apply-block-requires
-    add-b
-    loop-less
+    (λ c. search needs) (λ c. search needs)
+    (λ c κs. search needs) (λ c κs. search needs)
+    (λ c. search needs) (λ c. search needs)
     loop-again
-    same-length
+    (λ c. search needs)
     returns)

@@ -10,15 +10,6 @@ returns : tie.Need-returns
 unfolding rampApplied
 returns c = let n = c .before .args .self .remaining in rw (over-shifted n, le-leb n 140737488355328 (c .if1 .taken))
 
-share-requires : tie.Need-share-requires
-share-requires c κs = search needs
-
-ramp-requires : tie.Need-ramp-requires
-ramp-requires c κs = search needs
-
-sub-t14 : tie.Need-sub-t14
-sub-t14 c = search needs
-
 returns-2 : tie.Need-returns-2
 unfolding rampApplied
 returns-2 c =
@@ -32,4 +23,10 @@ returns-2 c =
     )
 
 pub ramp-spec : {M : Type 1} → statement M
-ramp-spec = tie.close (tie.spec returns share-requires ramp-requires sub-t14 returns-2)
+ramp-spec =
+    tie.close
+    (tie.spec
+    returns
+    (λ c κs. search needs) (λ c κs. search needs)
+    (λ c. search needs)
+    returns-2)

@@ -4,21 +4,6 @@ use Rattle.timed.proofs.Shifted.{active-shifted, begins-shifted}
 use Rattle.timed.proofs.state.ElementRendererState.begins.Statement.{statement}
 use Rattle.timed.proofs.state.ElementRendererState.begins.Tie as tie
 
-active-requires : tie.Need-active-requires
-active-requires c κs = search needs
-
-array-copy-out-block : tie.Need-array-copy-out-block
-array-copy-out-block c = search needs
-
-cast-result : tie.Need-cast-result
-cast-result c = search needs
-
-add-result : tie.Need-add-result
-add-result c = search needs
-
-add-result-2 : tie.Need-add-result-2
-add-result-2 c = search needs
-
 returns : tie.Need-returns
 returns c =
     let a = c .before .before .before .before .before .before in
@@ -34,10 +19,7 @@ pub begins-spec : {M : Type 1} → statement M
 begins-spec =
     tie.close
     (tie.spec
-    active-requires
-    array-copy-out-block
-    cast-result
-    add-result
-    add-result-2
+    (λ c κs. search needs)
+    (λ c. search needs) (λ c. search needs) (λ c. search needs) (λ c. search needs)
     returns
     returns-2)

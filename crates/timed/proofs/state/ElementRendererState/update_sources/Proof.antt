@@ -6,16 +6,10 @@ use Rattle.timed.proofs.Ramps.{blocks-ramps}
 use Rattle.timed.proofs.state.ElementRendererState.update_sources.Statement.{statement}
 use Rattle.timed.proofs.state.ElementRendererState.update_sources.Tie as tie
 
-apply-blocks-requires : tie.Need-apply-blocks-requires
-apply-blocks-requires c κs = search needs
-
 ramp-requires : tie.Need-ramp-requires
 ramp-requires c κs =
     let s = c .before .before .before .before .before .before .before .args in
     (omega (arith, c .before .before .before .before .before .before .before .pre .2), rw (c .before .before .apply-blocks .ensures .slot) (blocks-ramps 1099511627776 (s .when) (s .reach) (c .before .before .before .before .before .before .before .pre .1 .start) (s .self .blocks) _ (c .before .before .before .before .before .before .before .pre .3 .blocks) (c .before .before .before .before .before .before .before .pre .3 .ramps) .most))
-
-same-length : tie.Need-same-length
-same-length c = search needs
 
 returns : tie.Need-returns
 unfolding updatedSources
@@ -26,4 +20,10 @@ returns c =
     }
 
 pub update-sources-spec : {M : Type 1} → statement M
-update-sources-spec = tie.close (tie.spec apply-blocks-requires ramp-requires same-length returns)
+update-sources-spec =
+    tie.close
+    (tie.spec
+    (λ c κs. search needs)
+    ramp-requires
+    (λ c. search needs)
+    returns)

@@ -16,21 +16,6 @@ abbrev μ-loop : tie.MeasureT-loop
 loop-holds : tie.Need-loop-holds Inv-loop μ-loop
 loop-holds c = (search needs, refl)
 
-sub-i : tie.Need-sub-i Inv-loop μ-loop
-sub-i c = search needs
-
-mul-element : tie.Need-mul-element Inv-loop μ-loop
-mul-element c = search needs
-
-array-copy-out-element : tie.Need-array-copy-out-element Inv-loop μ-loop
-array-copy-out-element c = search needs
-
-begins-requires : tie.Need-begins-requires Inv-loop μ-loop
-begins-requires c κs = search needs
-
-loop-less : tie.Need-loop-less Inv-loop μ-loop
-loop-less c = search needs
-
 loop-again : tie.Need-loop-again Inv-loop μ-loop
 loop-again c =
     let l = c .before .before .before .before .loop in
@@ -54,11 +39,9 @@ element-at-spec =
     Inv-loop
     μ-loop
     loop-holds
-    sub-i
-    mul-element
-    array-copy-out-element
-    begins-requires
-    loop-less
+    (λ c. search needs) (λ c. search needs) (λ c. search needs)
+    (λ c κs. search needs)
+    (λ c. search needs)
     loop-again
     returns
     returns-2)

@@ -20,14 +20,8 @@ mul-element c = let h : c .before .element-at .result < 2 = rw (c .before .eleme
 array-copy-out-element : tie.Need-array-copy-out-element
 array-copy-out-element c = rw (c .before .element-at .ensures) (taken-low _ _ (c .before .before .before .before .before .before .args .self .elements) (omega (arith, c .before .before .before .before .before .before .pre .2 .elements)))
 
-active-requires : tie.Need-active-requires
-active-requires c κs = search needs
-
 slot-of-requires : tie.Need-slot-of-requires
 slot-of-requires c κs = let p = c .before .before .before .before .before .before .before .before .before .before .pre in (omega (arith, p), rw (c .before .before .before .before .before .element-at .ensures) (taken-low _ _ (c .before .before .before .before .before .before .before .before .before .before .args .self .elements) (omega (arith, c .before .before .before .before .before .before .before .before .before .before .pre .2 .elements))), record { start = p .1; payload = p .2 .payload }, p .2)
-
-same-length : tie.Need-same-length
-same-length c = search needs
 
 returns-2 : tie.Need-returns-2
 returns-2 c =
@@ -48,8 +42,8 @@ update-timeslot-spec =
     element-at-requires
     mul-element
     array-copy-out-element
-    active-requires
+    (λ c κs. search needs)
     slot-of-requires
-    same-length
+    (λ c. search needs)
     returns-2
     returns-3)
