@@ -15,7 +15,7 @@ use Rattle.timed.specs.declared.state.MetadataRendererState.{MetadataRendererSt
 use Rattle.store.specs.declared.Small.{Small}
 use Rattle.store.specs.Fields.{sourceFormat, blockFormat, trackFormat, headFormat, elementFormat, countsFormat, tablesFormat, stateFormat, clockFormat}
 use Rattle.store.specs.Fields.{elementHead, countsOf, tablesOf, clockOf, smallWords}
-use Rattle.store.specs.Places.{stateAt, tablesAt, gainsAt, sourcesAt, firstAt, secondAt}
+use Rattle.store.specs.Places.{stateAt, tablesAt, gainsAt, sourcesAt, firstAt}
 use Rattle.store.proofs.Back.{lawful-source, lawful-block, lawful-head, lawful-element, lawful-counts, lawful-clock}
 
 pub element-stored : (s : List ℕ) (at : ℕ) (e : ElementRendererState)
@@ -33,6 +33,15 @@ two-elements [] = refl
 two-elements (x ∷ []) = refl
 two-elements (x ∷ y ∷ xs) = refl
 
+pub elements-stored : (s : List ℕ) (at : ℕ) (xs : List ElementRendererState)
+    → withWords (withWords s at (elementFormat .put (getD xs 0 noElement))) (at + 4 * elementFormat .width) (elementFormat .put (getD xs 1 noElement))
+    ≡ withWords s at (array 2 elementFormat .put xs)
+elements-stored s at xs =
+    let E : ℕ → List ℕ = λ i. elementFormat .put (getD xs i noElement) in
+    ap (withWords (withWords s at (E 0)) (at + 4 * elementFormat .width)) (sym (append-nil (E 1)))
+    ∙ runs-at s at (elementFormat .width) (E 0) (E 1 ++ []) (lawful-element .long (getD xs 0 noElement))
+    ∙ ap (withWords s at) (sym (two-elements xs))
+
 module _ (s : List ℕ) (x : MetadataRendererState) where
   abbrev s1 : List ℕ
   s1 = withWords s (4 * stateAt) (countsFormat .put (countsOf x))
@@ -46,15 +55,9 @@ module _ (s : List ℕ) (x : MetadataRendererState) where
   abbrev s4 : List ℕ
   s4 = withWords s3 (4 * sourcesAt) (array 16 sourceFormat .put (x .sources))
 
-  abbrev E : ℕ → List ℕ
-  E i = elementFormat .put (getD (x .states) i noElement)
-
-  pub state-stored : withWords (withWords s4 (4 * firstAt) (E 0)) (4 * secondAt) (E 1) ≡ withWords s (4 * stateAt) (stateFormat .put x)
+  pub state-stored : withWords s4 (4 * firstAt) (array 2 elementFormat .put (x .states)) ≡ withWords s (4 * stateAt) (stateFormat .put x)
   state-stored =
-      ap (withWords (withWords s4 (4 * firstAt) (E 0)) (4 * secondAt)) (sym (append-nil (E 1)))
-      ∙ runs-at s4 (4 * firstAt) (elementFormat .width) (E 0) (E 1 ++ []) (lawful-element .long (getD (x .states) 0 noElement))
-      ∙ ap (withWords s4 (4 * firstAt)) (sym (two-elements (x .states)))
-      ∙ pair-stored (array 16 sourceFormat) (array 2 elementFormat) (lawful-array sourceFormat lawful-source 16) s3 (4 * sourcesAt) (x .sources) (x .states)
+      pair-stored (array 16 sourceFormat) (array 2 elementFormat) (lawful-array sourceFormat lawful-source 16) s3 (4 * sourcesAt) (x .sources) (x .states)
       ∙ pair-stored (array 18 float) (array 16 sourceFormat ⊗ array 2 elementFormat) (lawful-array float lawful-float 18) s2 (4 * gainsAt) (x .gains) (x .sources, x .states)
       ∙ pair-stored (array 18 (u8To 17)) (array 18 float ⊗ array 16 sourceFormat ⊗ array 2 elementFormat) (lawful-array (u8To 17) (lawful-u8-to 17 (lit< tt)) 18)
       s1 (4 * tablesAt) (x .codes) (x .gains, (x .sources, x .states))

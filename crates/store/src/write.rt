@@ -26,6 +26,8 @@ const HEAD: usize = 4 * places::HEAD;
 
 const SCHEDULE: usize = 4 * places::SCHEDULE;
 
+const ELEMENT: usize = 4 * places::ELEMENT;
+
 const STATE: usize = 4 * places::CLOCK;
 
 const CODES: usize = 4 * places::CODES;
@@ -35,8 +37,6 @@ const GAINS: usize = 4 * places::GAINS;
 const SOURCES: usize = 4 * places::SOURCES;
 
 const FIRST: usize = 4 * places::FIRST;
-
-const SECOND: usize = 4 * places::SECOND;
 
 // ---- the words of a struct
 
@@ -198,6 +198,16 @@ fn put_element(s: &mut [u8], at: usize, x: ElementRendererState)
     put_tracks(s, rows, tracks);
 }
 
+fn put_elements(s: &mut [u8], at: usize, xs: [ElementRendererState; 2])
+    requires { ⌜ at + 4 * array 2 elementFormat .width ≤ length (now s) ⌝ }
+    ensures { λ _. ⌜ now (s .exit) ≡ withWords (now (s .entry)) at (array 2 elementFormat .put xs) ⌝ }
+{
+    let first = xs[0];
+    put_element(s, at, first);
+    let second = xs[1];
+    put_element(s, at + ELEMENT, second);
+}
+
 fn put_state(s: &mut [u8], x: MetadataRendererState)
     requires { ⌜ length (now s) ≡ size ⌝ }
     ensures { λ _. ⌜ now (s .exit) ≡ withWords (now (s .entry)) (4 * stateAt) (stateFormat .put x) ⌝ }
@@ -211,10 +221,7 @@ fn put_state(s: &mut [u8], x: MetadataRendererState)
     let sources = x.sources;
     put_sources(s, SOURCES, sources);
     let states = x.states;
-    let first = states[0];
-    put_element(s, FIRST, first);
-    let second = states[1];
-    put_element(s, SECOND, second);
+    put_elements(s, FIRST, states);
 }
 
 // The small part of a block, whole; the rest of the block is kept.
