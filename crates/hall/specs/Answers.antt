@@ -29,6 +29,10 @@ codeOf (refused n a b) = record { kind = 1; number = n; first = a; second = b; r
 codeOf nothing = record { kind = 2; number = 0; first = 0; second = 0; ready = 0 }
 codeOf cleared = record { kind = 3; number = 0; first = 0; second = 0; ready = 0 }
 
+-- the interface's number: it steps with every change of the block's layout or of a signature
+abbrev pub version : ℕ
+version = 1
+
 -- what stopped a push, as an answer; nothing stops with 0
 abbrev pub codeOfFound : Found → Answer
 codeOfFound clear = codeOf (refused 0 0 0)

@@ -3,7 +3,8 @@ ghost use mathlib.Core.Path.{_≡_};
 ghost use Rattle.rules.specs.Calls.{push, flush, reset};
 ghost use Rattle.rules.specs.Block.{made};
 ghost use Rattle.claim.specs.Hall.{hall, block};
-ghost use Rattle.hall.specs.Answers.{Left, codeOf};
+ghost use Rattle.store.specs.Layout.{size};
+ghost use Rattle.hall.specs.Answers.{Left, codeOf, version};
 ghost use Rattle.rules.specs.Refusals.{argsOf};
 use answer::Answer;
 use records::layout::layout_of;
@@ -13,9 +14,11 @@ use refusals::Refusal;
 pub mod answer;
 mod work;
 
+const VERSION: u32 = 1;
+
 // Renders a frame: beds (one code each), then objects, `samples` of each channel in `pcm`. What is ready goes to `out`, channel c from place c x `stride` on.
 #[no_mangle]
-pub extern "C" fn push(
+pub extern "C" fn hall_push(
     state: &mut [u8],
     pcm: &[u8],
     meta: &[u8],
@@ -48,7 +51,7 @@ pub extern "C" fn push(
 
 // Gives out the samples that wait.
 #[no_mangle]
-pub extern "C" fn flush(state: &mut [u8], out: &mut [u8], stride: u32) -> Answer
+pub extern "C" fn hall_flush(state: &mut [u8], out: &mut [u8], stride: u32) -> Answer
     ensures { λ r. ⌜ Left (made hall block (flush (now (out .entry)) stride) (now (state .entry))) r (now (state .exit)) (now (out .exit)) ⌝ }
 {
     if !store::ranges::is_valid(state) {
@@ -66,7 +69,7 @@ pub extern "C" fn flush(state: &mut [u8], out: &mut [u8], stride: u32) -> Answer
 
 // Makes a block of the right length a new renderer.
 #[no_mangle]
-pub extern "C" fn reset(state: &mut [u8]) -> Answer
+pub extern "C" fn hall_reset(state: &mut [u8]) -> Answer
     ensures { λ r. ⌜ (r ≡ codeOf (made hall block reset (now (state .entry)) .answer)) × (now (state .exit) ≡ made hall block reset (now (state .entry)) .state) ⌝ }
 {
     if state.len() != store::SIZE {
@@ -74,4 +77,20 @@ pub extern "C" fn reset(state: &mut [u8]) -> Answer
     }
     store::reset(state);
     answer::fresh()
+}
+
+// The bytes of a state block.
+#[no_mangle]
+pub extern "C" fn hall_state_size() -> usize
+    ensures { λ r. ⌜ r ≡ size ⌝ }
+{
+    store::SIZE
+}
+
+// The version of this interface: it steps with every change of the block's layout or of a signature.
+#[no_mangle]
+pub extern "C" fn hall_version() -> u32
+    ensures { λ r. ⌜ r ≡ version ⌝ }
+{
+    VERSION
 }

@@ -75,7 +75,7 @@ fn push(state: &mut [u8], meta: &[u8], pcm: &[u8], out: &mut [u8], rec: &[u8; 40
     let codes_end = 14 + framing::beds(rec);
     let header = &rec[..];
     let codes = &header[14..codes_end];
-    let answer = hall::push(state, pcm, meta, out, codes, rate, samples, objects, 256);
+    let answer = hall::hall_push(state, pcm, meta, out, codes, rate, samples, objects, 256);
     text::print(answer, out);
 }
 
@@ -108,10 +108,10 @@ fn handle(state: &mut [u8], meta: &mut [u8], pcm: &mut [u8], out: &mut [u8], rec
         return bad();
     }
     if rec[0] == 7 {
-        text::print(hall::flush(state, out, 256), out);
+        text::print(hall::hall_flush(state, out, 256), out);
         return true;
     }
-    text::print(hall::reset(state), out);
+    text::print(hall::hall_reset(state), out);
     true
 }
 
@@ -150,6 +150,6 @@ fn main() {
     let mut meta = [0u8; 48000];
     let mut pcm = [0u8; 34816];
     let mut out = [0u8; 12288];
-    hall::reset(&mut state);
+    hall::hall_reset(&mut state);
     run(&mut state, &mut meta, &mut pcm, &mut out);
 }

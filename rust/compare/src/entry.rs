@@ -22,7 +22,7 @@ mod linked {
     use super::Answer;
 
     unsafe extern "C" {
-        pub fn push(
+        pub fn hall_push(
             state: *mut u8,
             state_length: usize,
             pcm: *const u8,
@@ -38,14 +38,14 @@ mod linked {
             objects: u32,
             stride: u32,
         ) -> Answer;
-        pub fn flush(
+        pub fn hall_flush(
             state: *mut u8,
             state_length: usize,
             out: *mut u8,
             out_length: usize,
             stride: u32,
         ) -> Answer;
-        pub fn reset(state: *mut u8, state_length: usize) -> Answer;
+        pub fn hall_reset(state: *mut u8, state_length: usize) -> Answer;
     }
 }
 
@@ -54,7 +54,7 @@ pub fn push(state: &mut [u8], call: &Call, out: &mut [u8], stride: u32) -> Answe
         pcm, meta, codes, ..
     } = call;
     unsafe {
-        linked::push(
+        linked::hall_push(
             state.as_mut_ptr(),
             state.len(),
             pcm.as_ptr(),
@@ -75,7 +75,7 @@ pub fn push(state: &mut [u8], call: &Call, out: &mut [u8], stride: u32) -> Answe
 
 pub fn flush(state: &mut [u8], out: &mut [u8], stride: u32) -> Answer {
     unsafe {
-        linked::flush(
+        linked::hall_flush(
             state.as_mut_ptr(),
             state.len(),
             out.as_mut_ptr(),
@@ -86,5 +86,5 @@ pub fn flush(state: &mut [u8], out: &mut [u8], stride: u32) -> Answer {
 }
 
 pub fn reset(state: &mut [u8]) -> Answer {
-    unsafe { linked::reset(state.as_mut_ptr(), state.len()) }
+    unsafe { linked::hall_reset(state.as_mut_ptr(), state.len()) }
 }

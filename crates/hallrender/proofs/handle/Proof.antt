@@ -16,13 +16,13 @@ returns-3 : tie.Need-returns-3
 returns-3 c =
     let f = c .before .before .before .before .before .before in
     let e = f .before .before .before .before .before in
-    flush-handled _ _ _ _ _ (sym (e .before .is-plain .ensures) ∙ not-false _ (e .if2 .left)) (f .before .before .before .if3 .taken) (f .flush .ensures)
+    flush-handled _ _ _ _ _ (sym (e .before .is-plain .ensures) ∙ not-false _ (e .if2 .left)) (f .before .before .before .if3 .taken) (f .hall-flush .ensures)
 
 returns-4 : tie.Need-returns-4
 returns-4 c =
     let f = c .before .before .before .before in
     let e = f .before .before .before .before in
-    reset-handled _ _ _ _ _ (sym (e .before .is-plain .ensures) ∙ not-false _ (e .if2 .left)) (ne-eqb _ _ (e .before .before .if1 .left)) (ne-eqb _ _ (f .before .before .if3 .left)) (f .reset .ensures .1)
+    reset-handled _ _ _ _ _ (sym (e .before .is-plain .ensures) ∙ not-false _ (e .if2 .left)) (ne-eqb _ _ (e .before .before .if1 .left)) (ne-eqb _ _ (f .before .before .if3 .left)) (f .hall-reset .ensures .1)
 
 pub handle-spec : {M : Type 1} → statement M
 handle-spec =

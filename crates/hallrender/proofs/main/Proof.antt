@@ -6,7 +6,7 @@ use Rattle.hallrender.proofs.main.Tie as tie
 
 run-requires : tie.Need-run-requires
 unfolding newBlock
-run-requires c κs = (search needs, search needs, search needs, c .before .before .before .before .before .reset .ensures .1)
+run-requires c κs = (search needs, search needs, search needs, c .before .before .before .before .before .hall-reset .ensures .1)
 
 pub main-spec : {M : Type 1} → statement M
 main-spec =

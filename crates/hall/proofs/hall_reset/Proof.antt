@@ -1,4 +1,4 @@
--- `reset`: a block of another length is left; any other is filled.
+-- `hall_reset`: a block of another length is left; any other is filled.
 use mathlib.Core.Path.{sym, ap, _∙_}
 use borrow.Author.Tests.{eq-eqb, ne-eqb}
 use Rattle.rules.specs.Calls.{reset}
@@ -6,8 +6,8 @@ use Rattle.rules.specs.Block.{Outcome}
 use Rattle.hall.specs.Answers.{codeOf}
 use Rattle.hall.proofs.Laws.{wrong, resets}
 use borrow.Author.Needs.{needs}
-use Rattle.hall.proofs.reset.Statement.{statement}
-use Rattle.hall.proofs.reset.Tie as tie
+use Rattle.hall.proofs.hall_reset.Statement.{statement}
+use Rattle.hall.proofs.hall_reset.Tie as tie
 
 returns : tie.Need-returns
 returns c =
@@ -20,8 +20,8 @@ returns-2 c =
     let e = sym (resets (c .before .before .before .before .before .before .before .args .state .now) (eq-eqb _ _ (c .before .before .before .before .before .if1 .left))) in
     (c .fresh .ensures ∙ ap (λ (o : Outcome). codeOf (o .answer)) e, c .before .before .before .reset .ensures ∙ ap (λ (o : Outcome). o .state) e)
 
-pub reset-spec : {M : Type 1} → statement M
-reset-spec =
+pub hall-reset-spec : {M : Type 1} → statement M
+hall-reset-spec =
     tie.close
     (tie.spec
     (λ c κs. search needs)

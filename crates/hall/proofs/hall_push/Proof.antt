@@ -1,4 +1,4 @@
--- `push`: each way out by its law.
+-- `hall_push`: each way out by its law.
 use mathlib.Core.Path.{refl, sym, ap, _∙_}
 use native.Mathlib.Omega.{arith}
 use borrow.Author.Tests.{not-true, not-false}
@@ -9,8 +9,8 @@ use Rattle.hall.proofs.Laws.{leaves-as, wrong, refused-push}
 use Rattle.refusals.proofs.Cleared.{not-clear}
 use Rattle.hall.proofs.Known.{valid-long, loaded-ranged}
 use borrow.Author.Needs.{needs}
-use Rattle.hall.proofs.push.Statement.{statement}
-use Rattle.hall.proofs.push.Tie as tie
+use Rattle.hall.proofs.hall_push.Statement.{statement}
+use Rattle.hall.proofs.hall_push.Tie as tie
 
 returns : tie.Need-returns
 returns c =
@@ -52,8 +52,8 @@ returns-3 c =
     refused-push (argsOf (a .pcm .now) (a .meta .now) (a .out .now) (a .codes .now) (a .rate) (a .samples) (a .objects) (a .stride)) (a .state .now) (c .refusal2 .result) (foundOf x)
     (sym (e .before .is-valid .ensures) ∙ not-false _ (e .if1 .left)) (f .push-refusal .ensures (a .state .now) (a .out .now) (l .load .ensures) refl) (not-clear x (c .before .match .keys2)) (c .refusal2 .ensures)
 
-pub push-spec : {M : Type 1} → statement M
-push-spec =
+pub hall-push-spec : {M : Type 1} → statement M
+hall-push-spec =
     tie.close
     (tie.spec
     (λ c κs. search needs) (λ c κs. search needs)

@@ -1,12 +1,12 @@
--- `flush`: each way out by its law.
+-- `hall_flush`: each way out by its law.
 use mathlib.Core.Path.{refl, sym, _∙_}
 use borrow.Author.Tests.{eq-eqb, not-true, not-false}
 use Rattle.rules.specs.Calls.{flush}
 use Rattle.hall.proofs.Laws.{leaves-as, wrong, no-room, nothing-waits}
 use Rattle.hall.proofs.Known.{valid-long, pos-of, loaded-pending}
 use borrow.Author.Needs.{needs}
-use Rattle.hall.proofs.flush.Statement.{statement}
-use Rattle.hall.proofs.flush.Tie as tie
+use Rattle.hall.proofs.hall_flush.Statement.{statement}
+use Rattle.hall.proofs.hall_flush.Tie as tie
 
 returns : tie.Need-returns
 returns c =
@@ -37,8 +37,8 @@ drain-requires c κs =
       some = pos-of _ (c .before .before .if3 .left);
     }
 
-pub flush-spec : {M : Type 1} → statement M
-flush-spec =
+pub hall-flush-spec : {M : Type 1} → statement M
+hall-flush-spec =
     tie.close
     (tie.spec
     (λ c κs. search needs) (λ c κs. search needs)
