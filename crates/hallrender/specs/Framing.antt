@@ -1,9 +1,10 @@
 -- Document 01's `hallrender`: the records that it reads. Assumes nothing.
-use Prim.Native.Nat.{ℕ, _+_, _-_, _*_}
-use mathlib.Core.Bool.{Bool, _&&_}
-use mathlib.Core.List.{List}
+use Prim.Native.Nat.{ℕ, zero, suc, _+_, _-_, _*_, _/_, min}
+use mathlib.Core.Path.{_≡_}
+use mathlib.Core.Bool.{Bool, true, false, _&&_}
+use mathlib.Core.List.{List, [], _++_}
 use lib.Dec.{eqb, leb}
-use lib.ListN.{getD}
+use lib.ListN.{getD, length, take, drop}
 use Rattle.words.specs.Words.{half}
 use Rattle.fields.specs.Bytes.{zeroBytes}
 
@@ -32,3 +33,48 @@ metadataBytes r = 40 * half r 12
 -- four bytes for each sample of each channel
 abbrev pub pcmBytes : List ℕ → ℕ
 pcmBytes r = 4 * ((bedCount r + getD r 11 0) * half r 8)
+
+-- ---- "its PCM in as few records of kind 6 as hold it", of n bytes
+
+abbrev pub recordCount : ℕ → ℕ
+recordCount n = (n + 35) / 36
+
+abbrev pub recordBytes : ℕ → ℕ
+recordBytes n = 40 * recordCount n
+
+-- record k of a list, and how many bytes of it are in use
+abbrev pub recordAt : List ℕ → ℕ → List ℕ
+recordAt s k = take 40 (drop (40 * k) s)
+
+abbrev pub inUse : ℕ → ℕ → ℕ
+inUse n k = min (n - 36 * k) 36
+
+-- whether the first k records are of PCM
+unfoldable pub arePcm : ℕ → List ℕ → ℕ → Bool
+arePcm n s zero = true
+arePcm n s (suc k) = arePcm n s k && isPcm (inUse n k) (recordAt s k)
+
+-- what the first k records hold
+unfoldable pub heldIn : ℕ → List ℕ → ℕ → List ℕ
+heldIn n s zero = []
+heldIn n s (suc k) = heldIn n s k ++ take (inUse n k) (drop 4 (recordAt s k))
+
+-- the records of PCM behind the metadata in the body of a frame with the header r; whether they are as laid out, and the PCM
+abbrev pub pcmRecords : List ℕ → List ℕ → List ℕ
+pcmRecords r body = take (recordBytes (pcmBytes r)) (drop (metadataBytes r) body)
+
+abbrev pub isBody : List ℕ → List ℕ → Bool
+isBody r body = arePcm (pcmBytes r) (pcmRecords r body) (recordCount (pcmBytes r))
+
+abbrev pub pcmOf : List ℕ → List ℕ → List ℕ
+pcmOf r body = heldIn (pcmBytes r) (pcmRecords r body) (recordCount (pcmBytes r))
+
+-- a record's bytes at the front of `rest`; nothing of a record that is not as laid out
+abbrev pub Taken : List ℕ → List ℕ → Bool → List ℕ → Type 0
+Taken rec rest true now = let n = min (length rest) 36 in (isPcm n rec ≡ true) × (now ≡ take n (drop 4 rec) ++ drop n rest)
+Taken rec rest false now = (isPcm (min (length rest) 36) rec ≡ false) × (now ≡ rest)
+
+-- n bytes of PCM taken out of their records, or a record is not as laid out
+abbrev pub Unpacked : List ℕ → ℕ → Bool → List ℕ → Type 0
+Unpacked s n true pcm = (arePcm n s (recordCount n) ≡ true) × (pcm ≡ heldIn n s (recordCount n))
+Unpacked s n false pcm = arePcm n s (recordCount n) ≡ false

@@ -1,3 +1,4 @@
 pub mod Framing
 pub mod Line
+pub mod Text
 pub mod Asked

@@ -2,7 +2,8 @@
 ghost use mathlib.Core.Path.{_≡_};
 ghost use mathlib.Core.Bool.{true};
 ghost use Prim.Native.Nat.{_≤_, min};
-ghost use Rattle.hallrender.specs.Framing.{inLimits, isFrame, isPlain, isPcm, bedCount, metadataBytes, pcmBytes};
+ghost use lib.ListN.{length};
+ghost use Rattle.hallrender.specs.Framing.{inLimits, isFrame, isPlain, isPcm, bedCount, metadataBytes, pcmBytes, recordBytes, Taken, Unpacked};
 use fields::bytes::byte_at;
 use fields::bytes::zeros;
 
@@ -59,8 +60,8 @@ pub fn is_plain(rec: &[u8; 40]) -> bool
 }
 
 // Whether a record is one of PCM with n bytes in use.
-pub fn is_pcm(rec: &[u8; 40], n: usize) -> bool
-    requires { ⌜ n ≤ 36 ⌝ }
+fn is_pcm(rec: &[u8], n: usize) -> bool
+    requires { ⌜ (length (now rec) ≡ 40) × (n ≤ 36) ⌝ }
     ensures { λ r. ⌜ r ≡ isPcm n (now (rec .entry)) ⌝ }
 {
     if rec[0] != 6 {
@@ -93,4 +94,40 @@ pub fn pcm_bytes(rec: &[u8; 40]) -> usize
 {
     let channels = byte_at(rec, 10) + byte_at(rec, 11);
     4 * (channels * (words::u16_at(rec, 8) as usize))
+}
+
+// The bytes of the records that hold n bytes of PCM.
+pub fn record_bytes(n: usize) -> usize
+    requires { ⌜ n ≤ 34816 ⌝ }
+    ensures { λ r. ⌜ (r ≡ recordBytes n) × (r ≤ 38720) ⌝ }
+{
+    40 * ((n + 35) / 36)
+}
+
+// The samples of one record of PCM to the front of `rest`: nine, or as many as are left. False where the record is not as laid out.
+fn take_nine(rec: &[u8], rest: &mut [u8]) -> bool
+    requires { ⌜ length (now rec) ≡ 40 ⌝ }
+    ensures { λ r. ⌜ Taken (now (rec .entry)) (now (rest .entry)) r (now (rest .exit)) ⌝ }
+{
+    let n = least(rest.len(), 36);
+    if !is_pcm(rec, n) {
+        return false;
+    }
+    words::copy_bytes(&rec[4..4 + n], rest);
+    true
+}
+
+// Fills `pcm` from its records. False where one is not as laid out.
+pub fn unpack(records: &[u8], pcm: &mut [u8]) -> bool
+    requires { ⌜ (length (now records) ≡ recordBytes (length (now pcm))) × (length (now pcm) ≤ 34816) ⌝ }
+    ensures { λ r. ⌜ Unpacked (now (records .entry)) (length (now (pcm .entry))) r (now (pcm .exit)) ⌝ }
+{
+    let mut k = 0usize;
+    while 36 * k < pcm.len() {
+        if !take_nine(&records[40 * k..40 * k + 40], &mut pcm[36 * k..]) {
+            return false;
+        }
+        k += 1;
+    }
+    true
 }

@@ -1,11 +1,11 @@
 // The answers as text.
 ghost use mathlib.Core.Path.{_≡_};
 ghost use mathlib.Core.List.{_∷_, _++_};
-ghost use Prim.Native.Nat.{_+_, _<_, _≤_};
+ghost use Prim.Native.Nat.{_+_, _*_, _<_, _≤_};
 ghost use lib.ListN.{length, take, drop};
 ghost use Rattle.hallrender.specs.Line.{hex8, lineOf};
+ghost use Rattle.hallrender.specs.Text.{ascii, decimal, linesOf, readyText, refusedText, textOfCode, Put, Told};
 use hall::answer::Answer;
-use libc::STDOUT_FILENO;
 
 // The eight digits of a word and the byte behind them from `at` on.
 fn put_word(line: &mut [u8], at: usize, word: u32, end: u8)
@@ -33,46 +33,82 @@ fn line_of(out: &[u8], i: usize) -> [u8; 108]
     line
 }
 
-// `ready N` and its lines. No more than the output holds, whatever is asked for.
-fn ready(count: usize, out: &[u8])
-    requires { ⌜ length (now out) ≡ 12288 ⌝ }
+// Puts `s` behind the first `at` bytes, and answers where it ends.
+fn put(text: &mut [u8], at: usize, s: &[u8]) -> usize
+    requires { ⌜ at + length (now s) ≤ length (now text) ⌝ }
+    ensures { λ r. ⌜ Put at (now (text .entry)) (now (s .entry)) r (now (text .exit)) ⌝ }
 {
-    io::write_all(STDOUT_FILENO, b"ready ");
-    io::print_decimal(STDOUT_FILENO, count as u64);
-    io::write_all(STDOUT_FILENO, b"\n");
-    let n = crate::framing::least(count, 256);
+    words::copy_bytes(s, &mut text[at..]);
+    at + s.len()
+}
+
+fn put_decimal(text: &mut [u8], at: usize, n: u64) -> usize
+    requires { ⌜ at + 20 ≤ length (now text) ⌝ }
+    ensures { λ r. ⌜ Put at (now (text .entry)) (decimal n) r (now (text .exit)) × (r ≤ at + 20) ⌝ }
+{
+    let mut digits = [0u8; 20];
+    let k = io::decimal(n, &mut digits);
+    put(text, at, &digits[..k])
+}
+
+// `ready N`, its line's end with it.
+fn ready_line(text: &mut [u8], count: usize) -> usize
+    requires { ⌜ 27 ≤ length (now text) ⌝ }
+    ensures { λ r. ⌜ Put 0 (now (text .entry)) (ascii "ready " ++ (decimal count ++ ascii "\n")) r (now (text .exit)) × (r ≤ 27) ⌝ }
+{
+    let number = put(text, 0, b"ready ");
+    let end = put_decimal(text, number, count as u64);
+    put(text, end, b"\n")
+}
+
+// The lines of the first n samples.
+fn lines(text: &mut [u8], at: usize, out: &[u8], n: usize) -> usize
+    requires { ⌜ (at + 108 * n ≤ length (now text)) × (length (now out) ≡ 12288) × (n ≤ 256) ⌝ }
+    ensures { λ r. ⌜ Put at (now (text .entry)) (linesOf (now (out .entry)) n) r (now (text .exit)) ⌝ }
+{
+    let mut end = at;
     let mut i = 0usize;
     while i < n {
         let line = line_of(out, i);
-        io::write_all(STDOUT_FILENO, &line);
+        end = put(text, end, &line);
         i += 1;
     }
+    end
+}
+
+// `ready N` and its lines. No more than the output holds, whatever is asked for.
+fn ready(text: &mut [u8], count: usize, out: &[u8]) -> usize
+    requires { ⌜ (length (now text) ≡ 27675) × (length (now out) ≡ 12288) ⌝ }
+    ensures { λ r. ⌜ Told r (now (text .exit)) (readyText count (now (out .entry))) ⌝ }
+{
+    let at = ready_line(text, count);
+    lines(text, at, out, crate::framing::least(count, 256))
 }
 
 // "`refused K A B` in decimal".
-fn refused(number: u32, first: u32, second: u32) {
-    io::write_all(STDOUT_FILENO, b"refused ");
-    io::print_decimal(STDOUT_FILENO, number as u64);
-    io::write_all(STDOUT_FILENO, b" ");
-    io::print_decimal(STDOUT_FILENO, first as u64);
-    io::write_all(STDOUT_FILENO, b" ");
-    io::print_decimal(STDOUT_FILENO, second as u64);
-    io::write_all(STDOUT_FILENO, b"\n");
+fn refused(text: &mut [u8], number: u32, first: u32, second: u32) -> usize
+    requires { ⌜ length (now text) ≡ 27675 ⌝ }
+    ensures { λ r. ⌜ Told r (now (text .exit)) (refusedText number first second) ⌝ }
+{
+    let k = put(text, 0, b"refused ");
+    let k_end = put_decimal(text, k, number as u64);
+    let a = put(text, k_end, b" ");
+    let a_end = put_decimal(text, a, first as u64);
+    let b = put(text, a_end, b" ");
+    let b_end = put_decimal(text, b, second as u64);
+    put(text, b_end, b"\n")
 }
 
-// An answer and, where samples are ready, their lines.
-pub fn print(answer: Answer, out: &[u8])
-    requires { ⌜ length (now out) ≡ 12288 ⌝ }
+// Puts the text of an answer into the buffer `text`, and answers how many bytes it has.
+pub fn answer(text: &mut [u8], answer: Answer, out: &[u8]) -> usize
+    requires { ⌜ (length (now text) ≡ 27675) × (length (now out) ≡ 12288) ⌝ }
+    ensures { λ r. ⌜ Told r (now (text .exit)) (textOfCode answer (now (out .entry))) ⌝ }
 {
     let kind = answer.kind;
     match kind {
-        0 => ready(answer.ready, out),
-        1 => refused(answer.number, answer.first, answer.second),
-        2 => {
-            io::write_all(STDOUT_FILENO, b"none\n");
-        }
-        _ => {
-            io::write_all(STDOUT_FILENO, b"reset\n");
-        }
+        0 => ready(text, answer.ready, out),
+        1 => refused(text, answer.number, answer.first, answer.second),
+        2 => put(text, 0, b"none\n"),
+        _ => put(text, 0, b"reset\n"),
     }
 }

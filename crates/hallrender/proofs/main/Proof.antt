@@ -6,7 +6,7 @@ use Rattle.hallrender.proofs.main.Tie as tie
 
 run-requires : tie.Need-run-requires
 unfolding newBlock
-run-requires c κs = (search needs, search needs, search needs, c .before .before .before .before .before .hall-reset .ensures .1)
+run-requires c κs = (search needs, c .before .before .before .before .before .before .hall-reset .ensures .1)
 
 pub main-spec : {M : Type 1} → statement M
 main-spec =
@@ -14,6 +14,6 @@ main-spec =
     (tie.spec
     (λ c. search needs)
     (λ c κs. search needs)
-    (λ c. search needs) (λ c. search needs) (λ c. search needs) (λ c. search needs)
+    (λ c. search needs) (λ c. search needs) (λ c. search needs) (λ c. search needs) (λ c. search needs)
     run-requires
     (λ c. search needs))

@@ -12,11 +12,11 @@ returns c = simp (ne-eqb _ _ (c .if1 .taken))
 
 returns-2 : tie.Need-returns-2
 unfolding isPcm
-returns-2 c = simp (eq-eqb _ _ (c .before .before .before .if1 .left), sym (c .before .zeros .ensures) ∙ not-true _ (c .if2 .taken))
+returns-2 c = simp (eq-eqb _ _ (c .before .before .if1 .left), sym (c .before .zeros .ensures) ∙ not-true _ (c .if2 .taken))
 
 returns-3 : tie.Need-returns-3
 unfolding isPcm
-returns-3 c = simp (eq-eqb _ _ (c .before .before .before .before .before .if1 .left), sym (c .before .before .before .zeros .ensures) ∙ not-false _ (c .before .before .if2 .left)) (c .zeros2 .ensures)
+returns-3 c = simp (eq-eqb _ _ (c .before .before .before .if1 .left), sym (c .before .before .zeros .ensures) ∙ not-false _ (c .before .if2 .left)) (c .zeros2 .ensures)
 
 pub is-pcm-spec : {M : Type 1} → statement M
 is-pcm-spec =

@@ -1,27 +1,21 @@
--- `text::ready`: the loop counts up to the number of lines. Assumes nothing.
-use Prim.Native.Nat.{_≤_, _-_}
+-- `text::ready`: the lines behind the first. Assumes nothing.
+use mathlib.Core.Path.{ap}
+use native.Mathlib.Omega.{arith}
+use Rattle.hallrender.specs.Text.{linesOf}
+use Rattle.hallrender.proofs.Spelling.{grown, renamed, said}
 use borrow.Author.Needs.{needs}
 use Rattle.hallrender.proofs.text.ready.Statement.{statement}
 use Rattle.hallrender.proofs.text.ready.Tie as tie
 
-abbrev Inv-loop : tie.InvT-loop
-Inv-loop count out n i₀ i = i ≤ n
-
-abbrev μ-loop : tie.MeasureT-loop
-μ-loop count out n i₀ i = n - i
+returns : tie.Need-returns
+returns c =
+    let a = c .before .before .before .before .before .before .before .before .before .before .before .args in
+    said (omega arith) (grown _ _ (c .before .before .before .before .before .before .before .ready-line .ensures .0) (renamed (ap (linesOf (a .out .now)) (c .before .before .before .least .ensures)) (c .before .before .lines .ensures)))
 
 pub ready-spec : {M : Type 1} → statement M
 ready-spec =
     tie.close
     (tie.spec
-    Inv-loop
-    μ-loop
+    (λ c κs. search needs) (λ c κs. search needs) (λ c κs. search needs)
     (λ c. search needs)
-    (λ c κs. search needs) (λ c κs. search needs)
-    (λ c. search needs)
-    (λ c κs. search needs) (λ c κs. search needs)
-    (λ c. search needs)
-    (λ c κs. search needs)
-    (λ c. search needs)
-    (λ c κs. search needs)
-    (λ c. search needs) (λ c. search needs) (λ c. search needs) (λ c. search needs))
+    returns)
