@@ -13,9 +13,9 @@ use libc::STDOUT_FILENO;
 mod framing;
 mod text;
 
-// Whether all of `words` was written. A program has no exit status to give: standard error says that the output is not whole.
-fn say(words: &[u8]) -> bool {
-    if io::write_all(STDOUT_FILENO, words) {
+// Whether all of `bytes` was written; where not, standard error says so. A program of the kit has no exit status.
+fn say(bytes: &[u8]) -> bool {
+    if io::write_all(STDOUT_FILENO, bytes) {
         return true;
     }
     io::write_all(
