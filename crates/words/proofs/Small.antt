@@ -5,7 +5,7 @@ use native.Mathlib.Nat.{mod-lt, mul-le-mul-left, pow-suc}
 use native.Mathlib.Omega.{arith}
 use lib.Dec.{lit<}
 use lib.ListN.{getD, set}
-use Rattle.words.specs.Words.{Bytes, Words, number, withNumber, wordsAt, withWords, withWord}
+use Rattle.words.specs.Words.{Bytes, Words, number, withNumber, wordsAt}
 
 digit : (x b P : ℕ) → x < P → b < 256 → x + b * P < P * 256
 digit x b P h k = let m : b ≤ 255 = omega arith in let l = mul-le-mul-left P m in omega arith
@@ -30,7 +30,3 @@ number-bytes s at (suc n) v h = set-bytes (withNumber s at n v) (at + n) (v / 25
 pub run-small : (s : List ℕ) (at n : ℕ) → Bytes s → Words (wordsAt s at n)
 run-small s at zero h = tt
 run-small s at (suc n) h = (number-small s at 4 h, run-small s (at + 4) n h)
-
-pub run-bytes : (s : List ℕ) (at : ℕ) (ws : List ℕ) → Bytes s → Bytes (withWords s at ws)
-run-bytes s at [] h = h
-run-bytes s at (w ∷ ws) h = run-bytes (withWord s at w) (at + 4) ws (number-bytes s at 4 w h)

@@ -21,8 +21,11 @@ loop-again : tie.Need-loop-again Inv-loop μ-loop
 loop-again c =
     let l = c .before .before in
     let a = l .before .before .before .args in
-    let h : l .loop .i < length (l .loop .ws) = omega arith in
-    (simp length-set (omega arith), simp length-set (omega arith), rw (add-one, take-suc-set (l .loop .ws) (l .loop .i) (c .u32-at .result) h, l .loop .inv .2, c .u32-at .ensures) (sym (read-more (a .s .now) (a .at) (l .loop .i))))
+    let h : l .loop .i < length (l .loop .ws) = omega arith in (
+      simp length-set (omega arith),
+      simp length-set (omega arith),
+      rw (add-one, take-suc-set (l .loop .ws) (l .loop .i) (c .u32-at .result) h, l .loop .inv .2, c .u32-at .ensures) (sym (read-more (a .s .now) (a .at) (l .loop .i))),
+    )
 
 returns : tie.Need-returns Inv-loop μ-loop
 returns c =

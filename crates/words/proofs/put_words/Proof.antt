@@ -29,8 +29,13 @@ loop-again c =
     let h : i < length ws = omega arith in
     let k : length (take i ws) ≡ i = simp length-take (omega arith) in
     let t : take (i + 1) ws ≡ take i ws ++ (getD ws i 0 ∷ []) = rw add-one (take-suc ws i 0 h) in
-    let e = c .before .before .put-u32 .ensures in
-    (omega arith, ap length e ∙ length-kept (l .loop .s) (a .at + 4 * i) 4 (getD ws i 0) ∙ l .loop .inv .1, e ∙ ap₂ (λ (b : mathlib.Core.List.List ℕ) (j : ℕ). withWord b (a .at + 4 * j) (getD ws i 0)) (l .loop .inv .2) (sym k) ∙ write-more s0 (a .at) (take i ws) (getD ws i 0) ∙ ap (withWords s0 (a .at)) (sym t))
+    let e = c .before .before .put-u32 .ensures in (
+      omega arith,
+      ap length e ∙ length-kept (l .loop .s) (a .at + 4 * i) 4 (getD ws i 0) ∙ l .loop .inv .1,
+      e
+          ∙ ap₂ (λ (b : mathlib.Core.List.List ℕ) (j : ℕ). withWord b (a .at + 4 * j) (getD ws i 0)) (l .loop .inv .2) (sym k) ∙ write-more s0 (a .at) (take i ws) (getD ws i 0)
+          ∙ ap (withWords s0 (a .at)) (sym t),
+    )
 
 returns : tie.Need-returns Inv-loop μ-loop
 returns c =

@@ -21,7 +21,8 @@ sub-result : tie.Need-sub-result
 sub-result c = simp (toZ-pos w64 (m c) (m-low c), below-zero) (record { sfits = m-low c })
 
 returns-2 : tie.Need-returns-2
-returns-2 c = simp (toZ-pos w64 (m c) (m-low c), below-zero, toZ-ofZ {w = w64} {z = negsuc (m c)} (record { sfits = m-low c })) (sym (high (c .before .args .n) (omega arith) (omega arith)))
+returns-2 c = simp (toZ-pos w64 (m c) (m-low c), below-zero, toZ-ofZ {w = w64} {z = negsuc (m c)} (record { sfits = m-low c }))
+    (sym (high (c .before .args .n) (omega arith) (omega arith)))
 
 pub signed-of-spec : {M : Type 1} → statement M
 signed-of-spec =

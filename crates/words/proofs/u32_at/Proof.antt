@@ -12,7 +12,8 @@ returns c =
     let x = y .before in
     let w = x .before in
     let a = w .before .before .before .before .before .before .args in
-    ap₂ (λ (m n : ℕ). m + n * 16777216) (ap₂ (λ (m n : ℕ). m + n * 65536) (ap₂ (λ (m n : ℕ). m + n * 256) (w .wider .ensures .0) (x .wider2 .ensures .0)) (y .wider3 .ensures .0)) (c .wider4 .ensures .0)
+    ap₂ (λ (m n : ℕ). m + n * 16777216) (ap₂ (λ (m n : ℕ). m + n * 65536) (ap₂ (λ (m n : ℕ). m + n * 256) (w .wider .ensures .0) (x .wider2 .ensures .0))
+    (y .wider3 .ensures .0)) (c .wider4 .ensures .0)
     ∙ word-read (a .s .now) (a .at)
 
 pub u32-at-spec : {M : Type 1} → statement M
