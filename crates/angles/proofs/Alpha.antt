@@ -9,7 +9,7 @@ use lib.IntN.{negsuc}
 use lib.Ieee.{Float, fin, binary32, fits, add, sum, round}
 use lib.Ieee.Positive.{num, den, den-pos}
 use Rattle.ieee.specs.Units.{One, mag}
-use Rattle.ieee.specs.Nearest as ieee
+use Rattle.ieee.specs.Bounds as ieee
 use Rattle.ieee.proofs.Grid.{rnd, rnd-near, rnd-le}
 use Rattle.ieee.proofs.Value.{one-pos, one-grid}
 use Rattle.ieee.proofs.Constants.{one-less}

@@ -12,7 +12,7 @@ use lib.Ieee.{Float, nan, inf, fin, binary32, fits, add, sub, mul}
 use lib.Ieee.Nearest.{closest}
 use Rattle.ieee.specs.Small.{absolute}
 use Rattle.ieee.specs.Units.{One, Top, mag}
-use Rattle.ieee.specs.Nearest.{DifferBy}
+use Rattle.ieee.specs.Bounds.{DifferBy}
 use Rattle.ieee.proofs.Grid.{rnd, rnd-ge, rnd-le, rnd-near, rnd-grid, grid-at, grid-pow, closest-near}
 use Rattle.ieee.proofs.Closest.{grid-multiple}
 use Rattle.ieee.proofs.Value.{one-pos, one-grid}

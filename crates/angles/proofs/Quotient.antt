@@ -14,7 +14,7 @@ use lib.Ieee.{Float, fin, binary32, ofBits, ofInt, mul, div, round, fits}
 use lib.Ieee.Nearest.{closest}
 use lib.Ieee.Positive.{num, den}
 use Rattle.ieee.specs.Units.{One, mag, P}
-use Rattle.ieee.specs.Nearest.{DifferBy}
+use Rattle.ieee.specs.Bounds.{DifferBy}
 use Rattle.ieee.proofs.Grid.{closest-near}
 use Rattle.ieee.proofs.Grid.{le-or-lt}
 use Rattle.ieee.proofs.Value.{one-pos, shape}

@@ -11,7 +11,7 @@ use lib.Ieee.{Float, binary32, round}
 use lib.Ieee.Nearest.{closest}
 use lib.Ieee.Positive.{num, den, den-pos}
 use Rattle.ieee.specs.Units.{One}
-use Rattle.ieee.specs.Nearest as ieee
+use Rattle.ieee.specs.Bounds as ieee
 use Rattle.ieee.proofs.Grid.{closest-near}
 use Rattle.ieee.proofs.Closest.{rnd-closest}
 use Rattle.ieee.proofs.Digits.{Plus, plus-of, closest-most}

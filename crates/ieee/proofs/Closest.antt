@@ -103,7 +103,8 @@ rnd-above n c v C g h = elim (le-or-lt n (rnd n c * c)) [ inl l ↦ over l | inr
         omega (arith, m, i)
 
 -- ---- what lies less than half a step from q * 2 ^ t, and not below 2 ^ (23 + t), rounds to it
-pub rnd-is : (n c q t : ℕ) → 0 < c → 2 ^ 23 ≤ q → q ≤ 2 ^ 24 → 2 ^ (23 + t) * c ≤ n → 2 * (q * 2 ^ t) * c < 2 * n + 2 ^ t * c → 2 * n < (2 * (q * 2 ^ t) + 2 ^ t) * c → rnd n c ≡ q * 2 ^ t
+pub rnd-is : (n c q t : ℕ) → 0 < c → 2 ^ 23 ≤ q → q ≤ 2 ^ 24 → 2 ^ (23 + t) * c ≤ n → 2 * (q * 2 ^ t) * c < 2 * n + 2 ^ t * c → 2 * n < (2 * (q * 2 ^ t) + 2 ^ t) * c
+    → rnd n c ≡ q * 2 ^ t
 rnd-is n c q t C a b l lo hi = elim (le-or-lt (rnd n c) (q * 2 ^ t)) [ inl x ↦ elim (eq-or-lt-of-le x) [ inl e ↦ e | inr y ↦ absurd (less y) ] | inr y ↦ absurd (more y) ]
   where
     on : Multiple (rnd n c) (2 ^ t)

@@ -52,8 +52,16 @@ one-of x f = go (one-sided x)
     none a c e = omega arith
 
     go : (P x ≡ 0) ⊎ (N x ≡ 0) → (rnd (P x - N x) 1 ≡ P x) × (rnd (N x - P x) 1 ≡ N x)
-    go (inl e) = (ap (λ (k : ℕ). rnd k 1) (none (N x) (P x) e) ∙ rnd-zero 1 (zero-lt-suc 0) ∙ sym e, ap (λ (k : ℕ). rnd k 1) (exact (N x) 0 (P x) e) ∙ rnd-exact (N-grid f) 1 (zero-lt-suc 0))
-    go (inr e) = (ap (λ (k : ℕ). rnd k 1) (exact (P x) 0 (N x) e) ∙ rnd-exact (P-grid f) 1 (zero-lt-suc 0), ap (λ (k : ℕ). rnd k 1) (none (P x) (N x) e) ∙ rnd-zero 1 (zero-lt-suc 0) ∙ sym e)
+    go (inl e) = (
+      ap (λ (k : ℕ). rnd k 1) (none (N x) (P x) e) ∙ rnd-zero 1 (zero-lt-suc 0) ∙ sym e,
+      ap (λ (k : ℕ). rnd k 1) (exact (N x) 0 (P x) e)
+          ∙ rnd-exact (N-grid f) 1 (zero-lt-suc 0),
+    )
+    go (inr e) = (
+      ap (λ (k : ℕ). rnd k 1) (exact (P x) 0 (N x) e) ∙ rnd-exact (P-grid f) 1 (zero-lt-suc 0),
+      ap (λ (k : ℕ). rnd k 1) (none (P x) (N x) e)
+          ∙ rnd-zero 1 (zero-lt-suc 0) ∙ sym e,
+    )
 
 zero-add-rounds : (y : Float) → F32 y → (F32 (add binary32 0·0 y)) × (P (add binary32 0·0 y) ≡ P y) × (N (add binary32 0·0 y) ≡ N y)
 zero-add-rounds y f =

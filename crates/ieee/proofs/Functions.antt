@@ -27,7 +27,8 @@ abs-kept (inf true) g h = absurd (turned h)
     turned : lt (sub binary32 0·0 (inf true)) (inf true) ≡ true → ⊥
     turned e = unfold lt sub add neg in true≢false (sym e)
 abs-kept (fin false m e) g h = refl
-abs-kept (fin true zero e) g h = absurd (true≢false (sym h ∙ ap (λ (d : ℤ). lt (sub binary32 0·0 (fin true 0 d)) (fin true 0 d)) (zero-form true e g) ∙ ap (λ (y : Float). lt y (fin true 0 (pos 0))) (zero-minus-zero true) ∙ zero-not-above true))
+abs-kept (fin true zero e) g h = absurd (true≢false (sym h ∙ ap (λ (d : ℤ). lt (sub binary32 0·0 (fin true 0 d)) (fin true 0 d)) (zero-form true e g)
+    ∙ ap (λ (y : Float). lt y (fin true 0 (pos 0))) (zero-minus-zero true) ∙ zero-not-above true))
 abs-kept (fin true (suc m) e) g h = absurd (below (subst (λ (y : Float). lt y (fin true (suc m) e) ≡ true) (zero-minus (fin true (suc m) e) f (mag-pos true m e f)) h))
   where
     f : F32 (fin true (suc m) e)

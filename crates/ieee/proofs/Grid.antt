@@ -16,7 +16,8 @@ use lib.Ieee.Digits.{size-lt, size-le, size-reaches}
 use lib.Ieee.Fits.{kept-lt, nearest-le}
 use lib.Ieee.Nearest.{closest, closest-mono, nearest-ge, div-mono}
 use lib.Ieee.Order.{drop, kept}
-pub use Rattle.ieee.specs.Nearest.{OnGrid, DifferBy}
+pub use Rattle.ieee.specs.Nearest.{OnGrid}
+pub use Rattle.ieee.specs.Bounds.{DifferBy}
 
 pub le-or-lt : (a b : ℕ) → (a ≤ b) ⊎ (b < a)
 le-or-lt a b = go (leb a b) (leb→le a b) (nleb→lt a b)
@@ -51,7 +52,8 @@ near-by w r u Ordering·eq c l =
 near-by w r u Ordering·gt c l = omega arith
 
 pub closest-near : (n u : ℕ) → 0 < u → DifferBy (2 * (closest n u * u)) (2 * n) u
-closest-near n u U = subst (λ (x : ℕ). DifferBy (2 * (closest n u * u)) (2 * x) u) (div-add-mod' n u) (near-by (n / u) (n % u) u (compare (n % u * 2) u) (cmp (n % u * 2) u) (mod-lt n U))
+closest-near n u U = subst (λ (x : ℕ). DifferBy (2 * (closest n u * u)) (2 * x) u) (div-add-mod' n u)
+    (near-by (n / u) (n % u) u (compare (n % u * 2) u) (cmp (n % u * 2) u) (mod-lt n U))
 
 -- ---- the library's `grid-mono`, which it keeps to itself, with the lemmas under it, at 24 digits
 same-drop : (k a b c d : ℕ) → 0 < b → 0 < d → a * d ≤ c * b → closest a (b * 2 ^ k) * 2 ^ k ≤ closest c (d * 2 ^ k) * 2 ^ k
@@ -146,7 +148,8 @@ rnd-either n c C = elim (eq-zero-or-pos (drop 24 n c)) [ inl z ↦ inl (few z) |
     many p =
         let i = near-unit n c C in
         let k = drop 24 n c in
-        let f : 8388608 * (c * 2 ^ k) ≤ n = le-trans (le-of-eq (ap (λ (x : ℕ). 8388608 * x) (mul-comm c (2 ^ k)) ∙ sym (mul-assoc 8388608 (2 ^ k) c) ∙ ap (λ (x : ℕ). x * c) (sym (pow-add 2 23 k)))) (full n c C p) in
+        let f : 8388608 * (c * 2 ^ k) ≤ n = le-trans (le-of-eq
+        (ap (λ (x : ℕ). 8388608 * x) (mul-comm c (2 ^ k)) ∙ sym (mul-assoc 8388608 (2 ^ k) c) ∙ ap (λ (x : ℕ). x * c) (sym (pow-add 2 23 k)))) (full n c C p) in
         omega (arith, i)
 
 -- the sum of the two
@@ -257,7 +260,11 @@ full-grid r g h =
     let w = kept 24 (r * 1) 1 in
     let i = drop 24 (r * 1) 1 in
     let e : w * 2 ^ i ≡ r = rnd-exact g 1 (lit< tt) in
-    let l : 8388608 ≤ w = elim (eq-zero-or-pos i) [ inl z ↦ le-trans h (le-of-eq (sym e ∙ ap (λ (x : ℕ). w * 2 ^ x) z ∙ native.Mathlib.Nat.mul-one w)) | inr p ↦ kept-ge (r * 1) 1 p ] in
+    let l : 8388608 ≤ w = elim (eq-zero-or-pos i) [
+      | inl z ↦ le-trans h (le-of-eq (sym e ∙ ap (λ (x : ℕ). w * 2 ^ x) z ∙ native.Mathlib.Nat.mul-one w))
+      | inr p ↦ kept-ge
+          (r * 1) 1 p
+    ] in
     elim (eq-or-lt-of-le (kept-le (r * 1) 1)) [
       | inl a ↦ record { q = 8388608; j = suc i; low = le-refl 8388608; high = lit< tt; is = sym e ∙ ap (λ (x : ℕ). x * 2 ^ i) a ∙ twice-pow i }
       | inr a ↦ record { q = w; j = i; low = l; high = a; is = sym e }

@@ -1,6 +1,7 @@
 -- The error of a sum, a difference and a product of f32 values, over ℤ: the bridge from `Rounds` to `ring` and `NN`. `val x` is the exact value of a finite f32 in units of
--- 2 ^ -149. To follow a computation, give each result its integer `val`, take its error from `add-near`, `sub-near` (`Sum`: one part in 2 ^ 24) or `mul-near` (`Near`: that and half a
--- unit), and its size from `sum-size`, `near-size`; each asks that the exact result is at most `most` and then also says that the result is finite. Assumes nothing.
+-- 2 ^ -149. To follow a computation, give each result its integer `val`, take its error from `add-near`, `sub-near` (`Sum`: one part in 2 ^ 24) or `mul-near` (`Near`: that
+-- and half a unit), and its size from `sum-size`, `near-size`; each asks that the exact result is at most `most` and then also says that the result is finite. Assumes
+-- nothing.
 use mathlib.Core.Path.{_≡_, refl, sym, ap, ap₂, _∙_, subst}
 use mathlib.Core.List.{[], _∷_}
 use mathlib.Core.Bool.{Bool, true, false, cond}
@@ -142,9 +143,13 @@ rescale : (v p a y : ℤ) (c u : ℕ) → 0 < u → pos c *ℤ p ≡ a *ℤ pos 
 rescale v p a y c u U e n =
     let d = natAbs (pos u *ℤ v -ℤ p *ℤ y) in
     let d' = natAbs (pos c *ℤ v -ℤ a *ℤ y) in
-    let i : c * d ≡ d' * u = sym (abs-mul c (pos u *ℤ v -ℤ p *ℤ y)) ∙ ap natAbs (left (pos c) (pos u) v p y ∙ ap (λ (z : ℤ). pos c *ℤ (pos u *ℤ v) -ℤ z *ℤ y) e ∙ right (pos c) (pos u) v a y) ∙ abs-mul u (pos c *ℤ v -ℤ a *ℤ y) ∙ mul-comm u d' in
+    let i : c * d ≡ d' * u = sym (abs-mul c (pos u *ℤ v -ℤ p *ℤ y)) ∙ ap natAbs
+    (left (pos c) (pos u) v p y ∙ ap (λ (z : ℤ). pos c *ℤ (pos u *ℤ v) -ℤ z *ℤ y) e ∙ right (pos c) (pos u) v a y) ∙ abs-mul u (pos c *ℤ v -ℤ a *ℤ y) ∙ mul-comm u d' in
     let j : c * natAbs (p *ℤ y) ≡ natAbs (a *ℤ y) * u = scaled p a y c u e in
-    record { near = le-of-mul-le-mul-right {k = u} (fit (natAbs (p *ℤ y)) (natAbs (a *ℤ y)) d d' (c * d) (d' * u) (c * natAbs (p *ℤ y)) i j refl refl refl (mul-le-mul-left c (n .near))) U }
+    record {
+      near = le-of-mul-le-mul-right {k = u}
+          (fit (natAbs (p *ℤ y)) (natAbs (a *ℤ y)) d d' (c * d) (d' * u) (c * natAbs (p *ℤ y)) i j refl refl refl (mul-le-mul-left c (n .near))) U;
+    }
   where
     left : (c u v p y : ℤ) → c *ℤ (u *ℤ v -ℤ p *ℤ y) ≡ c *ℤ (u *ℤ v) -ℤ c *ℤ p *ℤ y
     left c u v p y = ring (c ∷ u ∷ v ∷ p ∷ y ∷ []) (var 0 ⊗ (var 1 ⊗ var 2 ⊖ var 3 ⊗ var 4)) (var 0 ⊗ (var 1 ⊗ var 2) ⊖ var 0 ⊗ var 3 ⊗ var 4) tt
@@ -152,7 +157,8 @@ rescale v p a y c u U e n =
     right : (c u v a y : ℤ) → c *ℤ (u *ℤ v) -ℤ a *ℤ u *ℤ y ≡ u *ℤ (c *ℤ v -ℤ a *ℤ y)
     right c u v a y = ring (c ∷ u ∷ v ∷ a ∷ y ∷ []) (var 0 ⊗ (var 1 ⊗ var 2) ⊖ var 3 ⊗ var 1 ⊗ var 4) (var 1 ⊗ (var 0 ⊗ var 2 ⊖ var 3 ⊗ var 4)) tt
 
-    fit : (m m' d d' cd du cm : ℕ) → cd ≡ du → cm ≡ m' * u → c * d ≡ cd → d' * u ≡ du → c * m ≡ cm → c * (16777216 * d) ≤ c * (m + 8388608 * u) → 16777216 * d' * u ≤ (m' + 8388608 * c) * u
+    fit : (m m' d d' cd du cm : ℕ) → cd ≡ du → cm ≡ m' * u → c * d ≡ cd → d' * u ≡ du → c * m ≡ cm → c * (16777216 * d) ≤ c * (m + 8388608 * u)
+        → 16777216 * d' * u ≤ (m' + 8388608 * c) * u
     fit m m' d d' cd du cm e₁ e₂ e₃ e₄ e₅ h = omega arith
 
 pub mul-near : {x y : Float} {a : ℤ} {c : ℕ} → 0 < c → Ratio x a c → F32 y → natAbs (a *ℤ val y) ≤ most * c → F32 (mul binary32 x y) × Near (val (mul binary32 x y)) (a *ℤ val y) c
@@ -160,7 +166,8 @@ mul-near {x} {y} {a} {c} C q g h =
     let A = P x * P y + N x * N y in
     let B = P x * N y + N x * P y in
     let e : val x *ℤ val y ≡ pos A -ℤ pos B = expand (pos (P x)) (pos (N x)) (pos (P y)) (pos (N y)) in
-    let k : natAbs (pos A -ℤ pos B) ≤ most * One = subst (λ (z : ℤ). natAbs z ≤ most * One) e (le-of-mul-le-mul-right {k = c} (fit (natAbs (val x *ℤ val y)) (natAbs (a *ℤ val y)) most One (scaled (val x) a (val y) c One (q .is)) (mul-le-mul-right One h)) C) in
+    let k : natAbs (pos A -ℤ pos B) ≤ most * One = subst (λ (z : ℤ). natAbs z ≤ most * One) e (le-of-mul-le-mul-right {k = c}
+    (fit (natAbs (val x *ℤ val y)) (natAbs (a *ℤ val y)) most One (scaled (val x) a (val y) c One (q .is)) (mul-le-mul-right One h)) C) in
     let r = mul-rounds x y (q .f32) g (fine A B One one-pos k) in
     (r .f32, rescale (val (mul binary32 x y)) (val x) a (val y) c One one-pos (q .is) (subst (λ (z : ℤ). Near (val (mul binary32 x y)) z One) (sym e) (rounds-near one-pos r)))
   where
@@ -179,7 +186,8 @@ sum-size v z k X s h l = fit (natAbs v) (natAbs (v -ℤ z)) (natAbs z) (k * X) (
 
 pub near-size : (v z : ℤ) (c Z : ℕ) → 0 < c → Near v z c → natAbs z ≤ Z * c → 1 ≤ Z → natAbs v ≤ 2 * Z
 near-size v z c Z h s b l =
-    le-of-mul-le-mul-right {k = c} (fit (natAbs v) (natAbs (pos c *ℤ v)) (natAbs (pos c *ℤ v -ℤ z)) (natAbs z) (abs-mul c v) (abs-from (pos c *ℤ v) z) (s .near) b (mul-le-mul-right c l)) h
+    le-of-mul-le-mul-right {k = c} (fit (natAbs v) (natAbs (pos c *ℤ v)) (natAbs (pos c *ℤ v -ℤ z)) (natAbs z) (abs-mul c v) (abs-from (pos c *ℤ v) z) (s .near) b
+    (mul-le-mul-right c l)) h
   where
     fit : (v cv e z : ℕ) → cv ≡ c * v → cv ≤ e + z → 16777216 * e ≤ z + 8388608 * c → z ≤ Z * c → 1 * c ≤ Z * c → v * c ≤ 2 * Z * c
     fit v cv e z e₁ e₂ e₃ e₄ e₅ = omega arith

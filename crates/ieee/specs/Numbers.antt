@@ -1,4 +1,4 @@
--- Numbers that the rules name. Assumes nothing.
+-- Numbers that document 01 names. Assumes nothing.
 use mathlib.Core.Bool.{false}
 use lib.IntN.{pos, negsuc}
 use lib.Ieee.{Float, fin, binary32, ofBits}
@@ -13,7 +13,7 @@ abbrev pub 1·0 : Float
 abbrev pub 0·9 : Float
 0·9 = fin false 7549747 (negsuc 22)
 
--- ---- the same by their bits, which is how code has them
+-- ---- the same by their bits, which is how code has them (`zero-bits`, `one-bits`, `nine-tenths-bits` of proofs/Numbers)
 
 abbrev pub 0·0f : Float
 0·0f = ofBits binary32 0

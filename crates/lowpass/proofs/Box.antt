@@ -10,7 +10,7 @@ use lib.Dec.{lit<, lit≤}
 use lib.Pow.{pow-pos}
 use lib.Ieee.{Float}
 use Rattle.ieee.specs.Units.{One}
-use Rattle.ieee.specs.Nearest.{DifferBy}
+use Rattle.ieee.specs.Bounds.{DifferBy}
 use Rattle.ieee.proofs.Grid.{le-or-lt}
 use Rattle.angles.specs.Angle.{Listed}
 use Rattle.angles.proofs.Made.{one-23, Made}
@@ -24,7 +24,8 @@ record Together (δ A α v u : ℕ) : Type 0 where
   k-high : 16777216 + α ≤ 2 * A + 2 * v + 3
   k-low : 4 * u + 67108864 * A ≤ 33554432 * (16777216 + α) + 101783178
 
-together : (p δ A α v x y z u : ℕ) → p ≤ 8948549 → δ ≤ 16777216 → DifferBy (2 * x) 281474976710656 p → DifferBy (2 * x + y) (33554432 * δ) δ → z + u ≡ 16777216 * δ → u ≤ v * 16777216
+together : (p δ A α v x y z u : ℕ) → p ≤ 8948549 → δ ≤ 16777216 → DifferBy (2 * x) 281474976710656 p → DifferBy (2 * x + y) (33554432 * δ) δ → z + u ≡ 16777216 * δ
+    → u ≤ v * 16777216
     → DifferBy (2 * (A * 16777216)) (2 * z) 16777216 → DifferBy (2 * (α * 16777216)) (2 * y) 16777216 → Together δ A α v u
 together p δ A α v x y z u few many inverse both parts most first second = record { α-high = omega arith; α-low = omega arith; k-high = omega arith; k-low = omega arith }
 

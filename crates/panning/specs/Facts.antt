@@ -1,5 +1,5 @@
--- What holds of panning over any table of speakers, for a position of any floats: the corners exist, the shares lie from 0 to 1, no speaker gets two corners, and at size 0 the squares of the
--- coefficients that are mixed add up to the gain. Assumes nothing.
+-- What holds of panning over any table of speakers, for a position of any floats: the corners exist, the shares lie from 0 to 1, no speaker gets two corners, and at size 0
+-- the squares of the coefficients that are mixed add up to the gain. Assumes nothing.
 use Prim.Native.Nat.{ℕ, _+_, _*_, _≤_}
 use mathlib.Core.Path.{_≡_}
 use mathlib.Core.Bool.{Bool}
@@ -8,7 +8,7 @@ use lib.Dec.{T}
 use lib.ListN.{length}
 use lib.Ieee.{Float, eq}
 use Rattle.ieee.specs.Units.{One, mag, P}
-use Rattle.ieee.specs.Nearest.{DifferBy}
+use Rattle.ieee.specs.Bounds.{DifferBy}
 use Rattle.vectors.specs.declared.Vec3.{Vec3}
 use Rattle.panning.specs.Choice.{Corner, corner, 0·0, 1·0}
 use Rattle.panning.specs.Terms as t

@@ -125,7 +125,8 @@ root-mono x y f g n m h = elim (le-or-lt (P (root x)) (P (root y))) [ inl l ↦ 
     back l =
         let i = a .below (P (root y)) (b .grid) l in
         let j = b .above (P (root x)) (a .grid) l in
-        lt-irrefl _ (lt-of-lt-of-le (mul-lt-mul-of-pos-left (mul-lt-mul-of-pos-right h one-pos) (lit< tt)) (le-trans j (le-trans (le-of-eq (ap (λ (z : ℕ). z * z) (add-comm (P (root y)) (P (root x))))) i)))
+        lt-irrefl _ (lt-of-lt-of-le (mul-lt-mul-of-pos-left (mul-lt-mul-of-pos-right h one-pos) (lit< tt))
+        (le-trans j (le-trans (le-of-eq (ap (λ (z : ℕ). z * z) (add-comm (P (root y)) (P (root x))))) i)))
 
 pub root-zero : root (fin false 0 (pos 0)) ≡ fin false 0 (pos 0)
 unfolding root

@@ -5,7 +5,8 @@ use Rattle.roots.proofs.bits.fourth_bits.Statement.{statement}
 use Rattle.roots.proofs.bits.fourth_bits.Tie as tie
 
 returns : tie.Need-returns
-returns c = let rest = c .before .fourth-rest .ensures in (search needs, fourth-bits _ _ _ _ _ (c .before .before .before .before .parts .ensures) (rest .0) (rest .1) (rest .2) (c .nearest-whole .ensures))
+returns c = let rest = c .before .fourth-rest .ensures in
+    (search needs, fourth-bits _ _ _ _ _ (c .before .before .before .before .parts .ensures) (rest .0) (rest .1) (rest .2) (c .nearest-whole .ensures))
 
 pub fourth-bits-spec : {M : Type 1} → statement M
 fourth-bits-spec =

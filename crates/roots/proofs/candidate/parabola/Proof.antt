@@ -29,7 +29,8 @@ add-result : tie.Need-add-result
 add-result c = let x = slope (c .args .b) (c .args .t) (c .pre .1) (c .pre .3) in record { fits = omega (arith, x) }
 
 add-result-2 : tie.Need-add-result-2
-add-result-2 c = let x = slope (c .args .b) (c .args .t) (c .pre .1) (c .pre .3) in let y = raised (c .args .d) (c .args .t) (c .pre .2) (c .pre .3) in record { fits = omega (arith, x, y) }
+add-result-2 c = let x = slope (c .args .b) (c .args .t) (c .pre .1) (c .pre .3) in let y = raised (c .args .d) (c .args .t) (c .pre .2) (c .pre .3) in
+    record { fits = omega (arith, x, y) }
 
 returns : tie.Need-returns
 returns c = let x = slope (c .args .b) (c .args .t) (c .pre .1) (c .pre .3) in let y = raised (c .args .d) (c .args .t) (c .pre .2) (c .pre .3) in omega (arith, x, y)

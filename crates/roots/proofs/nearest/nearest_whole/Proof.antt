@@ -22,15 +22,18 @@ sub-top : tie.Need-sub-top
 sub-top c = let l = large _ _ (c .before .before .before .before .pre .0) _ (not-below (c .before .before .before .top .ensures) (c .before .before .if1 .left)) in omega (arith, l)
 
 top-requires-4 : tie.Need-top-requires-4
-top-requires-4 c κs = let l = large _ _ (c .before .before .before .before .pre .0) _ (not-below (c .before .before .before .top .ensures) (c .before .before .if1 .left)) in (omega (arith, l), omega arith)
+top-requires-4 c κs = let l = large _ _ (c .before .before .before .before .pre .0) _ (not-below (c .before .before .before .top .ensures) (c .before .before .if1 .left)) in
+    (omega (arith, l), omega arith)
 
 sub-result : tie.Need-sub-result
-sub-result c = let l = large _ _ (c .before .before .before .before .before .before .pre .0) _ (not-below (c .before .before .before .before .before .top .ensures) (c .before .before .before .before .if1 .left)) in omega (arith, l)
+sub-result c = let l = large _ _ (c .before .before .before .before .before .before .pre .0) _
+    (not-below (c .before .before .before .before .before .top .ensures) (c .before .before .before .before .if1 .left)) in omega (arith, l)
 
 returns-4 : tie.Need-returns-4
 returns-4 c =
     let p = c .before .before .before .before .before .before .pre in
-    let l = large _ _ (c .before .before .before .before .before .before .pre .0) _ (not-below (c .before .before .before .before .before .top .ensures) (c .before .before .before .before .if1 .left)) in
+    let l = large _ _ (c .before .before .before .before .before .before .pre .0) _
+    (not-below (c .before .before .before .before .before .top .ensures) (c .before .before .before .before .if1 .left)) in
     near _ _ (p .0) _ _ (omega (arith, l)) (below (c .before .top4 .ensures) (c .if4 .taken)) (not-below (c .before .before .before .top3 .ensures) (c .before .before .if3 .left))
 
 pub nearest-whole-spec : {M : Type 1} → statement M
