@@ -15,7 +15,7 @@ use Rattle.ieee.specs.Nearest.{Root}
 use Rattle.ieee.proofs.Compare.{→le, →eq, eq→}
 use Rattle.ieee.proofs.Signed.{mag-is}
 use Rattle.roots.specs.Root.{root}
-use Rattle.roots.proofs.Laws.{root-nearest}
+use Rattle.roots.proofs.Theorems.{root-nearest}
 use Rattle.vectors.specs.declared.Vec3.{Vec3}
 use Rattle.panning.specs.declared.Panned.{Panned}
 use Rattle.panning.specs.Choice.{Corner, corner, corners, 0·0, 1·0}
@@ -93,10 +93,12 @@ of-none : (Q : Term → Type 0) {ts : List Term} → ts ≡ [] → Each Q ts
 of-none Q e t m = absurd (List·Memᴰ·not-nil (subst (λ (us : List Term). List·Memᴰ t us) e m))
 
 -- every term of a list of both kinds
-terms-each : (Q : Term → Type 0) (sp : ℕ → Vec3) (l : List ℕ) (n : Float) (p : Vec3) (g s : Float) → ((k : ℕ) → List·Memᴰ k l → Q (term k (extra n g s))) → ((c : Corner) → Q (of sp l n p g s c)) → Each Q (terms l (heard sp l n p g s))
+terms-each : (Q : Term → Type 0) (sp : ℕ → Vec3) (l : List ℕ) (n : Float) (p : Vec3) (g s : Float) → ((k : ℕ) → List·Memᴰ k l → Q (term k (extra n g s)))
+    → ((c : Corner) → Q (of sp l n p g s c)) → Each Q (terms l (heard sp l n p g s))
 terms-each Q sp l n p g s h k t m = elim (List·Memᴰ·append-cases (audible (spread l (extra n g s))) m) [
   | inl a ↦ let i = map-in (λ k. term k (extra n g s)) l (audible→ (spread l (extra n g s)) a) in subst Q (sym (i .2)) (h (i .0) (i .1))
-  | inr a ↦ let i = map-in (of sp l n p g s) corners (audible→ (map (of sp l n p g s) corners) (subst (λ (ts : List Term). List·Memᴰ t ts) (corner-terms sp l n p g s) a)) in subst Q (sym (i .2)) (k (i .0))
+  | inr a ↦ let i = map-in (of sp l n p g s) corners (audible→ (map (of sp l n p g s) corners) (subst (λ (ts : List Term). List·Memᴰ t ts) (corner-terms sp l n p g s) a)) in
+      subst Q (sym (i .2)) (k (i .0))
 ]
 
 -- ---- size 0
@@ -145,7 +147,8 @@ module _ (sp : ℕ → Vec3) (l : List ℕ) (t : Table sp l) (p : Vec3) (q : Pos
     M : Bool → Bool → Bool → ℕ
     M b c d = mag (x (record { top = b; front = c; right = d }))
 
-    eight-corners : Eight (P g) (λ b. P (part b (up sp (corner sp l p) p))) (λ b c. P (part c (ahead sp (corner sp l p) p b))) (λ b c d. P (part d (across sp (corner sp l p) p b c))) M
+    eight-corners : Eight (P g) (λ b. P (part b (up sp (corner sp l p) p))) (λ b c. P (part c (ahead sp (corner sp l p) p b)))
+        (λ b c d. P (part d (across sp (corner sp l p) p b c))) M
     unfolding rowWeight M
     eight-corners = record {
       layers = up-part sp l t p q .whole;
@@ -171,13 +174,15 @@ module _ (sp : ℕ → Vec3) (l : List ℕ) (t : Table sp l) (p : Vec3) (q : Pos
     corner-squares : allSquares (audible (map (λ c. term (corner sp l p c) (x c)) corners)) ≡ eight (λ b c d. M b c d * M b c d)
     unfolding allSquares M
     corner-squares =
-        square-audible (map (λ c. term (corner sp l p c) (x c)) corners) (λ u m. let i = map-in (λ c. term (corner sp l p c) (x c)) corners m in subst (λ (v : Term). F32 (v .coefficient)) (sym (i .2)) (corner-rooted root-nearest sp l t p q g G (i .0) .f32))
+        square-audible (map (λ c. term (corner sp l p c) (x c)) corners) (λ u m. let i = map-in (λ c. term (corner sp l p c) (x c)) corners m in
+        subst (λ (v : Term). F32 (v .coefficient)) (sym (i .2)) (corner-rooted root-nearest sp l t p q g G (i .0) .f32))
         ∙ omega arith
 
   corner-named : (n g s : Float) → Each (λ u. List·Memᴰ (u .channel) l) (cornerTerms (panned sp l n p g s))
   unfolding paired
   corner-named n g s = by-gain sp l n p g s (λ r. Each (λ u. List·Memᴰ (u .channel) l) (cornerTerms r)) (λ z. of-none (λ u. List·Memᴰ (u .channel) l) nothing-corners)
-      (λ u m. let i = map-in (of sp l n p g s) corners (audible→ (map (of sp l n p g s) corners) m) in subst⁻¹ (λ (v : Term). List·Memᴰ (v .channel) l) (i .2) (corner-in sp l t p (i .0 .top) (i .0 .front) (i .0 .right)))
+      (λ u m. let i = map-in (of sp l n p g s) corners (audible→ (map (of sp l n p g s) corners) m) in
+      subst⁻¹ (λ (v : Term). List·Memᴰ (v .channel) l) (i .2) (corner-in sp l t p (i .0 .top) (i .0 .front) (i .0 .right)))
 
   corner-energy : (n g s : Float) → T (between 0·0 8·0 g) → T (eq s 0·0) → AddsUp (allSquares (cornerTerms (panned sp l n p g s))) g
   unfolding allSquares paired
@@ -208,8 +213,10 @@ module _ (sp : ℕ → Vec3) (l : List ℕ) (t : Table sp l) (p : Vec3) (q : Pos
         let a = gain8 g G in
         let b = size1 s S in
         by-gain sp l n p g s (λ r. Each (λ u. T (between 0·0 8·0 (u .coefficient))) (terms l r)) (λ z. of-none (λ u. T (between 0·0 8·0 (u .coefficient))) (nothing-terms l))
-        (terms-each (λ u. T (between 0·0 8·0 (u .coefficient))) sp l n p g s (λ k m. plus-between _ (extra-plus root-nearest n g s f o a b)) (λ c. plus-between _ (corner-plus root-nearest sp l t p q (innerGain g s) (inner-gain8 g s a b) c)));
-    once = λ g s G S. apart-once (cornerTerms (panned sp l n p g s)) (by-gain sp l n p g s (λ r. T (apart (cornerTerms r))) (λ z. subst (λ (ts : List Term). T (apart ts)) (sym nothing-corners) tt) (apart-corners (innerGain g s) (inner-gain8 g s (gain8 g G) (size1 s S))));
+        (terms-each (λ u. T (between 0·0 8·0 (u .coefficient))) sp l n p g s (λ k m. plus-between _ (extra-plus root-nearest n g s f o a b))
+        (λ c. plus-between _ (corner-plus root-nearest sp l t p q (innerGain g s) (inner-gain8 g s a b) c)));
+    once = λ g s G S. apart-once (cornerTerms (panned sp l n p g s)) (by-gain sp l n p g s (λ r. T (apart (cornerTerms r)))
+        (λ z. subst (λ (ts : List Term). T (apart ts)) (sym nothing-corners) tt) (apart-corners (innerGain g s) (inner-gain8 g s (gain8 g G) (size1 s S))));
     plain = λ g s. plain-terms sp l n p g s;
     energy = λ g s G z.
         subst⁻¹ (λ (ts : List Term). AddsUp (squares l ts) g) (plain-terms sp l n p g s z)

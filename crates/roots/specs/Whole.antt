@@ -1,4 +1,4 @@
--- What the inner functions find, in whole numbers: the digits of an f32's size, and the number nearest to a root. Assumes nothing.
+-- A reader may skip this file: what the inner functions find, in whole numbers: the digits of an f32's size, and the number nearest to a root. Assumes nothing.
 use Prim.Native.Nat.{ℕ, _+_, _-_, _*_, _/_, _^_, _≤_, _<_}
 use mathlib.Core.Path.{_≡_}
 use mathlib.Core.Bool.{Bool, true, false}

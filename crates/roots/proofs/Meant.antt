@@ -1,19 +1,15 @@
--- What callers use of the roots. `root-meant`, `half-meant`, `fourth-meant`: no f32 is nearer to the root; `root-only`, `half-only`, `fourth-only`: no other f32 is as near.
--- `root-nearest`: the square root in the terms of crate `ieee`. `root-bound`, `root-mono`: order. Assumes nothing.
-use mathlib.Core.Path.{_≡_, refl, sym, ap, _∙_}
+-- The roots are the nearest f32, and the only ones. Assumes nothing.
+use mathlib.Core.Path.{_≡_, sym, ap, _∙_}
 use mathlib.Core.Logic.{inl, inr}
-use mathlib.Core.Bool.{false}
 use Prim.Native.Nat.{ℕ, _+_, _-_, _*_, _^_, _≤_, _<_}
-use native.Mathlib.Nat.{le-trans, le-of-eq, le-antisymm, lt-of-lt-of-le, lt-irrefl, eq-or-lt-of-le, add-comm, mul-le-mul, mul-le-mul-right, pow-le-pow-left}
-use native.Mathlib.Nat.{mul-lt-mul-of-pos-left, mul-lt-mul-of-pos-right}
+use native.Mathlib.Nat.{le-trans, le-of-eq, le-antisymm, eq-or-lt-of-le, add-comm, pow-le-pow-left}
 use native.Mathlib.Omega.{arith}
-use lib.IntN.{pos}
-use lib.Dec.{lit<, lit≤}
-use lib.Ieee.{Float, fin, round}
+use lib.Dec.{lit≤}
+use lib.Ieee.{Float}
 use Rattle.ieee.specs.Units.{One, F32, mag, P, N}
-use Rattle.ieee.specs.Nearest.{OnGrid, Root, Nearest}
-use Rattle.ieee.proofs.Grid.{le-or-lt, grid-at, grid-pow, grid-up}
-use Rattle.ieee.proofs.Value.{shape, one-pos}
+use Rattle.ieee.specs.Nearest.{Root, Nearest}
+use Rattle.ieee.proofs.Grid.{le-or-lt, grid-pow, grid-up}
+use Rattle.ieee.proofs.Value.{shape}
 use Rattle.ieee.proofs.Signed.{one-sided, mag-is, P-grid}
 use Rattle.ieee.proofs.Unique.{same-value}
 use Rattle.roots.specs.Root.{powerOf, root, rootPower, NearestRoot}
@@ -90,48 +86,3 @@ root-nearest = record {
   plus = λ x f n. root-rooted x f n .plus;
   near = λ x f n. root-of (P (root x)) (P x * 2 ^ 149) (root-rooted x f n .near);
 }
-
--- ---- order
-pub root-le : {r S c : ℕ} → Root r S → OnGrid c → S ≤ c * c → r ≤ c
-root-le {r} {S} {c} g o h = elim (le-or-lt r c) [ inl l ↦ l | inr l ↦ absurd (more (g .below c o l) (mul-le-mul (step l) (step l))) ]
-  where
-    step : c < r → c + c + 1 ≤ r + c
-    step l = omega arith
-
-    more : (r + c) * (r + c) ≤ 4 * S → (c + c + 1) * (c + c + 1) ≤ (r + c) * (r + c) → ⊥
-    more a b = omega arith
-
-one-at : (k : ℕ) → k ≤ 16777216 → OnGrid (k * One)
-unfolding One
-one-at k few = grid-at k 149 few
-
--- where x is at most k * k, its root is at most k
-pub root-bound : (k : ℕ) (x : Float) → k ≤ 16777216 → F32 x → N x ≡ 0 → P x ≤ k * k * One → P (root x) ≤ k * One
-root-bound k x few f n h = root-le (root-nearest .near x f n) (one-at k few) (le-trans (mul-le-mul-right One h) (le-of-eq (squares k One)))
-  where
-    squares : (k u : ℕ) → k * k * u * u ≡ k * u * (k * u)
-    squares k u = omega arith
-
-pub root-mono : (x y : Float) → F32 x → F32 y → N x ≡ 0 → N y ≡ 0 → P x < P y → P (root x) ≤ P (root y)
-root-mono x y f g n m h = elim (le-or-lt (P (root x)) (P (root y))) [ inl l ↦ l | inr l ↦ absurd (back l) ]
-  where
-    a : Root (P (root x)) (P x * One)
-    a = root-nearest .near x f n
-
-    b : Root (P (root y)) (P y * One)
-    b = root-nearest .near y g m
-
-    back : P (root y) < P (root x) → ⊥
-    back l =
-        let i = a .below (P (root y)) (b .grid) l in
-        let j = b .above (P (root x)) (a .grid) l in
-        lt-irrefl _ (lt-of-lt-of-le (mul-lt-mul-of-pos-left (mul-lt-mul-of-pos-right h one-pos) (lit< tt))
-        (le-trans j (le-trans (le-of-eq (ap (λ (z : ℕ). z * z) (add-comm (P (root y)) (P (root x))))) i)))
-
-pub root-zero : root (fin false 0 (pos 0)) ≡ fin false 0 (pos 0)
-unfolding root
-root-zero = refl
-
-pub root-one : root (fin false 1 (pos 0)) ≡ fin false 1 (pos 0)
-unfolding root mag round
-root-one = refl
