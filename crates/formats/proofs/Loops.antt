@@ -10,7 +10,8 @@ use lib.ListN.{length, getD, set, take}
 use lib.Seq.{take-suc-set, take-all}
 use Rattle.words.proofs.Runs.{run-length-kept}
 use Rattle.words.specs.Words.{withWord, withWords}
-use Rattle.formats.specs.Format.{Format, Lawful, _⊗_, puts, gets, allAt, array}
+use Rattle.formats.specs.Format.{Format, _⊗_, puts, gets, allAt, array}
+use Rattle.formats.specs.Lawful.{Lawful}
 use Rattle.formats.proofs.Places.{spelled}
 use Rattle.formats.proofs.Parts.{lawful-array}
 

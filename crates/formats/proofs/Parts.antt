@@ -1,16 +1,17 @@
 -- The laws of two formats together, of n, and of the same words as another type. Assumes nothing.
 use mathlib.Core.Path.{_≡_, refl, sym, ap, ap₂, subst, _∙_}
-use mathlib.Core.Bool.{Bool, true, false, _&&_}
+use mathlib.Core.Bool.{Bool, _&&_}
 use mathlib.Core.List.{List, [], _∷_, _++_}
-use Prim.Native.Nat.{ℕ, zero, suc, _+_, _*_, _<_, _≤_}
-use native.Mathlib.Nat.{zero-mul, suc-mul}
+use Prim.Native.Nat.{ℕ, zero, suc, _+_, _*_}
+use native.Mathlib.Nat.{zero-mul}
 use native.Mathlib.Omega.{arith}
 use lib.Dec.{T}
 use lib.Ieee.Fits.{and-l, and-r}
-use lib.ListN.{length, getD, replicate, length-append, length-replicate}
+use lib.ListN.{length, replicate, length-append, length-replicate}
 use Rattle.ieee.specs.Bounds.{All}
 use Rattle.words.specs.Words.{Words}
-use Rattle.formats.specs.Format.{Format, Stands, Same, Lawful, _⊗_, puts, gets, allAt, EachAt, Full, array, struct, ranged, such}
+use Rattle.formats.specs.Format.{Format, Stands, _⊗_, puts, gets, allAt, EachAt, array, struct, ranged, such}
+use Rattle.formats.specs.Lawful.{Same, Lawful}
 use Rattle.formats.proofs.Places.{and-in, words-append, stands-front, stands-rest, stands-both, same-front, same-rest}
 
 -- ---- two together

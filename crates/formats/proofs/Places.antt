@@ -1,19 +1,16 @@
 -- Words in place: of a front and a rest, and of the words that a format has. Assumes nothing.
-use mathlib.Core.Path.{_≡_, refl, sym, ap, ap₂, _∙_}
-use mathlib.Core.Bool.{Bool, true, false, _&&_}
+use mathlib.Core.Path.{_≡_, sym, ap, _∙_}
 use mathlib.Core.List.{List, [], _∷_, _++_}
-use Prim.Native.Nat.{ℕ, zero, suc, _+_, _<_, _≤_}
+use Prim.Native.Nat.{ℕ, zero, suc, _+_}
 use native.Mathlib.Nat.{add-zero, add-assoc, zero-add}
 use native.Mathlib.Omega.{arith}
 use lib.Dec.{T}
 use lib.ListN.{length, getD, length-append, List·getD-append}
 use lib.Seq.{getD-append-add, ext-getD}
+pub use lib.Ieee.Fits.{and-i as and-in}
 use Rattle.words.specs.Words.{Words}
-use Rattle.formats.specs.Format.{Format, Stands, Same, Lawful}
-
-pub and-in : (a b : Bool) → T a → T b → T (a && b)
-and-in true b p q = q
-and-in false b p q = p
+use Rattle.formats.specs.Format.{Format, Stands}
+use Rattle.formats.specs.Lawful.{Same, Lawful}
 
 pub words-append : (a b : List ℕ) → Words a → Words b → Words (a ++ b)
 words-append [] b p q = q

@@ -6,12 +6,13 @@ use Prim.Native.Nat.{ℕ, zero, suc, _+_, _*_, _/_, _%_, _^_, _<_, _≤_}
 use native.Mathlib.Nat.{add-zero, mod-lt, mod-le, mod-eq-of-lt, mod-add-div', le-trans}
 use native.Mathlib.Omega.{arith}
 use lib.Dec.{T, eqb, leb, ltb, leb→le, le→leb, ltb→lt, lt→ltb, lit<, lit≤}
-use lib.ListN.{length, getD}
-use lib.Ieee.{Float, binary32, ofBits}
+use lib.ListN.{getD}
+use lib.Ieee.{binary32, ofBits}
 use lib.Ieee.Bits.{ofBits-toBits, ofBits-fits, toBits-lt}
 use Rattle.formats.specs.Numbers.{low, high, bit, Single, bits}
-use Rattle.formats.specs.Format.{Format, Stands, Lawful, oneWord, u32Where, u32To, u32Below, usizeTo, u8To, flag, float, u64To}
-use Rattle.formats.proofs.Places.{stands-at, stands-rest, same-at, same-rest}
+use Rattle.formats.specs.Format.{Stands, oneWord, u32Where, u32To, u32Below, usizeTo, u8To, flag, float, u64To}
+use Rattle.formats.specs.Lawful.{Lawful}
+use Rattle.formats.proofs.Places.{stands-at, stands-rest, same-at}
 
 -- what the parts of a word owe
 pub record Worded {A : Type 0} (put : A → ℕ) (of : ℕ → A) (p : ℕ → Bool) (In : A → Type 0) (Plain : ℕ → Type 0) : Type 0 where

@@ -1,4 +1,5 @@
--- Formats: how a value stands in a run of words, which words are in range, and what is in range. Assumes nothing.
+-- Formats: how a value stands in a run of words, which words are in range, and what is in range. Document 01, "What a call receives": "the renderer's state is a block of
+-- fixed length, its layout and each field's range written in docs/, its floats of any bits". `Plain`, `Reads` and `Spells` serve the proofs alone. Assumes nothing.
 use Prim.Native.Nat.{ℕ, zero, suc, _+_, _*_, _%_, _≤_, _<_}
 use mathlib.Core.Path.{_≡_}
 use mathlib.Core.Bool.{Bool, true, _&&_}
@@ -7,7 +8,6 @@ use lib.Dec.{T, eqb, leb, ltb}
 use lib.ListN.{length, getD, replicate}
 use lib.Ieee.{Float, binary32, ofBits}
 use Rattle.ieee.specs.Bounds.{All}
-use Rattle.words.specs.Words.{Words}
 use Rattle.formats.specs.Numbers.{low, high, longOf, bit, Single, bits}
 
 pub record Format (A : Type 0) : Type 1 where
@@ -33,10 +33,6 @@ pub record Format (A : Type 0) : Type 1 where
 -- these words stand in w from a place on
 abbrev pub Stands : List ℕ → ℕ → List ℕ → Type 0
 Stands w at ws = (i : ℕ) → i < length ws → getD w (at + i) 0 ≡ getD ws i 0
-
--- n words of v from a on are those of w from b on
-abbrev pub Same : List ℕ → ℕ → List ℕ → ℕ → ℕ → Type 0
-Same v a w b n = (i : ℕ) → i < n → getD v (a + i) 0 ≡ getD w (b + i) 0
 
 -- ---- one word, or two
 
@@ -182,23 +178,3 @@ such p F =
       Reads = F .Reads;
       Spells = F .Spells;
     }
-
--- ---- laws, which each format above has where its limits fit
-
-pub record Lawful {A : Type 0} (F : Format A) : Type 0 where
-  -- a value has `width` words, in range or not
-  pub long : (x : A) → length (F .put x) ≡ F .width
-  -- in range, each is below 2^32, and the value is read back from them
-  pub words : (x : A) → F .In x → Words (F .put x)
-  pub back : (x : A) → F .In x → (w : List ℕ) (at : ℕ) → Stands w at (F .put x) → F .get w at ≡ x
-  pub tidy : (x : A) → F .In x → (w : List ℕ) (at : ℕ) → Stands w at (F .put x) → F .Plain w at
-  -- the test is true exactly if the words are plain and what they say is in range
-  pub within : (w : List ℕ) (at : ℕ) → T (F .test w at) → F .In (F .get w at)
-  pub plain : (w : List ℕ) (at : ℕ) → T (F .test w at) → F .Plain w at
-  pub exact : (w : List ℕ) (at : ℕ) → F .In (F .get w at) → F .Plain w at → T (F .test w at)
-  -- what is beside plays no part
-  pub beside : (v : List ℕ) (a : ℕ) (w : List ℕ) (b : ℕ) → Same v a w b (F .width) → F .get v a ≡ F .get w b
-  pub untouched : (v : List ℕ) (a : ℕ) (w : List ℕ) (b : ℕ) → Same v a w b (F .width) → F .test v a ≡ F .test w b
-  -- part by part is the whole
-  pub reads : (w : List ℕ) (at : ℕ) (x : A) → F .Reads w at x → x ≡ F .get w at
-  pub spells : (w : List ℕ) (at : ℕ) (x : A) → F .Spells w at x → Stands w at (F .put x)

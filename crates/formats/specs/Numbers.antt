@@ -1,4 +1,4 @@
--- Numbers, flags and floats as words. Assumes nothing.
+-- Numbers, flags and floats as words, the low one first: document 01 has little-endian bytes. Assumes nothing.
 use Prim.Native.Nat.{ℕ, _+_, _*_, _/_, _%_}
 use mathlib.Core.Bool.{Bool, cond}
 use mathlib.Core.List.{List}

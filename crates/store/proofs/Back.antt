@@ -8,7 +8,8 @@ use lib.Dec.{T, eqb, leb, eqb→eq, leb→le, lit<, lit≤}
 use lib.Ieee.Fits.{and-r}
 use lib.ListN.{length}
 use Rattle.words.specs.Words.{Words}
-use Rattle.formats.specs.Format.{Lawful, u8To, flag, float, usizeTo, u64To, u32To, u32Below, u32Where, _⊗_, array}
+use Rattle.formats.specs.Lawful.{Lawful}
+use Rattle.formats.specs.Format.{u8To, flag, float, usizeTo, u64To, u32To, u32Below, u32Where, _⊗_, array}
 use Rattle.formats.proofs.Places.{stands-all}
 use Rattle.formats.proofs.Word.{lawful-u32-where, lawful-u32-to, lawful-u32-below, lawful-usize-to, lawful-u8-to, lawful-flag, lawful-float, lawful-u64-to}
 use Rattle.formats.proofs.Parts.{lawful-pair, lawful-array, lawful-struct, lawful-ranged, lawful-such}

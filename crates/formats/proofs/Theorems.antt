@@ -1,0 +1,16 @@
+-- What others may cite of this crate, a line each. Assumes nothing.
+
+-- each format has the laws: of one word or two
+pub use Rattle.formats.proofs.Word.{lawful-u32-where, lawful-u32-to, lawful-u32-below, lawful-usize-to, lawful-u8-to, lawful-flag, lawful-float, lawful-u64-to}
+-- of a pair, an array, a struct, another range, a test more
+pub use Rattle.formats.proofs.Parts.{lawful-pair, lawful-array, lawful-struct, lawful-ranged, lawful-such}
+-- so decode after encode is the value, a value in range passes the test, and words that spell a value are its words
+pub use Rattle.formats.proofs.Places.{round, passes, spelled}
+-- words in place: a list holds itself
+pub use Rattle.formats.proofs.Places.{stands-all}
+-- two runs of words, or two values, one after the other
+pub use Rattle.formats.proofs.Loops.{runs-at, pair-stored}
+-- a turn of a loop that reads an array, that stores one, that tests one
+pub use Rattle.formats.proofs.Loops.{room, gets-filled, gets-full, store-turn, store-none, store-all, all-step, all-stop, all-done}
+-- tests at each place of an array
+pub use Rattle.formats.proofs.Loops.{all-same, all-any, all-both}
