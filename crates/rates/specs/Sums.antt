@@ -1,4 +1,5 @@
--- The low-pass's angle and five terms of the series of its cosine and sine, in whole numbers. The angle is w steps of 2 ^ -32, a term t steps of 2 ^ -60. Assumes nothing.
+-- A reader may skip this file: the low-pass's angle and five terms of the series of its cosine and sine, in whole numbers. The angle is w steps of 2 ^ -32, a term t steps
+-- of 2 ^ -60. That these are the angle, the cosine and the sine that document 01 means is shown in the crate angles. Assumes nothing.
 use Prim.Native.Nat.{ℕ, _+_, _-_, _*_, _/_, _^_}
 use mathlib.Core.Bool.{cond}
 use lib.Dec.{ltb}
