@@ -1,10 +1,11 @@
 -- The channels of the routes. Assumes nothing.
 use mathlib.Core.Path.{_≡_, sym, subst}
-use mathlib.Core.Bool.{Bool, true, false, not, _&&_}
+use mathlib.Core.Bool.{Bool, true, not, _&&_}
 use mathlib.Core.List.{List, [], _∷_}
 use Prim.Native.Nat.{ℕ, zero, suc, _<_}
 use lib.Dec.{T, T-not, ltb, eqb, ltb→lt}
 use lib.ListN.{getD}
+use lib.Ieee.Fits.{and-l, and-r}
 use Rattle.beds.specs.declared.Route.{Route}
 use Rattle.beds.specs.declared.Route.the-variants.{Bass, Folded, Direct, Unsupported}
 use Rattle.beds.specs.Routes.{routes, routeOf}
@@ -20,17 +21,13 @@ abbrev every : List Route → Bool
 every [] = true
 every (r ∷ rs) = allowed r && every rs
 
-both : (a b : Bool) → T (a && b) → T a × T b
-both true b t = (tt, t)
-both false b t = absurd t
-
 every-at : (rs : List Route) (n : ℕ) → T (every rs) → T (allowed (getD rs n Unsupported))
 every-at [] n t = tt
-every-at (r ∷ rs) zero t = both (allowed r) (every rs) t .0
-every-at (r ∷ rs) (suc n) t = every-at rs n (both (allowed r) (every rs) t .1)
+every-at (r ∷ rs) zero t = and-l (allowed r) (every rs) t
+every-at (r ∷ rs) (suc n) t = every-at rs n (and-r (allowed r) (every rs) t)
 
 pub direct-channel : {k : ℕ} (code : ℕ) → routeOf code ≡ Direct k → (k < 12) × (k ≡ 3 → ⊥)
 unfolding routeOf
 direct-channel {k} code e =
-    let t = both (ltb k 12) (not (eqb k 3)) (subst (λ (r : Route). T (allowed r)) e (every-at routes code tt)) in
-    (ltb→lt k 12 (t .0), λ h. T-not (eqb k 3) (t .1) (subst (λ (n : ℕ). T (eqb n 3)) (sym h) tt))
+    let t : T (ltb k 12 && not (eqb k 3)) = subst (λ (r : Route). T (allowed r)) e (every-at routes code tt) in
+    (ltb→lt k 12 (and-l (ltb k 12) _ t), λ h. T-not (eqb k 3) (and-r (ltb k 12) _ t) (subst (λ (n : ℕ). T (eqb n 3)) (sym h) tt))

@@ -1,4 +1,4 @@
--- Which input feeds a bed. Assumes nothing.
+-- Which input feeds a bed. Document 01, item 3: "The two LFE codes match each other when no exact match exists". Assumes nothing.
 use Prim.Native.Nat.{ℕ, suc, _+_}
 use mathlib.Core.Bool.{Bool, cond, _&&_, _||_}
 use mathlib.Core.List.{List, [], _∷_}
@@ -25,11 +25,11 @@ abbrev pub orFound : Found → Found → Found
 orFound (At i) other = At i
 orFound Nothing other = other
 
--- Document 01, item 3: "The two LFE codes match each other when no exact match exists".
+-- the first input of the bed's own code; where there is none, for an LFE bed the first LFE input
 unfoldable pub matching : ℕ → List ℕ → Found
 matching code inputs = orFound (firstOf code code inputs) (cond (lowFrequency code) (firstOf 3 17 inputs) Nothing)
 
--- how many of the codes match a bed: the counts of refusal 13
+-- how many of the codes match a bed: the counts of refusal 13, "`BedChannelCountMismatch` (expected, 0)"
 abbrev pub counted : ℕ → List ℕ → ℕ
 counted code [] = 0
 counted code (c ∷ cs) = cond (matches code c) 1 0 + counted code cs

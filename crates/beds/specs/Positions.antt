@@ -1,4 +1,4 @@
--- Where each bed stands: `bed_channel_position`. Assumes nothing.
+-- Where each bed stands. Document 01, item 3: "Codes 11, 12, 15, 16 are panned at `bed_channel_position`". Assumes nothing.
 use Prim.Native.Nat.{ℕ}
 use mathlib.Core.Bool.{false}
 use mathlib.Core.List.{List, [], _∷_}

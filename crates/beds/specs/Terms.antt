@@ -1,4 +1,4 @@
--- What a bed adds to a channel. Assumes nothing.
+-- What a bed adds to a channel, by its route. Assumes nothing.
 use Prim.Native.Nat.{ℕ}
 use mathlib.Core.Bool.{cond}
 use mathlib.Core.List.{List, [], _∷_}

@@ -7,7 +7,7 @@ use mathlib.Core.Bool.{true, false}
 use Prim.Native.Nat.{_+_, _-_, _≤_}
 use lib.ListN.{length, drop, drop-of-length-le}
 use Rattle.beds.specs.Matching.{counted}
-use Rattle.beds.proofs.Laws.{counted-more}
+use Rattle.beds.proofs.Search.{counted-more}
 use Rattle.beds.proofs.count_matching.Statement.{statement}
 use Rattle.beds.proofs.count_matching.Tie as tie
 

@@ -7,7 +7,7 @@ use native.Mathlib.Omega.{arith}
 use Prim.Native.Nat.{_-_, _≤_}
 use lib.ListN.{length, drop, drop-of-length-le}
 use Rattle.beds.specs.Matching.{firstOf, firstFrom}
-use Rattle.beds.proofs.Laws.{passed, found-first, found-second}
+use Rattle.beds.proofs.Search.{passed, found-first, found-second}
 use Rattle.beds.proofs.first_of.Statement.{statement}
 use Rattle.beds.proofs.first_of.Tie as tie
 

@@ -35,7 +35,8 @@ returns-5 c = between (λ n. Direct (n - 1) ≡ routeOf n) 9 2 (refl, (refl, tt)
 
 returns-6 : tie.Need-returns-6
 unfolding routeOf
-returns-6 c = between (λ n. Direct (n - 3) ≡ routeOf n) 13 2 (refl, (refl, tt)) (c .before .before .before .before .before .before .before .before .args .code) (omega arith) (omega arith)
+returns-6 c = between (λ n. Direct (n - 3) ≡ routeOf n) 13 2 (refl, (refl, tt)) (c .before .before .before .before .before .before .before .before .args .code) (omega arith)
+    (omega arith)
 
 returns-7 : tie.Need-returns-7
 unfolding routeOf
@@ -43,7 +44,8 @@ returns-7 c = between (λ n. Folded ≡ routeOf n) 11 2 (refl, (refl, tt)) (c .b
 
 returns-8 : tie.Need-returns-8
 unfolding routeOf
-returns-8 c = between (λ n. Folded ≡ routeOf n) 15 2 (refl, (refl, tt)) (c .before .before .before .before .before .before .before .before .before .args .code) (omega arith) (omega arith)
+returns-8 c = between (λ n. Folded ≡ routeOf n) 15 2 (refl, (refl, tt)) (c .before .before .before .before .before .before .before .before .before .args .code) (omega arith)
+    (omega arith)
 
 returns-9 : tie.Need-returns-9
 unfolding routeOf
@@ -52,7 +54,8 @@ returns-9 c = between (λ n. Unsupported ≡ routeOf n) 6 1 (refl, tt) (c .befor
 returns-10 : tie.Need-returns-10
 unfolding routeOf
 returns-10 c =
-    let m : (c .before .before .before .before .before .before .before .before .before .args .code ≡ 17 → ⊥) = λ e. c .before .before .before .before .before .before .before .before .match .rest .1 (inr e) in
+    let m : (c .before .before .before .before .before .before .before .before .before .args .code ≡ 17 → ⊥) =
+    λ e. c .before .before .before .before .before .before .before .before .match .rest .1 (inr e) in
     let h : length routes ≤ c .before .before .before .before .before .before .before .before .before .args .code = omega arith in
     sym (List·getD-eq-default routes Unsupported h)
 
