@@ -71,11 +71,11 @@ abbrev Told : Args → ℕ → Type 0
 Told f at = T (lt 0·0 (floatAt (getD (told hall block (fresh hall) (calls f)) 1 unseen .out) at))
 
 accepted-bed : found hall (fresh hall) bed ≡ clear
-unfolding laidOut isUpdates isWholeUpdate isUpdate codesFit all some last count updateAt elementAt inRange recordInRange each times number blank
+unfolding laidOut isUpdates isWholeUpdate isUpdate codesFit all some last count updateAt elementAt inRange recordInRange each times number blank le neg ofBits
 accepted-bed = refl
 
 accepted-object : found hall (fresh hall) object ≡ clear
-unfolding laidOut isUpdates isWholeUpdate isUpdate codesFit all some last count updateAt elementAt inRange recordInRange each times number blank
+unfolding laidOut isUpdates isWholeUpdate isUpdate codesFit all some last count updateAt elementAt inRange recordInRange each times number blank le neg ofBits
 accepted-object = refl
 
 told-bed : Told bed 0

@@ -7,6 +7,7 @@ use mathlib.Core.Bool.{true}
 use mathlib.Core.List.{List, [], _∷_, _++_}
 use native.Mathlib.Omega.{arith}
 use lib.Dec.{T, lit≤, lit<}
+use lib.Ieee.{le, neg, ofBits}
 use lib.ListN.{length, replicate, length-replicate}
 use Rattle.fields.specs.Bytes.{all}
 use Rattle.fields.specs.Update.{codesFit, isUpdate}
@@ -61,7 +62,7 @@ not-all-refused cs h a l k = pushed-holds cs h a l (accepts hall (after cs) a k)
 
 -- such a push: the bed of `not-silent`, on a new renderer
 pub bed-acceptable : Acceptable hall (after []) bed
-unfolding laidOut isUpdates isWholeUpdate isUpdate codesFit all some last count updateAt elementAt inRange recordInRange each times number blank
+unfolding laidOut isUpdates isWholeUpdate isUpdate codesFit all some last count updateAt elementAt inRange recordInRange each times number blank le neg ofBits
 bed-acceptable = record {
   room = refl;
   sized = refl;

@@ -11,8 +11,7 @@ use lib.ListN.{length, getD, set, take, drop, length-set, length-drop, length-ap
 use lib.Seq.{take-all, length-take-le, take-append-le, drop-append-le, drop-at}
 use lib.Ieee.{Float, nan, binary32, fits, toBits}
 use Rattle.words.specs.Words.{wordsAt}
-use Rattle.limiter.specs.Limiter.{channels}
-use Rattle.limiter.specs.Places.{withChannels}
+use Rattle.limiter.specs.Places.{channels, withChannels}
 use Rattle.rules.specs.Parts.{laid}
 use Rattle.store.specs.Layout.{size, infosOf}
 use Rattle.store.proofs.Bytes.{words-drop}

@@ -1,5 +1,5 @@
--- The gain's growth, on values: it stays in [0, 1], does not fall, and k blocks that do not lower it bring it to 1, or up by k times the decay less k roundings. The decay is length / rate within one part in
--- 2 ^ 24. Assumes nothing.
+-- The gain's growth, on values: it stays in [0, 1], does not fall, and k blocks that do not lower it bring it to 1, or up by k times the decay less k roundings. The decay is
+-- length / rate within one part in 2 ^ 24. Assumes nothing.
 use mathlib.Core.Path.{_≡_, refl, sym, ap, _∙_, subst}
 use mathlib.Core.Logic.{_⊎_, inl, inr}
 use Prim.Native.Nat.{ℕ, zero, suc, _+_, _*_, _^_, _≤_, _<_}
@@ -17,8 +17,8 @@ use Rattle.ieee.proofs.Unique.{same-value}
 use Rattle.ieee.proofs.Ops.{Rounds, small, add-rounds, div-rounds}
 use Rattle.ieee.proofs.Signed.{at-most, at-least, not-negative, near, near-ulp, P-grid}
 use Rattle.ieee.proofs.Compare.{nlt→}
-use Rattle.limiter.specs.Limiter.{grown}
-use Rattle.limiter.specs.Range.{Fraction, decay, HalfUlp, grownTimes, Grows}
+use Rattle.limiter.specs.Limiter.{decay, grown}
+use Rattle.limiter.specs.Range.{Fraction, grownTimes}
 
 -- ---- the decay
 pub record Decay (n rate : ℕ) : Type 0 where
@@ -52,6 +52,10 @@ decay-is n rate h r0 rl =
       near = record { above = le-of-mul-le-mul-right (omega (arith, i .above)) one-pos; below = le-of-mul-le-mul-right (omega (arith, i .below)) one-pos };
     }
 
+-- half a unit in the last place of the values from 1/2 to 1
+unfoldable pub HalfUlp : ℕ
+HalfUlp = 2 ^ 124
+
 -- ---- one block
 two-less : 2 * One < Top
 two-less = whole-less 2 (lib.Dec.lit≤ tt)
@@ -69,7 +73,8 @@ uncapped n rate g = add binary32 g (decay n rate)
 
 module _ (n rate : ℕ) (d : Decay n rate) (g : Float) (k : Fraction g) where
   sum-rounds : Rounds (uncapped n rate g) (P g + P (decay n rate)) (N g + N (decay n rate)) 1
-  sum-rounds = add-rounds g (decay n rate) (k .f32) (d .f32) (small (whole-grid 2 (lit< tt)) two-less (P g + P (decay n rate)) (N g + N (decay n rate)) 1 (zero-lt-suc 0) (omega (arith, k, d)) (omega (arith, k, d)))
+  sum-rounds = add-rounds g (decay n rate) (k .f32) (d .f32)
+      (small (whole-grid 2 (lit< tt)) two-less (P g + P (decay n rate)) (N g + N (decay n rate)) 1 (zero-lt-suc 0) (omega (arith, k, d)) (omega (arith, k, d)))
 
   sum-plus : N (uncapped n rate g) ≡ 0
   sum-plus = not-negative (zero-lt-suc 0) sum-rounds (omega (arith, k, d))
@@ -95,7 +100,8 @@ module _ (n rate : ℕ) (d : Decay n rate) (g : Float) (k : Fraction g) where
   -- 1 or above: the rounded sum is so too
   at-one : One ≤ P g + P (decay n rate) → P (uncapped n rate g) ≤ One → uncapped n rate g ≡ 1·0
   at-one l m =
-      same-value 1·0 (uncapped n rate g) one-f32 (sum-rounds .f32) (le-antisymm m (at-least (zero-lt-suc 0) sum-rounds one-grid (omega (arith, k, d))) ∙ sym one-P) (sum-plus ∙ refl)
+      same-value 1·0 (uncapped n rate g) one-f32 (sum-rounds .f32) (le-antisymm m (at-least (zero-lt-suc 0) sum-rounds one-grid (omega (arith, k, d))) ∙ sym one-P)
+      (sum-plus ∙ refl)
       (subst (λ (j : ℕ). 0 < j) (sym one-P) one-pos)
 
   grown-fraction : Fraction (grown n rate g)
@@ -130,11 +136,18 @@ module _ (n rate : ℕ) (d : Decay n rate) (g : Float) (k : Fraction g) where
   grown-risen : (grown n rate g ≡ 1·0) ⊎ (P g + P (decay n rate) ≤ P (grown n rate g) + HalfUlp)
   grown-risen = go (ltb (P g + P (decay n rate)) One) (ltb→lt (P g + P (decay n rate)) One) (nltb→le (P g + P (decay n rate)) One)
     where
-      go : (b : Bool) → (T b → P g + P (decay n rate) < One) → (T (not b) → One ≤ P g + P (decay n rate)) → (grown n rate g ≡ 1·0) ⊎ (P g + P (decay n rate) ≤ P (grown n rate g) + HalfUlp)
+      go : (b : Bool) → (T b → P g + P (decay n rate) < One) → (T (not b) → One ≤ P g + P (decay n rate))
+          → (grown n rate g ≡ 1·0) ⊎ (P g + P (decay n rate) ≤ P (grown n rate g) + HalfUlp)
       go true l e = grown-more (l tt)
       go false l e = inl (grown-full (e tt))
 
 -- ---- many blocks
+
+-- the gain after k blocks is 1, or has grown k times by the decay, each time less the rounding
+pub record Grows (k : ℕ) (g : Float) (n rate : ℕ) : Type 0 where
+  pub gain : Fraction (grownTimes k n rate g)
+  pub risen : (grownTimes k n rate g ≡ 1·0) ⊎ (P g + k * P (decay n rate) ≤ P (grownTimes k n rate g) + k * HalfUlp)
+
 one-stays : (n rate : ℕ) → Decay n rate → grown n rate 1·0 ≡ 1·0
 one-stays n rate d = grown-full n rate d 1·0 one-fraction (omega (arith, one-P))
 

@@ -54,7 +54,10 @@ channels-under (c ∷ cs) f = (all-under c (f .0), channels-under cs (f .1))
 -- ---- the samples
 tame-channel : (p h : Float) (c : List Float) → Keeps p h → P p ≡ rank p → All F32 c → Under (rank p) c → All Unitary (scaled h c)
 tame-channel p h [] k e f u = tt
-tame-channel p h (x ∷ c) k e f u = (kept-within p h x k (f .0) (le-trans (le-of-eq (sym (finite-rank x (f .0)))) (le-trans (u .0) (le-of-eq (sym e)))), tame-channel p h c k e (f .1) (u .1))
+tame-channel p h (x ∷ c) k e f u = (
+  kept-within p h x k (f .0) (le-trans (le-of-eq (sym (finite-rank x (f .0)))) (le-trans (u .0) (le-of-eq (sym e)))),
+  tame-channel p h c k e (f .1) (u .1),
+)
 
 tame-block : (p h : Float) (cs : List (List Float)) → Keeps p h → P p ≡ rank p → All (All F32) cs → All (Under (rank p)) cs → All (All Unitary) (scaledBlock h cs)
 unfolding scaledBlock

@@ -1,5 +1,5 @@
--- Levels: of floats that are no NaN and have no sign, the maximum is that of their ranks, natural numbers. A NaN has rank 0, for a maximum passes over it. So a peak does not depend on the order
--- in which its samples are taken. Assumes nothing.
+-- Levels: of floats that are no NaN and have no sign, the maximum is that of their ranks, natural numbers. A NaN has rank 0, for a maximum passes over it. So a peak does not
+-- depend on the order in which its samples are taken. Assumes nothing.
 use mathlib.Core.Path.{_≡_, refl, sym, ap, _∙_, subst}
 use mathlib.Core.Bool.{Bool, true, false, not, cond, true≢false}
 use mathlib.Core.List.{[]}
@@ -132,8 +132,10 @@ raised-by m x r p f e = subst (Raised m x) (sym e) (raised m x p f)
 -- the test that finds it
 pub raise-taken : (m x a : Float) → Level m → a ≡ absolute x → lt m a ≡ true → a ≡ larger m (absolute x)
 unfolding larger
-raise-taken m x a p e t = e ∙ sym (ap (λ (b : Bool). cond b (absolute x) (cond (lt m (absolute x)) (absolute x) m)) (p .number) ∙ ap (λ (b : Bool). cond b (absolute x) m) (ap (lt m) (sym e) ∙ t))
+raise-taken m x a p e t = e ∙ sym (ap (λ (b : Bool). cond b (absolute x) (cond (lt m (absolute x)) (absolute x) m)) (p .number)
+    ∙ ap (λ (b : Bool). cond b (absolute x) m) (ap (lt m) (sym e) ∙ t))
 
 pub raise-left : (m x a : Float) → Level m → a ≡ absolute x → lt m a ≡ false → m ≡ larger m (absolute x)
 unfolding larger
-raise-left m x a p e t = sym (ap (λ (b : Bool). cond b (absolute x) (cond (lt m (absolute x)) (absolute x) m)) (p .number) ∙ ap (λ (b : Bool). cond b (absolute x) m) (ap (lt m) (sym e) ∙ t))
+raise-left m x a p e t = sym (ap (λ (b : Bool). cond b (absolute x) (cond (lt m (absolute x)) (absolute x) m)) (p .number)
+    ∙ ap (λ (b : Bool). cond b (absolute x) m) (ap (lt m) (sym e) ∙ t))

@@ -1,10 +1,9 @@
 pub mod Levels
 pub mod Peaks
-pub mod Laws
 pub mod Runs
 pub mod Rows
 pub mod Lowered
 pub mod Growth
 pub mod Return
-pub mod Theorem
-pub mod Sums
+pub mod InRange
+pub mod Theorems

@@ -1,8 +1,10 @@
--- The gain after the test, on values: with the peak p and a gain g in (0, 1], 0.9 / p where p * g is above 1, and g otherwise. It is in (0, 1], and times any x of size at most p it is in [-1, 1].
--- The test looks at the rounded product, so that the exact one may be above 1 a little: x * g is at most p * g, and rounding keeps that order. Assumes nothing.
+-- The gain after the test, on values: with the peak p and a gain g in (0, 1], 0.9 / p where p * g is above 1, and g otherwise. It is in (0, 1], and times any x of size at
+-- most p it is in [-1, 1]. The test looks at the rounded product, so that the exact one may be above 1 a little: x * g is at most p * g, and rounding keeps that order.
+-- Assumes nothing.
 use mathlib.Core.Path.{_≡_, refl, sym, ap, _∙_, subst}
 use Prim.Native.Nat.{ℕ, zero, suc, _+_, _-_, _*_, _≤_, _<_, zero-le}
-use native.Mathlib.Nat.{le-trans, le-of-eq, le-of-lt, lt-of-le-of-lt, lt-of-not-le, lt-irrefl, not-le-of-lt, zero-lt-suc, zero-mul, mul-zero, add-zero, mul-assoc, mul-le-mul-right, mul-le-mul-left}
+use native.Mathlib.Nat.{le-trans, le-of-eq, le-of-lt, lt-of-le-of-lt, lt-of-not-le, lt-irrefl, not-le-of-lt, zero-lt-suc, zero-mul, mul-zero, add-zero, mul-assoc}
+use native.Mathlib.Nat.{mul-le-mul-right, mul-le-mul-left}
 use native.Mathlib.Omega.{arith}
 use mathlib.Core.Bool.{Bool, true, false, not, cond}
 use lib.Dec.{T, ltb, ltb→lt, nltb→le, lit<}
@@ -116,20 +118,26 @@ same-keeps p g f n k h = go (ltb w Top) (ltb→lt w Top) (nltb→le w Top)
     BA = let b = B0 in omega arith
 
     some : (v : ℕ) → v ≡ P p → Top ≤ w → 0 < P p
-    some zero e t = absurd (not-le-of-lt (lt-of-le-of-lt (le-of-eq (ap (λ (u : ℕ). rnd (u * P g) One) (sym e) ∙ ap (λ (u : ℕ). rnd u One) (zero-mul (P g)) ∙ rnd-zero One one-pos)) (lt-of-le-of-lt zero-le one-less)) t)
+    some zero e t = absurd (not-le-of-lt (lt-of-le-of-lt
+        (le-of-eq (ap (λ (u : ℕ). rnd (u * P g) One) (sym e) ∙ ap (λ (u : ℕ). rnd u One) (zero-mul (P g)) ∙ rnd-zero One one-pos)) (lt-of-le-of-lt zero-le one-less)) t)
     some (suc v) e t = subst (λ (u : ℕ). 0 < u) e (zero-lt-suc v)
 
     go : (b : Bool) → (T b → w < Top) → (T (not b) → Top ≤ w) → w ≤ One
     go true l q =
-        let r = mul-rounds p g f (k .f32) (record { high = subst (λ (v : ℕ). rnd v One < Top) (sym AB) (l tt); deep = subst (λ (v : ℕ). rnd v One < Top) (sym BA) (omega (arith, rnd-zero One one-pos, one-less)) }) in
+        let r = mul-rounds p g f (k .f32) (record {
+          high = subst (λ (v : ℕ). rnd v One < Top) (sym AB) (l tt);
+          deep = subst (λ (v : ℕ). rnd v One < Top) (sym BA) (omega (arith, rnd-zero One one-pos, one-less));
+        }) in
         let i = nlt→ 1·0 z one-f32 (r .f32) h in
         let o = one-P in
         let zn : N z ≡ 0 = not-negative one-pos r (le-trans (le-of-eq B0) zero-le) in
         le-trans (le-of-eq (ap (λ (v : ℕ). rnd v One) (sym AB) ∙ sym (r .up))) (omega arith)
     go false l q =
-        let m : mag p * mag g ≡ P p * P g = ap (λ (v : ℕ). v * mag g) (mag-is p ∙ ap (λ (v : ℕ). P p + v) n ∙ add-zero (P p)) ∙ ap (λ (v : ℕ). P p * v) (mag-is g ∙ ap (λ (v : ℕ). P g + v) (k .plus) ∙ add-zero (P g)) in
+        let m : mag p * mag g ≡ P p * P g = ap (λ (v : ℕ). v * mag g) (mag-is p ∙ ap (λ (v : ℕ). P p + v) n ∙ add-zero (P p))
+        ∙ ap (λ (v : ℕ). P p * v) (mag-is g ∙ ap (λ (v : ℕ). P g + v) (k .plus) ∙ add-zero (P g)) in
         let e : z ≡ inf (unlike (sign p) (sign g)) = mul-over p g f (k .f32) (subst (λ (v : ℕ). Top ≤ rnd v One) (sym m) (q tt)) in
-        absurd (below-inf (subst (λ (v : Float). T (not (lt 1·0 v))) (e ∙ ap (λ (u : Bool). inf (unlike u (sign g))) (plus-sign p (some (P p) refl (q tt))) ∙ ap (λ (u : Bool). inf (unlike false u)) (plus-sign g (k .some))) h))
+        absurd (below-inf (subst (λ (v : Float). T (not (lt 1·0 v)))
+        (e ∙ ap (λ (u : Bool). inf (unlike u (sign g))) (plus-sign p (some (P p) refl (q tt))) ∙ ap (λ (u : Bool). inf (unlike false u)) (plus-sign g (k .some))) h))
 
 -- ---- both
 pub lowered-keeps : (p g : Float) → F32 p → N p ≡ 0 → Gain g → Keeps p (lowered p g)

@@ -1,4 +1,5 @@
--- The peak of a list, by ranks: a bound on the peak is a bound on each sample. So lists with the same bounds have the same peak, in whatever order or number of running maxima it is taken. Assumes nothing.
+-- The peak of a list, by ranks: a bound on the peak is a bound on each sample. So lists with the same bounds have the same peak, in whatever order or number of running maxima
+-- it is taken. Assumes nothing.
 use mathlib.Core.Path.{_≡_, refl, sym, ap, _∙_, subst}
 use mathlib.Core.List.{List, [], _∷_}
 use Prim.Native.Nat.{ℕ, suc, _+_, _-_, _≤_, _<_, zero-le}
@@ -25,9 +26,6 @@ pub record Same (xs ys : List Float) : Type 0 where
 
 pub same-as : {xs ys zs : List Float} → Same xs ys → Same ys zs → Same xs zs
 same-as p q = record { to = λ k u. q .to k (p .to k u); from = λ k u. p .from k (q .from k u) }
-
-pub back : {xs ys : List Float} → Same xs ys → Same ys xs
-back p = record { to = p .from; from = p .to }
 
 pub self : (xs : List Float) → Same xs xs
 self xs = record { to = λ k u. u; from = λ k u. u }
@@ -65,7 +63,8 @@ all-fit [] f = tt
 all-fit (x ∷ xs) f = (f 0, all-fit xs (λ k. f (suc k)))
 
 pub from-next : (m r : Float) (xs : List Float) (i : ℕ) → i < length xs → r ≡ larger m (absolute (getD xs i nan)) → peakFrom r (drop (i + 1) xs) ≡ peakFrom m (drop i xs)
-from-next m r xs i h e = ap (λ (v : Float). peakFrom v (drop (i + 1) xs)) e ∙ ap (λ (n : ℕ). peakFrom (larger m (absolute (getD xs i nan))) (drop n xs)) (add-one i) ∙ sym (ap (peakFrom m) (drop-cons xs i nan h))
+from-next m r xs i h e = ap (λ (v : Float). peakFrom v (drop (i + 1) xs)) e ∙ ap (λ (n : ℕ). peakFrom (larger m (absolute (getD xs i nan))) (drop n xs)) (add-one i)
+    ∙ sym (ap (peakFrom m) (drop-cons xs i nan h))
 
 pub from-end : (m : Float) (xs : List Float) (i : ℕ) → length xs ≤ i → m ≡ peakFrom m (drop i xs)
 from-end m xs i h = sym (ap (peakFrom m) (drop-of-length-le xs h))
@@ -79,7 +78,13 @@ pub record Lanes (a b c d : Float) (rest whole : List Float) : Type 0 where
   pub same : Same (a ∷ b ∷ c ∷ d ∷ rest) whole
 
 pub lanes-start : (xs : List Float) → Lanes 0·0 0·0 0·0 0·0 xs xs
-lanes-start xs = record { a-level = zero-level; b-level = zero-level; c-level = zero-level; d-level = zero-level; same = record { to = λ k u. u .1 .1 .1 .1; from = λ k u. (zero-under k, (zero-under k, (zero-under k, (zero-under k, u)))) } }
+lanes-start xs = record {
+  a-level = zero-level;
+  b-level = zero-level;
+  c-level = zero-level;
+  d-level = zero-level;
+  same = record { to = λ k u. u .1 .1 .1 .1; from = λ k u. (zero-under k, (zero-under k, (zero-under k, (zero-under k, u)))) };
+}
 
 -- four samples taken in
 pub lanes-next : {a b c d x y z w a' b' c' d' : Float} {rest whole : List Float} → Lanes a b c d (x ∷ y ∷ z ∷ w ∷ rest) whole
@@ -90,13 +95,32 @@ lanes-next h p q r s = record {
   c-level = r .level;
   d-level = s .level;
   same = same-as (record {
-    to = λ k u. (le-trans (p .first) (u .0), (le-trans (q .first) (u .1 .0), (le-trans (r .first) (u .1 .1 .0), (le-trans (s .first) (u .1 .1 .1 .0), (le-trans (p .second) (u .0), (le-trans (q .second) (u .1 .0), (le-trans (r .second) (u .1 .1 .0), (le-trans (s .second) (u .1 .1 .1 .0), u .1 .1 .1 .1))))))));
-    from = λ k u. (p .least k (u .0) (u .1 .1 .1 .1 .0), (q .least k (u .1 .0) (u .1 .1 .1 .1 .1 .0), (r .least k (u .1 .1 .0) (u .1 .1 .1 .1 .1 .1 .0), (s .least k (u .1 .1 .1 .0) (u .1 .1 .1 .1 .1 .1 .1 .0), u .1 .1 .1 .1 .1 .1 .1 .1))));
+    to = λ k u. (
+      le-trans (p .first) (u .0),
+      (
+        le-trans (q .first) (u .1 .0),
+        (
+          le-trans (r .first) (u .1 .1 .0),
+          (
+            le-trans (s .first) (u .1 .1 .1 .0),
+            (le-trans (p .second) (u .0), (le-trans (q .second) (u .1 .0), (le-trans (r .second) (u .1 .1 .0), (le-trans (s .second) (u .1 .1 .1 .0), u .1 .1 .1 .1)))),
+          ),
+        ),
+      ),
+    );
+    from = λ k u. (
+      p .least k (u .0) (u .1 .1 .1 .1 .0),
+      (
+        q .least k (u .1 .0) (u .1 .1 .1 .1 .1 .0),
+        (r .least k (u .1 .1 .0) (u .1 .1 .1 .1 .1 .1 .0), (s .least k (u .1 .1 .1 .0) (u .1 .1 .1 .1 .1 .1 .1 .0), u .1 .1 .1 .1 .1 .1 .1 .1)),
+      ),
+    );
   }) (h .same);
 }
 
 -- joined, and the rest taken in one by one
-pub lanes-end : {a b c d p q r : Float} {rest whole : List Float} → Lanes a b c d rest whole → Raised a b p → Raised p c q → Raised q d r → All Fit rest → All Fit whole → peakFrom r rest ≡ peak whole
+pub lanes-end : {a b c d p q r : Float} {rest whole : List Float} → Lanes a b c d rest whole → Raised a b p → Raised p c q → Raised q d r → All Fit rest → All Fit whole
+    → peakFrom r rest ≡ peak whole
 lanes-end {a} {b} {c} {d} {p} {q} {r} {rest} {whole} h i j l f g =
     let left = peak-from r rest (l .level) f in
     let right = peak-from 0·0 whole zero-level g in
@@ -115,7 +139,8 @@ four xs i h =
     one k n h e = drop-cons xs k nan h ∙ ap (λ (n : ℕ). getD xs k nan ∷ drop n xs) e
 
 pub lanes-again : (xs : List Float) (i : ℕ) {a b c d a' b' c' d' : Float} → i + 4 ≤ length xs → ((k : ℕ) → Fit (getD xs k nan)) → Lanes a b c d (drop i xs) xs
-    → a' ≡ larger a (absolute (getD xs i nan)) → b' ≡ larger b (absolute (getD xs (i + 1) nan)) → c' ≡ larger c (absolute (getD xs (i + 2) nan)) → d' ≡ larger d (absolute (getD xs (i + 3) nan))
+    → a' ≡ larger a (absolute (getD xs i nan)) → b' ≡ larger b (absolute (getD xs (i + 1) nan)) → c' ≡ larger c (absolute (getD xs (i + 2) nan))
+    → d' ≡ larger d (absolute (getD xs (i + 3) nan))
     → Lanes a' b' c' d' (drop (i + 4) xs) xs
 lanes-again xs i {a} {b} {c} {d} {a'} {b'} {c'} {d'} h f l p q r s =
     lanes-next (subst (λ (ys : List Float). Lanes a b c d ys xs) (four xs i h) l)
@@ -123,7 +148,8 @@ lanes-again xs i {a} {b} {c} {d} {a'} {b'} {c'} {d'} h f l p q r s =
     (raised-by c (getD xs (i + 2) nan) c' (l .c-level) (f (i + 2)) r) (raised-by d (getD xs (i + 3) nan) d' (l .d-level) (f (i + 3)) s)
 
 -- the part of a slice from i on is `take (length xs - i) (drop i xs)`
-pub lanes-rest : (xs : List Float) (i : ℕ) {a b c d p q r : Float} → ((k : ℕ) → Fit (getD xs k nan)) → Lanes a b c d (drop i xs) xs → Raised a b p → Raised p c q → Raised q d r → peakFrom r (take (length xs - i) (drop i xs)) ≡ peak xs
+pub lanes-rest : (xs : List Float) (i : ℕ) {a b c d p q r : Float} → ((k : ℕ) → Fit (getD xs k nan)) → Lanes a b c d (drop i xs) xs → Raised a b p → Raised p c q → Raised q d r
+    → peakFrom r (take (length xs - i) (drop i xs)) ≡ peak xs
 lanes-rest xs i {r = r} f l u v w =
     ap (peakFrom r) (take-all (length xs - i) (drop i xs) (le-of-eq (length-drop i xs)))
     ∙ lanes-end l u v w (all-fit (drop i xs) (λ k. subst Fit (sym (getD-drop i xs k nan)) (f (i + k)))) (all-fit xs f)

@@ -7,9 +7,9 @@ use native.Mathlib.Omega.{arith}
 use lib.Dec.{lit<}
 use lib.Ieee.{Float}
 use Rattle.ieee.specs.Units.{One, P}
-use Rattle.limiter.specs.Limiter.{1·0}
-use Rattle.limiter.specs.Range.{Fraction, decay, HalfUlp, grownTimes}
-use Rattle.limiter.proofs.Growth.{Decay, decay-is, grows}
+use Rattle.limiter.specs.Limiter.{1·0, decay}
+use Rattle.limiter.specs.Range.{Fraction, grownTimes}
+use Rattle.limiter.proofs.Growth.{Decay, decay-is, HalfUlp, Grows, grows}
 
 one-half : One ≡ 33554432 * HalfUlp
 unfolding One HalfUlp
@@ -20,7 +20,8 @@ unfolding HalfUlp
 half-pos = lit< tt
 
 -- p is the decay, k the blocks: k * p cannot stay at or below 1 + k half units
-late : (k rate p o h : ℕ) → o ≡ 33554432 * h → 0 < h → rate + 65 ≤ 64 * k → rate ≤ 192000 → k ≤ 3002 → 16777216 * (64 * o) ≤ 16777216 * (p * rate) + (64 * o + 8388608 * rate) → k * p ≤ o + k * h → ⊥
+late : (k rate p o h : ℕ) → o ≡ 33554432 * h → 0 < h → rate + 65 ≤ 64 * k → rate ≤ 192000 → k ≤ 3002 → 16777216 * (64 * o) ≤ 16777216 * (p * rate) + (64 * o + 8388608 * rate)
+    → k * p ≤ o + k * h → ⊥
 late k rate p o h e pos b r l n c =
     let kr : k * rate ≤ 3002 * 192000 = mul-le-mul l r in
     let krh : k * rate * h ≤ 3002 * 192000 * h = mul-le-mul-right h kr in
@@ -39,9 +40,11 @@ full-after rate a b g f = go (r .risen)
     k : ℕ
     k = rate / 64 + 2
 
-    r : Rattle.limiter.specs.Range.Grows (rate / 64 + 2) g 64 rate
+    r : Grows (rate / 64 + 2) g 64 rate
     r = grows 64 rate d (rate / 64 + 2) g f
 
-    go : (grownTimes (rate / 64 + 2) 64 rate g ≡ 1·0) ⊎ (P g + (rate / 64 + 2) * P (decay 64 rate) ≤ P (grownTimes (rate / 64 + 2) 64 rate g) + (rate / 64 + 2) * HalfUlp) → grownTimes (rate / 64 + 2) 64 rate g ≡ 1·0
+    go : (grownTimes (rate / 64 + 2) 64 rate g ≡ 1·0) ⊎ (P g + (rate / 64 + 2) * P (decay 64 rate) ≤ P (grownTimes (rate / 64 + 2) 64 rate g) + (rate / 64 + 2) * HalfUlp)
+        → grownTimes (rate / 64 + 2) 64 rate g ≡ 1·0
     go (inl e) = e
-    go (inr e) = absurd (late (rate / 64 + 2) rate (P (decay 64 rate)) One HalfUlp one-half half-pos (omega arith) b (omega arith) (d .near .below) (omega (arith, e, r .gain .most)))
+    go (inr e) = absurd (late (rate / 64 + 2) rate (P (decay 64 rate)) One HalfUlp one-half half-pos (omega arith) b (omega arith) (d .near .below)
+        (omega (arith, e, r .gain .most)))

@@ -10,11 +10,12 @@ use lib.Seq.{drop-drop, take-append-add, drop-append-add, length-take-le, take-a
 use lib.Ieee.{Float}
 use Rattle.ieee.specs.Bounds.{All}
 use Rattle.ieee.specs.Small.{absolute, larger}
-use Rattle.limiter.specs.Limiter.{peak, scaled, blockPeak, scaledBlock, channels, overlaid}
+use Rattle.limiter.specs.Limiter.{peak, scaled, blockPeak, scaledBlock}
 use Rattle.limiter.proofs.Levels.{Level, level-abs}
-use Rattle.limiter.specs.Places.{floatsAt, withFloats, channelsAt, withChannels}
-use Rattle.limiter.proofs.Laws.{length-scaled}
-use Rattle.limiter.proofs.Runs.{length-floats, floats-back}
+use Rattle.limiter.specs.Places.{floatsAt, withFloats, channels, overlaid, channelsAt, withChannels}
+use Rattle.words.proofs.Runs.{length-floats}
+use Rattle.words.proofs.Part.{floats-back}
+use Rattle.limiter.proofs.Runs.{length-scaled}
 
 whole : (a n : ℕ) → a + n - a ≡ n
 whole a n = omega arith
@@ -27,12 +28,14 @@ part-length n at xs h = ap (λ (j : ℕ). length (take j (drop at xs))) (whole a
 channels-next : (k n at : ℕ) (xs : List Float) → 0 < k → channels k n (drop at xs) ≡ take n (drop at xs) ∷ channels (k - 1) n (drop (at + 64) xs)
 unfolding channels
 channels-next zero n at xs h = absurd (lt-irrefl 0 h)
-channels-next (suc k) n at xs h = ap (λ (l : List Float). take n (drop at xs) ∷ channels k n l) (drop-drop 64 at xs) ∙ ap (λ (j : ℕ). take n (drop at xs) ∷ channels j n (drop (at + 64) xs)) (same k)
+channels-next (suc k) n at xs h = ap (λ (l : List Float). take n (drop at xs) ∷ channels k n l) (drop-drop 64 at xs)
+    ∙ ap (λ (j : ℕ). take n (drop at xs) ∷ channels j n (drop (at + 64) xs)) (same k)
   where
     same : (k : ℕ) → k ≡ suc k - 1
     same k = omega arith
 
-scaled-next-channel : (g : Float) (k n at : ℕ) (xs : List Float) → 0 < k → scaledBlock g (channels k n (drop at xs)) ≡ scaled g (take n (drop at xs)) ∷ scaledBlock g (channels (k - 1) n (drop (at + 64) xs))
+scaled-next-channel : (g : Float) (k n at : ℕ) (xs : List Float) → 0 < k
+    → scaledBlock g (channels k n (drop at xs)) ≡ scaled g (take n (drop at xs)) ∷ scaledBlock g (channels (k - 1) n (drop (at + 64) xs))
 unfolding scaledBlock
 scaled-next-channel g k n at xs h = ap (scaledBlock g) (channels-next k n at xs h)
 
@@ -43,7 +46,8 @@ laid-cons z cs t = refl
 channels-at-next : (s : List ℕ) (k n at : ℕ) → 0 < k → channelsAt k n s (4 * at) ≡ floatsAt s (4 * at) n ∷ channelsAt (k - 1) n s (4 * (at + 64))
 unfolding channelsAt
 channels-at-next s zero n at h = absurd (lt-irrefl 0 h)
-channels-at-next s (suc k) n at h = ap (λ (j : ℕ). floatsAt s (4 * at) n ∷ channelsAt k n s j) (on at) ∙ ap (λ (j : ℕ). floatsAt s (4 * at) n ∷ channelsAt j n s (4 * (at + 64))) (same k)
+channels-at-next s (suc k) n at h = ap (λ (j : ℕ). floatsAt s (4 * at) n ∷ channelsAt k n s j) (on at)
+    ∙ ap (λ (j : ℕ). floatsAt s (4 * at) n ∷ channelsAt j n s (4 * (at + 64))) (same k)
   where
     on : (at : ℕ) → 4 * at + 256 ≡ 4 * (at + 64)
     on at = omega arith
@@ -73,7 +77,8 @@ module _ (p z t : List Float) (n : ℕ) (e : length z ≡ n) (h : n ≤ 64) wher
   taken = take-append-add p (z ++ drop n t) 64 ∙ ap (λ (l : List Float). p ++ l) (ap (λ (j : ℕ). take j (z ++ drop n t)) split ∙ take-append-add z (drop n t) (64 - n))
 
   dropped : drop (length p + 64) (p ++ (z ++ drop n t)) ≡ drop 64 t
-  dropped = drop-append-add p (z ++ drop n t) 64 ∙ ap (λ (j : ℕ). drop j (z ++ drop n t)) split ∙ drop-append-add z (drop n t) (64 - n) ∙ drop-drop (64 - n) n t ∙ ap (λ (j : ℕ). drop j t) (back n h)
+  dropped = drop-append-add p (z ++ drop n t) 64 ∙ ap (λ (j : ℕ). drop j (z ++ drop n t)) split ∙ drop-append-add z (drop n t) (64 - n) ∙ drop-drop (64 - n) n t
+      ∙ ap (λ (j : ℕ). drop j t) (back n h)
     where
       back : (n : ℕ) → n ≤ 64 → n + (64 - n) ≡ 64
       back n h = omega arith
@@ -95,20 +100,21 @@ module _ (n at : ℕ) (xs z : List Float) (e : length z ≡ n) (h : n ≤ 64) (f
   written : putMid at (at + n - at) xs z ≡ take at xs ++ (z ++ drop n (drop at xs))
   written = ap (λ (j : ℕ). take at xs ++ (z ++ drop j (drop at xs))) (whole at n)
 
-  pub row-laid : (cs : List (List Float)) → let ys = putMid at (at + n - at) xs z in take (at + 64) ys ++ overlaid cs (drop (at + 64) ys) ≡ take at xs ++ overlaid (z ∷ cs) (drop at xs)
+  pub row-laid : (cs : List (List Float)) → let ys = putMid at (at + n - at) xs z in
+      take (at + 64) ys ++ overlaid cs (drop (at + 64) ys) ≡ take at xs ++ overlaid (z ∷ cs) (drop at xs)
   row-laid cs =
       ap (λ (ys : List Float). take (at + 64) ys ++ overlaid cs (drop (at + 64) ys)) written
-      ∙ subst (λ (b : ℕ). let ys = take at xs ++ (z ++ drop n (drop at xs)) in take (b + 64) ys ++ overlaid cs (drop (b + 64) ys) ≡ take at xs ++ overlaid (z ∷ cs) (drop at xs)) front (laid-one (take at xs) z (drop at xs) n e h cs)
-
-  pub row-rest : drop (at + 64) (putMid at (at + n - at) xs z) ≡ drop (at + 64) xs
-  row-rest = ap (drop (at + 64)) written ∙ subst (λ (b : ℕ). drop (b + 64) (take at xs ++ (z ++ drop n (drop at xs))) ≡ drop 64 (drop at xs)) front (dropped (take at xs) z (drop at xs) n e h) ∙ drop-drop 64 at xs
+      ∙ subst (λ (b : ℕ). let ys = take at xs ++ (z ++ drop n (drop at xs)) in
+      take (b + 64) ys ++ overlaid cs (drop (b + 64) ys) ≡ take at xs ++ overlaid (z ∷ cs) (drop at xs)) front (laid-one (take at xs) z (drop at xs) n e h cs)
 
   pub row-length : length (putMid at (at + n - at) xs z) ≡ length xs
-  row-length = same-len-mid at (at + n - at) xs z (e ∙ sym (ap (λ (j : ℕ). length (take j (drop at xs))) (whole at n) ∙ length-take-le n (drop at xs) (omega (arith, length-drop at xs))))
+  row-length = same-len-mid at (at + n - at) xs z
+      (e ∙ sym (ap (λ (j : ℕ). length (take j (drop at xs))) (whole at n) ∙ length-take-le n (drop at xs) (omega (arith, length-drop at xs))))
 
 -- ---- from bytes
 pub load-next : (s : List ℕ) (k n at : ℕ) (xs z : List Float) → 0 < k → n ≤ 64 → at + 64 * k ≡ length xs → z ≡ floatsAt s (4 * at) n → let ys = putMid at (at + n - at) xs z in
-    (length ys ≡ length xs) × (take (at + 64) ys ++ overlaid (channelsAt (k - 1) n s (4 * (at + 64))) (drop (at + 64) ys) ≡ take at xs ++ overlaid (channelsAt k n s (4 * at)) (drop at xs))
+    (length ys ≡ length xs) × (take (at + 64) ys ++ overlaid (channelsAt (k - 1) n s (4 * (at + 64))) (drop (at + 64) ys) ≡ take at xs ++ overlaid (channelsAt k n s (4 * at))
+    (drop at xs))
 load-next s k n at xs z h i f e =
     let l : length z ≡ n = ap length e ∙ length-floats s (4 * at) n in
     let m : at + 64 ≤ length xs = omega arith in (
@@ -138,7 +144,8 @@ pub store-next : (g : Float) (k n at base step to : ℕ) (xs : List Float) (s t 
 unfolding withChannels
 store-next g k n at base step to xs s t h e =
     ap (λ (j : ℕ). withChannels (scaledBlock g (channels (k - 1) n (drop (at + 64) xs))) step j t) (on base step to)
-    ∙ ap (withChannels (scaledBlock g (channels (k - 1) n (drop (at + 64) xs))) step (base + to + step)) (e ∙ ap (λ (j : ℕ). withFloats s (base + to) (scaled g (take j (drop at xs)))) (whole at n))
+    ∙ ap (withChannels (scaledBlock g (channels (k - 1) n (drop (at + 64) xs))) step (base + to + step))
+    (e ∙ ap (λ (j : ℕ). withFloats s (base + to) (scaled g (take j (drop at xs)))) (whole at n))
     ∙ sym (ap (λ (cs : List (List Float)). withChannels cs step (base + to) s) (scaled-next-channel g k n at xs h))
   where
     on : (a b c : ℕ) → a + b + c ≡ a + c + b
@@ -161,7 +168,8 @@ room-next (suc k) step h = ap (λ (j : ℕ). step + j * step) (less k) ∙ more 
     more k step = omega arith
 
 -- ---- what was laid is read back
-pub channels-laid : (k n : ℕ) (cs : List (List Float)) (xs : List Float) → length cs ≡ k → All (λ (c : List Float). length c ≡ n) cs → n ≤ 64 → 64 * k ≤ length xs → channels k n (overlaid cs xs) ≡ cs
+pub channels-laid : (k n : ℕ) (cs : List (List Float)) (xs : List Float) → length cs ≡ k → All (λ (c : List Float). length c ≡ n) cs → n ≤ 64 → 64 * k ≤ length xs
+    → channels k n (overlaid cs xs) ≡ cs
 unfolding channels overlaid
 channels-laid zero n [] xs e a h f = refl
 channels-laid zero n (c ∷ cs) xs e a h f = absurd (native.Mathlib.Nat.suc-ne-zero (length cs) e)
@@ -170,7 +178,8 @@ channels-laid (suc k) n (c ∷ cs) xs e a h f =
     let m = take (64 - length c) (drop (length c) xs) in
     let l : length m ≡ 64 - n = length-take-le (64 - length c) (drop (length c) xs) (omega (arith, length-drop (length c) xs, a .0)) ∙ omega (arith, a .0) in
     let p : length (c ++ m) ≡ 64 = length-append c m ∙ omega (arith, a .0, l) in
-    let d : drop 64 (c ++ (m ++ overlaid cs (drop 64 xs))) ≡ overlaid cs (drop 64 xs) = ap (drop 64) (sym (append-assoc c m (overlaid cs (drop 64 xs)))) ∙ drop-at (c ++ m) (overlaid cs (drop 64 xs)) 64 p in
+    let d : drop 64 (c ++ (m ++ overlaid cs (drop 64 xs))) ≡ overlaid cs (drop 64 xs) = ap (drop 64) (sym (append-assoc c m (overlaid cs (drop 64 xs))))
+    ∙ drop-at (c ++ m) (overlaid cs (drop 64 xs)) 64 p in
     ap (λ (t : List Float). t ∷ channels k n (drop 64 (c ++ (m ++ overlaid cs (drop 64 xs))))) (take-at c (m ++ overlaid cs (drop 64 xs)) n (a .0))
     ∙ ap (λ (t : List Float). c ∷ channels k n t) d
     ∙ ap (λ (t : List (List Float)). c ∷ t) (channels-laid k n cs (drop 64 xs) (native.Mathlib.Nat.suc-inj e) (a .1) h (omega (arith, length-drop 64 xs)))

@@ -1,4 +1,4 @@
--- A level: what a peak can be. No NaN, no sign. Assumes nothing.
+-- A reader may skip this file: a level, which is what a peak can be. No NaN, no sign. Assumes nothing.
 use mathlib.Core.Path.{_≡_}
 use mathlib.Core.Bool.{false}
 use lib.Dec.{T}

@@ -1,5 +1,4 @@
 pub mod Limiter
 pub mod Level
 pub mod Range
-pub mod Sums
 pub mod Places

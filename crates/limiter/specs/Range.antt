@@ -1,13 +1,11 @@
--- What the limiter keeps in range: the samples that it gives out, and its gain. Assumes nothing.
-use Prim.Native.Nat.{ℕ, zero, suc, _+_, _*_, _^_, _≤_}
+-- What is shown of the limiter: the samples that it gives out and its gain stay in range. Assumes nothing.
+use Prim.Native.Nat.{ℕ, zero, suc, _≤_}
 use mathlib.Core.Path.{_≡_}
-use mathlib.Core.Logic.{_⊎_}
 use mathlib.Core.List.{List}
-use lib.IntN.{pos}
-use lib.Ieee.{Float, binary32, div, ofInt}
+use lib.Ieee.{Float}
 use Rattle.ieee.specs.Units.{One, F32, P, N, Gain, Unitary}
 use Rattle.ieee.specs.Bounds.{All}
-use Rattle.limiter.specs.Limiter.{1·0, scaledBlock, blockGain, grown}
+use Rattle.limiter.specs.Limiter.{scaledBlock, blockGain, grown}
 
 -- from the gain g, a block of channels of n samples: each sample given out is finite and from -1 to 1, and the next gain is above 0 and at most 1
 pub record LimitedInRange (g : Float) (n rate : ℕ) (cs : List (List Float)) : Type 0 where
@@ -21,20 +19,7 @@ pub record Fraction (g : Float) : Type 0 where
   pub plus : N g ≡ 0
   pub most : P g ≤ One
 
--- a length in seconds, as the limiter takes it
-abbrev pub decay : ℕ → ℕ → Float
-decay n rate = div binary32 (ofInt binary32 (pos n)) (ofInt binary32 (pos rate))
-
--- half a unit in the last place of the values from 1/2 to 1
-unfoldable pub HalfUlp : ℕ
-HalfUlp = 2 ^ 124
-
 -- the gain after k blocks of n samples, none of which lowered it
 abbrev pub grownTimes : ℕ → ℕ → ℕ → Float → Float
 grownTimes zero n rate g = g
 grownTimes (suc k) n rate g = grown n rate (grownTimes k n rate g)
-
--- it is 1, or has grown k times by the decay, each time less the rounding
-pub record Grows (k : ℕ) (g : Float) (n rate : ℕ) : Type 0 where
-  pub gain : Fraction (grownTimes k n rate g)
-  pub risen : (grownTimes k n rate g ≡ 1·0) ⊎ (P g + k * P (decay n rate) ≤ P (grownTimes k n rate g) + k * HalfUlp)

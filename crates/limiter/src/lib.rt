@@ -11,8 +11,8 @@ ghost use Rattle.ieee.specs.Small.{absolute, larger};
 ghost use Rattle.formats.specs.Areas.{rowCount, rowPlaces, placeCount};
 ghost use Rattle.limiter.specs.Level.{Level};
 ghost use Rattle.limiter.specs.Limiter.{0·0, 1·0, peakFrom, peak, lowered, grown};
-ghost use Rattle.limiter.specs.Limiter.{blockPeak, channels};
-ghost use Rattle.limiter.specs.Places.{Room, Given};
+ghost use Rattle.limiter.specs.Limiter.{blockPeak};
+ghost use Rattle.limiter.specs.Places.{channels, Room, Given};
 use formats::areas;
 
 pub struct Limiter {

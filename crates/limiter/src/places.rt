@@ -6,8 +6,8 @@ ghost use mathlib.Core.Path.{_≡_};
 ghost use Prim.Native.Nat.{_+_, _*_, _≤_};
 ghost use lib.ListN.{length};
 ghost use Rattle.formats.specs.Areas.{rowCount, rowPlaces, placeCount, placesBytes};
-ghost use Rattle.limiter.specs.Limiter.{scaled, scaledBlock, channels, overlaid};
-ghost use Rattle.limiter.specs.Places.{floatsAt, withFloats, channelsAt, withChannels};
+ghost use Rattle.limiter.specs.Limiter.{scaled, scaledBlock};
+ghost use Rattle.limiter.specs.Places.{floatsAt, withFloats, channels, overlaid, channelsAt, withChannels};
 use formats::areas;
 
 // The floats from `at` on, as many as `samples` has.

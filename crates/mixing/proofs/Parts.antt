@@ -8,7 +8,8 @@ use lib.Seq.{getD-append-add, getD-take, getD-drop, length-take-le, drop-at, tak
 use Rattle.mixing.specs.Part.{onPart}
 
 -- a part from b to b + n that came back as ys
-pub part-back : {A : Type 0} (f : List A → List A) (b n : ℕ) (os ys : List A) → ys ≡ f (take (b + n - b) (drop b os)) → take b os ++ (ys ++ drop (b + n - b) (drop b os)) ≡ onPart f b n os
+pub part-back : {A : Type 0} (f : List A → List A) (b n : ℕ) (os ys : List A) → ys ≡ f (take (b + n - b) (drop b os))
+    → take b os ++ (ys ++ drop (b + n - b) (drop b os)) ≡ onPart f b n os
 unfolding onPart
 part-back f b n os ys e =
     let m : b + n - b ≡ n = omega arith in

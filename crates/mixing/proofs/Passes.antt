@@ -1,15 +1,19 @@
--- Refusal 8's test of a run of samples: one word more, and what passes is no NaN. Assumes nothing.
+-- Refusal 8's test of a run of samples: one word more, each of them, and what passes is no NaN. Assumes nothing.
 use mathlib.Core.Path.{_≡_, refl, sym, ap, subst, _∙_}
-use mathlib.Core.Bool.{Bool, true, false, _&&_}
+use mathlib.Core.Logic.{inl, inr}
+use mathlib.Core.Bool.{Bool, true, false, true≢false, _&&_}
 use mathlib.Core.List.{List}
-use Prim.Native.Nat.{ℕ, zero, suc, _+_, _*_, _<_, _≤_}
+use Prim.Native.Nat.{ℕ, zero, suc, _+_, _*_, _%_, _<_, _≤_}
 use native.Mathlib.Omega.{arith}
 use native.Mathlib.Nat.{not-suc-le-zero, le-of-suc-le-suc}
 use native.Mathlib.Numerals.{add-one}
-use borrow.Author.Tests.{leb-true}
 use lib.Dec.{T}
+use lib.Ieee.{nan, neg, lt, le, eq}
 use Rattle.words.specs.Words.{word}
-use Rattle.mixing.specs.Samples.{Plain, passes, allPass}
+use Rattle.words.proofs.Nan.{above}
+use Rattle.ieee.proofs.Grid.{le-or-lt}
+use Rattle.mixing.specs.Samples.{within16, passes, allPass}
+use Rattle.mixing.specs.Patterns.{Plain}
 
 and-assoc : (a b c : Bool) → (a && (b && c)) ≡ ((a && b) && c)
 and-assoc true b c = refl
@@ -26,6 +30,16 @@ and-false false = refl
 both : (a b : Bool) → (a && b) ≡ true → (a ≡ true) × (b ≡ true)
 both true b e = (refl, e)
 both false b e = absurd (subst T (sym e) tt)
+
+pub nan-outside : within16 nan ≡ false
+unfolding neg lt le eq
+nan-outside = refl
+
+word-plain : (w : ℕ) → passes w ≡ true → w % 0x8000_0000 ≤ 0x7f80_0000
+word-plain w e = elim (le-or-lt (w % 0x8000_0000) 0x7f80_0000) [
+  | inl l ↦ l
+  | inr l ↦ absurd (true≢false (sym e ∙ ap within16 (sym (above w l)) ∙ nan-outside))
+]
 
 module _ (s : List ℕ) where
   more : (at n : ℕ) → allPass s at (suc n) ≡ (allPass s at n && passes (word s (at + 4 * n)))
@@ -47,7 +61,4 @@ module _ (s : List ℕ) where
 
   -- and is no NaN
   pub pass-plain : (at n : ℕ) → allPass s at n ≡ true → Plain s at n
-  pass-plain at n e k h = under _ (leb-true _ 0x4180_0000 (pass-at at n e k h))
-    where
-      under : (x : ℕ) → x ≤ 0x4180_0000 → x ≤ 0x7f80_0000
-      under x l = omega arith
+  pass-plain at n e k h = word-plain (word s (at + 4 * k)) (pass-at at n e k h)

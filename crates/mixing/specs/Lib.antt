@@ -1,4 +1,5 @@
-pub mod Part
-pub mod Mixing
 pub mod Samples
 pub mod Sums
+pub mod Mixing
+pub mod Part
+pub mod Patterns

@@ -1,4 +1,4 @@
--- What the mixing functions leave in their output. Assumes nothing.
+-- A reader may skip this file: what the mixing functions leave in a row of samples. At each place that is `plus` of specs/Sums (`full-at`). Assumes nothing.
 use mathlib.Core.Bool.{cond}
 use mathlib.Core.List.{List, [], _∷_}
 use lib.Ieee.{Float, binary32, add, mul, eq}

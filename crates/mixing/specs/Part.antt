@@ -1,4 +1,4 @@
--- A part of a list, changed in place. Assumes nothing.
+-- A reader may skip this file: a part of a list, changed in place. Assumes nothing.
 use Prim.Native.Nat.{ℕ}
 use mathlib.Core.List.{List, _++_}
 use lib.ListN.{take, drop}

@@ -9,7 +9,7 @@ use lib.Seq.{take-at, length-take-le}
 use lib.Ieee.{Float}
 use Rattle.words.specs.Words.{word}
 use Rattle.mixing.specs.Samples.{samples}
-use Rattle.mixing.proofs.Laws.{length-samples}
+use Rattle.mixing.proofs.Theorems.{length-samples}
 use Rattle.rules.specs.Parts.{0·0}
 use Rattle.render.specs.Sources.{Framed, Reached, channelRow}
 

@@ -10,7 +10,7 @@ use lib.Seq.{drop-cons}
 use lib.Ieee.{Float, nan, ofBits, eq, ne}
 use Rattle.mixing.specs.Mixing.{0·0f}
 use Rattle.mixing.specs.Part.{onPart}
-use Rattle.mixing.proofs.Laws.{full-zero}
+use Rattle.mixing.proofs.Theorems.{full-zero}
 use Rattle.panning.specs.Terms.{Term, term, terms, audible, paired, spread}
 use Rattle.panning.specs.declared.Panned.{Panned}
 use Rattle.render.specs.Rows.{upFrom, mixedTerm, mixedTerms}

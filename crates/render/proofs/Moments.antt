@@ -10,7 +10,7 @@ use lib.Ieee.{Float, nan}
 use Rattle.words.specs.Words.{floatAt}
 use Rattle.mixing.specs.Sums as sums
 use Rattle.mixing.specs.Sums.{total}
-use Rattle.mixing.proofs.Laws.{length-samples, sample-at}
+use Rattle.mixing.proofs.Theorems.{length-samples, sample-at}
 use Rattle.beds.specs.declared.Found.{Found}
 use Rattle.beds.specs.declared.Found.the-variants.{At, Nothing}
 use Rattle.beds.specs.Matching.{matching}

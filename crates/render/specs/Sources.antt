@@ -4,7 +4,8 @@ use mathlib.Core.List.{List, [], _∷_, map}
 use lib.ListN.{length, take}
 use lib.Ieee.{Float}
 use Rattle.formats.specs.Areas.{rowPlaces}
-use Rattle.mixing.specs.Samples.{samples, Plain}
+use Rattle.mixing.specs.Samples.{samples}
+use Rattle.mixing.specs.Patterns.{Plain}
 use Rattle.beds.specs.declared.Route.{Route}
 use Rattle.beds.specs.declared.Route.the-variants.{Bass, Folded, Direct, Unsupported}
 use Rattle.beds.specs.declared.Found.{Found}

@@ -36,7 +36,7 @@ use Rattle.store.specs.Layout as store
 
 unfoldable pub numbers : Unit {0}
 unfolding
-    ieee.le ieee.ne ieee.sub ieee.ofBits ieee.toBits words.number words.withNumber words.floatAt words.withFloat units.mag
+    ieee.le ieee.ne ieee.neg ieee.sub ieee.ofBits ieee.toBits words.number words.withNumber words.floatAt words.withFloat units.mag
     small.absolute small.larger small.smaller small.clamped roots.root roots.rootPower
 numbers = tt
 

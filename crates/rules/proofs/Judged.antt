@@ -133,7 +133,7 @@ module _ (L : Leaves) where
 pub sample-in : (pcm : List ℕ) (channels n : ℕ) → Bytes pcm → allPass pcm 0 (channels * n) ≡ true → (i t : ℕ) → i < channels → t < n → Bounded (16 * One) (sampleAt pcm n i t)
 sample-in pcm channels n b p i t h k =
     let m : suc i * n ≤ channels * n = mul-le-mul-right n h in
-    subst (λ (at : ℕ). Bounded (16 * One) (floatAt pcm at)) (zero-add (4 * (i * n + t))) (sample-bounded pcm b 0 (channels * n) p (i * n + t) (omega arith))
+    subst (λ (at : ℕ). Bounded (16 * One) (floatAt pcm at)) (zero-add (4 * (i * n + t))) (sample-bounded pcm 0 (channels * n) p (i * n + t) (omega arith))
 
 pub samples-in : (pcm : List ℕ) (channels n : ℕ) → Bytes pcm → allPass pcm 0 (channels * n) ≡ true → (k i t : ℕ) → i + k ≤ channels → t < n → All (Bounded (16 * One)) (samplesAt pcm n k i t)
 samples-in pcm channels n b p zero i t h l = tt

@@ -15,8 +15,7 @@ use Rattle.ieee.proofs.Compare.{→le}
 use Rattle.beds.proofs.Range.{between}
 use Rattle.limiter.specs.Limiter.{scaled, scaledBlock, blockGain}
 use Rattle.limiter.specs.Range.{LimitedInRange}
-use Rattle.limiter.proofs.Theorem.{limiter-in-range}
-use Rattle.limiter.proofs.Laws.{length-scaled}
+use Rattle.limiter.proofs.Theorems.{limiter-in-range, length-scaled}
 use Rattle.angles.specs.Angle.{Listed}
 use Rattle.rules.specs.Parts.{1·0, Tame, Channels, twelve}
 use Rattle.rules.specs.Samples.{limited, gainAfter}

@@ -1,23 +1,20 @@
 -- The sum of each channel at a sample is finite and at most 82,688: 18 beds and 16 objects, at most 19 terms each, samples within 16 and coefficients within 8. Assumes nothing.
-use mathlib.Core.Path.{_≡_, refl, sym, ap, _∙_, subst}
-use mathlib.Core.Bool.{Bool, true, _&&_, cond}
-use mathlib.Core.List.{List, [], _∷_, _++_, map}
+use mathlib.Core.Path.{_≡_, refl, ap, subst}
+use mathlib.Core.Bool.{Bool, true, _&&_}
+use mathlib.Core.List.{List, [], _∷_, _++_}
 use Prim.Native.Nat.{ℕ, zero, suc, _+_, _*_, _≤_, _<_}
 use native.Mathlib.Nat.{le-trans, le-of-eq, le-refl}
 use native.Mathlib.Omega.{arith}
 use lib.Dec.{T, eqb, lit<, lit≤}
 use lib.ListN.{length, getD, length-append}
-use lib.Ieee.{Float, binary32, fits, ofBits, round, neg, mul, add, le, lt, eq}
+use lib.Ieee.{Float, binary32, fits, ofBits, round, neg, le, lt, eq}
 use lib.Ieee.Fits.{and-l, and-r}
 use Rattle.ieee.specs.Units.{One, mag}
 use Rattle.ieee.specs.Bounds.{Bounded, All}
 use Rattle.ieee.proofs.Constants.{whole-grid, whole-less}
 use Rattle.ieee.proofs.Bound.{mul-bounded}
 use Rattle.mixing.specs.Sums as sums
-use Rattle.mixing.specs.Sums.{total}
-use Rattle.limiter.specs.Sums as bound
-use Rattle.limiter.specs.Sums.{ProductWithin, productSum}
-use Rattle.limiter.proofs.Sums.{mixed-bounded}
+use Rattle.mixing.proofs.Theorems.{AddendWithin, total-bounded}
 use Rattle.beds.specs.declared.Route.{Route}
 use Rattle.beds.specs.declared.Route.the-variants.{Bass, Folded, Direct, Unsupported}
 use Rattle.beds.specs.declared.Found.{Found}
@@ -35,30 +32,12 @@ use Rattle.panning.specs.Hall.{pan714}
 use Rattle.rules.specs.Parts.{0·0}
 use Rattle.rules.specs.Leaves.{Source, Bed}
 use Rattle.rules.specs.Mix.{Moment, objectAdds, addsOf, scaledBy, fedBy, bedsOn, objectsOn, heard}
-use Rattle.rules.proofs.Lists.{either, all-append, length-map}
+use Rattle.rules.proofs.Lists.{either, all-append}
 use Rattle.rules.proofs.Facts.{InHall, Mixable}
 use Rattle.rules.proofs.Terms.{eight-bounded, Modest, panned-modest, object-modest}
 
--- ---- the sum of the terms, in the words of the limiter's bound
-abbrev told : sums.Addend → bound.Product
-told t = record { sample = t .sample; coef = t .coef }
-
-zero-is : ofBits binary32 0 ≡ 0·0
-unfolding ofBits
-zero-is = refl
-
-as-mixed : (a : Float) (ts : List sums.Addend) → total a ts ≡ productSum a (map told ts)
-as-mixed a [] = refl
-as-mixed a (t ∷ ts) =
-    ap (λ (z : Float). total (cond (eq (t .coef) z) a (add binary32 a (mul binary32 (t .sample) (t .coef)))) ts) zero-is
-    ∙ as-mixed (cond (eq (t .coef) 0·0) a (add binary32 a (mul binary32 (t .sample) (t .coef)))) ts
-
 abbrev Small : sums.Addend → Type 0
-Small t = ProductWithin 16 8 (told t)
-
-all-told : (ts : List sums.Addend) → All Small ts → All (ProductWithin 16 8) (map told ts)
-all-told [] h = tt
-all-told (t ∷ ts) h = (h .0, all-told ts (h .1))
+Small t = AddendWithin 16 8 t
 
 -- what a channel's sum is at most
 abbrev pub Most : ℕ
@@ -67,11 +46,6 @@ Most = 82688 * One
 pub most-range : Range Most
 unfolding One
 most-range = record { low = lit≤ tt; high = lit≤ tt }
-
-total-bounded : (ts : List sums.Addend) → length ts ≤ 646 → All Small ts → Bounded Most (total 0·0 ts)
-total-bounded ts h q =
-    subst (Bounded Most) (sym (as-mixed 0·0 ts))
-    (mixed-bounded 16 8 (lit< tt) 646 82688 (map told ts) (le-trans (le-of-eq (length-map told ts)) h) (lit≤ tt) (lit≤ tt) (all-told ts q))
 
 -- ---- beds
 abbrev fitting : Vec3 → Bool
@@ -173,4 +147,4 @@ heard-bounded m h c =
     let j = joined bs os (beds-fewer c (m .beds) (m .codes) (m .inputs) (h .sources .beds) (h .inputs)) (objects-fewer c (m .objects) (m .own) (h .sources .objects) (h .own)) in
     let b = h .sources .few-beds in
     let o = h .sources .few-objects in
-    total-bounded (bs ++ os) (le-trans (j .few) (omega arith)) (j .small)
+    total-bounded 16 8 (lit< tt) 646 82688 (bs ++ os) (le-trans (j .few) (omega arith)) (lit≤ tt) (lit≤ tt) (j .small)

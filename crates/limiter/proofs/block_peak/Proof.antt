@@ -5,7 +5,8 @@ use Prim.Native.Nat.{_+_, _*_}
 use native.Mathlib.Omega.{arith}
 use lib.ListN.{drop}
 use lib.Ieee.{ofBits}
-use Rattle.limiter.specs.Limiter.{0·0, blockPeak, channels}
+use Rattle.limiter.specs.Limiter.{0·0, blockPeak}
+use Rattle.limiter.specs.Places.{channels}
 use Rattle.limiter.proofs.Levels.{Level}
 use Rattle.limiter.proofs.Peaks.{zero-level}
 use Rattle.limiter.proofs.Rows.{peak-next, peak-end}
@@ -13,7 +14,8 @@ use Rattle.limiter.proofs.block_peak.Statement.{statement}
 use Rattle.limiter.proofs.block_peak.Tie as tie
 
 abbrev Inv-loop : tie.InvT-loop
-Inv-loop block samples max₀ at₀ left₀ max at left = (at + 64 * left ≡ 768) × Level max × (blockPeak max (channels left samples (drop at block)) ≡ blockPeak 0·0 (channels 12 samples block))
+Inv-loop block samples max₀ at₀ left₀ max at left = (at + 64 * left ≡ 768) × Level max
+    × (blockPeak max (channels left samples (drop at block)) ≡ blockPeak 0·0 (channels 12 samples block))
 
 abbrev μ-loop : tie.MeasureT-loop
 μ-loop block samples max₀ at₀ left₀ max at left = left
@@ -29,8 +31,12 @@ loop-again : tie.Need-loop-again Inv-loop μ-loop
 loop-again c =
     let l = c .before .before .before .before .loop in
     let a = c .before .before .before .before .before .before .args in
-    let p = c .before .max-abs-slice in
-    (omega arith, c .raise .ensures .1, peak-next (l .left) (a .samples) (l .at) (a .block .now) (l .max) (p .result) (c .raise .result) (c .before .before .before .loop-test .taken) (p .ensures .1) (p .ensures .0) (c .raise .ensures .0) ∙ l .inv .2)
+    let p = c .before .max-abs-slice in (
+      omega arith,
+      c .raise .ensures .1,
+      peak-next (l .left) (a .samples) (l .at) (a .block .now) (l .max) (p .result) (c .raise .result)
+          (c .before .before .before .loop-test .taken) (p .ensures .1) (p .ensures .0) (c .raise .ensures .0) ∙ l .inv .2,
+    )
 
 returns : tie.Need-returns Inv-loop μ-loop
 returns c =

@@ -29,7 +29,11 @@ loop-again c =
     (omega arith, c .raise .ensures .1, from-next (at .m) (c .raise .result) xs (at .i) (c .before .before .loop-test .taken) (c .raise .ensures .0) ∙ at .inv .2)
 
 returns : tie.Need-returns Inv-loop μ-loop
-returns c = (from-end (c .before .loop .m) (c .before .before .before .args .samples .now) (c .before .loop .i) (c .loop-test .left) ∙ c .before .loop .inv .2, c .before .loop .inv .1)
+returns c = (
+  from-end (c .before .loop .m) (c .before .before .before .args .samples .now) (c .before .loop .i) (c .loop-test .left)
+      ∙ c .before .loop .inv .2,
+  c .before .loop .inv .1,
+)
 
 pub max-abs-from-spec : {M : Type 1} → statement M
 max-abs-from-spec =

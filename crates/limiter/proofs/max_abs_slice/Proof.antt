@@ -42,21 +42,30 @@ loop-again c =
     let xs = at .before .before .args .samples .now in
     let r1 = c .before .before .before .before .before .before .raise in
     let r2 = c .before .before .before .before .raise2 in
-    let r3 = c .before .before .raise3 in
-    (omega arith, lanes-again xs (at .loop .i) (omega arith) (at .before .shared-slice-known .given) (at .loop .inv .1) (r1 .ensures .0) (r2 .ensures .0) (r3 .ensures .0) (c .raise4 .ensures .0))
+    let r3 = c .before .before .raise3 in (
+      omega arith,
+      lanes-again xs (at .loop .i) (omega arith) (at .before .shared-slice-known .given) (at .loop .inv .1) (r1 .ensures .0) (r2 .ensures .0) (r3 .ensures .0)
+          (c .raise4 .ensures .0),
+    )
 
 raise-requires-5 : tie.Need-raise-requires-5 Inv-loop μ-loop
 raise-requires-5 c κs = c .before .loop .inv .1 .a-level
 
 -- the maxima joined
-first : (c : lts.After-raise5 (raise-reads.Asked, raise-reads.Learnt, max-abs-from-reads.Asked, max-abs-from-reads.Learnt) reads.Pre reads.Post Inv-loop μ-loop) → Raised (c .before .before .loop .a) (c .before .before .loop .b) (c .raise5 .result)
-first c = let l = c .before .before .loop .inv .1 in raised-by (c .before .before .loop .a) (c .before .before .loop .b) (c .raise5 .result) (l .a-level) (l .b-level .fit) (c .raise5 .ensures .0)
+first : (c : lts.After-raise5 (raise-reads.Asked, raise-reads.Learnt, max-abs-from-reads.Asked, max-abs-from-reads.Learnt) reads.Pre reads.Post Inv-loop μ-loop)
+    → Raised (c .before .before .loop .a) (c .before .before .loop .b) (c .raise5 .result)
+first c = let l = c .before .before .loop .inv .1 in
+    raised-by (c .before .before .loop .a) (c .before .before .loop .b) (c .raise5 .result) (l .a-level) (l .b-level .fit) (c .raise5 .ensures .0)
 
-second : (c : lts.After-raise6 (raise-reads.Asked, raise-reads.Learnt, max-abs-from-reads.Asked, max-abs-from-reads.Learnt) reads.Pre reads.Post Inv-loop μ-loop) → Raised (c .before .raise5 .result) (c .before .before .before .loop .c) (c .raise6 .result)
-second c = raised-by (c .before .raise5 .result) (c .before .before .before .loop .c) (c .raise6 .result) (c .before .raise5 .ensures .1) (c .before .before .before .loop .inv .1 .c-level .fit) (c .raise6 .ensures .0)
+second : (c : lts.After-raise6 (raise-reads.Asked, raise-reads.Learnt, max-abs-from-reads.Asked, max-abs-from-reads.Learnt) reads.Pre reads.Post Inv-loop μ-loop)
+    → Raised (c .before .raise5 .result) (c .before .before .before .loop .c) (c .raise6 .result)
+second c = raised-by (c .before .raise5 .result) (c .before .before .before .loop .c) (c .raise6 .result) (c .before .raise5 .ensures .1)
+    (c .before .before .before .loop .inv .1 .c-level .fit) (c .raise6 .ensures .0)
 
-third : (c : lts.After-raise7 (raise-reads.Asked, raise-reads.Learnt, max-abs-from-reads.Asked, max-abs-from-reads.Learnt) reads.Pre reads.Post Inv-loop μ-loop) → Raised (c .before .raise6 .result) (c .before .before .before .before .loop .d) (c .raise7 .result)
-third c = raised-by (c .before .raise6 .result) (c .before .before .before .before .loop .d) (c .raise7 .result) (c .before .raise6 .ensures .1) (c .before .before .before .before .loop .inv .1 .d-level .fit) (c .raise7 .ensures .0)
+third : (c : lts.After-raise7 (raise-reads.Asked, raise-reads.Learnt, max-abs-from-reads.Asked, max-abs-from-reads.Learnt) reads.Pre reads.Post Inv-loop μ-loop)
+    → Raised (c .before .raise6 .result) (c .before .before .before .before .loop .d) (c .raise7 .result)
+third c = raised-by (c .before .raise6 .result) (c .before .before .before .before .loop .d) (c .raise7 .result) (c .before .raise6 .ensures .1)
+    (c .before .before .before .before .loop .inv .1 .d-level .fit) (c .raise7 .ensures .0)
 
 raise-requires-6 : tie.Need-raise-requires-6 Inv-loop μ-loop
 raise-requires-6 c κs = c .raise5 .ensures .1
@@ -71,8 +80,11 @@ returns : tie.Need-returns Inv-loop μ-loop
 returns c =
     let joined = c .before .before in
     let at = joined .before .before .before .before in
-    let xs = at .before .before .args .samples .now in
-    (c .max-abs-from .ensures .0 ∙ lanes-rest xs (at .loop .i) (at .before .shared-slice-known .given) (at .loop .inv .1) (first (joined .before .before)) (second (joined .before)) (third joined), c .max-abs-from .ensures .1)
+    let xs = at .before .before .args .samples .now in (
+      c .max-abs-from .ensures .0 ∙ lanes-rest xs (at .loop .i) (at .before .shared-slice-known .given) (at .loop .inv .1) (first (joined .before .before))
+          (second (joined .before)) (third joined),
+      c .max-abs-from .ensures .1,
+    )
 
 pub max-abs-slice-spec : {M : Type 1} → statement M
 max-abs-slice-spec =

@@ -9,7 +9,7 @@ use denote.Ref.{now}
 use mir.Syntax.{w64}
 use mir.Val.{Fits}
 use Rattle.mixing.specs.Mixing.{mixed}
-use Rattle.mixing.proofs.Laws.{mixed-step}
+use Rattle.mixing.proofs.Mixed.{mixed-step}
 use Rattle.mixing.proofs.mix_add_scaled.Statement.{statement}
 use Rattle.mixing.proofs.mix_add_scaled.Tie as tie
 
@@ -36,8 +36,12 @@ mul-output-3 c = offset (c .before .before)
 
 loop-again : tie.Need-loop-again Inv-loop μ-loop
 loop-again c =
-    let l = c .before .before .before in
-    (search needs, search needs, rw (l .loop .inv .2) (mixed-step (l .loop .k) (l .before .args .input .now) (l .before .args .gain) (l .before .args .output .now) (omega arith) (omega arith)))
+    let l = c .before .before .before in (
+      search needs,
+      search needs,
+      rw (l .loop .inv .2)
+          (mixed-step (l .loop .k) (l .before .args .input .now) (l .before .args .gain) (l .before .args .output .now) (omega arith) (omega arith)),
+    )
 
 returns : tie.Need-returns Inv-loop μ-loop
 returns c =

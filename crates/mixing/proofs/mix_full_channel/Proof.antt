@@ -1,6 +1,6 @@
 -- `mix_full_channel`: by the gain's test.
 use mathlib.Core.Path.{_∙_}
-use Rattle.mixing.proofs.Laws.{full-zero, full-mixed}
+use Rattle.mixing.proofs.Mixed.{full-zero, full-mixed}
 use borrow.Author.Needs.{needs}
 use Rattle.mixing.proofs.mix_full_channel.Statement.{statement}
 use Rattle.mixing.proofs.mix_full_channel.Tie as tie

@@ -9,7 +9,8 @@ use Rattle.mixing.proofs.mix_segment.Tie as tie
 returns : tie.Need-returns
 returns c =
     let a = c .before .before .before .before .before .before .args in
-    part-back (mixedFull (a .input .now) (a .gain)) (a .offset) (length (a .input .now)) (a .output .now) (c .before .before .mix-full-channel .last .1 .0) (c .before .before .mix-full-channel .ensures)
+    part-back (mixedFull (a .input .now) (a .gain)) (a .offset) (length (a .input .now)) (a .output .now) (c .before .before .mix-full-channel .last .1 .0)
+    (c .before .before .mix-full-channel .ensures)
 
 pub mix-segment-spec : {M : Type 1} → statement M
 mix-segment-spec =

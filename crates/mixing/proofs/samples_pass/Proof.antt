@@ -7,6 +7,7 @@ use native.Mathlib.Omega.{arith}
 use Prim.Native.Nat.{_-_, _≤_}
 use Rattle.mixing.specs.Samples.{passes, allPass}
 use Rattle.mixing.proofs.Passes.{pass-step, and-true, and-false}
+use Rattle.mixing.proofs.Meant.{passes-meant}
 use Rattle.mixing.proofs.samples_pass.Statement.{statement}
 use Rattle.mixing.proofs.samples_pass.Tie as tie
 
@@ -20,7 +21,8 @@ loop-again : tie.Need-loop-again Inv-loop μ-loop
 loop-again c =
     let l = c .before .before .before in
     let a = l .before .before .args in
-    let m = ap passes (sym (c .before .u32-at .ensures)) in
+    let w = c .before .u32-at .result in
+    let m = ap passes (sym (c .before .u32-at .ensures)) ∙ sym (passes-meant w (omega arith)) in
     let step = pass-step (a .pcm .now) (a .at) (l .loop .i) (l .loop .inv .1) in
     ⊎-elim
     (λ w. (search needs, step _ _ (m ∙ lt-leb _ _ (w .0 .taken)) (w .1 ∙ and-false (l .loop .pass))))

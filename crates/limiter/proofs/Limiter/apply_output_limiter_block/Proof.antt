@@ -3,8 +3,8 @@ use mathlib.Core.Path.{_≡_, ap, _∙_}
 use mathlib.Core.List.{List}
 use lib.Dec.{lit≤}
 use lib.Ieee.{Float}
-use Rattle.limiter.specs.Limiter.{0·0, lowered, grown, blockPeak, blockGain, scaledBlock, channels}
-use Rattle.limiter.specs.Places.{channelsAt, withChannels}
+use Rattle.limiter.specs.Limiter.{0·0, lowered, grown, blockPeak, blockGain, scaledBlock}
+use Rattle.limiter.specs.Places.{channels, channelsAt, withChannels}
 use Rattle.limiter.proofs.Rows.{channels-laid, channels-at-lengths}
 use borrow.Author.Needs.{needs}
 use Rattle.limiter.proofs.Limiter.apply_output_limiter_block.Statement.{statement}
@@ -26,7 +26,8 @@ returns c =
     let f : low .result .gain ≡ blockGain (a .self .gain) cs = low .ensures ∙ ap (λ (p : Float). lowered p (a .self .gain)) (top .ensures ∙ ap (blockPeak 0·0) e) in
     record {
       gain = c .grow .ensures ∙ ap (grown n (a .rate)) f;
-      samples = b .store-block .ensures ∙ ap (λ (ds : List (List Float)). withChannels (scaledBlock (low .result .gain) ds) (a .step) (a .to) (a .out .now)) e ∙ ap (λ (g : Float). withChannels (scaledBlock g cs) (a .step) (a .to) (a .out .now)) f;
+      samples = b .store-block .ensures ∙ ap (λ (ds : List (List Float)). withChannels (scaledBlock (low .result .gain) ds) (a .step) (a .to) (a .out .now)) e
+          ∙ ap (λ (g : Float). withChannels (scaledBlock g cs) (a .step) (a .to) (a .out .now)) f;
     }
 
 pub apply-output-limiter-block-spec : {M : Type 1} → statement M

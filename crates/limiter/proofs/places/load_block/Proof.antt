@@ -5,14 +5,14 @@ use mathlib.Core.Path.{_≡_, refl, ap, _∙_}
 use mathlib.Core.List.{_++_}
 use Prim.Native.Nat.{_+_, _*_, _≤_}
 use lib.ListN.{length, take, drop}
-use Rattle.limiter.specs.Limiter.{overlaid}
-use Rattle.limiter.specs.Places.{floatsAt, channelsAt}
+use Rattle.limiter.specs.Places.{overlaid, floatsAt, channelsAt}
 use Rattle.limiter.proofs.Rows.{part-length, load-next, load-end}
 use Rattle.limiter.proofs.places.load_block.Statement.{statement}
 use Rattle.limiter.proofs.places.load_block.Tie as tie
 
 abbrev Inv-loop : tie.InvT-loop
-Inv-loop places samples block₀ at₀ left₀ block at left = (at + 64 * left ≡ 768) × (length block ≡ 768) × (take at block ++ overlaid (channelsAt left samples places (4 * at)) (drop at block) ≡ overlaid (channelsAt 12 samples places 0) block₀)
+Inv-loop places samples block₀ at₀ left₀ block at left = (at + 64 * left ≡ 768) × (length block ≡ 768)
+    × (take at block ++ overlaid (channelsAt left samples places (4 * at)) (drop at block) ≡ overlaid (channelsAt 12 samples places 0) block₀)
 
 abbrev μ-loop : tie.MeasureT-loop
 μ-loop places samples block₀ at₀ left₀ block at left = left
@@ -26,7 +26,8 @@ loop-again c =
     let a = c .before .before .before .before .before .before .before .before .args in
     let z = c .before .before .load-samples in
     let h : l .at + a .samples ≤ length (l .block) = omega arith in
-    let e : z .last .1 .1 .0 ≡ floatsAt (a .places .now) (4 * l .at) (a .samples) = z .ensures ∙ ap (floatsAt (a .places .now) (4 * l .at)) (part-length (a .samples) (l .at) (l .block) h) in
+    let e : z .last .1 .1 .0 ≡ floatsAt (a .places .now) (4 * l .at) (a .samples) = z .ensures
+    ∙ ap (floatsAt (a .places .now) (4 * l .at)) (part-length (a .samples) (l .at) (l .block) h) in
     let n = load-next (a .places .now) (l .left) (a .samples) (l .at) (l .block) (z .last .1 .1 .0) (omega arith) (omega arith) (omega arith) e in
     (omega arith, n .0 ∙ l .inv .1, n .1 ∙ l .inv .2)
 

@@ -7,7 +7,7 @@ use Prim.Native.Nat.{_-_, _≤_, _<_}
 use lib.ListN.{length, take, length-set}
 use lib.Seq.{take-suc-set, take-all}
 use Rattle.limiter.specs.Places.{floatsAt}
-use Rattle.limiter.proofs.Runs.{read-more}
+use Rattle.words.proofs.Runs.{floats-more}
 use Rattle.limiter.proofs.places.load_samples.Statement.{statement}
 use Rattle.limiter.proofs.places.load_samples.Tie as tie
 
@@ -21,8 +21,16 @@ loop-again : tie.Need-loop-again Inv-loop μ-loop
 loop-again c =
     let l = c .before .before in
     let a = l .before .before .before .args in
-    let h : l .loop .i < length (l .loop .samples) = omega arith in
-    (simp length-set (omega arith), simp length-set (omega arith), rw (add-one, take-suc-set (l .loop .samples) (l .loop .i) (c .f32-at .result) h, l .loop .inv .2, c .f32-at .ensures) (sym (read-more (a .places .now) (a .at) (l .loop .i))))
+    let h : l .loop .i < length (l .loop .samples) = omega arith in (
+      simp length-set (omega arith),
+      simp length-set (omega arith),
+      rw (
+        add-one,
+        take-suc-set (l .loop .samples) (l .loop .i) (c .f32-at .result) h,
+        l .loop .inv .2,
+        c .f32-at .ensures,
+      ) (sym (floats-more (a .places .now) (a .at) (l .loop .i))),
+    )
 
 returns : tie.Need-returns Inv-loop μ-loop
 returns c =

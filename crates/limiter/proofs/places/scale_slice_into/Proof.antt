@@ -11,7 +11,8 @@ use Rattle.limiter.proofs.places.scale_slice_into.Statement.{statement}
 use Rattle.limiter.proofs.places.scale_slice_into.Tie as tie
 
 abbrev Inv-loop : tie.InvT-loop
-Inv-loop samples gain out₀ i₀ out i = (i ≤ length samples) × (length out ≡ length out₀) × (withFloats out (4 * i) (scaled gain (drop i samples)) ≡ withFloats out₀ 0 (scaled gain samples))
+Inv-loop samples gain out₀ i₀ out i = (i ≤ length samples) × (length out ≡ length out₀)
+    × (withFloats out (4 * i) (scaled gain (drop i samples)) ≡ withFloats out₀ 0 (scaled gain samples))
 
 abbrev μ-loop : tie.MeasureT-loop
 μ-loop samples gain out₀ i₀ out i = length samples - i

@@ -4,14 +4,16 @@ use native.Mathlib.Omega.{arith}
 use mathlib.Core.Path.{_≡_, refl, sym, ap, _∙_}
 use Prim.Native.Nat.{ℕ, _+_, _*_, _≤_}
 use lib.ListN.{length, drop}
-use Rattle.limiter.specs.Limiter.{scaledBlock, channels}
-use Rattle.limiter.specs.Places.{withChannels}
+use Rattle.limiter.specs.Limiter.{scaledBlock}
+use Rattle.limiter.specs.Places.{channels, withChannels}
 use Rattle.limiter.proofs.Rows.{part-length, store-part, store-next, store-end, room-next}
 use Rattle.limiter.proofs.places.store_block.Statement.{statement}
 use Rattle.limiter.proofs.places.store_block.Tie as tie
 
 abbrev Inv-loop : tie.InvT-loop
-Inv-loop block samples gain out₀ step to at₀ base₀ unscaled₀ out at base unscaled = (at + 64 * unscaled ≡ 768) × (base + unscaled * step ≤ length out₀) × (length out ≡ length out₀) × (withChannels (scaledBlock gain (channels unscaled samples (drop at block))) step (base + to) out ≡ withChannels (scaledBlock gain (channels 12 samples block)) step to out₀)
+Inv-loop block samples gain out₀ step to at₀ base₀ unscaled₀ out at base unscaled = (at + 64 * unscaled ≡ 768) × (base + unscaled * step ≤ length out₀)
+    × (length out ≡ length out₀) × (withChannels (scaledBlock gain (channels unscaled samples (drop at block))) step (base + to) out ≡ withChannels
+    (scaledBlock gain (channels 12 samples block)) step to out₀)
 
 abbrev μ-loop : tie.MeasureT-loop
 μ-loop block samples gain out₀ step to at₀ base₀ unscaled₀ out at base unscaled = unscaled

@@ -1,0 +1,10 @@
+-- What others may cite of this crate, a line each. Assumes nothing.
+
+-- from a gain in (0, 1] and finite samples: the samples given out are in [-1, 1], the next gain in (0, 1]
+pub use Rattle.limiter.proofs.InRange.{limiter-in-range}
+-- floor(rate / 64) + 2 blocks of 64 that do not lower the gain end with gain 1
+pub use Rattle.limiter.proofs.Return.{full-after}
+-- k blocks that do not lower it bring the gain to 1, or up by k times the decay less k roundings
+pub use Rattle.limiter.proofs.Growth.{Decay, decay-is, HalfUlp, Grows, grows}
+-- scaling keeps the number of samples
+pub use Rattle.limiter.proofs.Runs.{length-scaled}
