@@ -1,6 +1,5 @@
 -- The low-pass cannot run away. `Calm X f` is what holds of a filter between two samples, X bounding the samples: a new filter has it (`calm-start`), a sample of size at most X
--- keeps it (`calm-next`, `calm-all`), it holds for every larger X (`calm-more`), and with it every output is finite and at most 2 X (`output-bounded`, `filtered-bounded`).
--- X is in units, from 2 ^ -100 to 2 ^ 20 (`Range`). Assumes nothing.
+-- keeps it (`calm-next`, `calm-all`), and with it every output is finite and at most 2 X (`output-bounded`). X is in units, from 2 ^ -100 to 2 ^ 20 (`Range`). Assumes nothing.
 use mathlib.Core.List.{List, [], _∷_}
 use Prim.Native.Nat.{ℕ, _*_, _≤_}
 use native.Mathlib.Nat.{le-trans, mul-le-mul-left}
@@ -10,11 +9,11 @@ use lib.Ieee.{Float}
 use Rattle.angles.specs.declared.filter.Coefficients.{Coefficients}
 use Rattle.ieee.specs.Units.{One, F32, mag}
 use Rattle.ieee.proofs.Constants.{zero-f32}
-use Rattle.ieee.proofs.Bound.{bounded-by, zero-bounded}
+use Rattle.ieee.proofs.Bound.{zero-bounded}
 use Rattle.ieee.proofs.Near.{val, abs-most, bounded-abs, most}
-use Rattle.lowpass.specs.Lowpass.{BiquadLowpassState, unfed, output, next, filtered, afterAll}
+use Rattle.lowpass.specs.Lowpass.{BiquadLowpassState, unfed, output, next, afterAll}
 use Rattle.lowpass.specs.Bound.{Bounded, All, Range}
-use Rattle.lowpass.proofs.Ellipse.{Inside, start, wider, bound}
+use Rattle.lowpass.proofs.Ellipse.{Inside, start, bound}
 use Rattle.lowpass.proofs.Boxed.{step}
 use Rattle.lowpass.proofs.Passing.{Passing, α-high, A-high}
 use Rattle.lowpass.proofs.Errors.{small}
@@ -73,22 +72,7 @@ unfolding mag One
 calm-start rate X c k =
     record { rate = rate; known = k; x1-small = zero-bounded X; x2-small = zero-bounded X; y1-f32 = zero-f32; y2-small = zero-bounded (2 * X); inside = start rate X }
 
-pub calm-more : {X Y : ℕ} {f : BiquadLowpassState} → X ≤ Y → Calm X f → Calm Y f
-calm-more l c = record {
-  rate = c .rate;
-  known = c .known;
-  x1-small = bounded-by l (c .x1-small);
-  x2-small = bounded-by l (c .x2-small);
-  y1-f32 = c .y1-f32;
-  y2-small = bounded-by (mul-le-mul-left 2 l) (c .y2-small);
-  inside = wider l (c .inside);
-}
-
--- ---- over lists
+-- ---- over a list
 pub calm-all : {X : ℕ} {f : BiquadLowpassState} → Range X → Calm X f → (xs : List Float) → All (Bounded X) xs → Calm X (afterAll f xs)
 calm-all r c [] h = c
 calm-all r c (x ∷ xs) h = calm-all r (calm-next r c (h .0)) xs (h .1)
-
-pub filtered-bounded : {X : ℕ} {f : BiquadLowpassState} → Range X → Calm X f → (xs : List Float) → All (Bounded X) xs → All (Bounded (2 * X)) (filtered f xs)
-filtered-bounded r c [] h = tt
-filtered-bounded r c (x ∷ xs) h = (output-bounded r c (h .0), filtered-bounded r (calm-next r c (h .0)) xs (h .1))

@@ -5,7 +5,7 @@ use mathlib.Core.List.{[], _∷_}
 use Prim.Native.Nat.{ℕ, _*_, _≤_}
 use lib.IntN.{ℤ, pos, natAbs, _+ℤ_, _-ℤ_, _*ℤ_}
 use Rattle.ieee.proofs.Ring.{R, var, con, _⊕_, _⊖_, _⊗_, ring}
-use Rattle.ieee.proofs.NotNegative.{NN, nn, nn-add, nn-mul, nn-sq, nn-by, nn-cancel, nn-of-abs, abs-of-nn}
+use Rattle.ieee.proofs.NotNegative.{NN, nn, nn-add, nn-mul, nn-sq, nn-by, nn-cancel, abs-of-nn}
 
 abbrev pub energy : (N y d : ℤ) → ℤ
 energy N y d = pos 1705548 *ℤ (y *ℤ y) +ℤ pos 2 *ℤ (pos 754 *ℤ N *ℤ (y *ℤ d)) +ℤ pos 4 *ℤ (N *ℤ N) *ℤ (d *ℤ d)
@@ -29,16 +29,6 @@ start N X = record {
   room-left =
       nn-by (ring (pos N ∷ pos X ∷ []) (roomR (var 0) (var 1) (con (pos 0)) (con (pos 0))) (con (pos 6253676) ⊗ (var 1 ⊗ var 1)) tt) (nn-mul (nn 6253676) (nn-sq (pos X)));
 }
-
-pub wider : {N X X' : ℕ} {y d : ℤ} → X ≤ X' → Inside N X y d → Inside N X' y d
-wider {N} {X} {X'} {y} {d} h i = record {
-  room-left = nn-by (more (pos N) (pos X) (pos X') y d) (nn-add (i .room-left) (nn-mul (nn 6253676) (nn-of-abs X' (pos X) h)));
-}
-  where
-    more : (N X X' y d : ℤ) → room N X' y d ≡ room N X y d +ℤ pos 6253676 *ℤ (X' *ℤ X' -ℤ X *ℤ X)
-    more N X X' y d =
-        let n = var 0 in let x = var 1 in let x' = var 2 in let u = var 3 in let w = var 4 in
-        ring (N ∷ X ∷ X' ∷ y ∷ d ∷ []) (roomR n x' u w) (roomR n x u w ⊕ con (pos 6253676) ⊗ (x' ⊗ x' ⊖ x ⊗ x)) tt
 
 -- 4 E = 11 (754 y)² + (754 y + 4 N d)²
 pub bound : {N X : ℕ} {y d : ℤ} → Inside N X y d → natAbs y ≤ 2 * X

@@ -74,7 +74,8 @@ gather : (X f δ₃ δ₄ s₂ s₃ e₁ e₂ q₁ q₂ : ℕ) → f ≤ 1677721
 gather X f δ₃ δ₄ s₂ s₃ e₁ e₂ q₁ q₂ h₁ h₂ h₃ h₄ h₅ h₆ h₇ h₈ = omega arith
 
 inputs : (X f s₂ p₀ p₁ p₂ β₀ β₁ β₂ : ℕ) → f ≤ 16777219 * s₂ + 17 * X + 16777216 → 16777219 * s₂ ≤ 16777222 * (p₀ + p₁ + p₂) →
-    4722366482869645213696 * p₀ ≤ 16777217 * β₀ + 2361183241434822606848 → 4722366482869645213696 * p₁ ≤ 16777217 * β₁ + 2361183241434822606848 → 4722366482869645213696 * p₂ ≤ 16777217 * β₂ + 2361183241434822606848 →
+    4722366482869645213696 * p₀ ≤ 16777217 * β₀ + 2361183241434822606848 → 4722366482869645213696 * p₁ ≤ 16777217 * β₁ + 2361183241434822606848
+    → 4722366482869645213696 * p₂ ≤ 16777217 * β₂ + 2361183241434822606848 →
     562949953421312 * f ≤ 33554448 * (β₀ + β₁ + β₂) + 562949953421312 * (17 * X + 41943081)
 inputs X f s₂ p₀ p₁ p₂ β₀ β₁ β₂ e₀ e₁ e₂ e₃ e₄ = omega arith
 
@@ -87,7 +88,8 @@ scaled X n f β hn hX hβ e = last (n * f) (n * X) (first (n * f) (n * β) (n * 
         562949953421312 * (n * f) ≤ 33554448 * (n * β) + 562949953421312 * (17 * (n * X) + 41943081 * n)
     spread h = omega arith
 
-    first : (nf nβ nX : ℕ) → 562949953421312 * nf ≤ 33554448 * nβ + 562949953421312 * (17 * nX + 41943081 * n) → nβ ≤ 169624139315235782656 * X → nf ≤ 10110391390224 * X + 17 * nX + 41943081 * n
+    first : (nf nβ nX : ℕ) → 562949953421312 * nf ≤ 33554448 * nβ + 562949953421312 * (17 * nX + 41943081 * n) → nβ ≤ 169624139315235782656 * X
+        → nf ≤ 10110391390224 * X + 17 * nX + 41943081 * n
     first nf nβ nX e₁ e₂ = omega arith
 
     last : (nf nX : ℕ) → nf ≤ 10110391390224 * X + 17 * nX + 41943081 * n → nX ≤ 36864000000 * X → nf ≤ 10968833091174 * X
@@ -105,7 +107,16 @@ parts M α A S₂ S₃ Q₁ Q₂ y y₁ y₂ =
 five : (M : ℕ) (a b c d e : ℤ) → natAbs (pos M *ℤ a +ℤ pos M *ℤ b +ℤ pos M *ℤ c -ℤ d -ℤ e) ≤ M * natAbs a + M * natAbs b + M * natAbs c + natAbs d + natAbs e
 five M a b c d e =
     let u : ℤ = pos M *ℤ a +ℤ pos M *ℤ b in
-    omega (arith, abs-minus (u +ℤ pos M *ℤ c -ℤ d) e, abs-minus (u +ℤ pos M *ℤ c) d, abs-add u (pos M *ℤ c), abs-add (pos M *ℤ a) (pos M *ℤ b), abs-mul M a, abs-mul M b, abs-mul M c)
+    omega (
+      arith,
+      abs-minus (u +ℤ pos M *ℤ c -ℤ d) e,
+      abs-minus (u +ℤ pos M *ℤ c) d,
+      abs-add u (pos M *ℤ c),
+      abs-add (pos M *ℤ a) (pos M *ℤ b),
+      abs-mul M a,
+      abs-mul M b,
+      abs-mul M c,
+    )
 
 module _ (N α A b₀ b₁ b₂ X : ℕ) (x₀ x₁ x₂ y₁ y₂ y : ℤ) (hα : α ≤ 16777216) (hA : A ≤ 33554432) (hX : 8388608 ≤ X) (k₁ : natAbs y₁ ≤ 2 * X) (k₂ : natAbs y₂ ≤ 2 * X)
     (c : Steps α A b₀ b₁ b₂ x₀ x₁ x₂ y₁ y₂ y) where
@@ -130,7 +141,8 @@ module _ (N α A b₀ b₁ b₂ X : ℕ) (x₀ x₁ x₂ y₁ y₂ y : ℤ) (hα
       (le-trans (abs-from S₃ (S₂ -ℤ Q₁)) (add-le-add (le-refl (natAbs (S₃ -ℤ (S₂ -ℤ Q₁)))) (abs-minus S₂ Q₁)))
       (a₁ .0) (a₂ .0) (back′ (natAbs Q₁) (4 * X) (a₁ .1) (omega (arith, hX))) (back′ (natAbs Q₂) (2 * X) (a₂ .1) (omega (arith, hX)))
 
-  pub small : N ≤ 192000 → N * N * (b₀ + b₁ + b₂) ≤ 169624139315235782656 → natAbs x₀ ≤ X → natAbs x₁ ≤ X → natAbs x₂ ≤ X → N * N * natAbs (residue α A y y₁ y₂) ≤ 10968833091174 * X
+  pub small : N ≤ 192000 → N * N * (b₀ + b₁ + b₂) ≤ 169624139315235782656 → natAbs x₀ ≤ X → natAbs x₁ ≤ X → natAbs x₂ ≤ X
+      → N * N * natAbs (residue α A y y₁ y₂) ≤ 10968833091174 * X
   small hN hb h₀ h₁ h₂ =
       let p₀ : ℕ = natAbs (c .P₀) in
       let p₁ : ℕ = natAbs (c .P₁) in

@@ -5,7 +5,7 @@ use mathlib.Core.Bool.{Bool, _&&_}
 use lib.Dec.{T}
 use lib.IntN.{ℤ, pos, _+ℤ_, _-ℤ_, _*ℤ_}
 use lib.Signed.{nonNeg}
-use Rattle.lowpass.proofs.Tests.{both}
+use lib.Ieee.Fits.{and-l, and-r}
 use Rattle.ieee.proofs.Ring.{R, var, con, _⊕_, _⊖_, _⊗_, ring}
 use Rattle.ieee.proofs.NotNegative.{NN, nn-test, nn-add, nn-mul, nn-sq, nn-by, posZ, nn-of-pos, nn-cancel}
 
@@ -30,13 +30,13 @@ definite a b c d e f t x y z =
     let E : ℤ = a *ℤ e -ℤ b *ℤ c in
     let G : ℤ = a *ℤ f -ℤ c *ℤ c in
     let H : ℤ = D *ℤ G -ℤ E *ℤ E in
-    let p : T (posZ a) × T (posZ D && nonNeg H) = both (posZ a) (posZ D && nonNeg H) t in
-    let q : T (posZ D) × T (nonNeg H) = both (posZ D) (nonNeg H) (p .1) in
+    let p : T (posZ D && nonNeg H) = and-r (posZ a) (posZ D && nonNeg H) t in
+    let q : T (posZ D) = and-l (posZ D) (nonNeg H) p in
     let u : ℤ = a *ℤ x +ℤ b *ℤ y +ℤ c *ℤ z in
     let v : ℤ = D *ℤ y +ℤ E *ℤ z in
-    nn-cancel a (form a b c d e f x y z) (p .0) (nn-cancel D (a *ℤ form a b c d e f x y z) (q .0)
+    nn-cancel a (form a b c d e f x y z) (and-l (posZ a) (posZ D && nonNeg H) t) (nn-cancel D (a *ℤ form a b c d e f x y z) q
     (nn-by (squares a b c d e f x y z)
-    (nn-add (nn-add (nn-mul (nn-of-pos D (q .0)) (nn-sq u)) (nn-sq v)) (nn-mul (nn-test H (q .1)) (nn-sq z)))))
+    (nn-add (nn-add (nn-mul (nn-of-pos D q) (nn-sq u)) (nn-sq v)) (nn-mul (nn-test H (and-r (posZ D) (nonNeg H) p)) (nn-sq z)))))
   where
     squares : (a b c d e f x y z : ℤ) →
         let D = a *ℤ d -ℤ b *ℤ b in

@@ -15,11 +15,11 @@ use Rattle.angles.specs.declared.filter.Coefficients.{Coefficients}
 use Rattle.angles.proofs.Theorems.{lowpass-only}
 use Rattle.angles.proofs.Made.{one-24, Made}
 use Rattle.angles.proofs.Sizes.{Sized, sized, whole, coefficients-made}
-use Rattle.lowpass.specs.Lowpass.{BiquadLowpassState, unfed, new, next, filtered, afterAll}
+use Rattle.lowpass.specs.Lowpass.{BiquadLowpassState, unfed, new, next, afterAll}
 use Rattle.lowpass.specs.Bound.{Bounded, All, Range, largest, Twice}
 use Rattle.lowpass.proofs.Passing.{Passing}
 use Rattle.lowpass.proofs.Box as box
-use Rattle.lowpass.proofs.Calm.{Calm, last-bounded, calm-start, calm-all, filtered-bounded}
+use Rattle.lowpass.proofs.Calm.{Calm, last-bounded, calm-start, calm-all}
 
 -- ---- the coefficients lie in the box
 one-48 : One ≡ 281474976710656 * 2 ^ 101
@@ -61,10 +61,6 @@ new-meant l m = ap unfed (sym (lowpass-only l m))
 pub calm-listed : {rate : ℕ} → Listed rate → (X : ℕ) → Calm X (new rate)
 unfolding new
 calm-listed {rate} l X = calm-start rate X (coefficientsAt rate) (listed-passes l)
-
--- samples of size at most X give outputs of size at most 2 X
-pub lowpass-bounded : {rate X : ℕ} → Listed rate → Range X → (xs : List Float) → All (Bounded X) xs → All (Bounded (2 * X)) (filtered (new rate) xs)
-lowpass-bounded {rate} {X} l r xs h = filtered-bounded r (calm-listed l X) xs h
 
 -- ---- fed xs: calm for every X that is in range and not below the largest of them
 within : {X : ℕ} (xs : List Float) → All F32 xs → largest xs ≤ X → All (Bounded X) xs

@@ -48,14 +48,16 @@ module _ (X : ℕ) (some : 1 ≤ X) (high : 32 * X ≤ most) where
       let r = add-near (s .f32) (t .f32) (in-range (m + n) h l) in
       (total m n r h l, r .1)
 
-  minus : {x y : Float} (m n : ℕ) → Bounded (m * X) x → Bounded (n * X) y → m + n ≤ 32 → Bounded (suc (m + n) * X) (sub binary32 x y) × Sum (val (sub binary32 x y)) (val x -ℤ val y)
+  minus : {x y : Float} (m n : ℕ) → Bounded (m * X) x → Bounded (n * X) y → m + n ≤ 32
+      → Bounded (suc (m + n) * X) (sub binary32 x y) × Sum (val (sub binary32 x y)) (val x -ℤ val y)
   minus {x} {y} m n s t l =
       let h : natAbs (val x -ℤ val y) ≤ (m + n) * X = together m n (abs-minus (val x) (val y)) (abs-most s) (abs-most t) in
       let r = sub-near (s .f32) (t .f32) (in-range (m + n) h l) in
       (total m n r h l, r .1)
 
   -- the product of a sample and b0, b1 or b2
-  fed : {b x : Float} {β : ℕ} → Ratio b (pos β) 281474976710656 → β ≤ 281474976710656 → Bounded X x → Bounded (2 * X) (mul binary32 b x) × Near (val (mul binary32 b x)) (pos β *ℤ val x) 281474976710656
+  fed : {b x : Float} {β : ℕ} → Ratio b (pos β) 281474976710656 → β ≤ 281474976710656 → Bounded X x
+      → Bounded (2 * X) (mul binary32 b x) × Near (val (mul binary32 b x)) (pos β *ℤ val x) 281474976710656
   fed q h s = product 1 1 (lit< tt) q (le-trans h (lit≤ tt)) (bounded-by (le-of-eq (sym (one-mul X))) s) (lit≤ tt) (lit≤ tt)
 
   -- the whole step
@@ -74,5 +76,23 @@ module _ (X : ℕ) (some : 1 ≤ X) (high : 32 * X ≤ most) where
       let S₃ = minus 8 8 (S₂ .0) (Q₁ .0) (lit≤ tt) in
       let S = minus 17 4 (S₃ .0) (Q₂ .0) (lit≤ tt) in (
         S .0 .f32,
-        record { P₀ = _; P₁ = _; P₂ = _; Q₁ = _; Q₂ = _; S₁ = _; S₂ = _; S₃ = _; p₀ = P₀ .1; p₁ = P₁ .1; p₂ = P₂ .1; q₁ = Q₁ .1; q₂ = Q₂ .1; s₁ = S₁ .1; s₂ = S₂ .1; s₃ = S₃ .1; s = S .1 },
+        record {
+          P₀ = _;
+          P₁ = _;
+          P₂ = _;
+          Q₁ = _;
+          Q₂ = _;
+          S₁ = _;
+          S₂ = _;
+          S₃ = _;
+          p₀ = P₀ .1;
+          p₁ = P₁ .1;
+          p₂ = P₂ .1;
+          q₁ = Q₁ .1;
+          q₂ = Q₂ .1;
+          s₁ = S₁ .1;
+          s₂ = S₂ .1;
+          s₃ = S₃ .1;
+          s = S .1;
+        },
       )

@@ -64,7 +64,8 @@ module _ {X : ℕ} {f : BiquadLowpassState} (c : Calm X f) (s : Still f) where
       let b21 = ap₂ (add binary32) p2 p1 ∙ add-zeros (sign (f .b2)) (sign (f .b1)) in
       let b = ap₂ (add binary32) b21 p0 ∙ add-zeros (sign (f .b2) && sign (f .b1)) (sign (f .b0)) in
       let a1 = ap₂ (sub binary32) b q1 ∙ minus-zeros ((sign (f .b2) && sign (f .b1)) && sign (f .b0)) true in
-      ap₂ (sub binary32) a1 q2 ∙ minus-zeros (((sign (f .b2) && sign (f .b1)) && sign (f .b0)) && false) (sign (f .a2)) ∙ zero-sum ((sign (f .b2) && sign (f .b1)) && sign (f .b0)) (sign (f .a2))
+      ap₂ (sub binary32) a1 q2 ∙ minus-zeros (((sign (f .b2) && sign (f .b1)) && sign (f .b0)) && false) (sign (f .a2))
+      ∙ zero-sum ((sign (f .b2) && sign (f .b1)) && sign (f .b0)) (sign (f .a2))
 
   pub still-next : Still (next f 0·0)
   still-next = record { x1 = refl; x2 = s .x1; y1 = still-output; y2 = s .y1 }

@@ -12,8 +12,7 @@ pub use Rattle.ieee.specs.Numbers.{0·0}
 abbrev pub unfed : Coefficients → BiquadLowpassState
 unfed c = record { a1 = c .a1; a2 = c .a2; b0 = c .b0; b1 = c .b1; b2 = c .b2; x1 = 0·0; x2 = 0·0; y1 = 0·0; y2 = 0·0 }
 
--- Document 01, item 1: "`BiquadLowpassState::new` gives the coefficients from them", the cosine and the sine of w0: `LowpassAt` of angles/specs/Filter, by `new-meant` of
--- proofs/Rates
+-- Document 01, item 1: "`BiquadLowpassState::new` gives the coefficients from them", the cosine and the sine of w0: those of `LowpassAt` of angles/specs/Filter (`new-meant`)
 unfoldable pub new : ℕ → BiquadLowpassState
 new rate = unfed (coefficientsAt rate)
 

@@ -7,12 +7,13 @@ use lib.ListN.{length, take, drop, length-set, drop-of-length-le}
 use lib.Seq.{take-all}
 use borrow.Author.Needs.{needs}
 use Rattle.lowpass.specs.Lowpass.{filtered, afterAll}
-use Rattle.lowpass.proofs.Laws.{state-more, list-more}
+use Rattle.lowpass.proofs.InPlace.{state-more, list-more}
 use Rattle.lowpass.proofs.BiquadLowpassState.process_in_place.Statement.{statement}
 use Rattle.lowpass.proofs.BiquadLowpassState.process_in_place.Tie as tie
 
 abbrev Inv-loop : tie.InvT-loop
-Inv-loop samples₀ filter₀ i₀ samples filter i = (i ≤ length samples) × (length samples ≡ length samples₀) × (afterAll filter (drop i samples) ≡ afterAll filter₀ samples₀) × (take i samples ++ filtered filter (drop i samples) ≡ filtered filter₀ samples₀)
+Inv-loop samples₀ filter₀ i₀ samples filter i = (i ≤ length samples) × (length samples ≡ length samples₀) × (afterAll filter (drop i samples) ≡ afterAll filter₀ samples₀)
+    × (take i samples ++ filtered filter (drop i samples) ≡ filtered filter₀ samples₀)
 
 abbrev μ-loop : tie.MeasureT-loop
 μ-loop samples₀ filter₀ i₀ samples filter i = length samples₀ - i
@@ -21,8 +22,12 @@ loop-again : tie.Need-loop-again Inv-loop μ-loop
 loop-again c =
     let l = c .before .before .before .before in
     let e = c .before .process .ensures in
-    let h : l .loop .i < length (l .loop .samples) = omega arith in
-    (simp length-set (omega arith), simp length-set (omega arith), rw (e .1) (state-more (l .loop .filter) (l .loop .samples) (l .loop .i) h _ ∙ l .loop .inv .2), rw (e .0, e .1) (list-more (l .loop .filter) (l .loop .samples) (l .loop .i) h ∙ l .loop .inv .3))
+    let h : l .loop .i < length (l .loop .samples) = omega arith in (
+      simp length-set (omega arith),
+      simp length-set (omega arith),
+      rw (e .1) (state-more (l .loop .filter) (l .loop .samples) (l .loop .i) h _ ∙ l .loop .inv .2),
+      rw (e .0, e .1) (list-more (l .loop .filter) (l .loop .samples) (l .loop .i) h ∙ l .loop .inv .3),
+    )
 
 returns : tie.Need-returns Inv-loop μ-loop
 returns c =

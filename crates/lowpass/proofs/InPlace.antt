@@ -1,4 +1,4 @@
--- Laws of `process_in_place`: a sample more, at the front of what is left. Assumes nothing.
+-- The loop of `process_in_place`: a sample more, at the front of what is left. Assumes nothing.
 use mathlib.Core.Path.{_≡_, _∙_}
 use mathlib.Core.List.{List, [], _∷_, _++_, append-assoc}
 use Prim.Native.Nat.{ℕ, suc, _+_, _<_}
