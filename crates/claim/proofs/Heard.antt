@@ -25,7 +25,7 @@ use Rattle.panning.specs.Choice.{keep, everyOf, orList, first, below, above, le
 use Rattle.panning.specs.Choice as choice
 use Rattle.panning.specs.Terms as terms
 use Rattle.panning.specs.Terms.{ratio, ahead, across, rowWeight, coefficient, innerGain, extra, panned, audible, paired, onChannel}
-use Rattle.panning.specs.Hall.{positions714, hall714}
+use Rattle.panning.specs.Speakers.{positions714, hall714}
 use Rattle.fields.specs.Bytes.{all}
 use Rattle.fields.specs.Update.{codesFit, isUpdate}
 use Rattle.records.specs.Runs.{some, last, each}

@@ -17,7 +17,7 @@ use Rattle.timed.specs.State.{slotAt}
 use Rattle.updates.specs.Applied.{applied}
 use Rattle.panning.specs.Choice.{corner}
 use Rattle.panning.specs.Terms.{panned, audible, paired}
-use Rattle.panning.specs.Hall.{hall714}
+use Rattle.panning.specs.Speakers.{hall714}
 use Rattle.limiter.specs.Limiter.{scaled, lowered, blockPeak}
 use Rattle.rules.specs.Parts.{1·0, Places, floats}
 use Rattle.store.specs.Layout.{blank}

@@ -18,7 +18,7 @@ use Rattle.timed.specs.State.{slotAt}
 use Rattle.updates.specs.Said.{Update}
 use Rattle.updates.specs.Applied.{newSource, applied}
 use Rattle.panning.specs.Terms.{term}
-use Rattle.panning.specs.Hall.{terms714}
+use Rattle.panning.specs.Speakers.{terms714}
 use Rattle.limiter.specs.Limiter.{0·9, blockPeak}
 use Rattle.rules.specs.Parts.{0·0, 1·0, twelve, Places, floats}
 use Rattle.rules.specs.Samples.{limited}

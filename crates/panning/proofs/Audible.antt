@@ -177,11 +177,16 @@ module _ (ch : Corner → ℕ) (x : Corner → Float) (once : (c d : Corner) →
   absent-rest c n [] h = tt
   absent-rest c n (d ∷ cs) h = go (eq (x d) 0·0) (λ z. z) (absent-rest c n cs (and-r (differ c d) (differs c cs) h))
     where
-      go : (b : Bool) → (T (not b) → T (not (eq (x d) 0·0))) → T (absent (ch c) (audible (map of cs))) → T (absent (ch c) (cond (not b) (of d ∷ audible (map of cs)) (audible (map of cs))))
+      go : (b : Bool) → (T (not b) → T (not (eq (x d) 0·0))) → T (absent (ch c) (audible (map of cs)))
+          → T (absent (ch c) (cond (not b) (of d ∷ audible (map of cs)) (audible (map of cs))))
       go true z r = r
       go false z r =
           and-i (not (eqb (ch c) (ch d))) (absent (ch c) (audible (map of cs)))
-          (not-T (eqb (ch c) (ch d)) (λ e. elim (once c d (and-l (differ c d) (differs c cs) h) (eqb→eq (ch c) (ch d) e)) [ inl w ↦ T-not (eq (x c) 0·0) n w | inr w ↦ T-not (eq (x d) 0·0) (z tt) w ])) r
+          (not-T (eqb (ch c) (ch d)) (λ e. elim (once c d (and-l (differ c d) (differs c cs) h) (eqb→eq (ch c) (ch d) e)) [
+            | inl w ↦ T-not (eq (x c) 0·0) n w
+            | inr w ↦ T-not
+                (eq (x d) 0·0) (z tt) w
+          ])) r
 
   pub apart-audible : (cs : List Corner) → T (Differ cs) → T (apart (audible (map of cs)))
   unfolding Differ audible apart ne

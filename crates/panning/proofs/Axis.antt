@@ -130,7 +130,8 @@ module _ (c : ℕ → Float) (v : Float) (l : List ℕ) where
 
   pub ends : Each (λ s. F32 (c s)) l → Some l → Ends
   unfolding end below above
-  ends f m = filled (λ s. T (le (c s) v)) (λ s. T (not (le (c s) v))) (below c v l) (above c v l) (one (le (c (m .0)) v) (λ t. t) (λ t. t)) (λ s n. below→ n .1) (λ s n. above→ n .1)
+  ends f m = filled (λ s. T (le (c s) v)) (λ s. T (not (le (c s) v))) (below c v l) (above c v l) (one (le (c (m .0)) v) (λ t. t) (λ t. t)) (λ s n. below→ n .1)
+      (λ s n. above→ n .1)
     where
       kept : (g : ℕ → Bool) → T (g (m .0)) → Some (keep g l)
       kept g t = (m .0, →keep g l (m .1) t)

@@ -72,6 +72,7 @@ pub ratio-part : (a b v : Float) → Unitary a → Unitary b → T (fits binary3
 unfolding ratio
 ratio-part a b v ta tb fv w = go (eq a b) (λ t. t) (λ t. elim w [ inl e ↦ absurd (T-not (eq a b) t e) | inr h ↦ inside a b v ta tb fv (h .0) (h .1) ])
   where
-    go : (c : Bool) → (T c → T (eq a b)) → (T (not c) → Part (div binary32 (sub binary32 v a) (sub binary32 b a))) → Part (cond c 0·0 (div binary32 (sub binary32 v a) (sub binary32 b a)))
+    go : (c : Bool) → (T c → T (eq a b)) → (T (not c) → Part (div binary32 (sub binary32 v a) (sub binary32 b a)))
+        → Part (cond c 0·0 (div binary32 (sub binary32 v a) (sub binary32 b a)))
     go true h k = left-over 0·0 zero-f32 refl (subst (λ (n : ℕ). n ≤ One) (sym zero-mag) zero-le)
     go false h k = k tt

@@ -1,4 +1,5 @@
--- The eight corners of a position exist and are speakers of the table; about each axis they are equal or lie on the two sides of the position. So each share lies from 0 to 1. Assumes nothing.
+-- The eight corners of a position exist and are speakers of the table; about each axis they are equal or lie on the two sides of the position. So each share lies from 0 to 1.
+-- Assumes nothing.
 use mathlib.Core.Path.{refl, subst}
 use mathlib.Core.Logic.{inl, inr}
 use mathlib.Core.Bool.{Bool, true, false}
@@ -28,7 +29,8 @@ module _ (X : ℕ → Float) (v : Float) (g : T (fits binary32 v)) (l : List ℕ
           let d = ends X v l f s in
           let low = first-in (end false X v l) (d .low-some) in
           elim (d .apart) [
-            | inl e ↦ inl (subst (λ (k : List ℕ). T (eq (X (first (end false X v l))) (X (first k)))) e (eq-self (X (first (end false X v l))) (f (first (end false X v l)) (end→ X v l false low))))
+            | inl e ↦ inl (subst (λ (k : List ℕ). T (eq (X (first (end false X v l))) (X (first k)))) e
+                (eq-self (X (first (end false X v l))) (f (first (end false X v l)) (end→ X v l false low))))
             | inr h ↦ inr (h .0 (first (end false X v l)) low, h .1 (first (end true X v l)) (first-in (end true X v l) (d .high-some)))
           ]
 
@@ -84,7 +86,8 @@ module _ (sp : ℕ → Vec3) (l : List ℕ) (t : Table sp l) (p : Vec3) where
   side-some : (b c d : Bool) → Some (side d sp p (rowAmong c sp p (layer b sp p l)))
   unfolding side flank
   side-some b c false = ends X (p .x) (rowAmong c sp p (layer b sp p l)) (row-x b c) (row-some b c) .low-some
-  side-some b c true = orElse-some (level X (p .x) (rowAmong c sp p (layer b sp p l))) (end true X (p .x) (rowAmong c sp p (layer b sp p l))) (ends X (p .x) (rowAmong c sp p (layer b sp p l)) (row-x b c) (row-some b c) .high-some)
+  side-some b c true = orElse-some (level X (p .x) (rowAmong c sp p (layer b sp p l))) (end true X (p .x) (rowAmong c sp p (layer b sp p l)))
+      (ends X (p .x) (rowAmong c sp p (layer b sp p l)) (row-x b c) (row-some b c) .high-some)
 
   pub corner-in-row : (b c d : Bool) → In (cornerAt (corner sp l p) b c d) (rowAmong c sp p (layer b sp p l))
   unfolding corner
@@ -104,14 +107,19 @@ module _ (sp : ℕ → Vec3) (l : List ℕ) (t : Table sp l) (p : Vec3) where
   up-beside : Beside (Y (cornerAt (corner sp l p) false true false)) (Y (cornerAt (corner sp l p) true true false)) (p .y)
   unfolding corner layer
   up-beside = elim (layers .apart) [
-    | inl e ↦ inl (subst (λ (k : List ℕ). T (eq (Y (cornerAt (corner sp l p) false true false)) (Y (first (side false sp p (rowAmong true sp p k)))))) e (eq-self (Y (cornerAt (corner sp l p) false true false)) (corner-tame false true false .y .f32)))
-    | inr h ↦ inr (h .0 (cornerAt (corner sp l p) false true false) (corner-in-layer false true false), h .1 (cornerAt (corner sp l p) true true false) (corner-in-layer true true false))
+    | inl e ↦ inl (subst (λ (k : List ℕ). T (eq (Y (cornerAt (corner sp l p) false true false)) (Y (first (side false sp p (rowAmong true sp p k)))))) e
+        (eq-self (Y (cornerAt (corner sp l p) false true false)) (corner-tame false true false .y .f32)))
+    | inr h ↦ inr (
+      h .0 (cornerAt (corner sp l p) false true false) (corner-in-layer false true false),
+      h .1 (cornerAt (corner sp l p) true true false) (corner-in-layer true true false),
+    )
   ]
 
   ahead-beside : (b : Bool) → Beside (Z (cornerAt (corner sp l p) b false false)) (Z (cornerAt (corner sp l p) b true false)) (p .z)
   unfolding corner rowAmong
   ahead-beside b = elim (rows b .apart) [
-    | inl e ↦ inl (subst (λ (k : List ℕ). T (eq (Z (cornerAt (corner sp l p) b false false)) (Z (first (side false sp p k))))) e (eq-self (Z (cornerAt (corner sp l p) b false false)) (corner-tame b false false .z .f32)))
+    | inl e ↦ inl (subst (λ (k : List ℕ). T (eq (Z (cornerAt (corner sp l p) b false false)) (Z (first (side false sp p k))))) e
+        (eq-self (Z (cornerAt (corner sp l p) b false false)) (corner-tame b false false .z .f32)))
     | inr h ↦ inr (h .0 (cornerAt (corner sp l p) b false false) (corner-in-row b false false), h .1 (cornerAt (corner sp l p) b true false) (corner-in-row b true false))
   ]
 
@@ -123,12 +131,15 @@ module _ (sp : ℕ → Vec3) (l : List ℕ) (t : Table sp l) (p : Vec3) where
     -- (b) every share lies from 0 to 1, and so does what it leaves
     pub up-part : Part (up sp (corner sp l p) p)
     unfolding up
-    up-part = ratio-part (Y (cornerAt (corner sp l p) false true false)) (Y (cornerAt (corner sp l p) true true false)) (p .y) (corner-tame false true false .y) (corner-tame true true false .y) (q .y) up-beside
+    up-part = ratio-part (Y (cornerAt (corner sp l p) false true false)) (Y (cornerAt (corner sp l p) true true false)) (p .y) (corner-tame false true false .y)
+        (corner-tame true true false .y) (q .y) up-beside
 
     pub ahead-part : (b : Bool) → Part (ahead sp (corner sp l p) p b)
     unfolding ahead
-    ahead-part b = ratio-part (Z (cornerAt (corner sp l p) b false false)) (Z (cornerAt (corner sp l p) b true false)) (p .z) (corner-tame b false false .z) (corner-tame b true false .z) (q .z) (ahead-beside b)
+    ahead-part b = ratio-part (Z (cornerAt (corner sp l p) b false false)) (Z (cornerAt (corner sp l p) b true false)) (p .z) (corner-tame b false false .z)
+        (corner-tame b true false .z) (q .z) (ahead-beside b)
 
     pub across-part : (b c : Bool) → Part (across sp (corner sp l p) p b c)
     unfolding across
-    across-part b c = ratio-part (X (cornerAt (corner sp l p) b c false)) (X (cornerAt (corner sp l p) b c true)) (p .x) (corner-tame b c false .x) (corner-tame b c true .x) (q .x) (across-beside b c)
+    across-part b c = ratio-part (X (cornerAt (corner sp l p) b c false)) (X (cornerAt (corner sp l p) b c true)) (p .x) (corner-tame b c false .x) (corner-tame b c true .x)
+        (q .x) (across-beside b c)

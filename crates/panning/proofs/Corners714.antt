@@ -1,4 +1,5 @@
--- The corners of the 7.1.4 hall are those of the choice, for a position of any floats. Along each axis the choice depends on a few tests of the position: it is computed for each outcome of them. Assumes nothing.
+-- The corners of the 7.1.4 hall are those of the choice, for a position of any floats. Along each axis the choice depends on a few tests of the position: it is computed for
+-- each outcome of them. Assumes nothing.
 use mathlib.Core.Path.{_≡_, refl, sym, ap, subst, fun-ext}
 use mathlib.Core.Bool.{Bool, true, false, not, _&&_, _||_, cond}
 use mathlib.Core.List.{List, [], _∷_}
@@ -14,7 +15,7 @@ use Rattle.panning.specs.Choice.{0·0, keep, everyOf, orList, first, ge,
 use Rattle.panning.specs.declared.Ends.{Ends}
 use Rattle.panning.specs.Found.{sideOf, rowOf, layerOf, chosen, Inside}
 use Rattle.panning.specs.Corners714.{pairEnds, narrowEnds, wideEnds, frontEnds, floorEnds, ceilingEnds, cube714}
-use Rattle.panning.specs.Hall.{positions714, hall714, fullRange, diagonal, surround, one}
+use Rattle.panning.specs.Speakers.{positions714, hall714, fullRange, diagonal, surround, one}
 
 abbrev floor : List ℕ
 floor = 0 ∷ 1 ∷ 2 ∷ 4 ∷ 5 ∷ 6 ∷ 7 ∷ []
@@ -179,7 +180,8 @@ past (fin s m e) (fin t n d) (inf true) f g w h k = absurd k
 past (fin s m e) (fin t n d) (inf false) f g w h k = tt
 past (fin s m e) (fin t n d) (fin u o c) f g w h k =
     let i : F32 (fin u o c) = record { fine = tt; fit = w } in
-    →lt (fin s m e) (fin u o c) f i (through (P (fin s m e)) (N (fin s m e)) (P (fin t n d)) (N (fin t n d)) (P (fin u o c)) (N (fin u o c)) (lt→ (fin s m e) (fin t n d) f g h) (le→ (fin t n d) (fin u o c) g i k))
+    →lt (fin s m e) (fin u o c) f i (through (P (fin s m e)) (N (fin s m e)) (P (fin t n d)) (N (fin t n d)) (P (fin u o c)) (N (fin u o c)) (lt→ (fin s m e) (fin t n d) f g h)
+    (le→ (fin t n d) (fin u o c) g i k))
   where
     through : (a a' b b' c c' : ℕ) → a + b' < b + a' → b + c' ≤ c + b' → a + c' < c + a'
     through a a' b b' c c' h k = omega arith
@@ -214,9 +216,11 @@ module _ (p : Vec3) (w : T (fits binary32 (p .x))) where
         let b = at·0 i in
         let c = past·0 j in
         let d = at·0 j in
-        let t = at-all (pair-right i j a b c) (at-all (λ c. all (pair-right i j a b c)) (at-all (λ b. all (λ c. all (pair-right i j a b c))) (at-all (λ a. all (λ b. all (λ c. all (pair-right i j a b c)))) (r .right-all) a) b) c) d in
+        let t = at-all (pair-right i j a b c) (at-all (λ c. all (pair-right i j a b c))
+        (at-all (λ b. all (λ c. all (pair-right i j a b c))) (at-all (λ a. all (λ b. all (λ c. all (pair-right i j a b c)))) (r .right-all) a) b) c) d in
         implied (exclusive a b && (exclusive c d && beyond a c d)) _ t
-        (and-i (exclusive a b) _ (exclusive-at (X i) (p .x) (r .left) w) (and-i (exclusive c d) (beyond a c d) (exclusive-at (X j) (p .x) (r .right) w) (beyond-at (X i) (X j) (p .x) (r .left) (r .right) w (r .order))))
+        (and-i (exclusive a b) _ (exclusive-at (X i) (p .x) (r .left) w)
+        (and-i (exclusive c d) (beyond a c d) (exclusive-at (X j) (p .x) (r .right) w) (beyond-at (X i) (X j) (p .x) (r .left) (r .right) w (r .order))))
 
     pair-is : (right : Bool) → sides right ≡ sideOf right (pairEnds i j (X i) (X j) (p .x))
     pair-is false = eqb→eq (sides false) _ (and-l (eqb (sides false) (cond (le (X j) (p .x)) j i)) _ both)
@@ -239,7 +243,8 @@ module _ (p : Vec3) (w : T (fits binary32 (p .x))) where
   row-1011 = record { is = λ right. elim right [ false ↦ pair-is 10 11 (four .3) false | true ↦ pair-is 10 11 (four .3) true ] }
 
   thirds : Bool → ℕ
-  thirds right = first (flankBy right X (λ k. cond (eqb k 0) (le (X 0) (p .x)) (cond (eqb k 1) (le (X 1) (p .x)) (le (X 2) (p .x)))) (λ k. cond (eqb k 0) (at·0 0) (cond (eqb k 1) (at·0 1) (at·0 2))) (0 ∷ 1 ∷ 2 ∷ []))
+  thirds right = first (flankBy right X (λ k. cond (eqb k 0) (le (X 0) (p .x)) (cond (eqb k 1) (le (X 1) (p .x)) (le (X 2) (p .x))))
+      (λ k. cond (eqb k 0) (at·0 0) (cond (eqb k 1) (at·0 1) (at·0 2))) (0 ∷ 1 ∷ 2 ∷ []))
 
   all-three : T (eqb (thirds false) (cond (le (X 1) (p .x)) 1 (cond (le (X 2) (p .x)) 2 0)) && eqb (thirds true) (cond (past·0 2) 1 (cond (past·0 0) 2 0)))
   unfolding le thirds
@@ -250,10 +255,15 @@ module _ (p : Vec3) (w : T (fits binary32 (p .x))) where
       let d = at·0 2 in
       let e = past·0 1 in
       let f = at·0 1 in
-      let t = at-all (three-right a b c d e) (at-all (λ e. all (three-right a b c d e)) (at-all (λ d. all (λ e. all (three-right a b c d e))) (at-all (λ c. all (λ d. all (λ e. all (three-right a b c d e)))) (at-all (λ b. all (λ c. all (λ d. all (λ e. all (three-right a b c d e))))) (at-all (λ a. all (λ b. all (λ c. all (λ d. all (λ e. all (three-right a b c d e)))))) three a) b) c) d) e) f in
+      let t = at-all (three-right a b c d e) (at-all (λ e. all (three-right a b c d e))
+      (at-all (λ d. all (λ e. all (three-right a b c d e))) (at-all (λ c. all (λ d. all (λ e. all (three-right a b c d e))))
+      (at-all (λ b. all (λ c. all (λ d. all (λ e. all (three-right a b c d e)))))
+      (at-all (λ a. all (λ b. all (λ c. all (λ d. all (λ e. all (three-right a b c d e)))))) three a) b) c) d) e) f in
       implied (exclusive a b && (exclusive c d && (exclusive e f && (beyond a c d && beyond c e f)))) _ t
-      (and-i (exclusive a b) _ (exclusive-at (X 0) (p .x) (centre .0) w) (and-i (exclusive c d) _ (exclusive-at (X 2) (p .x) (centre .1) w) (and-i (exclusive e f) _ (exclusive-at (X 1) (p .x) (centre .2) w)
-      (and-i (beyond a c d) (beyond c e f) (beyond-at (X 0) (X 2) (p .x) (centre .0) (centre .1) w (centre .3)) (beyond-at (X 2) (X 1) (p .x) (centre .1) (centre .2) w (centre .4))))))
+      (and-i (exclusive a b) _ (exclusive-at (X 0) (p .x) (centre .0) w)
+      (and-i (exclusive c d) _ (exclusive-at (X 2) (p .x) (centre .1) w) (and-i (exclusive e f) _ (exclusive-at (X 1) (p .x) (centre .2) w)
+      (and-i (beyond a c d) (beyond c e f) (beyond-at (X 0) (X 2) (p .x) (centre .0) (centre .1) w (centre .3))
+      (beyond-at (X 2) (X 1) (p .x) (centre .1) (centre .2) w (centre .4))))))
 
   row-012 : Sides p (0 ∷ 1 ∷ 2 ∷ []) (frontEnds (p .x))
   unfolding thirds side flank level end below above outermost keep everyOf orList first hall714 positions714
@@ -275,9 +285,11 @@ module _ (p : Vec3) (w : T (fits binary32 (p .x))) where
   floor-sides : (front : Bool) → Sides p (rowAmong front hall714 p floor) (rowOf front (floorEnds (p .z) (p .x)))
   unfolding rowAmong end below above hall714 positions714
   floor-sides true =
-      moved (floor-rows true (le (one true) (p .z)) (le (surround true) (p .z)) (le (one false) (p .z))) (either (either row-012 row-67 (le (surround true) (p .z))) row-45 (le (one true) (p .z)))
+      moved (floor-rows true (le (one true) (p .z)) (le (surround true) (p .z)) (le (one false) (p .z)))
+      (either (either row-012 row-67 (le (surround true) (p .z))) row-45 (le (one true) (p .z)))
   floor-sides false =
-      moved (floor-rows false (le (one true) (p .z)) (le (surround true) (p .z)) (le (one false) (p .z))) (either row-012 (either row-67 row-45 (le (surround true) (p .z))) (le (one false) (p .z)))
+      moved (floor-rows false (le (one true) (p .z)) (le (surround true) (p .z)) (le (one false) (p .z)))
+      (either row-012 (either row-67 row-45 (le (surround true) (p .z))) (le (one false) (p .z)))
 
   ceiling-sides : (front : Bool) → Sides p (rowAmong front hall714 p ceiling) (rowOf front (ceilingEnds (p .z) (p .x)))
   unfolding rowAmong end below above hall714 positions714
@@ -327,7 +339,10 @@ module _ (z x : Float) where
   few-wide = few-pair 6 7 (one true) (one false) x (lit< tt) (lit< tt)
 
   few-floor : Few (floorEnds z x .front) × Few (floorEnds z x .rear)
-  few-floor = (few-either (le (one true) z) (few-either (le (surround true) z) few-front few-wide) few-narrow, few-either (le (one false) z) few-front (few-either (le (surround true) z) few-wide few-narrow))
+  few-floor = (
+    few-either (le (one true) z) (few-either (le (surround true) z) few-front few-wide) few-narrow,
+    few-either (le (one false) z) few-front (few-either (le (surround true) z) few-wide few-narrow),
+  )
 
   few-ceiling : Few (ceilingEnds z x .front) × Few (ceilingEnds z x .rear)
   few-ceiling =

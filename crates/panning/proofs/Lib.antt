@@ -12,5 +12,6 @@ pub mod Once
 pub mod Audible
 pub mod Roots
 pub mod Facts
-pub mod Hall
+pub mod Speakers
 pub mod Shared
+pub mod Theorems

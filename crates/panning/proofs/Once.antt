@@ -28,20 +28,25 @@ module _ (sp : ℕ → Vec3) (l : List ℕ) (t : Table sp l) (p : Vec3) (q : Pos
   one-layer : (c d c' d' : Bool) → cornerAt (corner sp l p) false c d ≡ cornerAt (corner sp l p) true c' d' → P (weight sp l p g true c' d') ≡ 0
   unfolding up corner layer
   one-layer c d c' d' e = no-up sp l t p q g G c' d' (elim (layers sp l t p .apart) [
-    | inl h ↦ ratio-none (sp (cornerAt (corner sp l p) false true false) .y) (sp (cornerAt (corner sp l p) true true false) .y) (p .y) (placed-at false true false .y .f32) (ap (λ (k : List ℕ). sp (first (side false sp p (rowAmong true sp p k))) .y) h)
-    | inr h ↦ absurd (T-not (le (sp (cornerAt (corner sp l p) true c' d') .y) (p .y)) (h .1 (cornerAt (corner sp l p) true c' d') (corner-in-layer sp l t p true c' d')) (subst (λ (k : ℕ). T (le (sp k .y) (p .y))) e (h .0 (cornerAt (corner sp l p) false c d) (corner-in-layer sp l t p false c d))))
+    | inl h ↦ ratio-none (sp (cornerAt (corner sp l p) false true false) .y) (sp (cornerAt (corner sp l p) true true false) .y) (p .y) (placed-at false true false .y .f32)
+        (ap (λ (k : List ℕ). sp (first (side false sp p (rowAmong true sp p k))) .y) h)
+    | inr h ↦ absurd (T-not (le (sp (cornerAt (corner sp l p) true c' d') .y) (p .y)) (h .1 (cornerAt (corner sp l p) true c' d') (corner-in-layer sp l t p true c' d'))
+        (subst (λ (k : ℕ). T (le (sp k .y) (p .y))) e (h .0 (cornerAt (corner sp l p) false c d) (corner-in-layer sp l t p false c d))))
   ])
 
   one-row : (b d d' : Bool) → cornerAt (corner sp l p) b false d ≡ cornerAt (corner sp l p) b true d' → P (weight sp l p g b true d') ≡ 0
   unfolding ahead corner rowAmong
   one-row b d d' e = no-ahead sp l t p q g G b d' (elim (rows sp l t p b .apart) [
-    | inl h ↦ ratio-none (sp (cornerAt (corner sp l p) b false false) .z) (sp (cornerAt (corner sp l p) b true false) .z) (p .z) (placed-at b false false .z .f32) (ap (λ (k : List ℕ). sp (first (side false sp p k)) .z) h)
-    | inr h ↦ absurd (T-not (le (sp (cornerAt (corner sp l p) b true d') .z) (p .z)) (h .1 (cornerAt (corner sp l p) b true d') (corner-in-row sp l t p b true d')) (subst (λ (k : ℕ). T (le (sp k .z) (p .z))) e (h .0 (cornerAt (corner sp l p) b false d) (corner-in-row sp l t p b false d))))
+    | inl h ↦ ratio-none (sp (cornerAt (corner sp l p) b false false) .z) (sp (cornerAt (corner sp l p) b true false) .z) (p .z) (placed-at b false false .z .f32)
+        (ap (λ (k : List ℕ). sp (first (side false sp p k)) .z) h)
+    | inr h ↦ absurd (T-not (le (sp (cornerAt (corner sp l p) b true d') .z) (p .z)) (h .1 (cornerAt (corner sp l p) b true d') (corner-in-row sp l t p b true d'))
+        (subst (λ (k : ℕ). T (le (sp k .z) (p .z))) e (h .0 (cornerAt (corner sp l p) b false d) (corner-in-row sp l t p b false d))))
   ])
 
   one-side : (b c : Bool) → cornerAt (corner sp l p) b c false ≡ cornerAt (corner sp l p) b c true → P (weight sp l p g b c true) ≡ 0
   unfolding across
-  one-side b c e = no-across sp l t p q g G b c (ratio-none (sp (cornerAt (corner sp l p) b c false) .x) (sp (cornerAt (corner sp l p) b c true) .x) (p .x) (placed-at b c false .x .f32) (ap (λ (k : ℕ). sp k .x) e))
+  one-side b c e = no-across sp l t p q g G b c
+      (ratio-none (sp (cornerAt (corner sp l p) b c false) .x) (sp (cornerAt (corner sp l p) b c true) .x) (p .x) (placed-at b c false .x .f32) (ap (λ (k : ℕ). sp k .x) e))
 
   one-bits : (b c d b' c' d' : Bool) → T (unlike b b' || unlike c c' || unlike d d') → cornerAt (corner sp l p) b c d ≡ cornerAt (corner sp l p) b' c' d'
       → (P (weight sp l p g b c d) ≡ 0) ⊎ (P (weight sp l p g b' c' d') ≡ 0)
@@ -69,5 +74,6 @@ module _ (sp : ℕ → Vec3) (l : List ℕ) (t : Table sp l) (p : Vec3) (q : Pos
   one-bits true true true true true true h e = absurd h
 
   -- (c) two corners that are one speaker: one of them has no weight
-  pub once : (c d : Corner) → T (differ c d) → corner sp l p c ≡ corner sp l p d → (P (weight sp l p g (c .top) (c .front) (c .right)) ≡ 0) ⊎ (P (weight sp l p g (d .top) (d .front) (d .right)) ≡ 0)
+  pub once : (c d : Corner) → T (differ c d) → corner sp l p c ≡ corner sp l p d
+      → (P (weight sp l p g (c .top) (c .front) (c .right)) ≡ 0) ⊎ (P (weight sp l p g (d .top) (d .front) (d .right)) ≡ 0)
   once c d h e = one-bits (c .top) (c .front) (c .right) (d .top) (d .front) (d .right) h e

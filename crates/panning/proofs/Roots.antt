@@ -1,4 +1,5 @@
--- The coefficients of the corners, and of a size: finite, from 0 to 8, the corners' the nearest roots of their weights. `near` says that `root` is the nearest square root. Assumes nothing else.
+-- The coefficients of the corners, and of a size: finite, from 0 to 8, the corners' the nearest roots of their weights. `near` says that `root` is the nearest square root.
+-- Assumes nothing else.
 use mathlib.Core.Path.{_≡_, refl, sym, ap, _∙_, subst}
 use mathlib.Core.Bool.{Bool, true, false, not, cond}
 use mathlib.Core.List.{List}
@@ -19,7 +20,7 @@ use Rattle.ieee.proofs.Share.{left-over}
 use Rattle.roots.specs.Root.{root}
 use Rattle.vectors.specs.declared.Vec3.{Vec3}
 use Rattle.panning.specs.Choice.{Corner, corner, 0·0, 1·0}
-use Rattle.panning.specs.Terms.{across, part, rowWeight, sideCoefficient, coefficient, innerGain, extra}
+use Rattle.panning.specs.Terms.{across, part, rowWeight, weighted, coefficient, innerGain, extra}
 use Rattle.panning.specs.Table.{Table, Position}
 use Rattle.panning.proofs.Tables.{Gain8, Size1}
 use Rattle.panning.proofs.Weighing.{Plus, Product, product, eight-grid, eight-less, weight, weights, zero-left}
@@ -59,7 +60,7 @@ module _ (near : Nearest root) where
   rooted x f n = record { f32 = near .f32 x f n; plus = near .plus x f n; root = near .near x f n }
 
   -- ---- the two sides of a row
-  side-rooted : (w s : Float) (d : Bool) {u v : ℕ} → Plus w u → Product w (part d s) v → Rooted (sideCoefficient w s d) (P (mul binary32 w (part d s)))
+  side-rooted : (w s : Float) (d : Bool) {u v : ℕ} → Plus w u → Product w (part d s) v → Rooted (weighted w (part d s)) (P (mul binary32 w (part d s)))
   unfolding ne
   side-rooted w s d f h = go (eq w 0·0) (λ z. z)
     where
@@ -70,7 +71,8 @@ module _ (near : Nearest root) where
       go true z = record {
         f32 = zero-f32;
         plus = refl;
-        root = subst (λ (k : ℕ). Root (P 0·0) (k * One)) (sym (none (z tt))) (subst (λ (k : ℕ). Root (P 0·0) k) (sym (zero-mul One)) (subst (λ (k : ℕ). Root k 0) (sym zero-mag) root-none));
+        root = subst (λ (k : ℕ). Root (P 0·0) (k * One)) (sym (none (z tt)))
+            (subst (λ (k : ℕ). Root (P 0·0) k) (sym (zero-mul One)) (subst (λ (k : ℕ). Root k 0) (sym zero-mag) root-none));
       }
       go false z = rooted (mul binary32 w (part d s)) (h .plus .f32) (h .plus .plus)
 
@@ -97,7 +99,8 @@ module _ (near : Nearest root) where
 
       shared : Plus (div binary32 s n) One
       shared =
-          let a : P s * One ≤ One * P n = let i : P s * One ≤ One * One = mul-le-mul-right One (S .most) in let j : One * One ≤ One * P n = mul-le-mul-left One whole in omega (arith, i, j) in
+          let a : P s * One ≤ One * P n = let i : P s * One ≤ One * One = mul-le-mul-right One (S .most) in let j : One * One ≤ One * P n = mul-le-mul-left One whole in
+          omega (arith, i, j) in
           let b : N s * One ≡ 0 = ap (λ (k : ℕ). k * One) (S .plus) ∙ zero-mul One in
           let c : 0 < P n = omega (arith, whole, one-pos) in
           let r = div-rounds s n (S .f32) f c (small one-grid one-less (P s * One) (N s * One) (P n) c (omega (arith, a, b)) (omega (arith, b))) in

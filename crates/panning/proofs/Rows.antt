@@ -1,5 +1,5 @@
 -- The code's coefficients are the definition's: the eight of the corners that the code has chosen. Assumes nothing.
-use mathlib.Core.Path.{_≡_, refl, sym, ap, _∙_, subst, subst⁻¹}
+use mathlib.Core.Path.{_≡_, refl, sym, ap, _∙_, subst⁻¹}
 use mathlib.Core.Bool.{Bool, true, false, cond}
 use mathlib.Core.List.{List, [], _∷_, map}
 use Prim.Native.Nat.{ℕ, zero, suc, _<_}
@@ -9,8 +9,8 @@ use lib.Ieee.{Float, binary32, sub, mul, eq, ne}
 use Rattle.roots.specs.Root.{root}
 use Rattle.vectors.specs.declared.Vec3.{Vec3}
 use Rattle.panning.specs.Choice.{Corner, corner, corners, 0·0, 1·0}
-use Rattle.panning.specs.Terms.{ratio, up, ahead, across, rowWeight, sideCoefficient, coefficient, innerGain, extra, nothing, panned}
-use Rattle.panning.specs.Found.{Inside, weighted, chosen}
+use Rattle.panning.specs.Terms.{ratio, up, ahead, across, part, rowWeight, weighted, coefficient, innerGain, extra, nothing, panned}
+use Rattle.panning.specs.Found.{Inside, chosen}
 use Rattle.panning.specs.declared.Ends.{Ends}
 use Rattle.panning.specs.declared.Cube.{Cube}
 use Rattle.panning.specs.declared.Panned.{Panned}
@@ -37,8 +37,8 @@ weigh g h i = cc
 less : {a a' : Float} → a ≡ a' → sub binary32 1·0 a ≡ sub binary32 1·0 a'
 less h = cc
 
-side-moved : (right : Bool) {w w' s s' x : Float} → w ≡ w' → s ≡ s' → x ≡ sideCoefficient w s right → x ≡ sideCoefficient w' s' right
-side-moved right {w' = w'} {s = s} h i e = e ∙ ap (λ (v : Float). sideCoefficient v s right) h ∙ ap (λ (v : Float). sideCoefficient w' v right) i
+side-moved : (right : Bool) {w w' s s' x : Float} → w ≡ w' → s ≡ s' → x ≡ weighted w (part right s) → x ≡ weighted w' (part right s')
+side-moved right {w' = w'} {s = s} h i e = e ∙ ap (λ (v : Float). weighted v (part right s)) h ∙ ap (λ (v : Float). weighted w' (part right v)) i
 
 pub ratio-of : (v : Float) {a b a' b' r : Float} → a ≡ a' → b ≡ b' → r ≡ ratio a b v → r ≡ ratio a' b' v
 ratio-of v h i e = cc
@@ -53,7 +53,8 @@ module _ (sp : ℕ → Vec3) (c : Cube) (p : Vec3) (g : Float) {u b t : Float}
       → tf ≡ ratio (sp (c .top .front .low) .x) (sp (c .top .front .high) .x) (p .x)
       → tr ≡ ratio (sp (c .top .rear .low) .x) (sp (c .top .rear .high) .x) (p .x)
       → bfl ≡ weighted (mul binary32 (mul binary32 b (sub binary32 1·0 u)) g) (sub binary32 1·0 bf) → bfr ≡ weighted (mul binary32 (mul binary32 b (sub binary32 1·0 u)) g) bf
-      → brl ≡ weighted (mul binary32 (mul binary32 (sub binary32 1·0 b) (sub binary32 1·0 u)) g) (sub binary32 1·0 br) → brr ≡ weighted (mul binary32 (mul binary32 (sub binary32 1·0 b) (sub binary32 1·0 u)) g) br
+      → brl ≡ weighted (mul binary32 (mul binary32 (sub binary32 1·0 b) (sub binary32 1·0 u)) g) (sub binary32 1·0 br)
+      → brr ≡ weighted (mul binary32 (mul binary32 (sub binary32 1·0 b) (sub binary32 1·0 u)) g) br
       → tfl ≡ weighted (mul binary32 (mul binary32 t u) g) (sub binary32 1·0 tf) → tfr ≡ weighted (mul binary32 (mul binary32 t u) g) tf
       → trl ≡ weighted (mul binary32 (mul binary32 (sub binary32 1·0 t) u) g) (sub binary32 1·0 tr) → trr ≡ weighted (mul binary32 (mul binary32 (sub binary32 1·0 t) u) g) tr
       → bfl ∷ bfr ∷ brl ∷ brr ∷ tfl ∷ tfr ∷ trl ∷ trr ∷ [] ≡ map (coefficient sp (chosen c) p g) corners
@@ -63,24 +64,29 @@ module _ (sp : ℕ → Vec3) (c : Cube) (p : Vec3) (g : Float) {u b t : Float}
       let iw = weigh g (less bottom-is) (less up-is) in
       let jw = weigh g top-is up-is in
       let kw = weigh g (less top-is) up-is in
-      eight (side-moved false hw h hl) (side-moved true hw h hr) (side-moved false iw i il) (side-moved true iw i ir) (side-moved false jw j jl) (side-moved true jw j jr) (side-moved false kw k kl) (side-moved true kw k kr)
+      eight (side-moved false hw h hl) (side-moved true hw h hr) (side-moved false iw i il) (side-moved true iw i ir) (side-moved false jw j jl) (side-moved true jw j jr)
+      (side-moved false kw k kl) (side-moved true kw k kr)
 
 -- ---- the whole
 module _ (sp : ℕ → Vec3) (l : List ℕ) (n : Float) (p : Vec3) (g s : Float) where
   pub pan-none : {r : Panned} → eq g 0·0 ≡ true → r ≡ nothing → r ≡ panned sp l n p g s
   unfolding panned
-  pan-none t e = e ∙ sym (ap (λ (b : Bool). cond b nothing (record { corners = map (corner sp l p) corners; coefficients = map (coefficient sp (corner sp l p) p (innerGain g s)) corners; extra = extra n g s })) t)
+  pan-none t e = e ∙ sym (ap (λ (b : Bool). cond b nothing
+      (record { corners = map (corner sp l p) corners; coefficients = map (coefficient sp (corner sp l p) p (innerGain g s)) corners; extra = extra n g s })) t)
 
-  pub pan-some : {r : Cube} {i e : Float} {ks : List ℕ} {cs : List Float} → eq g 0·0 ≡ false → chosen r ≡ corner sp l p → i ≡ innerGain g s → cs ≡ map (coefficient sp (chosen r) p i) corners → ks ≡ map (chosen r) corners → e ≡ extra n g s
+  pub pan-some : {r : Cube} {i e : Float} {ks : List ℕ} {cs : List Float} → eq g 0·0 ≡ false → chosen r ≡ corner sp l p → i ≡ innerGain g s
+      → cs ≡ map (coefficient sp (chosen r) p i) corners → ks ≡ map (chosen r) corners → e ≡ extra n g s
       → (record { corners = ks; coefficients = cs; extra = e }) ≡ panned sp l n p g s
   unfolding panned
   pan-some {r} {i} {e} {ks} {cs} t h gi ci ki ei =
       let k : ks ≡ map (corner sp l p) corners = ki ∙ ap (λ (ch : Corner → ℕ). map ch corners) h in
       let c : cs ≡ map (coefficient sp (corner sp l p) p (innerGain g s)) corners =
       ci ∙ ap (λ (ch : Corner → ℕ). map (coefficient sp ch p i) corners) h ∙ ap (λ (v : Float). map (coefficient sp (corner sp l p) p v) corners) gi in
-      joined k c ei ∙ sym (ap (λ (b : Bool). cond b nothing (record { corners = map (corner sp l p) corners; coefficients = map (coefficient sp (corner sp l p) p (innerGain g s)) corners; extra = extra n g s })) t)
+      joined k c ei ∙ sym (ap (λ (b : Bool). cond b nothing
+      (record { corners = map (corner sp l p) corners; coefficients = map (coefficient sp (corner sp l p) p (innerGain g s)) corners; extra = extra n g s })) t)
     where
-      joined : {k k' : List ℕ} {c c' : List Float} {e e' : Float} → k ≡ k' → c ≡ c' → e ≡ e' → _≡_ {A = Panned} (record { corners = k; coefficients = c; extra = e }) (record { corners = k'; coefficients = c'; extra = e' })
+      joined : {k k' : List ℕ} {c c' : List Float} {e e' : Float} → k ≡ k' → c ≡ c' → e ≡ e'
+          → _≡_ {A = Panned} (record { corners = k; coefficients = c; extra = e }) (record { corners = k'; coefficients = c'; extra = e' })
       joined a b c = cc
 
 -- ---- the corners are channels

@@ -1,6 +1,6 @@
 -- The shares of the chosen speakers are those of the rules, and so lie from 0 to 1. Assumes nothing.
 use mathlib.Core.Path.{_≡_, sym, ap, _∙_, subst}
-use mathlib.Core.Bool.{Bool, true, false}
+use mathlib.Core.Bool.{true, false}
 use Prim.Native.Nat.{ℕ}
 use lib.Ieee.{Float}
 use Rattle.vectors.specs.declared.Vec3.{Vec3}
@@ -9,12 +9,12 @@ use Rattle.panning.specs.declared.Shares.{Shares}
 use Rattle.panning.specs.Choice.{Corner, corner}
 use Rattle.panning.specs.Table.{Position}
 use Rattle.panning.specs.Terms.{ratio, up, ahead, across}
-use Rattle.panning.specs.Hall.{hall714, fullRange}
+use Rattle.panning.specs.Speakers.{hall714, fullRange}
 use Rattle.panning.specs.Found.{chosen}
 use Rattle.panning.specs.Corners714.{cube714}
 use Rattle.panning.specs.Shares.{Part, SharesOf}
 use Rattle.panning.proofs.Corners714.{chosen-is}
-use Rattle.panning.proofs.Hall.{pans714}
+use Rattle.panning.proofs.Speakers.{pans714}
 
 module _ (c : Cube) (p : Vec3) (q : Position p) (h : c ≡ cube714 p) (s : Shares) where
   -- a share of the corners that the rules choose, at those that the code has chosen

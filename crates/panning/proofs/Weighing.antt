@@ -85,7 +85,9 @@ weight sp l p g b c d = mul binary32 (rowWeight sp (corner sp l p) p g b c) (par
 
 module _ (sp : ℕ → Vec3) (l : List ℕ) (t : Table sp l) (p : Vec3) (q : Position p) (g : Float) (G : Gain8 g) where
   pub weights : (b c d : Bool) → Weighed (part c (ahead sp (corner sp l p) p b)) (part b (up sp (corner sp l p) p)) g (part d (across sp (corner sp l p) p b c))
-  weights b c d = weighed (part c (ahead sp (corner sp l p) p b)) (part b (up sp (corner sp l p) p)) g (part d (across sp (corner sp l p) p b c)) (part-plus c (ahead sp (corner sp l p) p b) (ahead-part sp l t p q b)) (part-plus b (up sp (corner sp l p) p) (up-part sp l t p q)) G (part-plus d (across sp (corner sp l p) p b c) (across-part sp l t p q b c))
+  weights b c d = weighed (part c (ahead sp (corner sp l p) p b)) (part b (up sp (corner sp l p) p)) g (part d (across sp (corner sp l p) p b c))
+      (part-plus c (ahead sp (corner sp l p) p b) (ahead-part sp l t p q b)) (part-plus b (up sp (corner sp l p) p) (up-part sp l t p q)) G
+      (part-plus d (across sp (corner sp l p) p b c) (across-part sp l t p q b c))
 
   -- a share that is 0 leaves its corners without weight
   pub no-up : (c d : Bool) → P (up sp (corner sp l p) p) ≡ 0 → P (weight sp l p g true c d) ≡ 0

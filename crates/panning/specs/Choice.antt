@@ -1,6 +1,7 @@
--- Which speakers a position is panned to: the choice of `render_object_timeslot_to_714`, `assign_lr` and `fix_incomplete_layer`, for any places `sp` of the channels, any list of the channels
--- present, and a position of any floats. Document 01, item 4: "lower and upper layer, front and rear row in each, left and right in each row; a missing side is filled".
--- Along each axis the low end is the speakers at the greatest coordinate up to the object's, the high end those at the least beyond it. At a NaN every speaker is beyond. Assumes nothing.
+-- Which speakers a position is panned to: the choice of `render_object_timeslot_to_714`, `assign_lr` and `fix_incomplete_layer`, for any places `sp` of the channels, any list
+-- of the channels present, and a position of any floats. Document 01, item 4: "lower and upper layer, front and rear row in each, left and right in each row; a missing side
+-- is filled". Along each axis the low end is the speakers at the greatest coordinate up to the object's, the high end those at the least beyond it. At a NaN every speaker is
+-- beyond. Assumes nothing.
 use Prim.Native.Nat.{ℕ}
 use mathlib.Core.Bool.{Bool, true, false, not, _&&_, _||_, cond}
 use mathlib.Core.List.{List, [], _∷_}

@@ -1,5 +1,5 @@
--- The corners of the 7.1.4 hall, by its coordinates. The floor's rows are 4 and 5, 6 and 7, then 0, 2 and 1; the ceiling's 10 and 11, then 8 and 9. That they are the corners of
--- `specs/Choice.antt` is shown in `proofs/Corners714.antt`. Assumes nothing.
+-- A reader may skip this file: the corners of the 7.1.4 hall, by its coordinates. The floor's rows are 4 and 5, 6 and 7, then 0, 2 and 1; the ceiling's 10 and 11, then 8 and
+-- 9. That they are the corners of specs/Choice is `chosen-is` of proofs/Corners714. Assumes nothing.
 use Prim.Native.Nat.{ℕ}
 use mathlib.Core.Bool.{true, false, cond}
 use lib.Ieee.{Float, le, lt}
@@ -8,7 +8,7 @@ use Rattle.panning.specs.declared.Ends.{Ends}
 use Rattle.panning.specs.declared.Layer.{Layer}
 use Rattle.panning.specs.declared.Cube.{Cube}
 use Rattle.panning.specs.Choice.{0·0}
-use Rattle.panning.specs.Hall.{diagonal, surround, one}
+use Rattle.panning.specs.Speakers.{diagonal, surround, one}
 
 -- a row of two speakers, at a and b
 abbrev pub pairEnds : ℕ → ℕ → Float → Float → Float → Ends

@@ -1,12 +1,16 @@
--- What the code has found: the channels of the corners, and a coefficient. Assumes nothing.
+-- A reader may skip this file: what the code finds on its way, and its contracts. The channels of the corners, and what `pan` answers. Assumes nothing.
 use Prim.Native.Nat.{ℕ, _<_}
-use mathlib.Core.Bool.{Bool, true, false, cond}
-use lib.Ieee.{Float, binary32, mul, ne}
-use Rattle.roots.specs.Root.{root}
+use mathlib.Core.Path.{_≡_}
+use mathlib.Core.Bool.{Bool, true, false}
+use lib.ListN.{getD}
+use lib.Ieee.{Float}
+use Rattle.vectors.specs.declared.Vec3.{Vec3}
 use Rattle.panning.specs.declared.Ends.{Ends}
 use Rattle.panning.specs.declared.Layer.{Layer}
 use Rattle.panning.specs.declared.Cube.{Cube}
-use Rattle.panning.specs.Choice.{Corner, 0·0}
+use Rattle.panning.specs.declared.Panned.{Panned}
+use Rattle.panning.specs.Choice.{Corner}
+use Rattle.panning.specs.Speakers.{panned714}
 
 abbrev pub sideOf : Bool → Ends → ℕ
 sideOf false e = e .low
@@ -34,6 +38,7 @@ pub record Inside (r : Cube) : Type 0 where
   pub trl : r .top .rear .low < 12
   pub trr : r .top .rear .high < 12
 
--- the coefficient of a side with the share `part` of a row of weight w
-abbrev pub weighted : Float → Float → Float
-weighted w part = cond (ne w 0·0) (root (mul binary32 w part)) 0·0
+-- what `pan` answers: the eight corners are channels
+pub record PannedIs (p : Vec3) (g s : Float) (r : Panned) : Type 0 where
+  pub is : r ≡ panned714 p g s
+  pub less : (i : ℕ) → getD (r .corners) i 0 < 12

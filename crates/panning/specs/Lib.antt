@@ -1,7 +1,7 @@
 pub mod Choice
 pub mod Terms
 pub mod Table
-pub mod Hall
+pub mod Speakers
 pub mod Corners714
 pub mod Found
 pub mod Facts

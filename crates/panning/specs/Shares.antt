@@ -1,4 +1,5 @@
--- The shares of the chosen speakers. Document 01, "Our forms for each place": "f32 arithmetic with the share shown in 0..1 for the chosen speakers". Assumes nothing.
+-- A reader may skip this file: the contract of `shares_at`. Document 01, "Our forms for each place": "f32 arithmetic with the share shown in 0..1 for the chosen speakers".
+-- Assumes nothing.
 use mathlib.Core.Path.{_≡_}
 use mathlib.Core.Bool.{true, false}
 use lib.Dec.{T}
@@ -9,7 +10,7 @@ use Rattle.panning.specs.declared.Shares.{Shares}
 use Rattle.panning.specs.Choice.{0·0, 1·0}
 use Rattle.panning.specs.Table.{between}
 use Rattle.panning.specs.Terms as t
-use Rattle.panning.specs.Hall.{hall714}
+use Rattle.panning.specs.Speakers.{hall714}
 use Rattle.panning.specs.Found.{chosen}
 
 abbrev pub Part : Float → Type 0

@@ -1,5 +1,5 @@
--- The tables of speakers that may be panned over: at least one speaker, each coordinate an f32 that is finite and from -1 to 1, no channel twice and no place twice, the two zeros being equal.
--- The positions and gains that may be panned. Assumes nothing.
+-- The tables of speakers that may be panned over: at least one speaker, each coordinate an f32 that is finite and from -1 to 1, no channel twice and no place twice, the two
+-- zeros being equal. The positions and gains that may be panned. Assumes nothing.
 use Prim.Native.Nat.{ℕ}
 use mathlib.Core.Bool.{Bool, true, false, not, _&&_}
 use mathlib.Core.List.{List, [], _∷_}

@@ -1,5 +1,5 @@
--- What an object adds to each channel: the terms of `render_object_timeslot_to_714` in the order in which they are mixed, for any places `sp` of the channels, any list `l` of those present,
--- a position p, a gain g and a size s of any floats. Assumes nothing.
+-- What an object adds to each channel: the terms of `render_object_timeslot_to_714` in the order in which they are mixed, for any places `sp` of the channels, any list `l` of
+-- those present, a position p, a gain g and a size s of any floats. Assumes nothing.
 use Prim.Native.Nat.{ℕ}
 use mathlib.Core.Bool.{Bool, true, false, cond}
 use mathlib.Core.List.{List, [], _∷_, _++_, map}
@@ -46,14 +46,13 @@ unfoldable pub rowWeight : (ℕ → Vec3) → (Corner → ℕ) → Vec3 → Floa
 unfolding up ahead
 rowWeight sp ch p g top front = mul binary32 (mul binary32 (part front (ahead sp ch p top)) (part top (up sp ch p))) g
 
--- the coefficient of one side of a row of weight w, the right side's share being s. A row of weight 0 is passed over.
--- "A coefficient is the square root of the product of shares and gain."
-abbrev pub sideCoefficient : Float → Float → Bool → Float
-sideCoefficient w s right = cond (ne w 0·0) (root (mul binary32 w (part right s))) 0·0
+-- "A coefficient is the square root of the product of shares and gain.": of a side with a share of a row of weight w. A row of weight 0 is passed over.
+abbrev pub weighted : Float → Float → Float
+weighted w share = cond (ne w 0·0) (root (mul binary32 w share)) 0·0
 
 unfoldable pub coefficient : (ℕ → Vec3) → (Corner → ℕ) → Vec3 → Float → Corner → Float
 unfolding rowWeight across
-coefficient sp ch p g c = sideCoefficient (rowWeight sp ch p g (c .top) (c .front)) (across sp ch p (c .top) (c .front)) (c .right)
+coefficient sp ch p g c = weighted (rowWeight sp ch p g (c .top) (c .front)) (part (c .right) (across sp ch p (c .top) (c .front)))
 
 -- "Size s .. leaves gain × (1 - s) to the corners"
 unfoldable pub innerGain : Float → Float → Float

@@ -1,4 +1,4 @@
-ghost use Rattle.panning.specs.Hall.{PannedIs};
+ghost use Rattle.panning.specs.Found.{PannedIs};
 use panning::Panned;
 use vectors::Vec3;
 

@@ -1,6 +1,6 @@
--- A reader may skip this file: that the terms taken suffice, as a test. What is cut off makes each term after the first less than 2 steps too small. So the exact sums of four and of five terms lie from
--- t - t₁ + t₂ - t₃ - 4 to that and t₄ + 8 more (`four`, `five` of angles/proofs/Enclosed), and they round alike where this range lies inside a cell: between two neighbouring
--- multiples of g, half the last digit of an f32. Assumes nothing.
+-- A reader may skip this file: that the terms taken suffice, as a test. What is cut off makes each term after the first less than 2 steps too small. So the exact sums of four
+-- and of five terms lie from t - t₁ + t₂ - t₃ - 4 to that and t₄ + 8 more (`four`, `five` of angles/proofs/Enclosed), and they round alike where this range lies inside a
+-- cell: between two neighbouring multiples of g, half the last digit of an f32. Assumes nothing.
 use Prim.Native.Nat.{ℕ, zero, suc, _+_, _-_, _*_, _%_, _^_}
 use mathlib.Core.Bool.{Bool, not, _&&_, _||_}
 use lib.Dec.{ltb}

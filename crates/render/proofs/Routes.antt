@@ -14,7 +14,7 @@ use Rattle.beds.specs.Terms.{routed, bedAdds}
 use Rattle.beds.specs.Matching.{matching}
 use Rattle.beds.proofs.Matches.{Judged, judged}
 use Rattle.panning.specs.Terms.{Term, onChannel}
-use Rattle.panning.specs.Hall.{pan714}
+use Rattle.panning.specs.Speakers.{pan714}
 use Rattle.rules.specs.Parts.{0·0}
 use Rattle.rules.specs.Leaves.{Bed}
 use Rattle.rules.specs.Mix.{addsOf}

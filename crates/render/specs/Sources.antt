@@ -14,7 +14,7 @@ use Rattle.beds.specs.Routes.{routeOf, bassGain}
 use Rattle.beds.specs.Positions.{bedPosition}
 use Rattle.beds.specs.Matching.{matching}
 use Rattle.panning.specs.Terms.{Term, term}
-use Rattle.panning.specs.Hall.{terms714}
+use Rattle.panning.specs.Speakers.{terms714}
 use Rattle.timed.specs.declared.state.DynamicSourceState.{DynamicSourceState}
 use Rattle.rules.specs.Parts.{0·0}
 use Rattle.rules.specs.Leaves.{Source, Bed}

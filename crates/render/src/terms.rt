@@ -4,7 +4,7 @@
 // The terms of one source, mixed one after another into twelve rows of 64 places.
 ghost use mathlib.Core.Path.{_≡_};
 ghost use Prim.Native.Nat.{_-_, _<_, _≤_};
-ghost use Rattle.panning.specs.Hall.{fullRange, terms714};
+ghost use Rattle.panning.specs.Speakers.{fullRange, terms714};
 ghost use Rattle.panning.specs.Terms.{term, paired, spread};
 ghost use Rattle.render.specs.Rows.{Sized, AmongTwelve, upFrom, mixedTerm, mixedTerms};
 use formats::areas;

@@ -26,7 +26,7 @@ use Rattle.beds.specs.Terms as terms
 use Rattle.beds.specs.Matching as matching
 use Rattle.panning.specs.Choice as choice
 use Rattle.panning.specs.Terms as panning
-use Rattle.panning.specs.Hall as speakers
+use Rattle.panning.specs.Speakers as speakers
 use Rattle.lowpass.specs.Lowpass as lowpass
 use Rattle.limiter.specs.Limiter as limiter
 use Rattle.rules.specs.Mix as mix

@@ -9,9 +9,9 @@ use lib.Ieee.{eq}
 use lib.Ieee.Fits.{and-l, and-r}
 use Rattle.panning.specs.Choice.{everyOf}
 use Rattle.panning.specs.Terms.{Term, onChannel}
-use Rattle.panning.specs.Hall.{fullRange}
+use Rattle.panning.specs.Speakers.{fullRange}
 use Rattle.panning.proofs.Lists.{every→}
-use Rattle.panning.proofs.Hall.{pans714}
+use Rattle.panning.proofs.Theorems.{pans714}
 use Rattle.rules.specs.Parts.{0·0}
 use Rattle.rules.specs.Leaves.{Source}
 use Rattle.rules.specs.Mix.{objectTerms}

@@ -28,7 +28,7 @@ use Rattle.vectors.specs.declared.Vec3.{Vec3}
 use Rattle.lowpass.specs.Bound.{Range}
 use Rattle.panning.specs.Choice.{1·0}
 use Rattle.panning.specs.Table.{Position, between, 8·0}
-use Rattle.panning.specs.Hall.{pan714}
+use Rattle.panning.specs.Speakers.{pan714}
 use Rattle.rules.specs.Parts.{0·0}
 use Rattle.rules.specs.Leaves.{Source, Bed}
 use Rattle.rules.specs.Mix.{Moment, objectAdds, addsOf, scaledBy, fedBy, bedsOn, objectsOn, heard}

@@ -16,9 +16,9 @@ use Rattle.panning.specs.declared.Panned.{Panned}
 use Rattle.panning.specs.Choice.{0·0, 1·0}
 use Rattle.panning.specs.Table.{Position, between, 8·0}
 use Rattle.panning.specs.Terms.{Term, panned, audible, paired, spread, onChannel}
-use Rattle.panning.specs.Hall.{fullRange, panned714, terms714, pan714}
+use Rattle.panning.specs.Speakers.{fullRange, panned714, terms714, pan714}
 use Rattle.panning.specs.Facts.{Each}
-use Rattle.panning.proofs.Hall.{pans714, no-bass}
+use Rattle.panning.proofs.Theorems.{pans714, no-bass}
 use Rattle.panning.proofs.Tables.{gain8}
 use Rattle.rules.specs.Leaves.{Source}
 use Rattle.rules.specs.Mix.{objectTerms, objectAdds}

@@ -10,7 +10,7 @@ use Rattle.beds.specs.declared.Found.the-variants.{At, Nothing}
 use Rattle.beds.specs.Matching.{matching}
 use Rattle.beds.specs.Terms.{bedAdds}
 use Rattle.panning.specs.Terms.{Term, onChannel}
-use Rattle.panning.specs.Hall.{terms714, pan714}
+use Rattle.panning.specs.Speakers.{terms714, pan714}
 use Rattle.rules.specs.Parts.{0·0}
 use Rattle.rules.specs.Leaves.{Source, Bed}
 

@@ -1,6 +1,6 @@
 -- `panning::coefficients` meets its contract. Assumes nothing.
 use lib.Ieee.{ofBits}
-use Rattle.panning.specs.Hall.{hall714}
+use Rattle.panning.specs.Speakers.{hall714}
 use Rattle.panning.specs.Terms.{up, ahead, across}
 use Rattle.panning.proofs.Rows.{coefficients-are}
 use borrow.Author.Needs.{needs}
@@ -13,7 +13,10 @@ returns c =
     let s = c .before .before .before .before .before .before .before .before .before .before .before .before .before .before .before .before .before .before .before .args in
     let h = c .before .before .before .before .before .before .before .before .before .before .before .before .before .before .before .before .before .before .shares-at .ensures in
     coefficients-are hall714 (s .c) (s .place) (s .g) (h .up .0) (h .bottom .0) (h .top .0) (h .bf .0) (h .br .0) (h .tf .0) (h .tr .0)
-    (c .before .before .before .before .before .before .before .before .before .before .side .ensures) (c .before .before .before .before .before .before .before .before .before .side2 .ensures) (c .before .before .before .before .before .before .before .side3 .ensures) (c .before .before .before .before .before .before .side4 .ensures) (c .before .before .before .before .side5 .ensures) (c .before .before .before .side6 .ensures) (c .before .side7 .ensures) (c .side8 .ensures)
+    (c .before .before .before .before .before .before .before .before .before .before .side .ensures)
+    (c .before .before .before .before .before .before .before .before .before .side2 .ensures) (c .before .before .before .before .before .before .before .side3 .ensures)
+    (c .before .before .before .before .before .before .side4 .ensures) (c .before .before .before .before .side5 .ensures) (c .before .before .before .side6 .ensures)
+    (c .before .side7 .ensures) (c .side8 .ensures)
 
 pub coefficients-spec : {M : Type 1} → statement M
 coefficients-spec =

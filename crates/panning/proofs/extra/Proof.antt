@@ -5,7 +5,7 @@ use mathlib.Core.Bool.{Bool, cond}
 use lib.Ieee.{ofBits, binary32, mul, div}
 use Rattle.roots.specs.Root.{root}
 use Rattle.panning.specs.Choice.{0·0}
-use Rattle.panning.specs.Hall.{12·0}
+use Rattle.panning.specs.Speakers.{12·0}
 use Rattle.panning.specs.Terms as terms
 use Rattle.panning.proofs.extra.Statement.{statement}
 use Rattle.panning.proofs.extra.Tie as tie

@@ -3,7 +3,7 @@ use borrow.Author.Needs.{needs}
 use lib.Ieee.{ofBits, binary32, fits}
 use mathlib.Core.Path.{ap, _∙_, subst⁻¹}
 use lib.Dec.{T}
-use Rattle.panning.specs.Hall.{hall714, fullRange, 12·0}
+use Rattle.panning.specs.Speakers.{hall714, fullRange, 12·0}
 use Rattle.panning.specs.Found.{chosen, Inside}
 use Rattle.panning.proofs.Corners714.{chosen-is, inside}
 use Rattle.panning.proofs.Rows.{pan-none, pan-some, none-less, some-less}
@@ -26,7 +26,9 @@ returns-2 c =
     let w : T (fits binary32 (s .args .place .x)) = search (needs, s .good .0) in
     let cube = c .before .before .before .before .cube-714 .ensures in
     record {
-      is = pan-some hall714 fullRange 12·0 (s .args .place) (s .args .gain) (s .args .size) (c .before .before .before .before .before .if1 .left) (ap chosen cube ∙ chosen-is (s .args .place) w) (c .before .before .before .inner-gain .ensures) (c .before .before .coefficients .ensures) (c .before .channels .ensures) (c .extra .ensures);
+      is = pan-some hall714 fullRange 12·0 (s .args .place) (s .args .gain) (s .args .size) (c .before .before .before .before .before .if1 .left)
+          (ap chosen cube ∙ chosen-is (s .args .place) w) (c .before .before .before .inner-gain .ensures) (c .before .before .coefficients .ensures)
+          (c .before .channels .ensures) (c .extra .ensures);
       less = some-less (subst⁻¹ Inside cube (inside (s .args .place))) (c .before .channels .ensures);
     }
 

@@ -17,9 +17,13 @@ returns c =
     let q : Position p = record { x = search (needs, s .good); y = search (needs, s .good); z = search (needs, s .good) } in
     let h : s .args .c ≡ cube714 p = search needs in
     shares-are (s .args .c) p q h _
-    (ratio-of (p .y) (c .before .before .before .before .before .before .before .before .before .before .before .before .y-of .ensures) (c .before .before .before .before .before .before .before .before .before .before .before .y-of2 .ensures) (c .before .before .before .before .before .before .before .before .before .before .ratio .ensures))
-    (ratio-of (p .z) (c .before .before .before .before .before .before .before .before .before .z-of .ensures) (c .before .before .before .before .before .before .before .before .z-of2 .ensures) (c .before .before .before .before .before .before .before .ratio2 .ensures))
-    (ratio-of (p .z) (c .before .before .before .before .before .before .z-of3 .ensures) (c .before .before .before .before .before .z-of4 .ensures) (c .before .before .before .before .ratio3 .ensures))
+    (ratio-of (p .y) (c .before .before .before .before .before .before .before .before .before .before .before .before .y-of .ensures)
+    (c .before .before .before .before .before .before .before .before .before .before .before .y-of2 .ensures)
+    (c .before .before .before .before .before .before .before .before .before .before .ratio .ensures))
+    (ratio-of (p .z) (c .before .before .before .before .before .before .before .before .before .z-of .ensures)
+    (c .before .before .before .before .before .before .before .before .z-of2 .ensures) (c .before .before .before .before .before .before .before .ratio2 .ensures))
+    (ratio-of (p .z) (c .before .before .before .before .before .before .z-of3 .ensures) (c .before .before .before .before .before .z-of4 .ensures)
+    (c .before .before .before .before .ratio3 .ensures))
     (c .before .before .before .blend .ensures)
     (c .before .before .blend2 .ensures)
     (c .before .blend3 .ensures)

@@ -7,7 +7,7 @@ use lib.ListN.{replicate, getD-replicate, List·getD-append, List·getD-map}
 use lib.Seq.{getD-append-add}
 use Rattle.vectors.specs.declared.Vec3.{Vec3}
 use Rattle.panning.specs.Choice.{0·0, 1·0}
-use Rattle.panning.specs.Hall.{positions714, hall714}
+use Rattle.panning.specs.Speakers.{positions714, hall714}
 use Rattle.panning.proofs.y_of.Statement.{statement}
 use Rattle.panning.proofs.y_of.Tie as tie
 

@@ -4,7 +4,7 @@ use mathlib.Core.Path.{refl, sym, ap, _∙_}
 use lib.Ieee.{Float, ofBits}
 use Rattle.vectors.specs.declared.Vec3.{Vec3}
 use Rattle.beds.proofs.Channels.{direct-channel}
-use Rattle.panning.specs.Hall.{terms714}
+use Rattle.panning.specs.Speakers.{terms714}
 use Rattle.panning.specs.Terms.{term}
 use Rattle.rules.specs.Parts.{0·0}
 use Rattle.render.specs.Sources.{routeTerms}

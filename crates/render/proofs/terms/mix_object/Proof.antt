@@ -2,7 +2,7 @@
 use borrow.Author.Needs.{needs}
 use mathlib.Core.Path.{ap, _∙_}
 use Rattle.panning.specs.declared.Panned.{Panned}
-use Rattle.panning.specs.Hall.{fullRange}
+use Rattle.panning.specs.Speakers.{fullRange}
 use Rattle.panning.specs.Terms.{terms, paired}
 use Rattle.render.specs.Rows.{mixedTerms}
 use Rattle.render.proofs.Mixed.{mixed-panned}

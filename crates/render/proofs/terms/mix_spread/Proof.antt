@@ -1,7 +1,7 @@
 -- `mix_spread`: all but channel 3 are the channels 0 to 2 and 4 to 11.
 use borrow.Author.Needs.{needs}
 use mathlib.Core.Path.{sym, ap, _∙_}
-use Rattle.panning.specs.Hall.{fullRange}
+use Rattle.panning.specs.Speakers.{fullRange}
 use Rattle.panning.specs.Terms.{spread}
 use Rattle.render.specs.Rows.{upFrom, mixedTerms}
 use Rattle.render.proofs.Mixed.{spread-none}

@@ -9,7 +9,7 @@ use lib.Ieee.Fits.{and-i, and-l, and-r}
 use Rattle.vectors.specs.declared.Vec3.{Vec3}
 use Rattle.panning.specs.Choice.{keep, everyOf}
 use Rattle.panning.specs.Table.{Table, Position, between, placedInside, alike, distinct, occupied}
-use Rattle.panning.specs.Hall.{positions714, hall714, fullRange, 12·0, terms714}
+use Rattle.panning.specs.Speakers.{positions714, hall714, fullRange, 12·0, terms714}
 use Rattle.panning.specs.Terms.{onChannel}
 use Rattle.panning.specs.Facts.{Pans}
 use Rattle.panning.proofs.Lists.{keep→, every→, →every}
@@ -40,7 +40,8 @@ module _ (sp : ℕ → Vec3) (f : ℕ → Bool) where
   keep-distinct (k ∷ l) d = go (f k) (keep-distinct l (and-r (everyOf (far k) l) (distinct sp l) d))
     where
       go : (b : Bool) → T (distinct sp (keep f l)) → T (distinct sp (cond b (k ∷ keep f l) (keep f l)))
-      go true r = and-i (everyOf (far k) (keep f l)) (distinct sp (keep f l)) (→every (far k) (keep f l) (λ j m. every→ (far k) l (and-l (everyOf (far k) l) (distinct sp l) d) j (keep→ f l m .0))) r
+      go true r = and-i (everyOf (far k) (keep f l)) (distinct sp (keep f l))
+          (→every (far k) (keep f l) (λ j m. every→ (far k) l (and-l (everyOf (far k) l) (distinct sp l) d) j (keep→ f l m .0))) r
       go false r = r
 
   pub fewer : (l : List ℕ) → Table sp l → T (occupied (keep f l)) → Table sp (keep f l)

@@ -1,6 +1,5 @@
--- The 7.1.4 hall: `RENDER_714_CHANNEL_POSITIONS`, and what is mixed of an object in it. Assumes nothing.
-use Prim.Native.Nat.{ℕ, _<_}
-use mathlib.Core.Path.{_≡_}
+-- The speakers of the 7.1.4 hall, `RENDER_714_CHANNEL_POSITIONS`, and what is mixed of an object in it. Assumes nothing.
+use Prim.Native.Nat.{ℕ}
 use mathlib.Core.Bool.{Bool, true, false}
 use mathlib.Core.List.{List, [], _∷_}
 use lib.IntN.{pos, negsuc}
@@ -40,15 +39,15 @@ unfoldable pub hall714 : ℕ → Vec3
 unfolding positions714
 hall714 k = getD positions714 k (record { x = nan; y = nan; z = nan })
 
--- the channels but the bass channel, 3
+-- "all but channel 3", the bass channel
 abbrev pub fullRange : List ℕ
 fullRange = 0 ∷ 1 ∷ 2 ∷ 4 ∷ 5 ∷ 6 ∷ 7 ∷ 8 ∷ 9 ∷ 10 ∷ 11 ∷ []
 
--- how many channels there are, the bass channel too: what a size is divided by
+-- "√(s/12)": how many channels there are, the bass channel too
 abbrev pub 12·0 : Float
 12·0 = fin false 3 (pos 2)
 
--- ---- `render_object_timeslot_to_714`, at the place p, for the gain g and the size s
+-- ---- document 01, item 4: "`render_object_timeslot_to_714`", at the place p, for the gain g and the size s
 
 abbrev pub panned714 : Vec3 → Float → Float → Panned
 panned714 p g s = panned hall714 fullRange 12·0 p g s
@@ -59,8 +58,3 @@ terms714 p g s = terms fullRange (panned714 p g s)
 -- the coefficients that it adds on channel c
 abbrev pub pan714 : Vec3 → Float → Float → ℕ → List Float
 pan714 p g s c = onChannel c (terms714 p g s)
-
--- what `pan` answers: the eight corners are channels
-pub record PannedIs (p : Vec3) (g s : Float) (r : Panned) : Type 0 where
-  pub is : r ≡ panned714 p g s
-  pub less : (i : ℕ) → getD (r .corners) i 0 < 12
