@@ -3,26 +3,12 @@ use mathlib.Core.Path.{_≡_, refl, sym, ap, _∙_, subst}
 use Prim.Native.Nat.{ℕ, _*_, _^_, _≤_, _<_}
 use native.Mathlib.Nat.{le-of-lt, mul-one, lt-of-le-of-lt, mul-le-mul-right}
 use mathlib.Core.Bool.{false}
-use lib.IntN.{pos, negsuc}
+use lib.IntN.{pos}
 use lib.Dec.{T, le→leb, lit<}
-use lib.Ieee.{Float, fin, binary32, fits, round, ofInt, inFloat}
+use lib.Ieee.{binary32, fits, round, ofInt, inFloat}
+pub use Rattle.ieee.specs.Numbers.{0·0, 1·0, 0·9, 8·0, 16·0}
 use Rattle.ieee.proofs.Grid.{OnGrid, rnd, rnd-exact}
 use Rattle.ieee.proofs.Value.{One, Top, F32, mag, P, Is, rounded}
-
-abbrev pub 0·0 : Float
-0·0 = fin false 0 (pos 0)
-
-abbrev pub 1·0 : Float
-1·0 = fin false 1 (pos 0)
-
-abbrev pub 0·9 : Float
-0·9 = fin false 7549747 (negsuc 22)
-
-abbrev pub 8·0 : Float
-8·0 = fin false 1 (pos 3)
-
-abbrev pub 16·0 : Float
-16·0 = fin false 1 (pos 4)
 
 -- ---- they are f32 values
 pub zero-f32 : F32 0·0

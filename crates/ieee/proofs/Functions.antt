@@ -1,4 +1,4 @@
--- The laws of the small functions on f32: `abs` by 0.0 - x, `is_finite` by x - x. Assumes nothing.
+-- The laws of the small functions on f32: `abs` by 0.0 - x, `is_infinite` by x - x. Assumes nothing.
 use mathlib.Core.Path.{_≡_, refl, sym, ap, _∙_, subst}
 use Prim.Native.Nat.{ℕ, zero, suc, _*_}
 use native.Mathlib.Omega.{arith}
@@ -7,7 +7,6 @@ use lib.IntN.{ℤ, pos}
 use lib.Dec.{T, eqb, eqb-refl}
 use lib.Ieee.{Float, nan, inf, fin, binary32, up, down, fits, neg, add, sub, level, lt, eq, ne, isNan}
 use lib.Ieee.Bits.{is-true, is-false}
-use lib.Ieee.Scale.{finite}
 use lib.Ieee.Compare.{nan-differs}
 use Rattle.ieee.specs.Small.{absolute, infinite}
 use Rattle.ieee.proofs.Value.{F32}
@@ -95,11 +94,6 @@ self-nan (fin s m e) = unfold ne eq in level-self s (m * up e * down e)
         both true a = tt
 
 -- ---- x - x is 0 where x is finite, and a NaN otherwise
-pub finite-by-difference : (x : Float) → fits binary32 x ≡ true → eq (sub binary32 x x) 0·0 ≡ finite x
-finite-by-difference nan g = unfold sub add eq in refl
-finite-by-difference (inf s) g = unfold eq in ap (λ (y : Float). eq y 0·0) (inf-less-itself s)
-finite-by-difference (fin s m e) g = is-true (eq (sub binary32 (fin s m e) (fin s m e)) 0·0) (less-itself (fin s m e) (fine (fin s m e) g tt))
-
 pub infinite-by-difference : (x : Float) → fits binary32 x ≡ true → ne x x ≡ false → ne (sub binary32 x x) (sub binary32 x x) ≡ infinite x
 infinite-by-difference nan g h = absurd (true≢false (sym nan-differs ∙ h))
 infinite-by-difference (inf s) g h = ap (λ (y : Float). ne y y) (inf-less-itself s) ∙ nan-differs

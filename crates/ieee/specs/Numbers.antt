@@ -13,6 +13,13 @@ abbrev pub 1·0 : Float
 abbrev pub 0·9 : Float
 0·9 = fin false 7549747 (negsuc 22)
 
+-- the largest gain, and the largest sample
+abbrev pub 8·0 : Float
+8·0 = fin false 1 (pos 3)
+
+abbrev pub 16·0 : Float
+16·0 = fin false 1 (pos 4)
+
 -- ---- the same by their bits, which is how code has them (`zero-bits`, `one-bits`, `nine-tenths-bits` of proofs/Numbers)
 
 abbrev pub 0·0f : Float

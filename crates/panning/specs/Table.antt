@@ -7,13 +7,11 @@ use lib.IntN.{pos}
 use lib.Dec.{T, eqb}
 use lib.Ieee.{Float, fin, binary32, fits, le, eq}
 use Rattle.vectors.specs.declared.Vec3.{Vec3}
+pub use Rattle.ieee.specs.Numbers.{8·0}
 use Rattle.panning.specs.Choice.{everyOf, 1·0}
 
 abbrev pub minus-one : Float
 minus-one = fin true 1 (pos 0)
-
-abbrev pub 8·0 : Float
-8·0 = fin false 1 (pos 3)
 
 unfoldable pub between : Float → Float → Float → Bool
 between lo hi x = fits binary32 x && (le lo x && le x hi)

@@ -1,5 +1,4 @@
 ghost use mathlib.Core.Path.{_≡_};
-ghost use lib.Ieee.Scale.{finite};
 ghost use Rattle.ieee.specs.Small.{absolute, larger, smaller, clamped, infinite};
 
 #[no_mangle]
@@ -28,13 +27,6 @@ pub extern "C" fn probe_clamp(x: f32, lo: f32, hi: f32) -> f32
     ensures { λ r. ⌜ r ≡ clamped x lo hi ⌝ }
 {
     ieee::clamp(x, lo, hi)
-}
-
-#[no_mangle]
-pub extern "C" fn probe_is_finite(x: f32) -> bool
-    ensures { λ r. ⌜ r ≡ finite x ⌝ }
-{
-    ieee::is_finite(x)
 }
 
 #[no_mangle]

@@ -3,7 +3,6 @@ unsafe extern "C" {
     safe fn probe_max(a: f32, b: f32) -> f32;
     safe fn probe_min(a: f32, b: f32) -> f32;
     safe fn probe_clamp(x: f32, lo: f32, hi: f32) -> f32;
-    safe fn probe_is_finite(x: f32) -> bool;
     safe fn probe_is_infinite(x: f32) -> bool;
 }
 
@@ -21,10 +20,6 @@ pub fn min(a: f32, b: f32) -> f32 {
 
 pub fn clamp(x: f32, lo: f32, hi: f32) -> f32 {
     probe_clamp(x, lo, hi)
-}
-
-pub fn is_finite(x: f32) -> bool {
-    probe_is_finite(x)
 }
 
 pub fn is_infinite(x: f32) -> bool {

@@ -32,7 +32,6 @@ fn check(a: f32, b: f32) {
             "clamp {a:?} {b:?}"
         );
     }
-    assert_eq!(ieee::is_finite(a), a.is_finite(), "is_finite {a:?}");
     assert_eq!(ieee::is_infinite(a), a.is_infinite(), "is_infinite {a:?}");
 }
 
