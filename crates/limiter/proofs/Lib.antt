@@ -1,7 +1,7 @@
 pub mod Levels
 pub mod Peaks
-pub mod Runs
-pub mod Rows
+pub mod Scaled
+pub mod Blocks
 pub mod Lowered
 pub mod Growth
 pub mod Return

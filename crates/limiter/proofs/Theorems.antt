@@ -7,4 +7,4 @@ pub use Rattle.limiter.proofs.Return.{full-after}
 -- k blocks that do not lower it bring the gain to 1, or up by k times the decay less k roundings
 pub use Rattle.limiter.proofs.Growth.{Decay, decay-is, HalfUlp, Grows, grows}
 -- scaling keeps the number of samples
-pub use Rattle.limiter.proofs.Runs.{length-scaled}
+pub use Rattle.limiter.proofs.Scaled.{length-scaled}

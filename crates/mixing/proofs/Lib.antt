@@ -1,7 +1,7 @@
 pub mod Mixed
 pub mod Samples
 pub mod Parts
-pub mod Rows
+pub mod Sums
 pub mod Passes
 pub mod Meant
 pub mod Bounded

@@ -1,9 +1,9 @@
 -- What others may cite of this crate, a line each. Assumes nothing.
 
 -- at each place of a row a term that is mixed in is the term added there
-pub use Rattle.mixing.proofs.Rows.{full-at}
+pub use Rattle.mixing.proofs.Sums.{full-at}
 -- terms after terms are one sum
-pub use Rattle.mixing.proofs.Rows.{total-append}
+pub use Rattle.mixing.proofs.Sums.{total-append}
 -- a sum of m terms within bounds is finite and within theirs
 pub use Rattle.mixing.proofs.Bounded.{AddendWithin, total-bounded}
 -- mixing keeps a row's length, and a gain of zero keeps the row

@@ -1,4 +1,4 @@
-pub mod Rows
+pub mod Answers
 pub mod Arms
 pub mod Corners714
 pub mod Lists

@@ -14,7 +14,7 @@ use Rattle.mixing.specs.Part.{onPart}
 use Rattle.mixing.specs.Sums as sums
 use Rattle.mixing.specs.Sums.{plus, total}
 use Rattle.mixing.proofs.Theorems.{length-full}
-use Rattle.mixing.proofs.Rows.{full-at, total-append}
+use Rattle.mixing.proofs.Theorems.{full-at, total-append}
 use Rattle.mixing.proofs.Parts.{length-part, part-before, part-within, part-past}
 use Rattle.panning.specs.Terms.{Term, onChannel}
 use Rattle.rules.specs.Mix.{scaledBy}

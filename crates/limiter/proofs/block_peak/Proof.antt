@@ -9,7 +9,7 @@ use Rattle.limiter.specs.Limiter.{0·0, blockPeak}
 use Rattle.limiter.specs.Places.{channels}
 use Rattle.limiter.proofs.Levels.{Level}
 use Rattle.limiter.proofs.Peaks.{zero-level}
-use Rattle.limiter.proofs.Rows.{peak-next, peak-end}
+use Rattle.limiter.proofs.Blocks.{peak-next, peak-end}
 use Rattle.limiter.proofs.block_peak.Statement.{statement}
 use Rattle.limiter.proofs.block_peak.Tie as tie
 

@@ -1,5 +1,5 @@
 -- `panning::blend` meets its contract. Assumes nothing.
-use Rattle.panning.proofs.Rows.{ratio-of}
+use Rattle.panning.proofs.Answers.{ratio-of}
 use borrow.Author.Needs.{needs}
 use Rattle.panning.proofs.blend.Statement.{statement}
 use Rattle.panning.proofs.blend.Tie as tie

@@ -2,7 +2,7 @@
 use lib.Ieee.{ofBits}
 use Rattle.panning.specs.Speakers.{hall714}
 use Rattle.panning.specs.Terms.{up, ahead, across}
-use Rattle.panning.proofs.Rows.{coefficients-are}
+use Rattle.panning.proofs.Answers.{coefficients-are}
 use borrow.Author.Needs.{needs}
 use Rattle.panning.proofs.coefficients.Statement.{statement}
 use Rattle.panning.proofs.coefficients.Tie as tie

@@ -1,6 +1,6 @@
 -- `panning::pair_ends` meets its contract. Assumes nothing.
 use borrow.Author.Needs.{needs}
-use Rattle.panning.proofs.Rows.{ends-of}
+use Rattle.panning.proofs.Answers.{ends-of}
 use Rattle.panning.proofs.pair_ends.Statement.{statement}
 use Rattle.panning.proofs.pair_ends.Tie as tie
 

@@ -6,7 +6,7 @@ use lib.Dec.{T}
 use Rattle.panning.specs.Speakers.{hall714, fullRange, 12·0}
 use Rattle.panning.specs.Found.{chosen, Inside}
 use Rattle.panning.proofs.Corners714.{chosen-is, inside}
-use Rattle.panning.proofs.Rows.{pan-none, pan-some, none-less, some-less}
+use Rattle.panning.proofs.Answers.{pan-none, pan-some, none-less, some-less}
 use Rattle.panning.proofs.pan.Statement.{statement}
 use Rattle.panning.proofs.pan.Tie as tie
 

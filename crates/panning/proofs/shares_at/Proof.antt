@@ -3,7 +3,7 @@ use mathlib.Core.Path.{_≡_}
 use lib.Ieee.{ofBits}
 use Rattle.panning.specs.Table.{Position}
 use Rattle.panning.specs.Corners714.{cube714}
-use Rattle.panning.proofs.Rows.{ratio-of}
+use Rattle.panning.proofs.Answers.{ratio-of}
 use Rattle.panning.proofs.Shared.{shares-are}
 use borrow.Author.Needs.{needs}
 use Rattle.panning.proofs.shares_at.Statement.{statement}

@@ -1,6 +1,6 @@
 -- `panning::side` meets its contract. Assumes nothing.
 use lib.Ieee.{ofBits}
-use Rattle.panning.proofs.Rows.{side-yes, side-no}
+use Rattle.panning.proofs.Answers.{side-yes, side-no}
 use borrow.Author.Needs.{needs}
 use Rattle.panning.proofs.side.Statement.{statement}
 use Rattle.panning.proofs.side.Tie as tie

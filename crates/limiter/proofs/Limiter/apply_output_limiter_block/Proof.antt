@@ -5,7 +5,7 @@ use lib.Dec.{lit≤}
 use lib.Ieee.{Float}
 use Rattle.limiter.specs.Limiter.{0·0, lowered, grown, blockPeak, blockGain, scaledBlock}
 use Rattle.limiter.specs.Places.{channels, channelsAt, withChannels}
-use Rattle.limiter.proofs.Rows.{channels-laid, channels-at-lengths}
+use Rattle.limiter.proofs.Blocks.{channels-laid, channels-at-lengths}
 use borrow.Author.Needs.{needs}
 use Rattle.limiter.proofs.Limiter.apply_output_limiter_block.Statement.{statement}
 use Rattle.limiter.proofs.Limiter.apply_output_limiter_block.Tie as tie

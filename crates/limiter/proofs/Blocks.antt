@@ -15,7 +15,7 @@ use Rattle.limiter.proofs.Levels.{Level, level-abs}
 use Rattle.limiter.specs.Places.{floatsAt, withFloats, channels, overlaid, channelsAt, withChannels}
 use Rattle.words.proofs.Runs.{length-floats}
 use Rattle.words.proofs.Part.{floats-back}
-use Rattle.limiter.proofs.Runs.{length-scaled}
+use Rattle.limiter.proofs.Scaled.{length-scaled}
 
 whole : (a n : ℕ) → a + n - a ≡ n
 whole a n = omega arith
