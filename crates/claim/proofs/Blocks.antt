@@ -75,7 +75,7 @@ unranged r h =
       pending = h .pending;
       idle = h .idle;
       long = h .places .lengths;
-      words = λ c. words-in (r .places) (h .places) c (ltb c 12) refl;
+      words = λ c. words-in (r .pending .places) (h .places) c (ltb c 12) refl;
       none = h .places .none;
     }
 

@@ -84,16 +84,16 @@ all-mixed cs h a l e = pushed-holds cs h a l e .samples
 
 -- "one that limits or pans the first block only": every whole block is limited by the gain that it meets; at every sample the objects are those of the timed state of that sample (`all-mixed`)
 pub every-block : (cs : List Call) → AllLent cs → (a : Args) → Lent (push a) → found hall (after cs) a ≡ clear → (c : ℕ) → c < 12
-    → given (step hall (after cs) (push a) .answer) c ≡ limitedBlocks (a .rate) (after cs .gain) (unlimited hall (after cs) a) (whole hall (after cs) a) c
+    → given (step hall (after cs) (push a) .answer) c ≡ limitedBlocks (a .rate) (after cs .limiter .gain) (unlimited hall (after cs) a) (whole hall (after cs) a) c
 every-block cs h a l e c q = let p = pushed-holds cs h a l e in ap (λ x. given x c) (p .answer) ∙ p .gives c q
 
 -- "a ready count unrelated to pending samples": whole blocks of 64 of what was pending and came are ready on each channel, and the remainder is pending
 pub ready-counts : (cs : List Call) → AllLent cs → (a : Args) → Lent (push a) → found hall (after cs) a ≡ clear
-    → ((c : ℕ) → c < 12 → length (given (step hall (after cs) (push a) .answer) c) ≡ 64 * ((after cs .pending + a .samples) / 64))
-    × (step hall (after cs) (push a) .next .pending ≡ (after cs .pending + a .samples) % 64)
+    → ((c : ℕ) → c < 12 → length (given (step hall (after cs) (push a) .answer) c) ≡ 64 * ((after cs .pending .count + a .samples) / 64))
+    × (step hall (after cs) (push a) .next .pending .count ≡ (after cs .pending .count + a .samples) % 64)
 ready-counts cs h a l e =
     let p = pushed-holds cs h a l e in
-    (λ c q. ap (λ x. length (given x c)) (p .answer) ∙ p .ready c q, ap (λ (r : State hall). r .pending) (p .next) ∙ p .waits)
+    (λ c q. ap (λ x. length (given x c)) (p .answer) ∙ p .ready c q, ap (λ (r : State hall). r .pending .count) (p .next) ∙ p .waits)
 
 -- "a flush that says none while samples wait": with room it gives all that is pending, limited, and says none only where nothing is
 pub flush-gives : (cs : List Call) → AllLent cs → (out : List ℕ) (stride : ℕ) → Lent (flush out stride) → room stride (length out) ≡ true

@@ -30,7 +30,7 @@ code m u k = byte m u (8 + k)
 
 -- what the record says, but for the codes
 abbrev pub headerOf : List ℕ → ℕ → Header
-headerOf m u = record { offset = offset m u; objects = objects m u; «bed_or_isf» = bedOrIsf m u; beds = beds m u; elements = elements m u }
+headerOf m u = record { offset = record { 0 = offset m u }; objects = objects m u; «bed_or_isf» = bedOrIsf m u; beds = beds m u; elements = elements m u }
 
 -- "An update has up to 32 objects in all, 16 of them dynamic, 18 bed channels (never more than objects), 2 elements"
 abbrev pub countsFit : ℕ → ℕ → ℕ → ℕ → Bool

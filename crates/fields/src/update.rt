@@ -5,10 +5,11 @@ ghost use lib.ListN.{length};
 ghost use Rattle.fields.specs.Update.{offset, headerOf, code, countsFit, mostAt, codesFit, isUpdate};
 use crate::bytes::byte_at;
 use crate::bytes::zeros;
+use clock::FrameOffset;
 
 #[repr(C)]
 pub struct Header {
-    pub offset: usize,
+    pub offset: FrameOffset,
     pub objects: usize,
     pub bed_or_isf: usize,
     pub beds: usize,
@@ -16,11 +17,11 @@ pub struct Header {
 }
 
 // The sample offset.
-pub fn offset_at(meta: &[u8], u: usize) -> usize
+pub fn offset_at(meta: &[u8], u: usize) -> FrameOffset
     requires { ⌜ 40 * u + 40 ≤ length (now meta) ⌝ }
-    ensures { λ r. ⌜ r ≡ offset (now (meta .entry)) u ⌝ }
+    ensures { λ r. ⌜ r .0 ≡ offset (now (meta .entry)) u ⌝ }
 {
-    words::u16_at(meta, 40 * u + 2) as usize
+    FrameOffset(words::u16_at(meta, 40 * u + 2) as u32)
 }
 
 // What the record says, but for the codes.

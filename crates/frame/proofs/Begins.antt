@@ -16,18 +16,19 @@ use Rattle.fields.specs.Update.{offset}
 use Rattle.records.specs.Runs.{each}
 use Rattle.records.specs.Laid.{updateAt, count}
 use Rattle.records.specs.Order.{FirstAt}
-use Rattle.records.specs.Answers.{IsLayout}
+use Rattle.records.specs.Answers.{IsLayout, offsetAt}
 use Rattle.records.specs.declared.layout.Layout as records
 use Rattle.updates.specs.Said.{Update, updateOf}
 use Rattle.updates.specs.Applied as updates
 use Rattle.rules.specs.Samples.{Renderer, appliedAt, updated, slotted}
 use Rattle.rules.specs.Ranges.{Ranged}
-use Rattle.store.specs.declared.Small.{Small}
+use Rattle.store.specs.declared.renderer.Renderer714.{Renderer714}
 use Rattle.store.specs.Layout.{size, assembled, infosOf, placesOf}
 use Rattle.claim.specs.Hall.{Sent, hall, sentAt, sentOf}
 use Rattle.claim.proofs.Sound.{Within}
 use Rattle.frame.specs.Held.{held, smallBytes, IsHeld, IsNext}
-use Rattle.frame.specs.Begin.{withState, atSlot, CanStart, Rests}
+use Rattle.store.specs.Steps.{withState}
+use Rattle.frame.specs.Begin.{restated, CanStart, Rests}
 use Rattle.frame.proofs.Changed.{changed, changed-long, changed-small, changed-held}
 
 -- ---- one update
@@ -35,21 +36,17 @@ use Rattle.frame.proofs.Changed.{changed, changed-long, changed-small, 
 abbrev pub sent : ℕ → Update → Sent
 sent t u = record { offset = t; said = u }
 
--- the small part after an update, by whether a new slot starts
-abbrev pub after : Bool → Small → MetadataRendererState → Small
-after new s m = cond new (atSlot (withState s m)) (withState s m)
-
-module _ (t : ℕ) (u : Update) (s : Small) (b : List ℕ) where
+module _ (t : ℕ) (u : Update) (s : Renderer714) (b : List ℕ) where
   abbrev pub before : Timed
   before = record { state = s .state; infos = infosOf b }
 
-  by-start : (new : Bool) (m : Timed) → (not (s .state .initialized) || eqb t 0) ≡ new → updates.applied (s .position) u before ≡ m → assembled (after new s (m .state)) (m .infos) (placesOf b) ≡ appliedAt hall t (sent t u) (held s b)
+  by-start : (new : Bool) (m : Timed) → (not (s .state .initialized) || eqb t 0) ≡ new → updates.applied (s .clock .position .0) u before ≡ m → assembled (restated new s (m .state)) (m .infos) (placesOf b) ≡ appliedAt hall t (sent t u) (held s b)
   by-start true m e f = rw (e, f)
   by-start false m e f = rw (e, f)
 
   pub one-applied :
-      (new : Bool) (at : ℕ) (m : MetadataRendererState) (is : List ℕ) (r : Small) → length b ≡ size → length is ≡ 22528 → (not (s .state .initialized) || eqb t 0) ≡ new → at ≡ s .position →
-      IsTimed (updates.applied at u before) m is → r ≡ after new s m → IsNext (appliedAt hall t (sent t u) (held s b)) b r (changed b is)
+      (new : Bool) (at : ℕ) (m : MetadataRendererState) (is : List ℕ) (r : Renderer714) → length b ≡ size → length is ≡ 22528 → (not (s .state .initialized) || eqb t 0) ≡ new → at ≡ s .clock .position .0 →
+      IsTimed (updates.applied at u before) m is → r ≡ restated new s m → IsNext (appliedAt hall t (sent t u) (held s b)) b r (changed b is)
   one-applied new at m is r whole long e here h q =
       record {
         holds = record { is = changed-held b is whole long r ∙ rw (q, h .state, h .infos, here) (by-start new _ e refl); long = changed-long b is whole long };
@@ -58,22 +55,22 @@ module _ (t : ℕ) (u : Update) (s : Small) (b : List ℕ) where
 
 -- ---- the slot
 
-module _ (s : Small) (b : List ℕ) where
-  by-slot : (on : Bool) (m : Timed) → (s .state .initialized && eqb (s .phase) 0) ≡ on → cond on (slotAt (s .start) (record { state = s .state; infos = infosOf b })) (record { state = s .state; infos = infosOf b }) ≡ m → assembled (withState s (m .state)) (m .infos) (placesOf b) ≡ slotted hall (held s b)
+module _ (s : Renderer714) (b : List ℕ) where
+  by-slot : (on : Bool) (m : Timed) → (s .state .initialized && eqb (s .clock .phase) 0) ≡ on → cond on (slotAt (s .clock .start .0) (record { state = s .state; infos = infosOf b })) (record { state = s .state; infos = infosOf b }) ≡ m → assembled (withState s (m .state)) (m .infos) (placesOf b) ≡ slotted hall (held s b)
   by-slot true m e f = rw (e, f)
   by-slot false m e f = rw (e, f)
 
   -- no slot starts
-  pub slot-rests : length b ≡ size → (s .state .initialized && eqb (s .phase) 0) ≡ false → IsNext (slotted hall (held s b)) b s b
+  pub slot-rests : length b ≡ size → (s .state .initialized && eqb (s .clock .phase) 0) ≡ false → IsNext (slotted hall (held s b)) b s b
   slot-rests whole e = record { holds = record { is = by-slot false _ e refl; long = whole }; small = refl }
 
   pub slot-starts :
-      (m : MetadataRendererState) (is : List ℕ) (r : Small) → length b ≡ size → length is ≡ 22528 → s .state .initialized ≡ true → s .phase ≡ 0 →
-      IsTimed (slotAt (s .start) (record { state = s .state; infos = infosOf b })) m is → r ≡ withState s m → IsNext (slotted hall (held s b)) b r (changed b is)
+      (m : MetadataRendererState) (is : List ℕ) (r : Renderer714) → length b ≡ size → length is ≡ 22528 → s .state .initialized ≡ true → s .clock .phase ≡ 0 →
+      IsTimed (slotAt (s .clock .start .0) (record { state = s .state; infos = infosOf b })) m is → r ≡ withState s m → IsNext (slotted hall (held s b)) b r (changed b is)
   slot-starts m is r whole long e z h q =
       record {
         holds = record {
-          is = changed-held b is whole long r ∙ rw (q, h .state, h .infos) (by-slot true _ (rw (e, eq-eqb (s .phase) 0 z)) refl);
+          is = changed-held b is whole long r ∙ rw (q, h .state, h .infos) (by-slot true _ (rw (e, eq-eqb (s .clock .phase) 0 z)) refl);
           long = changed-long b is whole long;
         };
         small = changed-small b is whole long;
@@ -125,17 +122,17 @@ module _ (t : ℕ) (g : ℕ → Sent) (n : ℕ) where
 
 module _ (m : List ℕ) (l : records.Layout) (t at : ℕ) (all : Renderer Timed) (b₀ : List ℕ) where
   -- where the walk stands, from the block b₀: the updates from i on lead to `all`
-  pub record Standing (i : ℕ) (s : Small) (b : List ℕ) : Type 0 where
+  pub record Standing (i : ℕ) (s : Renderer714) (b : List ℕ) : Type 0 where
     pub within : i ≤ l .count
-    pub time : i < l .count → getD (l .offset) i 0 ≡ t
+    pub time : i < l .count → offsetAt l i ≡ t
     pub long : length b ≡ size
     pub small : smallBytes b ≡ smallBytes b₀
-    pub here : at ≡ s .position
+    pub here : at ≡ s .clock .position .0
     pub left : rest t (sentAt m) (l .count) i (held s b) ≡ all
 
   module _ (g : IsLayout m l) where
     pub standing :
-        (from i : ℕ) (s : Small) (b : List ℕ) → FirstAt (λ k. getD (l .offset) k 0) (l .count) t from i → length b ≡ size → smallBytes b ≡ smallBytes b₀ → at ≡ s .position →
+        (from i : ℕ) (s : Renderer714) (b : List ℕ) → FirstAt (offsetAt l) (l .count) t from i → length b ≡ size → smallBytes b ≡ smallBytes b₀ → at ≡ s .clock .position .0 →
         rest t (sentAt m) (l .count) from (held s b) ≡ all → Standing i s b
     standing from i s b h long small here left =
         let a = h .after in
@@ -146,17 +143,17 @@ module _ (m : List ℕ) (l : records.Layout) (t at : ℕ) (all : Renderer Timed)
 
     -- an update more
     pub goes-on :
-        (i j : ℕ) (s r : Small) (b c : List ℕ) → i < l .count → Standing i s b → IsNext (appliedAt hall t (sent t (updateOf m (getD (l .first) i 0))) (held s b)) b r c →
-        FirstAt (λ k. getD (l .offset) k 0) (l .count) t (i + 1) j → Standing j r c
+        (i j : ℕ) (s r : Renderer714) (b c : List ℕ) → i < l .count → Standing i s b → IsNext (appliedAt hall t (sent t (updateOf m (getD (l .first) i 0))) (held s b)) b r c →
+        FirstAt (offsetAt l) (l .count) t (i + 1) j → Standing j r c
     goes-on i j s r b c low h next first =
         let k : i < count m = omega (arith, g .counted) in
         let o : sentAt m i .offset ≡ t = sym (g .offsets i k) ∙ h .time low in
         let u : updateOf m (getD (l .first) i 0) ≡ updateOf m (updateAt m i) = ap (updateOf m) (g .firsts i k) in
         let one : held r c ≡ appliedAt hall t (sentAt m i) (held s b) = next .holds .is ∙ rw u in
-        standing (i + 1) j r c first (next .holds .long) (next .small ∙ h .small) (h .here ∙ sym (ap (λ (x : Renderer Timed). x .position) (next .holds .is)))
+        standing (i + 1) j r c first (next .holds .long) (next .small ∙ h .small) (h .here ∙ sym (ap (λ (x : Renderer Timed). x .clock .position) (next .holds .is)))
         (rw (add-one, one) (sym (rest-here t (sentAt m) (l .count) i (held s b) low o) ∙ h .left))
 
-    pub ends : (i : ℕ) (s : Small) (b : List ℕ) → l .count ≤ i → Standing i s b → IsNext all b₀ s b
+    pub ends : (i : ℕ) (s : Renderer714) (b : List ℕ) → l .count ≤ i → Standing i s b → IsNext all b₀ s b
     ends i s b low h = record { holds = record { is = sym (rest-none t (sentAt m) (l .count) i (held s b) low) ∙ h .left; long = h .long }; small = h .small }
 
 -- all of them
@@ -168,15 +165,15 @@ from-first m l g t r =
 
 -- ---- the slot after them
 
-pub can-start : {x : Renderer Timed} {s : Small} {b : List ℕ} → IsHeld x s b → CanStart x → CanStart (held s b)
+pub can-start : {x : Renderer Timed} {s : Renderer714} {b : List ℕ} → IsHeld x s b → CanStart x → CanStart (held s b)
 can-start h c = rw (h .is) c
 
-pub slotted-after : {x : Renderer Timed} {s r : Small} {b₀ b c : List ℕ} → IsNext x b₀ s b → IsNext (slotted hall (held s b)) b r c → IsNext (slotted hall x) b₀ r c
+pub slotted-after : {x : Renderer Timed} {s r : Renderer714} {b₀ b c : List ℕ} → IsNext x b₀ s b → IsNext (slotted hall (held s b)) b r c → IsNext (slotted hall x) b₀ r c
 slotted-after h g = record { holds = record { is = g .holds .is ∙ ap (slotted hall) (h .holds .is); long = g .holds .long }; small = g .small ∙ h .small }
 
 -- a renderer within document 01's ranges
 pub ranged-starts : (r : Renderer Timed) → Ranged hall Within r → CanStart r
-ranged-starts r g = record { within = timed.within-later (r .position) 1099511627776 (r .meta .state) (g .position) (g .meta .state .within); start = omega (arith, g .start, g .position) }
+ranged-starts r g = record { within = timed.within-later (r .clock .position) 1099511627776 (r .meta .state) (g .position) (g .meta .state .within); start = omega (arith, g .start, g .position) }
 
 -- none is sent for the time
 pub past : {f : ℕ → ℕ} {n t from i : ℕ} → FirstAt f n t from i → n ≤ i → FirstAt f n t from n
@@ -186,13 +183,13 @@ past {f} {n} {t} {from} {i} h l =
     subst (λ (j : ℕ). FirstAt f n t from j) e h
 
 -- where none is sent a slot may start
-pub slot-begins : (l : records.Layout) (t phase : ℕ) (b : Bool) → eqb phase 0 ≡ b → FirstAt (λ k. getD (l .offset) k 0) (l .count) t 0 (l .count) → cond b (Rests l t true phase → ⊥) (Rests l t true phase)
+pub slot-begins : (l : records.Layout) (t phase : ℕ) (b : Bool) → eqb phase 0 ≡ b → FirstAt (offsetAt l) (l .count) t 0 (l .count) → cond b (Rests l t true phase → ⊥) (Rests l t true phase)
 slot-begins l t phase true e n = λ h. subst T (sym e ∙ h .slot) tt
 slot-begins l t phase false e n = record { none = n; slot = e }
 
 -- nothing begins
-pub rests : (m : List ℕ) (l : records.Layout) → IsLayout m l → (t : ℕ) (s : Small) (b : List ℕ) → length b ≡ size → Rests l t (s .state .initialized) (s .phase) → IsNext (slotted hall (updated hall t (sentOf m) (held s b))) b s b
+pub rests : (m : List ℕ) (l : records.Layout) → IsLayout m l → (t : ℕ) (s : Renderer714) (b : List ℕ) → length b ≡ size → Rests l t (s .state .initialized) (s .clock .phase) → IsNext (slotted hall (updated hall t (sentOf m) (held s b))) b s b
 rests m l g t s b long h =
     let all = updated hall t (sentOf m) (held s b) in
-    let e = ends m l t (s .position) all b g (l .count) s b (omega arith) (standing m l t (s .position) all b g 0 (l .count) s b (h .none) long refl refl (from-first m l g t (held s b))) in
+    let e = ends m l t (s .clock .position .0) all b g (l .count) s b (omega arith) (standing m l t (s .clock .position .0) all b g 0 (l .count) s b (h .none) long refl refl (from-first m l g t (held s b))) in
     slotted-after e (slot-rests s b long (h .slot))

@@ -9,7 +9,7 @@ use lib.ListN.{length, take, drop, length-append, length-drop}
 use lib.Seq.{length-take-le, take-at, drop-at, drop-drop}
 use borrow.Rule.Slice.PartMut.{take-put}
 use Rattle.words.specs.Words.{wordsAt}
-use Rattle.store.specs.declared.Small.{Small}
+use Rattle.store.specs.declared.renderer.Renderer714.{Renderer714}
 use Rattle.store.specs.Layout.{size, assembled, infosOf, placesOf}
 use Rattle.store.proofs.Bytes.{words-drop}
 use Rattle.frame.specs.Held.{held, smallBytes}
@@ -44,5 +44,5 @@ module _ (b is : List ℕ) (whole : length b ≡ size) (long : length is ≡ 225
       ap (λ (ws : List ℕ). cond (ltb c 12) ws [])
       (words-drop (changed b is) 23888 (256 * c) 64 ∙ ap (λ (s : List ℕ). wordsAt s (256 * c) 64) past ∙ sym (words-drop b 23888 (256 * c) 64))
 
-  pub changed-held : (s : Small) → held s (changed b is) ≡ assembled s is (placesOf b)
+  pub changed-held : (s : Renderer714) → held s (changed b is) ≡ assembled s is (placesOf b)
   changed-held s = λ i. assembled s (changed-infos i) (λ c. changed-place c i)

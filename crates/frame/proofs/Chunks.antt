@@ -2,25 +2,26 @@
 use Prim.Native.Nat.{ℕ, zero, suc, _+_, _≤_, _<_}
 use native.Mathlib.Nat.{zero-add, suc-add}
 use native.Mathlib.Omega.{arith}
+use native.Mathlib.Numerals.{add-one}
 use mathlib.Core.Path.{_≡_, refl, sym, ap, _∙_}
 use mathlib.Core.Bool.{Bool, true, false, cond, _&&_}
 use mathlib.Core.List.{List, [], _∷_, _++_, append-assoc, append-nil}
-use lib.Dec.{leb, eqb, eqb·suc-zero}
+use lib.Dec.{leb, eqb}
 use lib.Ieee.{Float}
-use borrow.Author.Tests.{lt-leb}
+use borrow.Author.Tests.{lt-leb, ne-eqb}
 use Rattle.ieee.specs.Bounds.{All}
 use Rattle.lowpass.specs.Lowpass.{output, next}
 use Rattle.rules.specs.Parts.{Places, none, joined, laid}
 use Rattle.rules.specs.Leaves.{Leaves, started}
 use Rattle.rules.specs.Mix.{Moment, heard, fed}
-use Rattle.rules.specs.Samples.{Frame, State, After, row, moment, updated, slotted, closing, passed, sampled, framed}
+use Rattle.rules.specs.Samples.{appended, Frame, State, After, row, moment, updated, slotted, settled, closing, passed, sampled, framed}
 use Rattle.render.specs.Run.{filterAfter, rowRun}
 use Rattle.frame.specs.Chunk.{moments, chunk}
 
 -- the first sample and then the rest, on channel 3 and on another
-one-by-one : (b : Bool) (k : ℕ) (x y : Float) (xs : List Float) (ws : List ℕ) → laid (suc k) xs (laid k (cond b (x ∷ []) (y ∷ [])) ws) ≡ laid k (cond b (x ∷ []) (y ∷ []) ++ xs) ws
-one-by-one true k x y xs ws = refl
-one-by-one false k x y xs ws = refl
+one-by-one : (b : Bool) (k : ℕ) (x y : Float) (xs : List Float) (ws : List ℕ) → laid (k + 1) xs (laid k (cond b (x ∷ []) (y ∷ [])) ws) ≡ laid k (cond b (x ∷ []) (y ∷ []) ++ xs) ws
+one-by-one true k x y xs ws = rw add-one refl
+one-by-one false k x y xs ws = rw add-one refl
 
 module _ (L : Leaves) where
   -- no update falls on t
@@ -58,83 +59,72 @@ module _ (L : Leaves) where
   middle run f t r =
       record {
         rate = r .rate;
-        position = suc (r .position);
-        phase = cond run (suc (r .phase)) (r .phase);
-        start = r .start;
-        gain = r .gain;
+        clock = record { position = r .clock .position + 1; phase = cond run (r .clock .phase + 1) (r .clock .phase); start = r .clock .start };
+        limiter = r .limiter;
         filter = next (r .filter) (fed (moment L f t (r .meta)));
         meta = r .meta;
-        pending = suc (r .pending);
-        places = λ c. laid (r .pending) (row (moment L f t (r .meta)) (r .filter) c) (r .places c);
+        pending = appended 1 (row (moment L f t (r .meta)) (r .filter)) (r .pending);
       }
 
-  module _ (f : Frame (L .Update)) (t : ℕ) (r : State L) (run : Bool) (go : started L (r .meta) ≡ run) (slot : run ≡ true → suc (r .phase) < 64) (room : suc (r .pending) < 64) where
-    abbrev ends : Bool → Bool → Bool → After L
-    ends whole clock last =
-        closing L whole clock last (suc (r .position)) (suc (r .phase)) (suc (r .pending)) r (next (r .filter) (fed (moment L f t (r .meta))))
-        (λ c. laid (r .pending) (row (moment L f t (r .meta)) (r .filter) c) (r .places c)) (moment L f t (r .meta) ∷ [])
+  -- what its first sample leaves
+  abbrev opening : Bool → Frame (L .Update) → ℕ → State L → After L
+  opening run f t r = record { next = middle run f t r; given = none; moments = moment L f t (r .meta) ∷ [] }
 
-    middle-is : passed L (moment L f t (r .meta)) r ≡ record { next = middle run f t r; given = none; moments = moment L f t (r .meta) ∷ [] }
-    middle-is = ap (λ (b : Bool). ends b (started L (r .meta)) (leb 64 (suc (r .phase)))) (lt-leb 64 (suc (r .pending)) room) ∙ ap (λ (b : Bool). ends false b (leb 64 (suc (r .phase)))) go ∙ at-rest run slot
-      where
-        at-rest : (b : Bool) → (b ≡ true → suc (r .phase) < 64) → ends false b (leb 64 (suc (r .phase))) ≡ record { next = middle b f t r; given = none; moments = moment L f t (r .meta) ∷ [] }
-        at-rest true h = ap (ends false true) (lt-leb 64 (suc (r .phase)) (h refl))
-        at-rest false h = refl
+  module _ (f : Frame (L .Update)) (t : ℕ) (r : State L) (room : r .pending .count + 1 < 64) where
+    middle-is : (run : Bool) → started L (r .meta) ≡ run → (run ≡ true → r .clock .phase + 1 < 64) → passed L (moment L f t (r .meta)) r ≡ opening run f t r
+    middle-is true e h = rw (lt-leb 64 (r .pending .count + 1) room, e, lt-leb 64 (r .clock .phase + 1) (h refl)) refl
+    middle-is false e h = rw (lt-leb 64 (r .pending .count + 1) room, e) refl
 
-    -- and the sample after it finds no update and no new slot
-    next-is : (n : ℕ) → NoneAt (suc t) (f .updates) → framed L f (suc n) (suc t) (middle run f t r) ≡ follow f n (suc t) (middle run f t r)
-    next-is n q = ap (follow f n (suc t)) (ap (slotted L) (none-due (suc t) (f .updates) (middle run f t r) q) ∙ no-slot)
-      where
-        e : (b : Bool) → (b && eqb (cond b (suc (r .phase)) (r .phase)) 0) ≡ false
-        e true = eqb·suc-zero (r .phase)
-        e false = refl
+  -- and the sample after it finds no update and no new slot
+  no-slot : (f : Frame (L .Update)) (t : ℕ) (r : State L) (run : Bool) → started L (r .meta) ≡ run → slotted L (middle run f t r) ≡ middle run f t r
+  no-slot f t r true e = let z = ne-eqb (r .clock .phase + 1) 0 (λ z. omega arith) in rw (e, z) refl
+  no-slot f t r false e = rw e refl
 
-        no-slot : slotted L (middle run f t r) ≡ middle run f t r
-        no-slot =
-            ap
-            (λ (b : Bool). record {
-              rate = r .rate;
-              position = suc (r .position);
-              phase = cond run (suc (r .phase)) (r .phase);
-              start = r .start;
-              gain = r .gain;
-              filter = next (r .filter) (fed (moment L f t (r .meta)));
-              meta = cond b (L .slot (r .start) (r .meta)) (r .meta);
-              pending = suc (r .pending);
-              places = λ c. laid (r .pending) (row (moment L f t (r .meta)) (r .filter) c) (r .places c);
-            })
-            (ap (λ (b : Bool). b && eqb (cond run (suc (r .phase)) (r .phase)) 0) go ∙ e run)
+  next-is : (f : Frame (L .Update)) (t : ℕ) (r : State L) (run : Bool) → started L (r .meta) ≡ run → (n : ℕ) → NoneAt (suc t) (f .updates)
+      → framed L f (suc n) (suc t) (middle run f t r) ≡ follow f n (suc t) (middle run f t r)
+  next-is f t r run e n q = ap (follow f n (suc t)) (ap (slotted L) (none-due (suc t) (f .updates) (middle run f t r) q) ∙ no-slot f t r run e)
 
-  -- what a chunk of n + 2 samples leaves: whether the clock runs, the position, the phase and the number pending after it, the renderer before it, the places after it
-  abbrev shut : Frame (L .Update) → ℕ → ℕ → State L → Bool → ℕ → ℕ → ℕ → State L → Places → After L
-  shut f n t r run position phase pending s places =
+  -- what a chunk of n samples leaves: whether the clock runs, the position and the phase after it, the phase where it rests, the number pending, the places
+  abbrev shut : Frame (L .Update) → ℕ → ℕ → State L → Bool → ℕ → ℕ → ℕ → ℕ → Places → After L
+  shut f n t r run position phase rest pending places =
       let m : ℕ → Moment = λ t. moment L f t (r .meta) in
-      closing L (leb 64 pending) run (leb 64 phase) position phase pending s (filterAfter m (r .filter) t n) places (moments m t n)
+      let end = leb 64 phase in
+      closing L
+      (record {
+        rate = r .rate;
+        clock = record { position = position; phase = cond run (cond end 0 phase) rest; start = cond (run && end) (r .clock .start + 64) (r .clock .start) };
+        limiter = r .limiter;
+        filter = filterAfter m (r .filter) t n;
+        meta = r .meta;
+        pending = record { count = pending; places = places };
+      })
+      (moments m t n)
 
   -- the first sample, and then the n + 1 others at once
-  more : (f : Frame (L .Update)) (n t : ℕ) (r : State L) (run : Bool) → started L (r .meta) ≡ run
-      → both (record { next = middle run f t r; given = none; moments = moment L f t (r .meta) ∷ [] }) (chunk L f (suc n) (suc t) (middle run f t r)) ≡ chunk L f (suc (suc n)) t r
+  more : (f : Frame (L .Update)) (n t : ℕ) (r : State L) (run : Bool) → started L (r .meta) ≡ run → both (opening run f t r) (chunk L f (suc n) (suc t) (middle run f t r)) ≡ chunk L f (suc (suc n)) t r
   unfolding chunk
   more f n t r run go =
-      (λ i. shut f (suc (suc n)) t r (go i) (past (r .position) i) (cond run (suc (r .phase)) (r .phase) + suc n) (past (r .pending) i) (middle run f t r) (λ c. rows c i))
+      (λ i. shut f (suc (suc n)) t r (go i) (past (r .clock .position) i) (cond run (r .clock .phase + 1) (r .clock .phase) + suc n) (cond run (r .clock .phase + 1) (r .clock .phase)) (past (r .pending .count) i) (λ c. rows c i))
       ∙ clock run
-      ∙ (λ i. shut f (suc (suc n)) t r (sym go i) (r .position + suc (suc n)) (r .phase + suc (suc n)) (r .pending + suc (suc n)) r after)
+      ∙ (λ i. shut f (suc (suc n)) t r (sym go i) (r .clock .position + suc (suc n)) (r .clock .phase + suc (suc n)) (r .clock .phase) (r .pending .count + suc (suc n)) after)
     where
       m : ℕ → Moment
       m t = moment L f t (r .meta)
 
-      past : (a : ℕ) → suc a + suc n ≡ a + suc (suc n)
+      past : (a : ℕ) → a + 1 + suc n ≡ a + suc (suc n)
       past a = omega arith
 
       after : Places
-      after c = laid (r .pending) (rowRun m (r .filter) c t (suc (suc n))) (r .places c)
+      after c = laid (r .pending .count) (rowRun m (r .filter) c t (suc (suc n))) (r .pending .places c)
 
-      rows : (c : ℕ) → laid (suc (r .pending)) (rowRun m (next (r .filter) (fed (m t))) c (suc t) (suc n)) (laid (r .pending) (row (m t) (r .filter) c) (r .places c)) ≡ after c
-      rows c = one-by-one (eqb c 3) (r .pending) (output (r .filter) (fed (m t))) (heard (m t) c) (rowRun m (next (r .filter) (fed (m t))) c (suc t) (suc n)) (r .places c)
+      rows : (c : ℕ) → laid (r .pending .count + 1) (rowRun m (next (r .filter) (fed (m t))) c (suc t) (suc n)) (laid (r .pending .count) (row (m t) (r .filter) c) (r .pending .places c)) ≡ after c
+      rows c = one-by-one (eqb c 3) (r .pending .count) (output (r .filter) (fed (m t))) (heard (m t) c) (rowRun m (next (r .filter) (fed (m t))) c (suc t) (suc n)) (r .pending .places c)
 
-      clock : (b : Bool) → shut f (suc (suc n)) t r b (r .position + suc (suc n)) (cond b (suc (r .phase)) (r .phase) + suc n) (r .pending + suc (suc n)) (middle b f t r) after
-          ≡ shut f (suc (suc n)) t r b (r .position + suc (suc n)) (r .phase + suc (suc n)) (r .pending + suc (suc n)) r after
-      clock true = ap (λ (k : ℕ). shut f (suc (suc n)) t r true (r .position + suc (suc n)) k (r .pending + suc (suc n)) (middle true f t r) after) (past (r .phase))
+      at : Bool → ℕ → ℕ → After L
+      at b phase rest = shut f (suc (suc n)) t r b (r .clock .position + suc (suc n)) phase rest (r .pending .count + suc (suc n)) after
+
+      clock : (b : Bool) → at b (cond b (r .clock .phase + 1) (r .clock .phase) + suc n) (cond b (r .clock .phase + 1) (r .clock .phase)) ≡ at b (r .clock .phase + suc (suc n)) (r .clock .phase)
+      clock true = ap (λ (k : ℕ). at true k (r .clock .phase)) (past (r .clock .phase))
       clock false = refl
 
   -- a single sample
@@ -142,45 +132,39 @@ module _ (L : Leaves) where
   unfolding chunk
   single f t r =
       (λ i. record { next = passed L (m t) r .next; given = λ c. append-nil (passed L (m t) r .given c) i; moments = m t ∷ [] })
-      ∙ (λ i. shut f 1 t r (started L (r .meta)) (one (r .position) i) (one (r .phase) i) (one (r .pending) i) r (λ c. laid (r .pending) (sym (append-nil (row (m t) (r .filter) c)) i) (r .places c)))
+      ∙ (λ i. closing L (settled L 1 (next (r .filter) (fed (m t))) (λ c. sym (append-nil (row (m t) (r .filter) c)) i) r) (m t ∷ []))
     where
       m : ℕ → Moment
       m t = moment L f t (r .meta)
-
-      one : (a : ℕ) → suc a ≡ a + 1
-      one a = omega arith
 
   -- no update falls on the n samples after t
   abbrev pub Quiet : Frame (L .Update) → ℕ → ℕ → Type 0
   Quiet f n t = (k : ℕ) → t < k → k ≤ t + n → NoneAt k (f .updates)
 
-  pub chunk-is : (f : Frame (L .Update)) (n t : ℕ) (r : State L) (run : Bool) → started L (r .meta) ≡ run → Quiet f n t → (run ≡ true → r .phase + suc n ≤ 64) → r .pending + suc n ≤ 64
+  pub chunk-is : (f : Frame (L .Update)) (n t : ℕ) (r : State L) (run : Bool) → started L (r .meta) ≡ run → Quiet f n t → (run ≡ true → r .clock .phase + suc n ≤ 64) → r .pending .count + suc n ≤ 64
       → follow f n t r ≡ chunk L f (suc n) t r
   chunk-is f zero t r run go q p c = single f t r
   chunk-is f (suc n) t r run go q p c =
-      ap (λ (a : After L). both a (framed L f (suc n) (suc t) (a .next))) (middle-is f t r run go (λ e. let h = p e in omega arith) (omega arith))
-      ∙ ap (both first)
-      (next-is f t r run go (λ e. let h = p e in omega arith) (omega arith) n (q (suc t) (omega arith) (omega arith))
+      ap (λ (a : After L). both a (framed L f (suc n) (suc t) (a .next))) (middle-is f t r (omega arith) run go (λ e. let h = p e in omega arith))
+      ∙ ap (both (opening run f t r))
+      (next-is f t r run go n (q (suc t) (omega arith) (omega arith))
       ∙ chunk-is f n (suc t) (middle run f t r) run go (λ k a b. q k (omega arith) (omega arith)) (slot run p) (omega arith))
       ∙ more f n t r run go
     where
-      first : After L
-      first = record { next = middle run f t r; given = none; moments = moment L f t (r .meta) ∷ [] }
-
-      slot : (b : Bool) → (b ≡ true → r .phase + suc (suc n) ≤ 64) → b ≡ true → cond b (suc (r .phase)) (r .phase) + suc n ≤ 64
+      slot : (b : Bool) → (b ≡ true → r .clock .phase + suc (suc n) ≤ 64) → b ≡ true → cond b (r .clock .phase + 1) (r .clock .phase) + suc n ≤ 64
       slot true h e = let k = h refl in omega arith
       slot false h e = let k = h e in omega arith
 
   -- What a turn of the frame's loop needs: no update on the samples after its first; the block, and the slot where the clock runs, end at the earliest with it.
   pub record Turn (f : Frame (L .Update)) (n t : ℕ) (s : State L) : Type 0 where
     pub quiet : Quiet f n t
-    pub slot : started L (s .meta) ≡ true → s .phase + suc n ≤ 64
-    pub room : s .pending + suc n ≤ 64
+    pub slot : started L (s .meta) ≡ true → s .clock .phase + suc n ≤ 64
+    pub room : s .pending .count + suc n ≤ 64
 
   -- what a chunk leaves as it was, and how far the stream goes
   pub record Passes (n : ℕ) (r s : State L) : Type 0 where
     pub rate : s .rate ≡ r .rate
-    pub position : s .position ≡ r .position + n
+    pub position : s .clock .position ≡ r .clock .position + n
     pub meta : s .meta ≡ r .meta
 
   pub chunk-passes : (f : Frame (L .Update)) (n t : ℕ) (r : State L) → Passes n r (chunk L f n t r .next)

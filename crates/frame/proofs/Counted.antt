@@ -9,11 +9,10 @@ use lib.ListN.{length, length-append}
 use lib.Ieee.{binary32, ofBits}
 use borrow.Author.Tests.{leb-true, leb-false}
 use Rattle.lowpass.specs.Lowpass.{next}
-use Rattle.lowpass.specs.declared.BiquadLowpassState.{BiquadLowpassState}
-use Rattle.rules.specs.Parts.{Places, floats, laid}
-use Rattle.rules.specs.Leaves.{Leaves, started}
+use Rattle.rules.specs.Parts.{Channels, Places, none, floats, laid}
+use Rattle.rules.specs.Leaves.{Leaves}
 use Rattle.rules.specs.Mix.{Moment, fed}
-use Rattle.rules.specs.Samples.{Frame, State, After, row, moment, updated, slotted, closing, sampled, framed}
+use Rattle.rules.specs.Samples.{Pending, Frame, State, After, limited, row, moment, updated, slotted, settled, closing, sampled, framed}
 use Rattle.rules.proofs.Lists.{length-map, length-laid}
 use Rattle.rules.proofs.Limited.{length-limited}
 use Rattle.rules.proofs.Clock.{untouched}
@@ -31,28 +30,42 @@ module _ (L : Leaves) where
   pub record Counted (p n : ℕ) (a : After L) : Type 0 where
     pub blocks : ℕ
     pub length : (c : ℕ) → c < 12 → length (a .given c) ≡ 64 * blocks
-    pub all : 64 * blocks + a .next .pending ≡ p + n
+    pub all : 64 * blocks + a .next .pending .count ≡ p + n
 
-  closing-counted : (p n pending : ℕ) (run last : Bool) (position phase : ℕ) (r : State L) (low : BiquadLowpassState) (places : Places) (ms : List Moment)
-      → pending ≡ p + n → pending ≤ 64 → Long places → Counted p n (closing L (leb 64 pending) run last position phase pending r low places ms)
-  closing-counted p n pending run last position phase r low places ms e few long = go (leb 64 pending) refl
+  closing-counted : (p n : ℕ) (r : State L) (ms : List Moment) → r .pending .count ≡ p + n → r .pending .count ≤ 64 → Long (r .pending .places) → Counted p n (closing L r ms)
+  closing-counted p n r ms e few long = go (leb 64 (r .pending .count)) refl
     where
-      go : (b : Bool) → leb 64 pending ≡ b → Counted p n (closing L b run last position phase pending r low places ms)
-      go true q =
-          let k = leb-true 64 pending q in
-          record { blocks = 1; length = λ c l. length-limited (r .gain) (floats places) c ∙ length-map (ofBits binary32) (places c) ∙ long c l; all = omega arith }
-      go false q = record { blocks = 0; length = λ c l. refl; all = omega arith }
+      k : ℕ
+      k = r .pending .count
 
-  pub framed-counted : (f : Frame (L .Update)) (n t : ℕ) (r : State L) → Long (r .places) → r .pending < 64 → Counted (r .pending) n (framed L f n t r)
+      block : Channels
+      block = floats (r .pending .places)
+
+      go : (b : Bool) → leb 64 k ≡ b → Counted p n (closing L r ms)
+      go true q =
+          let m = leb-true 64 k q in
+          record {
+            blocks = 1;
+            length = λ c l. ap (λ (b : Bool). length (cond b (limited (r .limiter .gain) block) none c)) q ∙ length-limited (r .limiter .gain) block c ∙ length-map (ofBits binary32) (r .pending .places c) ∙ long c l;
+            all = ap (λ (b : Bool). 64 * 1 + cond b 0 k) q ∙ (omega arith);
+          }
+      go false q =
+          record {
+            blocks = 0;
+            length = λ c l. ap (λ (b : Bool). length (cond b (limited (r .limiter .gain) block) none c)) q;
+            all = ap (λ (b : Bool). 64 * 0 + cond b 0 k) q ∙ (omega arith);
+          }
+
+  pub framed-counted : (f : Frame (L .Update)) (n t : ℕ) (r : State L) → Long (r .pending .places) → r .pending .count < 64 → Counted (r .pending .count) n (framed L f n t r)
   framed-counted f zero t r long few = record { blocks = 0; length = λ c l. refl; all = omega arith }
   framed-counted f (suc n) t r long few =
       let x = sampled L f t r in
       let y = framed L f n (suc t) (x .next) in
-      let d = framed-counted f n (suc t) (x .next) laid-long (below (suc (s .pending)) (leb 64 (suc (s .pending))) refl) in
+      let d = framed-counted f n (suc t) (x .next) laid-long (below (s .pending .count + 1) (leb 64 (s .pending .count + 1)) refl) in
       record {
         blocks = a .blocks + d .blocks;
         length = λ c l. length-append (x .given c) (y .given c) ∙ sums (a .blocks) (d .blocks) (a .length c l) (d .length c l);
-        all = total (a .blocks) (d .blocks) (x .next .pending) (y .next .pending) (s .pending) (r .pending) (a .all) (d .all) same;
+        all = total (a .blocks) (d .blocks) (x .next .pending .count) (y .next .pending .count) (s .pending .count) (r .pending .count) (a .all) (d .all) same;
       }
     where
       s : State L
@@ -61,16 +74,14 @@ module _ (L : Leaves) where
       m : Moment
       m = moment L f t (s .meta)
 
-      same : s .pending ≡ r .pending
-      same = untouched L t (f .updates) r .pending
+      same : s .pending .count ≡ r .pending .count
+      same = ap (λ (p : Pending). p .count) (untouched L t (f .updates) r .pending)
 
-      laid-long : Long (λ c. laid (s .pending) (row m (s .filter) c) (s .places c))
-      laid-long c l = length-laid (s .pending) (row m (s .filter) c) (s .places c) ∙ ap (λ (p : Places). length (p c)) (untouched L t (f .updates) r .places) ∙ long c l
+      laid-long : Long (λ c. laid (s .pending .count) (row m (s .filter) c) (s .pending .places c))
+      laid-long c l = length-laid (s .pending .count) (row m (s .filter) c) (s .pending .places c) ∙ ap (λ (p : Pending). length (p .places c)) (untouched L t (f .updates) r .pending) ∙ long c l
 
-      a : Counted (s .pending) 1 (sampled L f t r)
-      a =
-          closing-counted (s .pending) 1 (suc (s .pending)) (started L (s .meta)) (leb 64 (suc (s .phase))) (suc (s .position)) (suc (s .phase)) s (next (s .filter) (fed m))
-          (λ c. laid (s .pending) (row m (s .filter) c) (s .places c)) (m ∷ []) (omega arith) (omega (arith, same)) laid-long
+      a : Counted (s .pending .count) 1 (sampled L f t r)
+      a = closing-counted (s .pending .count) 1 (settled L 1 (next (s .filter) (fed m)) (row m (s .filter)) s) (m ∷ []) refl (omega (arith, same)) laid-long
 
       sums : (i j : ℕ) {u v : ℕ} → u ≡ 64 * i → v ≡ 64 * j → u + v ≡ 64 * (i + j)
       sums i j p q = omega arith

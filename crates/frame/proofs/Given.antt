@@ -10,16 +10,19 @@ use lib.Seq.{take-all}
 use lib.Ieee.{Float, binary32, ofBits, toBits}
 use Rattle.words.specs.Words.{word, floatAt, withFloat, wordsAt, withWords}
 use Rattle.limiter.specs.Limiter.{blockGain, scaled, scaledBlock, grown}
+use Rattle.limiter.specs.declared.Limiter.{Limiter}
 use Rattle.limiter.specs.Places.{floatsAt, withFloats, channelsAt, withChannels, Given}
 use Rattle.rules.specs.Parts.{Channels, none, twelve, floats}
 use Rattle.rules.specs.Samples.{limited, gainAfter, flushed}
 use Rattle.rules.specs.Block.{writtenFrom, written}
-use Rattle.store.specs.declared.Small.{Small}
+use Rattle.store.specs.declared.renderer.Renderer714.{Renderer714}
 use Rattle.store.specs.Layout.{size, placesOf}
+use Rattle.store.specs.Steps.{emptiedBy}
 use Rattle.store.proofs.Bytes.{words-drop}
+use Rattle.frame.specs.declared.Rendering.{Rendering}
 use Rattle.frame.specs.Held.{held}
 use Rattle.frame.specs.Out.{behindFrom, behind}
-use Rattle.frame.specs.Give.{emptied, Gave}
+use Rattle.frame.specs.Give.{Gave}
 
 -- ---- floats and words
 
@@ -104,16 +107,19 @@ waiting-at n b h l c m =
     ∙ (let q = lt-ltb c 12 m in rw q refl)
 
 -- what `give` leaves
-pub gave : (s : Small) (b out : List ℕ) (stride ready : ℕ) {h : Float} {r : Small} {out' : List ℕ} → length b ≡ size → s .pending ≤ 64 → r ≡ emptied s h
-    → Given (s .gain) (s .pending) (s .rate) (take (length b - 23888) (drop 23888 b)) (4 * stride) (4 * ready) out h out' → Gave s b stride ready out r out'
+pub gave : (w : Rendering) (b out : List ℕ) (stride : ℕ) {l : Limiter} {r : Rendering} {out' : List ℕ} → length b ≡ size → w .renderer .pending ≤ 64 → r .renderer ≡ emptiedBy (w .renderer) l
+    → r .ready ≡ w .ready + w .renderer .pending
+    → Given (w .renderer .limiter .gain) (w .renderer .pending) (w .renderer .rate) (take (length b - 23888) (drop 23888 b)) (4 * stride) (4 * w .ready) out (l .gain) out' → Gave w b stride out r out'
 unfolding flushed waiting
-gave s b out stride ready l m p given =
+gave w b out stride l m p n given =
+    let s = w .renderer in
     let e = waiting-at (s .pending) b m l in
     let f = waiting (s .pending) b in
     let part = take (length b - 23888) (drop 23888 b) in
     record {
-      next = ap (λ (r : Small). held r b) (p ∙ ap (emptied s) (gain-after f part (s .pending) e stride ready given));
-      given = given-behind f part (s .pending) e stride ready given;
+      next = ap (λ (r : Renderer714). held r b) (p ∙ ap (λ (g : Float). emptiedBy s (record { gain = g })) (gain-after f part (s .pending) e stride (w .ready) given));
+      given = given-behind f part (s .pending) e stride (w .ready) given;
+      ready = n;
     }
 
 -- ---- nothing behind others, and behind nothing

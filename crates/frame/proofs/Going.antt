@@ -10,7 +10,7 @@ use lib.ListN.{length, length-append}
 use borrow.Author.Tests.{eqb-true, eqb-false}
 use Rattle.ieee.specs.Bounds.{All}
 use Rattle.rules.specs.Leaves.{Leaves, Shape}
-use Rattle.rules.specs.Samples.{State, After, updated, slotted, framed, opened, pushed}
+use Rattle.rules.specs.Samples.{Pending, State, After, updated, slotted, framed, opened, pushed}
 use Rattle.rules.specs.Refusals.{Args, listed, shapeAt}
 use Rattle.rules.specs.Calls.{announced, frameOf}
 use Rattle.rules.specs.Block.{Layout, written}
@@ -70,8 +70,8 @@ module _ (L : Leaves) (B : Layout L) (F : Facts L B) where
       pub long : length out ≡ length (a .out)
       pub ranged : R L B F r
       pub listed : listed (r .rate) ≡ true
-      pub position : r .position ≡ r₀ .position + t
-      pub pending : ready + r .pending ≡ r₀ .pending + t
+      pub position : r .clock .position ≡ r₀ .clock .position + t
+      pub pending : ready + r .pending .count ≡ r₀ .pending .count + t
       pub whole : ready % 64 ≡ 0
       pub fits : t < a .samples → Fit (shaped t (L .shape (r .meta)))
 
@@ -83,8 +83,8 @@ module _ (L : Leaves) (B : Layout L) (F : Facts L B) where
       pub updates : R L B F (updated L t us r)
       pub ranged : R L B F (met t r)
       pub listed : listed (met t r .rate) ≡ true
-      pub position : met t r .position ≡ r .position
-      pub pending : met t r .pending ≡ r .pending
+      pub position : met t r .clock .position ≡ r .clock .position
+      pub pending : met t r .pending .count ≡ r .pending .count
       pub fits : Fit (L .shape (met t r .meta))
 
     module _ (S : Shaped) (p : Passed L r₀ a) (k : All (F .Checked) us) (t : ℕ) (r : State L) (ready : ℕ) (out : List ℕ) (g : Going t r ready out) (more : t < a .samples) where
@@ -93,18 +93,18 @@ module _ (L : Leaves) (B : Layout L) (F : Facts L B) where
           let u = updated-ranged L B F t us r k (g .ranged) in
           let w = untouched L t us r in
           let e = slotted-shape L B F (updated L t us r) (λ n. S .rests n (updated L t us r .meta))
-          ∙ updated-shape L B F (S .Coded) (S .keeps) (S .gives) (announced L us) (a .objects) (a .codes) t us r k (S .within (r .position) (r .meta) (g .ranged .meta)) in
+          ∙ updated-shape L B F (S .Coded) (S .keeps) (S .gives) (announced L us) (a .objects) (a .codes) t us r k (S .within (r .clock .position) (r .meta) (g .ranged .meta)) in
           record {
             updates = u;
             ranged = slotted-ranged L B F (updated L t us r) u;
             listed = ap listed (w .rate) ∙ g .listed;
             position = w .position;
-            pending = w .pending;
+            pending = ap (λ (p : Pending). p .count) (w .pending);
             fits = subst Fit (sym e) (g .fits more);
           }
 
       -- ---- a turn of n + 1 samples
-      module _ (few : r₀ .pending < 64) (n : ℕ) (fit : t + suc n ≤ a .samples) (q : Turn L (frameOf L a) n t (met t r)) where
+      module _ (few : r₀ .pending .count < 64) (n : ℕ) (fit : t + suc n ≤ a .samples) (q : Turn L (frameOf L a) n t (met t r)) where
         abbrev C : After L
         C = chunk L (frameOf L a) (suc n) t (met t r)
 
@@ -119,8 +119,8 @@ module _ (L : Leaves) (B : Layout L) (F : Facts L B) where
         at-once : framed L (frameOf L a) (suc n) t r ≡ C
         at-once = chunk-whole L (frameOf L a) n t r q
 
-        counted : Counted L (r .pending) (suc n) C
-        counted = subst (Counted L (r .pending) (suc n)) at-once (framed-counted L (frameOf L a) (suc n) t r (g .ranged .long) (g .ranged .pending))
+        counted : Counted L (r .pending .count) (suc n) C
+        counted = subst (Counted L (r .pending .count) (suc n)) at-once (framed-counted L (frameOf L a) (suc n) t r (g .ranged .long) (g .ranged .pending))
 
         chunk-ranged : R L B F (C .next)
         chunk-ranged =
@@ -128,7 +128,7 @@ module _ (L : Leaves) (B : Layout L) (F : Facts L B) where
             let last = p .early .position in
             subst (λ (x : After L). R L B F (x .next)) at-once (framed-ranged L B F (frameOf L a) k (suc n) t r (g .listed) (omega arith) (g .ranged))
 
-        rest-counted : Counted L (C .next .pending) (a .samples - (t + suc n)) D
+        rest-counted : Counted L (C .next .pending .count) (a .samples - (t + suc n)) D
         rest-counted = framed-counted L (frameOf L a) (a .samples - (t + suc n)) (t + suc n) (C .next) (chunk-ranged .long) (chunk-ranged .pending)
 
         room : (c : ℕ) → c < 12 → ready + 64 * counted .blocks + length (D .given c) ≤ a .stride
@@ -136,7 +136,7 @@ module _ (L : Leaves) (B : Layout L) (F : Facts L B) where
             let e = rest-counted .length c l in
             let w = is-roomy (a .stride) (length (a .out)) (p .early .room) in
             subst (λ (i : ℕ). ready + 64 * counted .blocks + i ≤ a .stride) (sym e)
-            (space ready (r₀ .pending) (r .pending) t n (a .samples - (t + suc n)) (a .samples) (a .stride) (counted .blocks) (rest-counted .blocks) (C .next .pending) (D .next .pending) (g .whole) (w .whole)
+            (space ready (r₀ .pending .count) (r .pending .count) t n (a .samples - (t + suc n)) (a .samples) (a .stride) (counted .blocks) (rest-counted .blocks) (C .next .pending .count) (D .next .pending .count) (g .whole) (w .whole)
             few (samples-fit a (p .early .sized)) (omega arith) (g .pending) (counted .all) (rest-counted .all))
 
         count-more : length (rest t r .given 0) ≡ 64 * counted .blocks + length (D .given 0)
@@ -162,8 +162,8 @@ module _ (L : Leaves) (B : Layout L) (F : Facts L B) where
               long = length-behind ready (C .given) (a .stride) out ∙ g .long;
               ranged = chunk-ranged;
               listed = ap listed (c .rate) ∙ b .listed;
-              position = numbers-position (r₀ .position) (C .next .position) (met t r .position) (r .position) (c .position) (b .position) (g .position);
-              pending = numbers-pending (r₀ .pending) (counted .blocks) (C .next .pending) (r .pending) (counted .all) (g .pending);
+              position = numbers-position (r₀ .clock .position) (C .next .clock .position) (met t r .clock .position) (r .clock .position) (c .position) (b .position) (g .position);
+              pending = numbers-pending (r₀ .pending .count) (counted .blocks) (C .next .pending .count) (r .pending .count) (counted .all) (g .pending);
               whole = numbers-whole (counted .blocks) (g .whole);
               fits = fits-more;
             }
@@ -180,12 +180,12 @@ module _ (L : Leaves) (B : Layout L) (F : Facts L B) where
             numbers-whole : (b : ℕ) → ready % 64 ≡ 0 → (ready + 64 * b) % 64 ≡ 0
             numbers-whole b e = omega arith
 
-        pub step : Going (t + suc n) (C .next) (cond (eqb (C .next .pending) 0) (ready + 64) ready) (behind ready (C .given) (a .stride) out)
+        pub step : Going (t + suc n) (C .next) (cond (eqb (C .next .pending .count) 0) (ready + 64) ready) (behind ready (C .given) (a .stride) out)
         step =
             let h = q .room in
             let e = begun .pending in
             subst (λ (i : ℕ). Going (t + suc n) (C .next) i (behind ready (C .given) (a .stride) out))
-            (sym (ready-is (eqb (C .next .pending) 0) ready (r .pending) n (counted .blocks) (C .next .pending) refl (counted .all) (omega arith))) gone
+            (sym (ready-is (eqb (C .next .pending .count) 0) ready (r .pending .count) n (counted .blocks) (C .next .pending .count) refl (counted .all) (omega arith))) gone
 
     -- ---- before the first sample, and after the last
     pub starts : R L B F r₀ → Passed L r₀ a → Going 0 (opened L (a .rate) r₀) 0 (a .out)

@@ -1,37 +1,11 @@
--- The first accepted frame, and the length of a turn. Assumes nothing.
+-- The length of a turn. Assumes nothing.
 use Prim.Native.Nat.{ℕ, _+_, _-_, _≤_, _<_}
 use native.Mathlib.Omega.{arith}
-use mathlib.Core.Path.{_≡_, refl, sym, ap, _∙_}
+use mathlib.Core.Path.{_≡_, refl, ap, _∙_}
 use mathlib.Core.Bool.{Bool, true, false, cond}
 use lib.Dec.{ltb}
-use borrow.Author.Tests.{ltb-true, ltb-false, eq-eqb, ne-eqb}
-use Rattle.lowpass.specs.Lowpass.{new}
-use Rattle.lowpass.specs.declared.BiquadLowpassState.{BiquadLowpassState}
-use Rattle.rules.specs.Leaves.{Leaves}
-use Rattle.rules.specs.Samples.{State, opened}
+use borrow.Author.Tests.{ltb-true, ltb-false}
 use Rattle.frame.specs.Turns.{lesser, runLength}
-
-module _ (L : Leaves) (rate : ℕ) (r : State L) where
-  -- `opened`, with its test as an argument
-  abbrev opening : Bool → BiquadLowpassState → State L
-  opening first low =
-      record {
-        rate = cond first rate (r .rate);
-        position = r .position;
-        phase = r .phase;
-        start = r .start;
-        gain = r .gain;
-        filter = cond first low (r .filter);
-        meta = r .meta;
-        pending = r .pending;
-        places = r .places;
-      }
-
-  pub opened-before : (r .rate ≡ 0 → ⊥) → r ≡ opened L rate r
-  opened-before h = ap (λ (b : Bool). opening b (new rate)) (sym (ne-eqb (r .rate) 0 h))
-
-  pub opened-first : (low : BiquadLowpassState) → r .rate ≡ 0 → low ≡ new rate → opening true low ≡ opened L rate r
-  opened-first low h e = ap (opening true) e ∙ ap (λ (b : Bool). opening b (new rate)) (sym (eq-eqb (r .rate) 0 h))
 
 -- ---- the length of a turn
 

@@ -5,7 +5,7 @@ use mathlib.Core.List.{List, []}
 use Prim.Native.Nat.{ℕ, _+_, _-_, _*_, _<_, _≤_}
 use native.Mathlib.Nat.{add-zero}
 use native.Mathlib.Omega.{arith}
-use borrow.Author.Tests.{ltb-true, lt-leb}
+use borrow.Author.Tests.{ltb-true, lt-leb, ne-eqb}
 use lib.Dec.{leb, ltb}
 use lib.ListN.{length, getD, take, drop, length-map}
 use lib.Seq.{take-all, length-take-le}
@@ -21,20 +21,22 @@ use Rattle.rules.specs.Mix.{sampleAt, samplesAt, Moment, heard}
 use Rattle.rules.specs.Samples.{Frame, Renderer, moment, flushed, gainAfter}
 use Rattle.timed.specs.State.{Timed}
 use Rattle.claim.specs.Hall.{Sent, hall}
-use Rattle.store.specs.declared.Small.{Small}
+use Rattle.store.specs.declared.renderer.Renderer714.{Renderer714}
 use Rattle.store.specs.Layout.{assembled, infosOf, placesOf}
+use Rattle.store.specs.Steps.{settledBy}
 use Rattle.store.proofs.Decoded.{words-long}
 use Rattle.render.specs.Sources.{Framed, bedWith, bedsOf, plainSource, sourcesOf}
 use Rattle.render.specs.Run.{momentOf, filterAfter, rowRun, Passed}
 use Rattle.render.proofs.Channels.{fewer}
 use Rattle.render.proofs.Tables.{beds-each, sources-each}
 use Rattle.render.proofs.Steps.{filter-as, run-as}
-use Rattle.frame.specs.Held.{held, IsNext}
+use Rattle.frame.specs.declared.Rendering.{Rendering}
+use Rattle.frame.specs.Held.{held, Leads}
 use Rattle.frame.specs.Chunk.{chunk}
 use Rattle.frame.specs.Out.{behind}
-use Rattle.frame.specs.Give.{CanGive, emptied, Gave}
+use Rattle.frame.specs.Give.{CanGive, Gave}
 use Rattle.frame.specs.Pass as pass
-use Rattle.frame.specs.Pass.{CanPass, Laid, passedClock, frameWith, Passes}
+use Rattle.frame.specs.Pass.{readyAfter, CanPass, Laid, frameWith, Passes}
 use Rattle.frame.proofs.Given.{none-behind}
 use Rattle.frame.proofs.Laying.{laid-nil, length-laid}
 
@@ -87,15 +89,15 @@ module _ (codes pcm : List ℕ) (objects n t c : ℕ) where
 
 -- ---- the renderer after a chunk, before a whole block is given out
 
-module _ (f : Frame Sent) (t k : ℕ) (s : Small) (b : List ℕ) where
+module _ (f : Frame Sent) (t k : ℕ) (s : Renderer714) (b : List ℕ) where
   abbrev at : ℕ → Moment
   at = pass.momentHere f t k s b
 
-  abbrev rows : Places
-  rows = pass.placesAfter f t k s b
-
   abbrev settled : Renderer Timed
-  settled = pass.settled f t k s b
+  settled = pass.settledAt f t k s b
+
+  abbrev rows : Places
+  rows = settled .pending .places
 
   -- no whole block
   chunk-waits : leb 64 (s .pending + k) ≡ false → chunk hall f k t (held s b) .next ≡ settled
@@ -123,7 +125,16 @@ module _ (f : Frame Sent) (t k : ℕ) (s : Small) (b : List ℕ) where
     unfolding chunk flushed
     chunk-whole =
         rw e
-        (ap (λ (w : Channels). assembled (emptied (passedClock s (filterAfter at (s .filter) t k) k) (gainAfter 64 (s .rate) (s .gain) w)) (infosOf b) rows) (sym rows-whole))
+        (ap
+        (λ (w : Channels). record {
+          rate = settled .rate;
+          clock = settled .clock;
+          limiter = record { gain = gainAfter 64 (s .rate) (s .limiter .gain) w };
+          filter = settled .filter;
+          meta = settled .meta;
+          pending = record { count = 0; places = rows };
+        })
+        (sym rows-whole))
 
     chunk-given : chunk hall f k t (held s b) .given ≡ flushed hall settled .given
     unfolding chunk flushed
@@ -139,57 +150,74 @@ module _ (f : Frame Sent) (t k : ℕ) (s : Small) (b : List ℕ) where
         ap (λ (xs : List Float). laid (s .pending) xs (wordsAt b (23888 + 256 * c) 64)) (p .columns c (ltb-true c 12 e) ∙ run-as m at same (s .filter) c t k)
     rows-laid c false e = laid-nil (s .pending) (take k (drop (64 * c) ys)) ∙ sym (laid-nil (s .pending) (rowRun at (s .filter) c t k))
 
-    pub held-settled : {r : Small} → r ≡ passedClock s low k → held r b' ≡ settled
+    pub held-settled : {r : Renderer714} → r ≡ settledBy s low k → held r b' ≡ settled
     held-settled e =
-        ap (λ (r : Small). held r b') e
-        ∙ ap (λ (f : BiquadLowpassState). held (passedClock s f k) b') (p .filter ∙ filter-as m at same (s .filter) t k)
-        ∙ ap₂ (assembled (passedClock s (filterAfter at (s .filter) t k) k)) (l .infos) (l .places ∙ fun-ext (λ c. rows-laid c (ltb c 12) refl))
+        ap (λ (r : Renderer714). held r b') e
+        ∙ ap (λ (f : BiquadLowpassState). held (settledBy s f k) b') (p .filter ∙ filter-as m at same (s .filter) t k)
+        ∙ ap₂ (assembled (settledBy s (filterAfter at (s .filter) t k) k)) (l .infos) (l .places ∙ fun-ext (λ c. rows-laid c (ltb c 12) refl))
 
-  module _ (stride ready : ℕ) (out : List ℕ) {r : Small} {b' : List ℕ} (n : IsNext settled b r b') where
-    pub passes-waiting : s .pending + k < 64 → Passes f t k stride ready s b out r b' out
-    passes-waiting w =
-        let e = lt-leb 64 (s .pending + k) w in
-        record {
-          next = record { holds = record { is = n .holds .is ∙ sym (chunk-waits e); long = n .holds .long }; small = n .small };
-          given = sym (none-behind ready stride out) ∙ ap (λ (g : Channels). behind ready g stride out) (sym (chunk-none e));
-        }
+-- a block in part leaves the number that is ready, a whole one adds 64
+stays-ready : (ready pending : ℕ) → 0 < pending → ready ≡ readyAfter ready pending
+stays-ready ready pending h = rw (ne-eqb pending 0 (λ e. omega arith)) refl
 
-    pub passes-whole : {r' : Small} {out' : List ℕ} → s .pending + k ≡ 64 → Gave r b' stride ready out r' out' → Passes f t k stride ready s b out r' b' out'
-    passes-whole e g =
-        record {
-          next = record { holds = record { is = g .next ∙ ap (λ (x : Renderer Timed). flushed hall x .next) (n .holds .is) ∙ sym (chunk-whole e); long = n .holds .long }; small = n .small };
-          given = g .given ∙ ap (λ (x : Renderer Timed). behind ready (flushed hall x .given) stride out) (n .holds .is) ∙ ap (λ (g : Channels). behind ready g stride out) (sym (chunk-given e));
-        }
+adds-ready : (ready : ℕ) {pending : ℕ} → pending ≡ 0 → ready + 64 ≡ readyAfter ready pending
+adds-ready ready e = rw e refl
 
 -- the moments that `mix` hears
-pub same-heard : (rate : ℕ) (us : List Sent) (codes pcm : List ℕ) (objects n : ℕ) (s : Small) (b : List ℕ) → Full (s .state) objects → (s .state .initialized ≡ true → s .state .objects - s .state .isf ≡ objects)
+pub same-heard : (rate : ℕ) (us : List Sent) (codes pcm : List ℕ) (objects n : ℕ) (s : Renderer714) (b : List ℕ) → Full (s .state) objects → (s .state .initialized ≡ true → s .state .objects - s .state .isf ≡ objects)
     → (t c : ℕ) → heard (mixed (s .state) codes objects pcm n t) c ≡ heard (moment hall (frameWith rate us codes objects pcm n) t (record { state = s .state; infos = infosOf b })) c
 same-heard rate us codes pcm objects n s b h d t c = mixed-heard codes pcm objects n t c (s .state .initialized) (s .state) h d
 
--- what a turn of the frame's loop may do: pass its samples, and where a block gets whole, give it out behind `ready` samples
-pub record Passable (s : Small) (b pcm out codes : List ℕ) (objects n t k stride ready : ℕ) : Type 0 where
-  pub passes : CanPass s b pcm codes objects n t k
-  pub rate : s .rate ≤ 16777216
-  pub room : s .pending + k ≡ 64 → ready + 64 ≤ stride
+-- what a turn of the frame's loop may do: pass its samples, and where a block gets whole, give it out behind those that are ready
+pub record Passable (w : Rendering) (b pcm out codes : List ℕ) (objects n t k stride : ℕ) : Type 0 where
+  pub passes : CanPass (w .renderer) b pcm codes objects n t k
+  pub some : 0 < k
+  pub rate : w .renderer .rate ≤ 16777216
+  pub room : w .renderer .pending + k ≡ 64 → w .ready + 64 ≤ stride
+  pub short : stride ≤ 4096
   pub output : 48 * stride ≤ length out
 
-module _ (f : Frame Sent) {s r : Small} {b b' pcm out codes : List ℕ} {objects n t k stride ready : ℕ} (h : Passable s b pcm out codes objects n t k stride ready) (e : IsNext (pass.settled f t k s b) b r b') where
-  pending-after : r .pending ≡ s .pending + k
-  pending-after = ap (λ (x : Renderer Timed). x .pending) (e .holds .is)
+module _ (f : Frame Sent) {w v : Rendering} {b b' pcm out codes : List ℕ} {objects n t k stride : ℕ} (h : Passable w b pcm out codes objects n t k stride)
+    (e : Leads (pass.settledAt f t k (w .renderer) b) w b v b') where
+  abbrev s : Renderer714
+  s = w .renderer
+
+  is-settled : held (v .renderer) b' ≡ settled f t k s b
+  is-settled = e .next .holds .is
+
+  pending-after : v .renderer .pending ≡ s .pending + k
+  pending-after = ap (λ (x : Renderer Timed). x .pending .count) is-settled
 
   -- a whole block can be given out
-  pub can-give : r .pending ≡ 64 → CanGive r b' out stride ready
-  can-give w =
+  pub can-give : v .renderer .pending ≡ 64 → CanGive v b' out stride
+  can-give z =
       let p = pending-after in
-      let q = h .room (sym p ∙ w) in
-      record { block = e .holds .long; pending = omega arith; rate = rw (ap (λ (x : Renderer Timed). x .rate) (e .holds .is)) (h .rate); room = omega arith; output = h .output }
+      let q = h .room (sym p ∙ z) in
+      let y = e .ready in
+      record { block = e .next .holds .long; pending = omega arith; rate = rw (ap (λ (x : Renderer Timed). x .rate) is-settled) (h .rate); room = omega arith; short = h .short; output = h .output }
 
-  pub passes-on : (r .pending ≡ 64 → ⊥) → Passes f t k stride ready s b out r b' out
-  passes-on w =
+  pub passes-on : (v .renderer .pending ≡ 64 → ⊥) → Passes f t k stride w b out v b' out
+  passes-on z =
       let p = pending-after in
       let q = h .passes .pending in
-      let n : s .pending + k ≡ 64 → ⊥ = λ z. w (p ∙ z) in
-      passes-waiting f t k s b stride ready out e (omega arith)
+      let m : s .pending + k ≡ 64 → ⊥ = λ y. z (p ∙ y) in
+      let o = lt-leb 64 (s .pending + k) (omega arith) in
+      let some = h .some in
+      record {
+        next = record { holds = record { is = is-settled ∙ sym (chunk-waits f t k s b o); long = e .next .holds .long }; small = e .next .small };
+        given = sym (none-behind (w .ready) stride out) ∙ ap (λ (g : Channels). behind (w .ready) g stride out) (sym (chunk-none f t k s b o));
+        ready = e .ready ∙ stays-ready (w .ready) (v .renderer .pending) (omega arith);
+      }
 
-  pub passes-given : {r' : Small} {out' : List ℕ} → r .pending ≡ 64 → Gave r b' stride ready out r' out' → Passes f t k stride ready s b out r' b' out'
-  passes-given w g = passes-whole f t k s b stride ready out e (sym pending-after ∙ w) g
+  pub passes-given : {r : Rendering} {out' : List ℕ} → v .renderer .pending ≡ 64 → Gave v b' stride out r out' → Passes f t k stride w b out r b' out'
+  unfolding flushed
+  passes-given {r} {out'} z g =
+      let o = sym pending-after ∙ z in
+      let y = e .ready in
+      let c : r .ready ≡ w .ready + 64 = g .ready ∙ (let i = y in let j = z in omega arith) in
+      record {
+        next = record { holds = record { is = g .next ∙ ap (λ (x : Renderer Timed). flushed hall x .next) is-settled ∙ sym (chunk-whole f t k s b o); long = e .next .holds .long }; small = e .next .small };
+        given = g .given
+            ∙ (λ i. behind (y i) (flushed hall (is-settled i) .given) stride out) ∙ ap (λ (g : Channels). behind (w .ready) g stride out) (sym (chunk-given f t k s b o));
+        ready = c ∙ adds-ready (w .ready) (ap (λ (x : Renderer Timed). x .pending .count) (g .next));
+      }

@@ -6,14 +6,14 @@ use mathlib.Core.Path.{_≡_, refl, sym, ap, _∙_, subst}
 use mathlib.Core.Bool.{true, false, _&&_}
 use mathlib.Core.List.{List}
 use lib.Dec.{eqb}
-use lib.ListN.{length, getD}
+use lib.ListN.{length}
 use borrow.Author.Tests.{eqb-true, ne-eqb}
 use Rattle.ieee.specs.Bounds.{All}
 use Rattle.words.specs.Words.{Bytes, wordsAt}
 use Rattle.angles.specs.Angle.{Listed}
 use Rattle.fields.specs.Update.{offset}
 use Rattle.records.specs.Laid.{count, updateAt}
-use Rattle.records.specs.Answers.{IsLayout}
+use Rattle.records.specs.Answers.{IsLayout, offsetAt}
 use Rattle.records.specs.Order.{nextOffset}
 use Rattle.records.specs.declared.layout.Layout.{Layout}
 use Rattle.records.proofs.Times.{next-within, next-above, next-least}
@@ -22,12 +22,13 @@ use Rattle.updates.specs.Applied.{applied}
 use Rattle.updates.proofs.Passed.{passes-all}
 use Rattle.mixing.proofs.Passes.{pass-plain}
 use Rattle.rules.specs.Leaves.{started}
-use Rattle.rules.specs.Samples.{State, updated, slotted, opened, pushed}
+use Rattle.rules.specs.Samples.{State, updated, slotted, pushed}
 use Rattle.rules.specs.Refusals.{Args, listed}
 use Rattle.rules.specs.Calls.{frameOf}
 use Rattle.rules.proofs.Judged.{Passed, is-passed, and-true, is-roomy, is-listed, rate-high, is-sized, samples-fit}
 use Rattle.rules.proofs.Ranged.{R}
-use Rattle.store.specs.declared.Small.{Small}
+use Rattle.store.specs.declared.renderer.Renderer714.{Renderer714}
+use Rattle.store.specs.Steps.{openedBy}
 use Rattle.store.specs.Layout.{size, infosOf, decode}
 use Rattle.store.specs.Ranges.{smallValid, headsValid, valid}
 use Rattle.claim.specs.Hall.{hall, block, sentAt, sentOf}
@@ -35,13 +36,14 @@ use Rattle.claim.proofs.Checked.{each-all}
 use Rattle.claim.proofs.Applied.{codes-long}
 use Rattle.claim.proofs.Shapes.{shape-apply, shape-slot}
 use Rattle.claim.proofs.Theorem.{facts}
-use Rattle.frame.specs.Held.{held, smallBytes, IsNext}
+use Rattle.frame.specs.declared.Rendering.{Rendering}
+use Rattle.frame.specs.Held.{held, smallBytes, Leads}
 use Rattle.frame.specs.Chunk.{chunk}
 use Rattle.frame.specs.Out.{behind}
 use Rattle.frame.specs.Begin.{CanBegin}
-use Rattle.frame.specs.Pass.{Passes}
+use Rattle.frame.specs.Pass.{readyAfter, Passes}
 use Rattle.frame.proofs.Passing.{Passable}
-use Rattle.frame.specs.Turns.{runLength, readyAfter, Accepted, IsRendered}
+use Rattle.frame.specs.Turns.{runLength, Accepted, IsRendered}
 use Rattle.frame.proofs.Begins.{ranged-starts}
 use Rattle.frame.proofs.Chunks.{NoneAt, Turn}
 use Rattle.frame.proofs.Going.{Shaped, Going, Begun, begun, step, starts, ends}
@@ -75,8 +77,8 @@ pub record Taken (b : List ℕ) (a : Args) (l : Layout) : Type 0 where
   pub samples : a .samples ≤ 1536
   pub long : length b ≡ size
 
-pub takes : (s : Small) (b : List ℕ) (a : Args) (l : Layout) → Accepted s b l a → Bytes b → Bytes (a .meta) → Taken b a l
-takes s b a l h bytes meta =
+pub takes : (w : Rendering) (b : List ℕ) (a : Args) (l : Layout) → Accepted w b l a → Bytes b → Bytes (a .meta) → Taken b a l
+takes w b a l h bytes meta =
     let p = is-passed hall (decode b) a (h .clear) in
     let x = is-roomy (a .stride) (length (a .out)) (p .early .room) .most in
     let y = samples-fit a (p .early .sized) in
@@ -90,39 +92,39 @@ takes s b a l h bytes meta =
       long = valid-long b (h .valid);
     }
 
-pub starts-at : (s : Small) (b : List ℕ) (a : Args) (l : Layout) → Accepted s b l a → s .position ≡ decode b .position
+pub starts-at : (w : Rendering) (b : List ℕ) (a : Args) (l : Layout) → Accepted w b l a → w .renderer .clock .position .0 ≡ decode b .clock .position
 unfolding decode
-starts-at s b a l h = ap (λ (s : Small). s .position) (h .small)
+starts-at w b a l h = ap (λ (s : Renderer714). s .clock .position .0) (h .small)
 
 pub is-rate : (b : List ℕ) (a : Args) (l : Layout) → Taken b a l → Listed (a .rate)
 is-rate b a l k = is-listed (a .rate) (k .passed .early .listed)
 
 -- before sample t
-pub record Running (b : List ℕ) (a : Args) (t : ℕ) (s : Small) (state : List ℕ) (ready : ℕ) (out : List ℕ) : Type 0 where
+pub record Running (b : List ℕ) (a : Args) (t : ℕ) (w : Rendering) (state out : List ℕ) : Type 0 where
   pub long : length state ≡ size
   pub small : smallBytes state ≡ smallBytes b
-  pub going : Going hall block facts (decode b) a t (held s state) ready out
+  pub going : Going hall block facts (decode b) a t (held (w .renderer) state) (w .ready) out
 
-pub opens : (s r : Small) (b : List ℕ) (a : Args) (l : Layout) → Accepted s b l a → Taken b a l → held r b ≡ opened hall (a .rate) (held s b) → Running b a 0 r b 0 (a .out)
+pub opens : (w v : Rendering) (b : List ℕ) (a : Args) (l : Layout) → Accepted w b l a → Taken b a l → v ≡ record { renderer = openedBy (w .renderer) (a .rate); ready = 0 } → Running b a 0 v b (a .out)
 unfolding decode
-opens s r b a l h k e =
+opens w v b a l h k e =
     record {
       long = k .long;
       small = refl;
-      going = subst (λ (x : State hall). Going hall block facts (decode b) a 0 x 0 (a .out)) (sym (e ∙ ap (λ (s : Small). opened hall (a .rate) (held s b)) (h .small)))
+      going = subst (λ (v : Rendering). Going hall block facts (decode b) a 0 (held (v .renderer) b) (v .ready) (a .out)) (sym (e ∙ ap (λ (s : Renderer714). record { renderer = openedBy s (a .rate); ready = 0 }) (h .small)))
           (starts hall block facts (decode b) a (k .ranged) (k .passed));
     }
 
 -- ---- a turn
-module _ (b : List ℕ) (a : Args) (l : Layout) (k : Taken b a l) (t : ℕ) (s : Small) (state : List ℕ) (ready : ℕ) (out : List ℕ) (h : Running b a t s state ready out) (more : t < a .samples) where
+module _ (b : List ℕ) (a : Args) (l : Layout) (k : Taken b a l) (t : ℕ) (w : Rendering) (state out : List ℕ) (h : Running b a t w state out) (more : t < a .samples) where
   abbrev met : State hall
-  met = slotted hall (updated hall t (sentOf (a .meta)) (held s state))
+  met = slotted hall (updated hall t (sentOf (a .meta)) (held (w .renderer) state))
 
-  here : Begun hall block facts (decode b) a t (held s state)
-  here = begun hall block facts (decode b) a shapes (k .passed) (k .checked) t (held s state) ready out (h .going) more
+  here : Begun hall block facts (decode b) a t (held (w .renderer) state)
+  here = begun hall block facts (decode b) a shapes (k .passed) (k .checked) t (held (w .renderer) state) (w .ready) out (h .going) more
 
   -- the updates at t, and the slot
-  pub can-begin : (at : ℕ) → at ≡ decode b .position + t → CanBegin s state (a .meta) l t at
+  pub can-begin : (at : ℕ) → at ≡ decode b .clock .position + t → CanBegin (w .renderer) state (a .meta) l t at
   unfolding facts
   can-begin at e =
       record {
@@ -130,74 +132,79 @@ module _ (b : List ℕ) (a : Args) (l : Layout) (k : Taken b a l) (t : ℕ) (s :
         here = e ∙ sym (h .going .position);
         layout = k .layout;
         whole = k .whole;
-        slot = ranged-starts (updated hall t (sentOf (a .meta)) (held s state)) (here .updates);
+        slot = ranged-starts (updated hall t (sentOf (a .meta)) (held (w .renderer) state)) (here .updates);
       }
 
   -- the next update or the frame's end
-  module _ (end : ℕ) (is-end : end ≡ nextOffset (λ i. getD (l .offset) i 0) (l .count) t (a .samples)) where
+  module _ (end : ℕ) (is-end : end ≡ nextOffset (offsetAt l) (l .count) t (a .samples)) where
     pub end-above : t < end
-    end-above = subst (λ (x : ℕ). t < x) (sym is-end) (next-above (λ i. getD (l .offset) i 0) t (a .samples) (l .count) more)
+    end-above = subst (λ (x : ℕ). t < x) (sym is-end) (next-above (offsetAt l) t (a .samples) (l .count) more)
 
     end-within : end ≤ a .samples
-    end-within = subst (λ (x : ℕ). x ≤ a .samples) (sym is-end) (next-within (λ i. getD (l .offset) i 0) t (a .samples) (l .count))
+    end-within = subst (λ (x : ℕ). x ≤ a .samples) (sym is-end) (next-within (offsetAt l) t (a .samples) (l .count))
 
     none-before : (j : ℕ) → t < j → j < end → NoneAt hall j (sentOf (a .meta))
     none-before j x y =
         each-all (λ u. eqb (u .offset) j ≡ false) (sentAt (a .meta)) (count (a .meta))
         (λ i n. ne-eqb (offset (a .meta) (updateAt (a .meta) i)) j (λ e. late i n (k .layout .offsets i n ∙ e)))
       where
-        late : (i : ℕ) → i < count (a .meta) → getD (l .offset) i 0 ≡ j → ⊥
+        late : (i : ℕ) → i < count (a .meta) → offsetAt l i ≡ j → ⊥
         late i n e =
             let c = k .layout .counted in
-            let m : nextOffset (λ i. getD (l .offset) i 0) (l .count) t (a .samples) ≤ getD (l .offset) i 0 = next-least (λ i. getD (l .offset) i 0) t (a .samples) (l .count) i (omega arith) (omega arith) in
+            let m : nextOffset (offsetAt l) (l .count) t (a .samples) ≤ offsetAt l i = next-least (offsetAt l) t (a .samples) (l .count) i (omega arith) (omega arith) in
             omega arith
 
     -- with the small part s′ and the block state′ after them
-    module _ (s′ : Small) (state′ : List ℕ) (e : IsNext met state s′ state′) where
-      now-ranged : R hall block facts (held s′ state′)
-      now-ranged = subst (R hall block facts) (sym (e .holds .is)) (here .ranged)
+    module _ (w′ : Rendering) (state′ : List ℕ) (e : Leads met w state w′ state′) where
+      abbrev s′ : Renderer714
+      s′ = w′ .renderer
 
-      pub few : (s′ .phase < 64) × (s′ .pending < 64)
+      now-ranged : R hall block facts (held s′ state′)
+      now-ranged = subst (R hall block facts) (sym (e .next .holds .is)) (here .ranged)
+
+      pub few : (s′ .clock .phase < 64) × (s′ .pending < 64)
       few = (now-ranged .phase, now-ranged .pending)
 
       -- and n samples of the turn
-      module _ (n : ℕ) (len : RunLength (s′ .state .initialized) (s′ .phase) (s′ .pending) (end - t) n) where
+      module _ (n : ℕ) (len : RunLength (s′ .state .initialized) (s′ .clock .phase) (s′ .pending) (end - t) n) where
         pub turn-fits : t + n ≤ a .samples
         turn-fits = let x = len .within in let y = end-within in let z = end-above in omega arith
 
-        pub can-pass : Passable s′ state′ (a .pcm) out (a .codes) (a .objects) (a .samples) t n (a .stride) ready
+        pub can-pass : Passable w′ state′ (a .pcm) out (a .codes) (a .objects) (a .samples) t n (a .stride)
         unfolding facts
         can-pass =
             let p = k .passed in
             let z = is-sized a (p .early .sized) in
             let c = z .pcm in
-            let w = is-roomy (a .stride) (length (a .out)) (p .early .room) in
+            let w₁ = is-roomy (a .stride) (length (a .out)) (p .early .room) in
             let r = now-ranged in
             let g = h .going in
             let q = r .start in
             let v = r .position in
-            let o = w .long in
+            let o = w₁ .long in
             let y = g .long in
             record {
               passes = record {
-                block = e .holds .long;
+                block = e .next .holds .long;
                 framed = record { room = omega arith; plain = pass-plain (a .pcm) 0 ((length (a .codes) + a .objects) * a .samples) (p .early .pass); span = turn-fits; short = let x = len .room in omega arith };
                 inputs = z .codes;
                 few = z .objects;
                 beds = r .meta .state .within .beds;
-                dynamic = subst (λ (x : State hall). started hall (x .meta) ≡ true → hall .shape (x .meta) .objects ≡ a .objects) (sym (e .holds .is)) (here .fits);
+                dynamic = subst (λ (x : State hall). started hall (x .meta) ≡ true → hall .shape (x .meta) .objects ≡ a .objects) (sym (e .next .holds .is)) (here .fits);
                 pending = len .room;
                 phase = le-of-lt (r .phase);
                 position = r .position;
                 start = omega arith;
               };
-              rate = le-of-lt (rate-high (is-listed (s′ .rate) (ap (λ (x : State hall). listed (x .rate)) (e .holds .is) ∙ here .listed)));
-              room = λ x. roomy (g .whole) (w .whole) (k .ranged .pending) (z .samples) turn-fits (g .pending) (ap (λ (x : State hall). x .pending) (e .holds .is) ∙ here .pending) x;
+              some = len .some;
+              rate = le-of-lt (rate-high (is-listed (s′ .rate) (ap (λ (x : State hall). listed (x .rate)) (e .next .holds .is) ∙ here .listed)));
+              room = λ x. roomy (e .ready) (g .whole) (w₁ .whole) (k .ranged .pending) (z .samples) turn-fits (g .pending) (ap (λ (x : State hall). x .pending .count) (e .next .holds .is) ∙ here .pending) x;
+              short = let m = w₁ .most in omega arith;
               output = omega arith;
             }
           where
-            roomy : ready % 64 ≡ 0 → a .stride % 64 ≡ 0 → decode b .pending < 64 → a .samples ≤ a .stride → t + n ≤ a .samples → ready + s .pending ≡ decode b .pending + t → s′ .pending ≡ s .pending → s′ .pending + n ≡ 64 → ready + 64 ≤ a .stride
-            roomy x y z v w p q r = omega arith
+            roomy : w′ .ready ≡ w .ready → w .ready % 64 ≡ 0 → a .stride % 64 ≡ 0 → decode b .pending .count < 64 → a .samples ≤ a .stride → t + n ≤ a .samples → w .ready + w .renderer .pending ≡ decode b .pending .count + t → s′ .pending ≡ w .renderer .pending → s′ .pending + n ≡ 64 → w′ .ready + 64 ≤ a .stride
+            roomy i x y z v u p q r = omega arith
 
         turn-of : (i : ℕ) → n ≡ suc i → Turn hall (frameOf hall a) i t met
         turn-of i q =
@@ -205,64 +212,60 @@ module _ (b : List ℕ) (a : Args) (l : Layout) (k : Taken b a l) (t : ℕ) (s :
             let o = len .room in
             record {
               quiet = λ j x y. none-before j x (omega arith);
-              slot = subst (λ (x : State hall). started hall (x .meta) ≡ true → x .phase + suc i ≤ 64) (e .holds .is) (subst (λ (m : ℕ). s′ .state .initialized ≡ true → s′ .phase + m ≤ 64) q (len .slot));
-              room = subst (λ (x : State hall). x .pending + suc i ≤ 64) (e .holds .is) (omega arith);
+              slot = subst (λ (x : State hall). started hall (x .meta) ≡ true → x .clock .phase + suc i ≤ 64) (e .next .holds .is) (subst (λ (m : ℕ). s′ .state .initialized ≡ true → s′ .clock .phase + m ≤ 64) q (len .slot));
+              room = subst (λ (x : State hall). x .pending .count + suc i ≤ 64) (e .next .holds .is) (omega arith);
             }
 
         -- what the turn leaves
-        pub turns : (r : Small) (c o : List ℕ) → Passes (frameOf hall a) t n (a .stride) ready s′ state′ out r c o → Running b a (t + n) r c (readyAfter ready (r .pending)) o
+        pub turns : (r : Rendering) (c o : List ℕ) → Passes (frameOf hall a) t n (a .stride) w′ state′ out r c o → Running b a (t + n) r c o
         turns r c o p = go n refl p
           where
-            go : (m : ℕ) → n ≡ m → Passes (frameOf hall a) t m (a .stride) ready s′ state′ out r c o → Running b a (t + m) r c (readyAfter ready (r .pending)) o
+            go : (m : ℕ) → n ≡ m → Passes (frameOf hall a) t m (a .stride) w′ state′ out r c o → Running b a (t + m) r c o
             go zero q p = let x = len .some in absurd (omega arith)
             go (suc i) q p =
                 let f = frameOf hall a in
                 let fit = turn-fits in
-                let d = step hall block facts (decode b) a shapes (k .passed) (k .checked) t (held s state) ready out (h .going) more (k .ranged .pending) i (omega arith) (turn-of i q) in
-                let d′ = subst (λ (x : State hall). Going hall block facts (decode b) a (t + suc i) (chunk hall f (suc i) t x .next) (readyAfter ready (chunk hall f (suc i) t x .next .pending)) (behind ready (chunk hall f (suc i) t x .given) (a .stride) out)) (sym (e .holds .is)) d in
-                let d″ = subst (λ (x : State hall). Going hall block facts (decode b) a (t + suc i) x (readyAfter ready (x .pending)) (behind ready (chunk hall f (suc i) t (held s′ state′) .given) (a .stride) out)) (sym (p .next .holds .is)) d′ in
-                record { long = p .next .holds .long; small = p .next .small ∙ e .small ∙ h .small; going = subst (λ (x : List ℕ). Going hall block facts (decode b) a (t + suc i) (held r c) (readyAfter ready (r .pending)) x) (sym (p .given)) d″ }
+                let d = step hall block facts (decode b) a shapes (k .passed) (k .checked) t (held (w .renderer) state) (w .ready) out (h .going) more (k .ranged .pending) i (omega arith) (turn-of i q) in
+                let G : State hall → ℕ → List ℕ → Type 0 = Going hall block facts (decode b) a (t + suc i) in
+                let d₁ = subst (λ (x : State hall). G (chunk hall f (suc i) t x .next) (readyAfter (w .ready) (chunk hall f (suc i) t x .next .pending .count)) (behind (w .ready) (chunk hall f (suc i) t x .given) (a .stride) out)) (sym (e .next .holds .is)) d in
+                let d₂ = subst (λ (x : State hall). G x (readyAfter (w .ready) (x .pending .count)) (behind (w .ready) (chunk hall f (suc i) t (held s′ state′) .given) (a .stride) out)) (sym (p .next .holds .is)) d₁ in
+                let d₃ = subst (λ (x : ℕ). G (held (r .renderer) c) (readyAfter x (r .renderer .pending)) (behind x (chunk hall f (suc i) t (held s′ state′) .given) (a .stride) out)) (sym (e .ready)) d₂ in
+                let d₄ = subst (λ (x : ℕ). G (held (r .renderer) c) x (behind (w′ .ready) (chunk hall f (suc i) t (held s′ state′) .given) (a .stride) out)) (sym (p .ready)) d₃ in
+                record { long = p .next .holds .long; small = p .next .small ∙ e .next .small ∙ h .small; going = subst (G (held (r .renderer) c) (r .ready)) (sym (p .given)) d₄ }
 
--- a turn under way: the updates and the slot at t left s′ and state′, and n samples follow
-pub record Turning (b : List ℕ) (a : Args) (l : Layout) (t : ℕ) (s : Small) (state : List ℕ) (ready : ℕ) (out : List ℕ) (end : ℕ) (s′ : Small) (state′ : List ℕ) (n : ℕ) : Type 0 where
+-- a turn under way: the updates and the slot at t left w′ and state′, and n samples follow
+pub record Turning (b : List ℕ) (a : Args) (l : Layout) (t : ℕ) (w : Rendering) (state out : List ℕ) (end : ℕ) (w′ : Rendering) (state′ : List ℕ) (n : ℕ) : Type 0 where
   pub taken : Taken b a l
-  pub running : Running b a t s state ready out
+  pub running : Running b a t w state out
   pub more : t < a .samples
-  pub ends : end ≡ nextOffset (λ i. getD (l .offset) i 0) (l .count) t (a .samples)
-  pub begun : IsNext (slotted hall (updated hall t (sentOf (a .meta)) (held s state))) state s′ state′
-  pub count : n ≡ runLength (s′ .state .initialized) (s′ .phase) (s′ .pending) (end - t)
+  pub ends : end ≡ nextOffset (offsetAt l) (l .count) t (a .samples)
+  pub begun : Leads (slotted hall (updated hall t (sentOf (a .meta)) (held (w .renderer) state))) w state w′ state′
+  pub count : n ≡ runLength (w′ .renderer .state .initialized) (w′ .renderer .clock .phase) (w′ .renderer .pending) (end - t)
 
-module _ {b : List ℕ} {a : Args} {l : Layout} {t : ℕ} {s : Small} {state : List ℕ} {ready : ℕ} {out : List ℕ} {end : ℕ} {s′ : Small} {state′ : List ℕ} {n : ℕ} (u : Turning b a l t s state ready out end s′ state′ n) where
-  len : RunLength (s′ .state .initialized) (s′ .phase) (s′ .pending) (end - t) n
+module _ {b : List ℕ} {a : Args} {l : Layout} {t : ℕ} {w : Rendering} {state out : List ℕ} {end : ℕ} {w′ : Rendering} {state′ : List ℕ} {n : ℕ} (u : Turning b a l t w state out end w′ state′ n) where
+  abbrev s : Renderer714
+  s = w′ .renderer
+
+  len : RunLength (s .state .initialized) (s .clock .phase) (s .pending) (end - t) n
   len =
-      let f = few b a l (u .taken) t s state ready out (u .running) (u .more) end (u .ends) s′ state′ (u .begun) in
-      let x = end-above b a l (u .taken) t s state ready out (u .running) (u .more) end (u .ends) in
-      subst (RunLength (s′ .state .initialized) (s′ .phase) (s′ .pending) (end - t)) (sym (u .count)) (run-length-is (s′ .state .initialized) (s′ .phase) (s′ .pending) (end - t) (f .0) (f .1) (omega arith))
+      let f = few b a l (u .taken) t w state out (u .running) (u .more) end (u .ends) w′ state′ (u .begun) in
+      let x = end-above b a l (u .taken) t w state out (u .running) (u .more) end (u .ends) in
+      subst (RunLength (s .state .initialized) (s .clock .phase) (s .pending) (end - t)) (sym (u .count)) (run-length-is (s .state .initialized) (s .clock .phase) (s .pending) (end - t) (f .0) (f .1) (omega arith))
 
   pub turn-some : 0 < n
   turn-some = len .some
 
   pub turn-within : t + n ≤ a .samples
-  turn-within = turn-fits b a l (u .taken) t s state ready out (u .running) (u .more) end (u .ends) s′ state′ (u .begun) n len
+  turn-within = turn-fits b a l (u .taken) t w state out (u .running) (u .more) end (u .ends) w′ state′ (u .begun) n len
 
-  pub turn-passes : Passable s′ state′ (a .pcm) out (a .codes) (a .objects) (a .samples) t n (a .stride) ready
-  turn-passes = can-pass b a l (u .taken) t s state ready out (u .running) (u .more) end (u .ends) s′ state′ (u .begun) n len
+  pub turn-passes : Passable w′ state′ (a .pcm) out (a .codes) (a .objects) (a .samples) t n (a .stride)
+  turn-passes = can-pass b a l (u .taken) t w state out (u .running) (u .more) end (u .ends) w′ state′ (u .begun) n len
 
-  pub turn-runs : (r : Small) (c o : List ℕ) (i : ℕ) → Passes (frameOf hall a) t n (a .stride) ready s′ state′ out r c o → i ≡ readyAfter ready (r .pending) → Running b a (t + n) r c i o
-  turn-runs r c o i p e =
-      subst (λ (i : ℕ). Running b a (t + n) r c i o) (sym e) (turns b a l (u .taken) t s state ready out (u .running) (u .more) end (u .ends) s′ state′ (u .begun) n len r c o p)
+  pub turn-runs : (r : Rendering) (c o : List ℕ) → Passes (frameOf hall a) t n (a .stride) w′ state′ out r c o → Running b a (t + n) r c o
+  turn-runs r c o p = turns b a l (u .taken) t w state out (u .running) (u .more) end (u .ends) w′ state′ (u .begun) n len r c o p
 
 -- ---- after the last sample
-pub ready-few : (b : List ℕ) (a : Args) (l : Layout) → Taken b a l → (t : ℕ) (s : Small) (state : List ℕ) (ready : ℕ) (out : List ℕ) → Running b a t s state ready out → ready ≤ 4096
-ready-few b a l k t s state ready out h =
-    let x = h .going .pending in
-    let y = k .ranged .pending in
-    let z = h .going .here in
-    let w = k .samples in
-    omega arith
-
-pub rendered : (b : List ℕ) (a : Args) (t : ℕ) (s : Small) (state : List ℕ) (ready : ℕ) (out : List ℕ) → Running b a t s state ready out → a .samples ≤ t
-    → IsRendered (pushed hall (frameOf hall a) (decode b)) (a .stride) b (a .out) (record { small = s; ready = ready }) state out
-rendered b a t s state ready out h last =
-    let e = ends hall block facts (decode b) a t (held s state) ready out (h .going) last in
+pub rendered : (b : List ℕ) (a : Args) (t : ℕ) (w : Rendering) (state out : List ℕ) → Running b a t w state out → a .samples ≤ t → IsRendered (pushed hall (frameOf hall a) (decode b)) (a .stride) b (a .out) w state out
+rendered b a t w state out h last =
+    let e = ends hall block facts (decode b) a t (held (w .renderer) state) (w .ready) out (h .going) last in
     record { next = record { holds = record { is = e .0; long = h .long }; small = h .small }; given = e .1; ready = e .2 }

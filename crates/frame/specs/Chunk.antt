@@ -1,11 +1,9 @@
 -- A chunk: samples within which no update falls and no slot starts; a slot, a limiter block or the frame may end with it. Assumes nothing.
-use Prim.Native.Nat.{ℕ, zero, suc, _+_}
+use Prim.Native.Nat.{ℕ, zero, suc}
 use mathlib.Core.List.{List, [], _∷_}
-use lib.Dec.{leb}
-use Rattle.rules.specs.Parts.{laid}
-use Rattle.rules.specs.Leaves.{Leaves, started}
+use Rattle.rules.specs.Leaves.{Leaves}
 use Rattle.rules.specs.Mix.{Moment}
-use Rattle.rules.specs.Samples.{Frame, State, After, moment, closing}
+use Rattle.rules.specs.Samples.{Frame, State, After, moment, settled, closing}
 use Rattle.render.specs.Run.{filterAfter, rowRun}
 
 -- the moments of the n samples from t on
@@ -18,5 +16,4 @@ module _ (L : Leaves) where
   unfoldable pub chunk : Frame (L .Update) → ℕ → ℕ → State L → After L
   chunk f n t r =
       let m : ℕ → Moment = λ t. moment L f t (r .meta) in
-      closing L (leb 64 (r .pending + n)) (started L (r .meta)) (leb 64 (r .phase + n)) (r .position + n) (r .phase + n) (r .pending + n) r
-      (filterAfter m (r .filter) t n) (λ c. laid (r .pending) (rowRun m (r .filter) c t n) (r .places c)) (moments m t n)
+      closing L (settled L n (filterAfter m (r .filter) t n) (λ c. rowRun m (r .filter) c t n) r) (moments m t n)

@@ -3,37 +3,31 @@ use Prim.Native.Nat.{ℕ, _+_, _*_, _≤_}
 use mathlib.Core.Path.{_≡_}
 use mathlib.Core.List.{List}
 use lib.ListN.{length}
-use lib.Ieee.{Float}
-use Rattle.rules.specs.Samples.{flushed}
+use Rattle.rules.specs.Samples.{After, flushed}
+use Rattle.rules.specs.Block.{written}
 use Rattle.claim.specs.Hall.{hall}
-use Rattle.store.specs.declared.Small.{Small}
 use Rattle.store.specs.Layout.{size}
+use Rattle.frame.specs.declared.Rendering.{Rendering}
 use Rattle.frame.specs.Held.{held}
 use Rattle.frame.specs.Out.{behind}
 
--- what is asked: the whole block, and room for the pending samples behind `ready` others
-pub record CanGive (s : Small) (state out : List ℕ) (stride ready : ℕ) : Type 0 where
+-- what is asked: the whole block, and room for the pending samples behind those that are ready
+pub record CanGive (w : Rendering) (state out : List ℕ) (stride : ℕ) : Type 0 where
   pub block : length state ≡ size
-  pub pending : s .pending ≤ 64
-  pub rate : s .rate ≤ 16777216
-  pub room : ready + s .pending ≤ stride
+  pub pending : w .renderer .pending ≤ 64
+  pub rate : w .renderer .rate ≤ 16777216
+  pub room : w .ready + w .renderer .pending ≤ stride
+  pub short : stride ≤ 4096
   pub output : 48 * stride ≤ length out
 
--- the small part once nothing is pending, with the limiter's gain after the block
-abbrev pub emptied : Small → Float → Small
-emptied s gain =
-    record {
-      rate = s .rate;
-      phase = s .phase;
-      position = s .position;
-      start = s .start;
-      gain = gain;
-      filter = s .filter;
-      pending = 0;
-      state = s .state;
-    }
+-- "one shorter block": the rules' `flushed`, behind the samples that are ready
+pub record Gave (w : Rendering) (state : List ℕ) (stride : ℕ) (out : List ℕ) (r : Rendering) (out' : List ℕ) : Type 0 where
+  pub next : held (r .renderer) state ≡ flushed hall (held (w .renderer) state) .next
+  pub given : out' ≡ behind (w .ready) (flushed hall (held (w .renderer) state) .given) stride out
+  pub ready : r .ready ≡ w .ready + w .renderer .pending
 
--- "one shorter block": the rules' `flushed`, behind `ready` samples of each channel
-pub record Gave (s : Small) (state : List ℕ) (stride ready : ℕ) (out : List ℕ) (r : Small) (out' : List ℕ) : Type 0 where
-  pub next : held r state ≡ flushed hall (held s state) .next
-  pub given : out' ≡ behind ready (flushed hall (held s state) .given) stride out
+-- a flush of n pending samples: d is what the rules say that it leaves and gives out
+pub record IsDrained (d : After hall) (n stride : ℕ) (state out : List ℕ) (r : Rendering) (out' : List ℕ) : Type 0 where
+  pub next : held (r .renderer) state ≡ d .next
+  pub given : out' ≡ written (d .given) stride out
+  pub ready : r .ready ≡ n

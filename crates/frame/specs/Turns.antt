@@ -1,9 +1,9 @@
 -- The frame's loop: the samples of a turn, what a push that no refusal turned away hands to it, and what it leaves. Assumes nothing.
-use Prim.Native.Nat.{ℕ, _+_, _-_}
+use Prim.Native.Nat.{ℕ, _-_}
 use mathlib.Core.Path.{_≡_}
 use mathlib.Core.Bool.{Bool, true, cond}
 use mathlib.Core.List.{List}
-use lib.Dec.{eqb, ltb}
+use lib.Dec.{ltb}
 use lib.ListN.{length}
 use Rattle.words.specs.Words.{wordsAt}
 use Rattle.records.specs.Answers.{IsLayout}
@@ -12,12 +12,11 @@ use Rattle.rules.specs.Refusals.{Args, clear}
 use Rattle.rules.specs.Samples.{After}
 use Rattle.rules.specs.Calls.{found}
 use Rattle.rules.specs.Block.{written}
-use Rattle.store.specs.declared.Small.{Small}
 use Rattle.store.specs.Fields.{smallOf}
 use Rattle.store.specs.Layout.{decode}
 use Rattle.store.specs.Ranges.{valid}
 use Rattle.claim.specs.Hall.{hall}
-use Rattle.frame.specs.declared.push.Rendered.{Rendered}
+use Rattle.frame.specs.declared.Rendering.{Rendering}
 use Rattle.frame.specs.Held.{IsNext}
 
 -- ---- the samples of a turn
@@ -29,21 +28,18 @@ lesser a b = cond (ltb a b) a b
 abbrev pub runLength : Bool → ℕ → ℕ → ℕ → ℕ
 runLength started phase pending left = cond started (lesser (64 - phase) (lesser (64 - pending) left)) (lesser (64 - pending) left)
 
--- a block was given out, and nothing is pending
-abbrev pub readyAfter : ℕ → ℕ → ℕ
-readyAfter ready pending = cond (eqb pending 0) (ready + 64) ready
-
 -- ---- a push
 
--- s is the small part of the valid block b, l the metadata's layout, and the push is not refused
-pub record Accepted (s : Small) (b : List ℕ) (l : Layout) (a : Args) : Type 0 where
-  pub small : s ≡ smallOf (wordsAt b 0 340)
+-- w has the small part of the valid block b and nothing in the output, l is the metadata's layout, and the push is not refused
+pub record Accepted (w : Rendering) (b : List ℕ) (l : Layout) (a : Args) : Type 0 where
+  pub small : w .renderer ≡ smallOf (wordsAt b 0 340)
+  pub none : w .ready ≡ 0
   pub valid : valid b ≡ true
   pub clear : found hall (decode b) a ≡ clear
   pub layout : IsLayout (a .meta) l
 
 -- r is answered, with the block b and the output o′ at exit, where b₀ was the block and o the output: p is what the rules say that the push leaves and gives out
-pub record IsRendered (p : After hall) (stride : ℕ) (b₀ o : List ℕ) (r : Rendered) (b o′ : List ℕ) : Type 0 where
-  pub next : IsNext (p .next) b₀ (r .small) b
+pub record IsRendered (p : After hall) (stride : ℕ) (b₀ o : List ℕ) (r : Rendering) (b o′ : List ℕ) : Type 0 where
+  pub next : IsNext (p .next) b₀ (r .renderer) b
   pub given : o′ ≡ written (p .given) stride o
   pub ready : r .ready ≡ length (p .given 0)

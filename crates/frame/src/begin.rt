@@ -12,131 +12,118 @@ ghost use Rattle.updates.specs.Said.{updateOf};
 ghost use Rattle.rules.specs.Samples.{appliedAt, updated, slotted};
 ghost use Rattle.store.specs.Layout.{size};
 ghost use Rattle.claim.specs.Hall.{hall, sentOf};
-ghost use Rattle.frame.specs.Held.{held, IsNext};
-ghost use Rattle.frame.specs.Begin.{withState, atSlot, CanStart, CanBegin};
+ghost use Rattle.frame.specs.Held.{held, Leads};
+ghost use Rattle.frame.specs.Begin.{restated, CanStart, CanBegin};
+use crate::Rendering;
+use clock::FrameOffset;
+use clock::START;
+use clock::StreamSample;
 use records::layout::Layout;
 use records::order::sent_at;
-use store::Small;
-use timed::clock::StreamSample;
 use timed::state::MetadataRendererState;
-use updates::update::apply_update;
-
-// The small part with another timed state.
-fn with_state(s: Small, state: MetadataRendererState) -> Small
-    ensures { λ r. ⌜ r ≡ withState s state ⌝ }
-{
-    let filter = s.filter;
-    Small {
-        rate: s.rate,
-        phase: s.phase,
-        position: s.position,
-        start: s.start,
-        gain: s.gain,
-        filter: filter,
-        pending: s.pending,
-        state: state,
-    }
-}
-
-// A new slot at the present sample.
-fn at_slot(s: Small) -> Small
-    ensures { λ r. ⌜ r ≡ atSlot s ⌝ }
-{
-    let filter = s.filter;
-    let state = s.state;
-    Small {
-        rate: s.rate,
-        phase: 0,
-        position: s.position,
-        start: s.position,
-        gain: s.gain,
-        filter: filter,
-        pending: s.pending,
-        state: state,
-    }
-}
+use updates::update::TimedState;
 
 // Whether an update at offset t starts a new slot.
-fn starts_slot(started: bool, t: usize) -> bool
-    ensures { λ r. ⌜ r ≡ (not started || eqb t 0) ⌝ }
+fn starts_slot(started: bool, t: FrameOffset) -> bool
+    ensures { λ r. ⌜ r ≡ (not started || eqb (t .0) 0) ⌝ }
 {
     if !started {
         return true;
     }
-    t == 0
+    t.is(START)
 }
 
-// The update at record u, whose sample offset is t.
-fn apply_one(s: Small, state: &mut [u8], meta: &[u8], u: usize, t: usize, at: StreamSample) -> Small
-    requires { ⌜ (length (now state) ≡ size) × (at .0 ≡ s .position) × WholeUpdate (now meta) u ⌝ }
-    ensures { λ r. ⌜ IsNext (appliedAt hall t (record { offset = t; said = updateOf (now (meta .entry)) u }) (held s (now (state .entry)))) (now (state .entry)) r (now (state .exit)) ⌝ }
-{
-    let before = s.state;
-    let new = starts_slot(before.initialized, t);
-    let first = store::INFOS;
-    let end = store::PLACES;
-    let after = apply_update(before, &mut state[first..end], meta, u, at);
-    let next = with_state(s, after);
-    if new {
-        return at_slot(next);
+impl Rendering {
+    // With another timed state, and in a new slot where `new`.
+    fn restate(mut self, state: MetadataRendererState, new: bool) -> Rendering
+        ensures { λ r. ⌜ r ≡ record { renderer = restated new (self .renderer) state; ready = self .ready } ⌝ }
+    {
+        let next = self.renderer.with_state(state);
+        self.renderer = next;
+        if new {
+            let slot = self.renderer.begin_slot();
+            self.renderer = slot;
+        }
+        self
     }
-    next
-}
 
-// The updates at sample offset t, in the order sent.
-fn apply_sent(
-    s: Small,
-    state: &mut [u8],
-    meta: &[u8],
-    l: Layout,
-    t: usize,
-    at: StreamSample,
-) -> Small
-    requires { ⌜ (length (now state) ≡ size) × (at .0 ≡ s .position) × IsLayout (now meta) l × WholeUpdates (now meta) (l .first) (l .count) ⌝ }
-    ensures { λ r. ⌜ IsNext (updated hall t (sentOf (now (meta .entry))) (held s (now (state .entry)))) (now (state .entry)) r (now (state .exit)) ⌝ }
-{
-    let first = l.first;
-    let count = l.count;
-    let mut next = s;
-    let mut i = sent_at(l, t, 0);
-    while i < count {
-        next = apply_one(next, state, meta, first[i], t, at);
-        i = sent_at(l, t, i + 1);
+    // The update at record u, whose sample offset is t.
+    fn apply_one(
+        self,
+        state: &mut [u8],
+        meta: &[u8],
+        u: usize,
+        t: FrameOffset,
+        at: StreamSample,
+    ) -> Rendering
+        requires { ⌜ (length (now state) ≡ size) × (at .0 ≡ self .renderer .clock .position .0) × WholeUpdate (now meta) u ⌝ }
+        ensures { λ r. ⌜ Leads (appliedAt hall (t .0) (record { offset = t .0; said = updateOf (now (meta .entry)) u }) (held (self .renderer) (now (state .entry)))) self (now (state .entry)) r (now (state .exit)) ⌝ }
+    {
+        let before = self.renderer.state;
+        let new = starts_slot(before.initialized, t);
+        let first = store::INFOS;
+        let end = store::PLACES;
+        let timed = TimedState(before);
+        let after = timed.apply_update(&mut state[first..end], meta, u, at);
+        self.restate(after.0, new)
     }
-    next
-}
 
-// The slot, where one starts.
-fn start_slot(s: Small, state: &mut [u8]) -> Small
-    requires { ⌜ (length (now state) ≡ size) × CanStart (held s (now state)) ⌝ }
-    ensures { λ r. ⌜ IsNext (slotted hall (held s (now (state .entry)))) (now (state .entry)) r (now (state .exit)) ⌝ }
-{
-    let before = s.state;
-    if !before.initialized {
-        return s;
+    // The updates at sample offset t, in the order sent.
+    fn apply_sent(
+        self,
+        state: &mut [u8],
+        meta: &[u8],
+        l: Layout,
+        t: FrameOffset,
+        at: StreamSample,
+    ) -> Rendering
+        requires { ⌜ (length (now state) ≡ size) × (at .0 ≡ self .renderer .clock .position .0) × IsLayout (now meta) l × WholeUpdates (now meta) (l .first) (l .count) ⌝ }
+        ensures { λ r. ⌜ Leads (updated hall (t .0) (sentOf (now (meta .entry))) (held (self .renderer) (now (state .entry)))) self (now (state .entry)) r (now (state .exit)) ⌝ }
+    {
+        let first = l.first;
+        let count = l.count;
+        let mut next = self;
+        let mut i = sent_at(l, t, 0);
+        while i < count {
+            next = next.apply_one(state, meta, first[i], t, at);
+            i = sent_at(l, t, i + 1);
+        }
+        next
     }
-    if s.phase != 0 {
-        return s;
-    }
-    let start = s.start;
-    let first = store::INFOS;
-    let end = store::PLACES;
-    let after = before.update_timeslot(&mut state[first..end], StreamSample(start));
-    with_state(s, after)
-}
 
-// Before the sample at offset t of a frame with metadata `meta`: `at` is the stream's sample there.
-pub fn begin(
-    s: Small,
-    state: &mut [u8],
-    meta: &[u8],
-    l: Layout,
-    t: usize,
-    at: StreamSample,
-) -> Small
-    requires { ⌜ CanBegin s (now state) (now meta) l t (at .0) ⌝ }
-    ensures { λ r. ⌜ IsNext (slotted hall (updated hall t (sentOf (now (meta .entry))) (held s (now (state .entry))))) (now (state .entry)) r (now (state .exit)) ⌝ }
-{
-    let next = apply_sent(s, state, meta, l, t, at);
-    start_slot(next, state)
+    // The slot, where one starts.
+    fn start_slot(self, state: &mut [u8]) -> Rendering
+        requires { ⌜ (length (now state) ≡ size) × CanStart (held (self .renderer) (now state)) ⌝ }
+        ensures { λ r. ⌜ Leads (slotted hall (held (self .renderer) (now (state .entry)))) self (now (state .entry)) r (now (state .exit)) ⌝ }
+    {
+        let before = self.renderer.state;
+        if !before.initialized {
+            return self;
+        }
+        let clock = self.renderer.clock;
+        if clock.phase != 0 {
+            return self;
+        }
+        let start = clock.start;
+        let first = store::INFOS;
+        let end = store::PLACES;
+        let after = before.update_timeslot(&mut state[first..end], start);
+        self.restate(after, false)
+    }
+
+    // Before the sample at offset t of a frame with metadata `meta`: `at` is the stream's sample there.
+    pub fn begin(
+        self,
+        state: &mut [u8],
+        meta: &[u8],
+        l: Layout,
+        t: FrameOffset,
+        at: StreamSample,
+    ) -> Rendering
+        requires { ⌜ CanBegin (self .renderer) (now state) (now meta) l (t .0) (at .0) ⌝ }
+        ensures { λ r. ⌜ Leads (slotted hall (updated hall (t .0) (sentOf (now (meta .entry))) (held (self .renderer) (now (state .entry))))) self (now (state .entry)) r (now (state .exit)) ⌝ }
+    {
+        let next = self.apply_sent(state, meta, l, t, at);
+        next.start_slot(state)
+    }
 }

@@ -3,21 +3,21 @@
 
 // A chunk of a frame: samples within which no update falls and no slot starts.
 ghost use mathlib.Core.Path.{_≡_};
-ghost use mathlib.Core.Bool.{cond, _&&_};
+ghost use mathlib.Core.Bool.{cond};
 ghost use mathlib.Core.List.{List};
 ghost use Prim.Native.Nat.{ℕ, _+_, _≤_};
-ghost use lib.Dec.{leb};
 ghost use lib.ListN.{length};
 ghost use Rattle.formats.specs.Areas.{rowPlaces, placeCount};
 ghost use Rattle.claim.specs.Hall.{Sent};
 ghost use Rattle.render.specs.Sources.{Framed, bedsOf, sourcesOf};
 ghost use Rattle.render.specs.Run.{momentOf, Passed};
 ghost use Rattle.store.specs.Layout.{size};
-ghost use Rattle.frame.specs.Held.{IsNext};
-ghost use Rattle.frame.specs.Pass.{CanPass, Laid, passedClock, frameWith, settled};
+ghost use Rattle.frame.specs.Held.{Leads};
+ghost use Rattle.frame.specs.Pass.{CanPass, Laid, frameWith, settledAt};
+use crate::Rendering;
+use clock::FrameOffset;
 use formats::areas;
 use lowpass::BiquadLowpassState;
-use store::Small;
 use timed::state::MetadataRendererState;
 
 // A count, or none before the first update.
@@ -72,71 +72,28 @@ fn lay(state: &mut [u8], rows: &[f32], pending: usize, k: usize)
     render::places::append_rows(rows, &mut state[start..], pending, k);
 }
 
-// The phase of the slot after k samples; it rests before the first update.
-fn phase_after(started: bool, phase: u32, k: u32) -> u32
-    requires { ⌜ phase + k ≤ 128 ⌝ }
-    ensures { λ r. ⌜ r ≡ cond started (cond (leb 64 (phase + k)) 0 (phase + k)) phase ⌝ }
-{
-    if started {
-        if phase + k >= 64 {
-            return 0;
-        }
-        return phase + k;
+impl Rendering {
+    // The k samples from t on of a frame of n samples, which wait then.
+    pub fn pass(
+        mut self,
+        state: &mut [u8],
+        pcm: &[u8],
+        codes: &[u8],
+        objects: usize,
+        n: usize,
+        t: FrameOffset,
+        k: usize,
+    ) -> Rendering
+        requires { ⌜ CanPass (self .renderer) (now state) (now pcm) (now codes) objects n (t .0) k ⌝ }
+        ensures { λ r. ⌜ ((rate : ℕ) (us : List Sent) → Leads (settledAt (frameWith rate us (now (codes .entry)) objects (now (pcm .entry)) n) (t .0) k (self .renderer) (now (state .entry))) self (now (state .entry)) r (now (state .exit))) ⌝ }
+    {
+        let mut rows = [0.0f32; areas::PLACE_COUNT];
+        let m = self.renderer.state;
+        let before = self.renderer.filter;
+        let filter = mix(m, before, &mut rows, pcm, codes, objects, n, t.index(), k);
+        lay(state, &rows, self.renderer.pending as usize, k);
+        let next = self.renderer.settle(filter, k as u32);
+        self.renderer = next;
+        self
     }
-    phase
-}
-
-// The start of the slot after k samples.
-fn start_after(started: bool, phase: u32, start: u64, k: u32) -> u64
-    requires { ⌜ (phase + k ≤ 128) × (start ≤ 1099511627776) ⌝ }
-    ensures { λ r. ⌜ r ≡ cond (started && leb 64 (phase + k)) (start + 64) start ⌝ }
-{
-    if started {
-        if phase + k >= 64 {
-            return start + 64;
-        }
-        return start;
-    }
-    start
-}
-
-// The clock, the filter and the number pending after k samples.
-fn tick(s: Small, filter: BiquadLowpassState, k: u32) -> Small
-    requires { ⌜ (s .phase + k ≤ 128) × (s .start ≤ 1099511627776) × (s .position ≤ 1099511627776) × (s .pending + k ≤ 64) × (k ≤ 64) ⌝ }
-    ensures { λ r. ⌜ r ≡ passedClock s filter k ⌝ }
-{
-    let state = s.state;
-    let started = state.initialized;
-    Small {
-        rate: s.rate,
-        phase: phase_after(started, s.phase, k),
-        position: s.position + k as u64,
-        start: start_after(started, s.phase, s.start, k),
-        gain: s.gain,
-        filter,
-        pending: s.pending + k,
-        state,
-    }
-}
-
-// The k samples from t on of a frame of n samples, pending.
-pub fn pass(
-    s: Small,
-    state: &mut [u8],
-    pcm: &[u8],
-    codes: &[u8],
-    objects: usize,
-    n: usize,
-    t: usize,
-    k: usize,
-) -> Small
-    requires { ⌜ CanPass s (now state) (now pcm) (now codes) objects n t k ⌝ }
-    ensures { λ r. ⌜ ((rate : ℕ) (us : List Sent) → IsNext (settled (frameWith rate us (now (codes .entry)) objects (now (pcm .entry)) n) t k s (now (state .entry))) (now (state .entry)) r (now (state .exit))) ⌝ }
-{
-    let mut rows = [0.0f32; areas::PLACE_COUNT];
-    let m = s.state;
-    let before = s.filter;
-    let filter = mix(m, before, &mut rows, pcm, codes, objects, n, t, k);
-    lay(state, &rows, s.pending as usize, k);
-    tick(s, filter, k as u32)
 }

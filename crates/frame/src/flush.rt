@@ -5,53 +5,38 @@
 ghost use mathlib.Core.Path.{_≡_};
 ghost use Rattle.claim.specs.Hall.{hall};
 ghost use Rattle.rules.specs.Samples.{flushed};
-ghost use Rattle.rules.specs.Block.{written};
 ghost use Rattle.frame.specs.Held.{held};
-ghost use Rattle.frame.specs.Give.{CanGive, emptied, Gave};
-use limiter::Limiter;
-use store::Small;
+ghost use Rattle.frame.specs.Give.{CanGive, Gave, IsDrained};
+use crate::Rendering;
 
-// What is left when the pending samples were given out.
-fn empty(s: Small, gain: f32) -> Small
-    ensures { λ r. ⌜ r ≡ emptied s gain ⌝ }
-{
-    let filter = s.filter;
-    let state = s.state;
-    Small {
-        rate: s.rate,
-        phase: s.phase,
-        position: s.position,
-        start: s.start,
-        gain,
-        filter,
-        pending: 0,
-        state,
+impl Rendering {
+    // The pending samples as one block, behind those that are ready.
+    pub fn give(mut self, state: &[u8], out: &mut [u8], stride: usize) -> Rendering
+        requires { ⌜ CanGive self (now state) (now out) stride ⌝ }
+        ensures { λ r. ⌜ Gave self (now (state .entry)) stride (now (out .entry)) r (now (out .exit)) ⌝ }
+    {
+        let limiter = self.renderer.limiter;
+        let pending = self.renderer.pending as usize;
+        let start = store::PLACES;
+        let after = limiter.apply_output_limiter_block(
+            &state[start..],
+            pending,
+            self.renderer.rate,
+            out,
+            4 * stride,
+            4 * self.ready,
+        );
+        let next = self.renderer.empty(after);
+        self.renderer = next;
+        self.ready = self.ready + pending;
+        self
     }
-}
 
-// The pending samples as one block, behind `ready` samples of each channel.
-pub fn give(s: Small, state: &[u8], out: &mut [u8], stride: usize, ready: usize) -> Small
-    requires { ⌜ CanGive s (now state) (now out) stride ready ⌝ }
-    ensures { λ r. ⌜ Gave s (now (state .entry)) stride ready (now (out .entry)) r (now (out .exit)) ⌝ }
-{
-    let limiter = Limiter { gain: s.gain };
-    let pending = s.pending as usize;
-    let start = store::PLACES;
-    let after = limiter.apply_output_limiter_block(
-        &state[start..],
-        pending,
-        s.rate,
-        out,
-        4 * stride,
-        4 * ready,
-    );
-    empty(s, after.gain)
-}
-
-// Flush: the remainder as one shorter block.
-pub fn drain(s: Small, state: &[u8], out: &mut [u8], stride: usize) -> Small
-    requires { ⌜ CanGive s (now state) (now out) stride 0 ⌝ }
-    ensures { λ r. ⌜ (held r (now (state .entry)) ≡ flushed hall (held s (now (state .entry))) .next) × (now (out .exit) ≡ written (flushed hall (held s (now (state .entry))) .given) stride (now (out .entry))) ⌝ }
-{
-    give(s, state, out, stride, 0)
+    // Flush: the remainder as one shorter block.
+    pub fn drain(self, state: &[u8], out: &mut [u8], stride: usize) -> Rendering
+        requires { ⌜ CanGive self (now state) (now out) stride × (self .ready ≡ 0) ⌝ }
+        ensures { λ r. ⌜ IsDrained (flushed hall (held (self .renderer) (now (state .entry)))) (self .renderer .pending) stride (now (state .entry)) (now (out .entry)) r (now (out .exit)) ⌝ }
+    {
+        self.give(state, out, stride)
+    }
 }

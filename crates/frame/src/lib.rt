@@ -1,5 +1,23 @@
 // A frame that no refusal turned away, in runs of at most 64 samples; and flush.
+ghost use mathlib.Core.Path.{_≡_};
+use store::renderer::Renderer714;
+
 mod begin;
 mod chunk;
-pub mod flush;
-pub mod push;
+mod flush;
+mod push;
+
+// A renderer at work: its value, and how many samples of each channel are in the output. Infos and the samples that wait stay in the lent block.
+pub struct Rendering {
+    pub renderer: Renderer714,
+    pub ready: usize,
+}
+
+impl Rendering {
+    // Nothing is in the output yet.
+    pub fn of(renderer: Renderer714) -> Rendering
+        ensures { λ r. ⌜ r ≡ record { renderer = renderer; ready = 0 } ⌝ }
+    {
+        Rendering { renderer, ready: 0 }
+    }
+}

@@ -5,28 +5,21 @@
 // update, the end of the slot, of the limiter's block or of the frame.
 ghost use mathlib.Core.Path.{_≡_};
 ghost use mathlib.Core.Bool.{cond};
-ghost use mathlib.Core.List.{List};
-ghost use Prim.Native.Nat.{ℕ, _<_, _≤_};
-ghost use Rattle.angles.specs.Angle.{Listed};
-ghost use Rattle.rules.specs.Samples.{opened, pushed};
+ghost use Prim.Native.Nat.{_-_, _<_, _≤_};
+ghost use Rattle.rules.specs.Samples.{pushed};
 ghost use Rattle.rules.specs.Calls.{frameOf};
 ghost use Rattle.store.specs.Layout.{decode};
 ghost use Rattle.claim.specs.Hall.{hall};
-ghost use Rattle.frame.specs.Held.{held};
 ghost use Rattle.frame.specs.Begin.{Rests};
 ghost use Rattle.refusals.specs.Found.{argsWith};
-ghost use Rattle.frame.specs.Turns.{lesser, runLength, readyAfter, Accepted, IsRendered};
-use crate::begin::begin;
-use crate::chunk::pass;
-use crate::flush::give;
-use lowpass::BiquadLowpassState;
+ghost use Rattle.frame.specs.Turns.{lesser, runLength, Accepted, IsRendered};
+use crate::Rendering;
+use clock::FrameOffset;
+use clock::START;
 use records::layout::Layout;
 use records::order::next_offset;
 use records::order::sent_at;
 use refusals::Numbers;
-use store::Small;
-use timed::clock::FrameOffset;
-use timed::clock::StreamSample;
 
 fn least(a: usize, b: usize) -> usize
     ensures { λ r. ⌜ r ≡ lesser a b ⌝ }
@@ -37,12 +30,12 @@ fn least(a: usize, b: usize) -> usize
     b
 }
 
-// How many samples a turn takes, of the `left` before the next update or the frame's end.
-fn run_length(started: bool, phase: u32, pending: u32, left: usize) -> usize
-    requires { ⌜ (phase < 64) × (pending < 64) ⌝ }
-    ensures { λ r. ⌜ r ≡ runLength started phase pending left ⌝ }
+// How many samples a turn takes, of those from t up to `end`, the next update or the frame's end.
+fn run_length(started: bool, phase: u32, pending: u32, t: FrameOffset, end: FrameOffset) -> usize
+    requires { ⌜ (phase < 64) × (pending < 64) × (t .0 ≤ end .0) ⌝ }
+    ensures { λ r. ⌜ r ≡ runLength started phase pending (end .0 - t .0) ⌝ }
 {
-    let room = least(64 - pending as usize, left);
+    let room = least(64 - pending as usize, t.up_to(end));
     if started {
         return least(64 - phase as usize, room);
     }
@@ -50,9 +43,9 @@ fn run_length(started: bool, phase: u32, pending: u32, left: usize) -> usize
 }
 
 // Whether an update is sent for sample offset t, or a slot starts there.
-fn begins(started: bool, phase: u32, l: Layout, t: usize) -> bool
+fn begins(started: bool, phase: u32, l: Layout, t: FrameOffset) -> bool
     requires { ⌜ l .count ≤ 16 ⌝ }
-    ensures { λ r. ⌜ cond r (Rests l t started phase → ⊥) (Rests l t started phase) ⌝ }
+    ensures { λ r. ⌜ cond r (Rests l (t .0) started phase → ⊥) (Rests l (t .0) started phase) ⌝ }
 {
     if sent_at(l, t, 0) < l.count {
         return true;
@@ -63,79 +56,53 @@ fn begins(started: bool, phase: u32, l: Layout, t: usize) -> bool
     false
 }
 
-// How many samples are ready after a chunk: a block more where nothing is pending now.
-fn ready_after(ready: usize, pending: u32) -> usize
-    requires { ⌜ ready ≤ 4096 ⌝ }
-    ensures { λ r. ⌜ r ≡ readyAfter ready pending ⌝ }
-{
-    if pending == 0 {
-        return ready + 64;
-    }
-    ready
-}
-
-// The first accepted frame sets the rate and the low-pass.
-fn open(s: Small, rate: u32) -> Small
-    requires { ⌜ Listed rate ⌝ }
-    ensures { λ r. ⌜ ((b : List ℕ) → held r b ≡ opened hall rate (held s b)) ⌝ }
-{
-    if s.rate != 0 {
-        return s;
-    }
-    let state = s.state;
-    Small {
-        rate,
-        phase: s.phase,
-        position: s.position,
-        start: s.start,
-        gain: s.gain,
-        filter: BiquadLowpassState::new(rate),
-        pending: s.pending,
-        state,
-    }
-}
-
-// The renderer's small part after a frame, and how many samples of each channel are ready in the output.
-pub struct Rendered {
-    pub small: Small,
-    pub ready: usize,
-}
-
-// Infos and places are left in `state`, the small part is answered: its bytes in `state` stay.
-pub fn render(
-    s: Small,
-    state: &mut [u8],
-    pcm: &[u8],
-    meta: &[u8],
-    out: &mut [u8],
-    codes: &[u8],
-    l: Layout,
-    n: Numbers,
-) -> Rendered
-    requires { ⌜ Accepted s (now state) l (argsWith (now pcm) (now meta) (now out) (now codes) n) ⌝ }
-    ensures { λ r. ⌜ IsRendered (pushed hall (frameOf hall (argsWith (now (pcm .entry)) (now (meta .entry)) (now (out .entry)) (now (codes .entry)) n)) (decode (now (state .entry)))) (n .stride) (now (state .entry)) (now (out .entry)) r (now (state .exit)) (now (out .exit)) ⌝ }
-{
-    let rate = n.rate;
-    let samples = n.samples as usize;
-    let objects = n.objects as usize;
-    let stride = n.stride as usize;
-    let start = StreamSample(s.position);
-    let mut small = open(s, rate);
-    let mut ready = 0usize;
-    let mut t = 0usize;
-    while t < samples {
-        let at = start.at(FrameOffset(t as u32));
-        if begins(small.state.initialized, small.phase, l, t) {
-            small = begin(small, state, meta, l, t, at);
+impl Rendering {
+    // Infos and places are left in `state`, the rest is answered: its bytes in `state` stay.
+    pub fn render(
+        self,
+        state: &mut [u8],
+        pcm: &[u8],
+        meta: &[u8],
+        out: &mut [u8],
+        codes: &[u8],
+        l: Layout,
+        n: Numbers,
+    ) -> Rendering
+        requires { ⌜ Accepted self (now state) l (argsWith (now pcm) (now meta) (now out) (now codes) n) ⌝ }
+        ensures { λ r. ⌜ IsRendered (pushed hall (frameOf hall (argsWith (now (pcm .entry)) (now (meta .entry)) (now (out .entry)) (now (codes .entry)) n)) (decode (now (state .entry)))) (n .stride) (now (state .entry)) (now (out .entry)) r (now (state .exit)) (now (out .exit)) ⌝ }
+    {
+        let rate = n.rate;
+        let samples = n.samples as usize;
+        let objects = n.objects as usize;
+        let stride = n.stride as usize;
+        let end = FrameOffset(n.samples);
+        let start = self.renderer.clock.position;
+        let mut work = Rendering::of(self.renderer.open(rate));
+        let mut t = START;
+        while t.is_before(end) {
+            let at = start.at(t);
+            if begins(
+                work.renderer.state.initialized,
+                work.renderer.clock.phase,
+                l,
+                t,
+            ) {
+                work = work.begin(state, meta, l, t, at);
+            }
+            let next = next_offset(l, t, end);
+            let k = run_length(
+                work.renderer.state.initialized,
+                work.renderer.clock.phase,
+                work.renderer.pending,
+                t,
+                next,
+            );
+            work = work.pass(state, pcm, codes, objects, samples, t, k);
+            if work.renderer.pending == 64 {
+                work = work.give(state, out, stride);
+            }
+            t = t.plus(k as u32);
         }
-        let left = next_offset(l, t, samples) - t;
-        let k = run_length(small.state.initialized, small.phase, small.pending, left);
-        small = pass(small, state, pcm, codes, objects, samples, t, k);
-        if small.pending == 64 {
-            small = give(small, state, out, stride, ready);
-        }
-        t += k;
-        ready = ready_after(ready, small.pending);
+        work
     }
-    Rendered { small, ready }
 }

@@ -21,7 +21,7 @@ use Rattle.rules.specs.Calls.{push, flush, frameOf, found}
 use Rattle.rules.specs.Block.{written, made}
 use Rattle.rules.proofs.Judged.{is-passed, is-listed, rate-high, is-roomy}
 use Rattle.rules.proofs.Limited.{length-limited}
-use Rattle.store.specs.declared.Small.{Small}
+use Rattle.store.specs.declared.renderer.Renderer714.{Renderer714}
 use Rattle.store.specs.Fields.{smallWords, smallOf}
 use Rattle.store.specs.Layout.{decode}
 use Rattle.store.specs.Ranges.{valid}
@@ -40,7 +40,7 @@ use Rattle.hall.proofs.Known.{valid-long, loaded-pending, loaded-ranged
 -- ---- push
 
 module _ (a : Args) (b : List ℕ) (bytes : Bytes b) (meta : Bytes (a .meta)) (v : valid b ≡ true) (e : found hall (decode b) a ≡ clear) where
-  pub rendered-left : (s : Small) (ready : ℕ) (c : List ℕ) → Bytes c → IsHeld (pushed hall (frameOf hall a) (decode b) .next) s c → ready ≡ length (pushed hall (frameOf hall a) (decode b) .given 0)
+  pub rendered-left : (s : Renderer714) (ready : ℕ) (c : List ℕ) → Bytes c → IsHeld (pushed hall (frameOf hall a) (decode b) .next) s c → ready ≡ length (pushed hall (frameOf hall a) (decode b) .given 0)
       → (r : Answer) (state out : List ℕ) → r ≡ readyOf ready → state ≡ withWords c 0 (smallWords s) → out ≡ written (pushed hall (frameOf hall a) (decode b) .given) (a .stride) (a .out)
       → Left (made hall block (push a) b) r state out
   rendered-left s ready c k h n r state out i j o =
@@ -54,28 +54,28 @@ rate-small n (inl z) = omega arith
 rate-small n (inr l) = le-of-lt (rate-high (is-listed n l))
 
 -- as many samples as wait
-flushed-long : (r : Renderer Timed) → Ranged hall Within r → length (flushed hall r .given 0) ≡ r .pending
+flushed-long : (r : Renderer Timed) → Ranged hall Within r → length (flushed hall r .given 0) ≡ r .pending .count
 unfolding flushed
 flushed-long r g =
-    length-limited (r .gain) (λ c. take (r .pending) (floats (r .places) c)) 0
-    ∙ length-take-le (r .pending) (floats (r .places) 0) (let l = g .long 0 (omega arith) in let p = g .pending in let m = length-map (r .places 0) (ofBits binary32) in omega arith)
+    length-limited (r .limiter .gain) (λ c. take (r .pending .count) (floats (r .pending .places) c)) 0
+    ∙ length-take-le (r .pending .count) (floats (r .pending .places) 0) (let l = g .long 0 (omega arith) in let p = g .pending in let m = length-map (r .pending .places 0) (ofBits binary32) in omega arith)
 
-module _ (b : List ℕ) (s : Small) (e : s ≡ smallOf (wordsAt b 0 340)) (bytes : Bytes b) (v : valid b ≡ true) (out : List ℕ) (stride : ℕ) (k : room stride (length out) ≡ true) where
-  pub can-give : CanGive s b out stride 0
+module _ (b : List ℕ) (s : Renderer714) (e : s ≡ smallOf (wordsAt b 0 340)) (bytes : Bytes b) (v : valid b ≡ true) (out : List ℕ) (stride : ℕ) (k : room stride (length out) ≡ true) where
+  pub can-give : CanGive (record { renderer = s; ready = 0 }) b out stride
   can-give =
       let g = loaded-ranged b s e bytes v in
       let q = is-roomy stride (length out) k in
       let p = g .pending in
       let w = q .some in
-      record { block = valid-long b v; pending = le-of-lt (g .pending); rate = rate-small (s .rate) (g .rate); room = omega arith; output = q .long }
+      record { block = valid-long b v; pending = le-of-lt (g .pending); rate = rate-small (s .rate) (g .rate); room = omega arith; short = let m = q .most in omega arith; output = q .long }
 
-  pub flushed-left : 0 < s .pending → (t : Small) → held t b ≡ flushed hall (held s b) .next → (r : Answer) (state to : List ℕ) → r ≡ readyOf (s .pending) → state ≡ withWords b 0 (smallWords t)
+  pub flushed-left : 0 < s .pending → (t : Renderer714) → held t b ≡ flushed hall (held s b) .next → (r : Answer) (state to : List ℕ) → r ≡ readyOf (s .pending) → state ≡ withWords b 0 (smallWords t)
       → to ≡ written (flushed hall (held s b) .given) stride out → Left (made hall block (flush out stride) b) r state to
   flushed-left p t h r state to i j o =
       let l = loaded b s e in
       let g = loaded-ranged b s e bytes v in
-      let n : decode b .pending ≡ s .pending = loaded-pending b s e in
-      let some : eqb (decode b .pending) 0 ≡ false = ne-eqb (decode b .pending) 0 (λ z. omega (arith, sym n ∙ z)) in
+      let n : decode b .pending .count ≡ s .pending = loaded-pending b s e in
+      let some : eqb (decode b .pending .count) 0 ≡ false = ne-eqb (decode b .pending .count) 0 (λ z. omega (arith, sym n ∙ z)) in
       let next = h ∙ ap (λ (x : Renderer Timed). flushed hall x .next) l in
       let d = flushed-within (decode b) (subst (Ranged hall Within) l g) in
       leaves-as (flushes out stride b v k some)

@@ -12,7 +12,7 @@ use Rattle.timed.specs.State.{Timed}
 use Rattle.rules.specs.Samples.{Renderer}
 use Rattle.rules.specs.Ranges.{Ranged}
 use Rattle.rules.proofs.Judged.{and-true}
-use Rattle.store.specs.declared.Small.{Small}
+use Rattle.store.specs.declared.renderer.Renderer714.{Renderer714}
 use Rattle.store.specs.Fields.{smallWords, smallOf}
 use Rattle.store.specs.Layout.{size, small, placeRows, infosOf, decode, encode}
 use Rattle.store.specs.Ranges.{valid, smallValid, headsValid}
@@ -33,17 +33,17 @@ pub pos-of : (n : ℕ) → (n ≡ 0 → ⊥) → 0 < n
 pos-of zero h = absurd (h refl)
 pos-of (suc n) h = omega arith
 
-module _ (b : List ℕ) (s : Small) (e : s ≡ smallOf (wordsAt b 0 340)) where
-  pub loaded-pending : decode b .pending ≡ s .pending
-  loaded-pending = sym (ap (λ (r : Renderer Timed). r .pending) (loaded b s e))
+module _ (b : List ℕ) (s : Renderer714) (e : s ≡ smallOf (wordsAt b 0 340)) where
+  pub loaded-pending : decode b .pending .count ≡ s .pending
+  loaded-pending = sym (ap (λ (r : Renderer Timed). r .pending .count) (loaded b s e))
 
   pub loaded-ranged : Bytes b → valid b ≡ true → Ranged hall Within (held s b)
   loaded-ranged bs v = subst (Ranged hall Within) (sym (loaded b s e)) (decoded-of b bs v)
 
 -- the small part saved into the block with which it holds r
-pub saved : (b : List ℕ) (r : Renderer Timed) (s : Small) → Bytes b → IsHeld r s b → Ranged hall Within r → withWords b 0 (smallWords s) ≡ encode r
+pub saved : (b : List ℕ) (r : Renderer Timed) (s : Renderer714) → Bytes b → IsHeld r s b → Ranged hall Within r → withWords b 0 (smallWords s) ≡ encode r
 saved b r s bs h g =
     let e : s ≡ small r = ap small (h .is) in
-    ap (λ (x : Small). withWords b 0 (smallWords x)) e
+    ap (λ (x : Renderer714). withWords b 0 (smallWords x)) e
     ∙ saved-encode b r (h .long) (small-long (small r) (small-full r (ranged r g))) (ap (λ (x : Renderer Timed). x .meta .infos) (h .is))
-    (sym (rows-of b bs (h .long)) ∙ ap (λ (x : Renderer Timed). placeRows 12 0 (x .places)) (h .is))
+    (sym (rows-of b bs (h .long)) ∙ ap (λ (x : Renderer Timed). placeRows 12 0 (x .pending .places)) (h .is))

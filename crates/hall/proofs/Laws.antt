@@ -59,18 +59,18 @@ module _ (out : List ℕ) (stride : ℕ) (b : List ℕ) (v : valid b ≡ true) w
   by-tests t idle = drained hall t idle (decode b)
 
   pub no-room : room stride (length out) ≡ false → made hall block (flush out stride) b ≡ record { answer = refused 1 0 0; state = b; out = out }
-  no-room e = taken (flush out stride) b _ v (ap (λ (t : Bool). by-tests t (eqb (decode b .pending) 0)) e)
+  no-room e = taken (flush out stride) b _ v (ap (λ (t : Bool). by-tests t (eqb (decode b .pending .count) 0)) e)
 
-  pub nothing-waits : room stride (length out) ≡ true → eqb (decode b .pending) 0 ≡ true → made hall block (flush out stride) b ≡ record { answer = nothing; state = b; out = out }
-  nothing-waits e p = taken (flush out stride) b _ v (ap (λ (t : Bool). by-tests t (eqb (decode b .pending) 0)) e ∙ ap (by-tests true) p)
+  pub nothing-waits : room stride (length out) ≡ true → eqb (decode b .pending .count) 0 ≡ true → made hall block (flush out stride) b ≡ record { answer = nothing; state = b; out = out }
+  nothing-waits e p = taken (flush out stride) b _ v (ap (λ (t : Bool). by-tests t (eqb (decode b .pending .count) 0)) e ∙ ap (by-tests true) p)
 
-  pub flushes : room stride (length out) ≡ true → eqb (decode b .pending) 0 ≡ false → made hall block (flush out stride) b ≡
+  pub flushes : room stride (length out) ≡ true → eqb (decode b .pending .count) 0 ≡ false → made hall block (flush out stride) b ≡
       record {
         answer = rendered (flushed hall (decode b) .given);
         state = encode (flushed hall (decode b) .next);
         out = written (flushed hall (decode b) .given) stride out;
       }
-  flushes e p = taken (flush out stride) b _ v (ap (λ (t : Bool). by-tests t (eqb (decode b .pending) 0)) e ∙ ap (by-tests true) p)
+  flushes e p = taken (flush out stride) b _ v (ap (λ (t : Bool). by-tests t (eqb (decode b .pending .count) 0)) e ∙ ap (by-tests true) p)
 
 -- ---- reset
 

@@ -11,7 +11,7 @@ use Rattle.rules.specs.Block.{Outcome}
 use Rattle.words.specs.Words.{wordsAt}
 use Rattle.records.specs.declared.layout.Layout.{Layout}
 use Rattle.records.specs.Answers.{IsLayout}
-use Rattle.store.specs.declared.Small.{Small}
+use Rattle.store.specs.declared.renderer.Renderer714.{Renderer714}
 use Rattle.store.specs.Fields.{smallOf}
 use Rattle.store.specs.Layout.{decode}
 use Rattle.store.specs.Ranges.{valid}
@@ -47,18 +47,18 @@ pub record Left (o : Outcome) (r : Answer) (state out : List ℕ) : Type 0 where
 -- ---- what is known when the work begins
 
 -- s is the small part of the valid block b
-pub record Loaded (s : Small) (b : List ℕ) : Type 0 where
+pub record Loaded (s : Renderer714) (b : List ℕ) : Type 0 where
   pub small : s ≡ smallOf (wordsAt b 0 340)
   pub valid : valid b ≡ true
 
 -- no refusal turned the push away, and l is the metadata's layout
-pub record Cleared (s : Small) (b : List ℕ) (l : Layout) (a : Args) : Type 0 where
+pub record Cleared (s : Renderer714) (b : List ℕ) (l : Layout) (a : Args) : Type 0 where
   pub loaded : Loaded s b
   pub clear : found hall (decode b) a ≡ clear
   pub layout : IsLayout (a .meta) l
 
 -- samples wait, and the output has room
-pub record Waiting (s : Small) (b out : List ℕ) (stride : ℕ) : Type 0 where
+pub record Waiting (s : Renderer714) (b out : List ℕ) (stride : ℕ) : Type 0 where
   pub loaded : Loaded s b
   pub room : room stride (length out) ≡ true
   pub some : 0 < s .pending

@@ -6,13 +6,14 @@ ghost use Rattle.hall.specs.Answers.{Waiting, Cleared, Left};
 ghost use Rattle.refusals.specs.Found.{argsWith};
 use crate::answer;
 use crate::answer::Answer;
+use frame::Rendering;
 use records::layout::Layout;
 use refusals::Numbers;
-use store::Small;
+use store::renderer::Renderer714;
 
 // A push that no refusal turned away.
 pub fn render(
-    s: Small,
+    s: Renderer714,
     state: &mut [u8],
     pcm: &[u8],
     meta: &[u8],
@@ -24,18 +25,21 @@ pub fn render(
     requires { ⌜ Cleared s (now state) l (argsWith (now pcm) (now meta) (now out) (now codes) n) ⌝ }
     ensures { λ r. ⌜ Left (made hall block (push (argsWith (now (pcm .entry)) (now (meta .entry)) (now (out .entry)) (now (codes .entry)) n)) (now (state .entry))) r (now (state .exit)) (now (out .exit)) ⌝ }
 {
-    let done = frame::push::render(s, state, pcm, meta, out, codes, l, n);
-    let next = done.small;
+    let work = Rendering::of(s);
+    let done = work.render(state, pcm, meta, out, codes, l, n);
+    let next = done.renderer;
     store::write::save(state, next);
     answer::ready(done.ready)
 }
 
 // A flush with samples waiting.
-pub fn drain(s: Small, state: &mut [u8], out: &mut [u8], stride: u32) -> Answer
+pub fn drain(s: Renderer714, state: &mut [u8], out: &mut [u8], stride: u32) -> Answer
     requires { ⌜ Waiting s (now state) (now out) stride ⌝ }
     ensures { λ r. ⌜ Left (made hall block (flush (now (out .entry)) stride) (now (state .entry))) r (now (state .exit)) (now (out .exit)) ⌝ }
 {
-    let next = frame::flush::drain(s, state, out, stride as usize);
+    let work = Rendering::of(s);
+    let done = work.drain(state, out, stride as usize);
+    let next = done.renderer;
     store::write::save(state, next);
-    answer::ready(s.pending as usize)
+    answer::ready(done.ready)
 }

@@ -9,6 +9,7 @@ use lib.ListN.{length}
 use lib.Ieee.{Float, fin}
 use Rattle.angles.specs.declared.Turn.{Turn}
 use Rattle.angles.specs.declared.filter.Coefficients.{Coefficients}
+use Rattle.clock.specs.Start.{frameStart}
 use Rattle.fields.specs.declared.block.Block.{Block}
 use Rattle.fields.specs.declared.object.Info.{Info}
 use Rattle.fields.specs.declared.update.Header.{Header}
@@ -38,7 +39,7 @@ abbrev pub zeroCoefficients : Coefficients
 zeroCoefficients = record { a1 = 0·0; a2 = 0·0; b0 = 0·0; b1 = 0·0; b2 = 0·0 }
 
 abbrev pub zeroHeader : Header
-zeroHeader = record { offset = 0; objects = 0; «bed_or_isf» = 0; beds = 0; elements = 0 }
+zeroHeader = record { offset = frameStart; objects = 0; «bed_or_isf» = 0; beds = 0; elements = 0 }
 
 abbrev pub zeroBlock : Block
 zeroBlock = record { offset = pos 0; ramp = pos 0 }

@@ -1,4 +1,6 @@
 // A record, update or place that is not there is answered by zeros.
+use clock::FrameOffset;
+use clock::START;
 use fields::block::Block;
 use fields::object::Info;
 use fields::update::Header;
@@ -48,7 +50,7 @@ pub extern "C" fn probe_header(meta: &[u8], u: usize) -> Header
 {
     if u >= meta.len() / 40 {
         return Header {
-            offset: 0,
+            offset: START,
             objects: 0,
             bed_or_isf: 0,
             beds: 0,
@@ -147,15 +149,15 @@ pub extern "C" fn probe_info(meta: &[u8], r: usize) -> Info
 }
 
 #[no_mangle]
-pub extern "C" fn probe_next_offset(meta: &[u8], t: usize, end: usize) -> usize
-    ensures { λ r. ⌜ r ≡ nextOffset (λ i. offset (now (meta .entry)) (updateAt (now (meta .entry)) i)) (count (now (meta .entry))) t end ⌝ }
+pub extern "C" fn probe_next_offset(meta: &[u8], t: FrameOffset, end: FrameOffset) -> FrameOffset
+    ensures { λ r. ⌜ r .0 ≡ nextOffset (λ i. offset (now (meta .entry)) (updateAt (now (meta .entry)) i)) (count (now (meta .entry))) (t .0) (end .0) ⌝ }
 {
     records::order::next_offset(records::layout::layout_of(meta), t, end)
 }
 
 #[no_mangle]
-pub extern "C" fn probe_sent_at(meta: &[u8], t: usize, from: usize) -> usize
-    ensures { λ r. ⌜ cond (leb from (count (now (meta .entry)))) (FirstAt (λ i. offset (now (meta .entry)) (updateAt (now (meta .entry)) i)) (count (now (meta .entry))) t from r) (r ≡ 0) ⌝ }
+pub extern "C" fn probe_sent_at(meta: &[u8], t: FrameOffset, from: usize) -> usize
+    ensures { λ r. ⌜ cond (leb from (count (now (meta .entry)))) (FirstAt (λ i. offset (now (meta .entry)) (updateAt (now (meta .entry)) i)) (count (now (meta .entry))) (t .0) from r) (r ≡ 0) ⌝ }
 {
     let l = records::layout::layout_of(meta);
     if from > l.count {

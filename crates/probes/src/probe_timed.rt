@@ -3,7 +3,7 @@ ghost use mathlib.Core.Path.{_≡_};
 ghost use Prim.Native.Nat.{_≤_};
 ghost use Rattle.timed.specs.Contracts.{IsTimed};
 ghost use Rattle.probes.specs.Timed.{scheduleFits, elementFits, countsSuit, stateFits, slotIf, updateIf};
-use timed::clock::StreamSample;
+use clock::StreamSample;
 use timed::state;
 use timed::state::BlockState;
 use timed::state::ElementRendererState;
@@ -73,7 +73,7 @@ fn state_fits(s: MetadataRendererState, position: u64) -> bool
         return false;
     }
     let payload = s.payload;
-    if payload.0 > 1099511627776 {
+    if !payload.is_up_to(StreamSample(1099511627776)) {
         return false;
     }
     let states = s.states;
@@ -130,5 +130,7 @@ pub extern "C" fn probe_apply_update(
         return s;
     }
     let first = l.first;
-    updates::update::apply_update(s, infos, meta, first[i], StreamSample(at))
+    let timed = updates::update::TimedState(s);
+    let next = timed.apply_update(infos, meta, first[i], StreamSample(at));
+    next.0
 }

@@ -8,6 +8,8 @@ ghost use Rattle.fields.specs.Block.{blocks, isBlock};
 ghost use Rattle.fields.specs.Object.{isObject};
 ghost use Rattle.records.specs.Laid.{blockAt, objectAt, isWholeElement, isWholeUpdate, elementEnd, elementAt, updateEnd};
 ghost use Rattle.records.specs.Answers.{endIf, noLayout, IsLayout};
+use clock::FrameOffset;
+use clock::START;
 use fields::block::blocks_at;
 use fields::block::is_block;
 use fields::block::is_element;
@@ -117,18 +119,17 @@ pub struct Layout {
     pub laid: bool,
     pub count: usize,
     pub first: [usize; 16],
-    pub offset: [usize; 16],
+    pub offset: [FrameOffset; 16],
 }
 
 fn broken() -> Layout
     ensures { λ l. ⌜ l ≡ noLayout ⌝ }
 {
-    let none = [0usize; 16];
     Layout {
         laid: false,
         count: 0,
-        first: none,
-        offset: none,
+        first: [0usize; 16],
+        offset: [START; 16],
     }
 }
 
@@ -141,7 +142,7 @@ pub fn layout_of(meta: &[u8]) -> Layout
     }
     let records = meta.len() / 40;
     let mut first = [0usize; 16];
-    let mut offset = [0usize; 16];
+    let mut offset = [START; 16];
     let mut n = 0usize;
     let mut r = 0usize;
     while r < records {

@@ -1,12 +1,12 @@
 -- The lowest number first: what tests in a row find, and what a test's answer says. Assumes nothing.
-use Prim.Native.Nat.{ℕ, zero, suc, _+_, _-_, _*_, _/_, _≤_}
+use Prim.Native.Nat.{ℕ, zero, suc, _+_, _*_, _/_}
 use mathlib.Core.Path.{_≡_, refl, sym, ap, _∙_, subst}
 use mathlib.Core.Bool.{Bool, true, false, not, _&&_}
 use mathlib.Core.List.{List, [], _∷_}
 use lib.Dec.{T, eqb, leb}
 use lib.ListN.{length, getD, take}
 use native.Mathlib.Omega.{arith}
-use borrow.Author.Tests.{eqb-true, leb-true, leb-false, le-leb, lt-leb, not-true, not-false}
+use borrow.Author.Tests.{eqb-true, not-true, not-false}
 use Rattle.ieee.specs.Bounds.{All}
 use Rattle.fields.proofs.All.{and-left, and-right}
 use Rattle.records.specs.Laid.{laidOut}
@@ -77,7 +77,7 @@ tests position a =
     ∷ test 8 (allPass (a .pcm) 0 ((length (a .codes) + a .objects) * a .samples))
     ∷ []
 
-module _ (position : ℕ) (r : State hall) (p : r .position ≡ position) (a : Args) where
+module _ (position : ℕ) (r : State hall) (p : r .clock .position ≡ position) (a : Args) where
   early-is : firstOf (tests position a) ≡ early hall r a
   early-is = rw (then-none (unless (allPass (a .pcm) 0 ((length (a .codes) + a .objects) * a .samples)) 8 0 0), p)
 
@@ -88,15 +88,7 @@ module _ (position : ℕ) (r : State hall) (p : r .position ≡ position) (a : A
   pub refuses-none : Hold (tests position a) → clear ≡ early hall r a
   refuses-none h = goes-through (tests position a) h ∙ early-is
 
--- ---- single tests
-
--- 4, without a sum that could be too large
-pub ends-later : (position samples end : ℕ) → samples ≤ end → leb position (end - samples) ≡ leb (position + samples) end
-ends-later position samples end h = by (leb (position + samples) end) refl
-  where
-    by : (t : Bool) → leb (position + samples) end ≡ t → leb position (end - samples) ≡ t
-    by true e = let l = leb-true (position + samples) end e in le-leb position (end - samples) (omega arith)
-    by false e = let l = leb-false (position + samples) end e in lt-leb position (end - samples) (omega arith)
+-- ---- a single test
 
 -- where 2 is not found, a fourth of the PCM's bytes are its samples: 8 looks at all of them
 pub pcm-samples : (a : Args) → sized a ≡ true → allPass (a .pcm) 0 ((length (a .codes) + a .objects) * a .samples) ≡ allPass (a .pcm) 0 (length (a .pcm) / 4)

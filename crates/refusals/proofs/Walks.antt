@@ -4,13 +4,12 @@ use mathlib.Core.Path.{_≡_, refl, sym, ap, _∙_}
 use mathlib.Core.Bool.{true, false}
 use mathlib.Core.List.{List, [], _∷_}
 use lib.Dec.{eqb}
-use lib.ListN.{getD}
 use native.Mathlib.Omega.{arith}
 use borrow.Author.Tests.{ne-eqb}
 use Rattle.ieee.specs.Bounds.{All}
 use Rattle.fields.specs.Update.{offset}
 use Rattle.records.specs.Laid.{count, updateAt}
-use Rattle.records.specs.Answers.{IsLayout}
+use Rattle.records.specs.Answers.{offsetAt, IsLayout}
 use Rattle.records.specs.Order.{nextOffset}
 use Rattle.records.specs.declared.layout.Layout.{Layout}
 use Rattle.records.proofs.Times.{next-within, next-above, next-least}
@@ -56,7 +55,7 @@ module _ (us : List Announced) (objects : ℕ) (codes : List ℕ) where
 
 module _ (m : List ℕ) (l : Layout) (g : IsLayout m l) where
   abbrev f : ℕ → ℕ
-  f i = getD (l .offset) i 0
+  f i = offsetAt l i
 
   none-told : (t : ℕ) → ((i : ℕ) → i < l .count → f i ≡ t → ⊥) → NoneAt t (toldOf m)
   none-told t h =

@@ -7,7 +7,7 @@ use Rattle.words.specs.Words.{wordsAt}
 use Rattle.rules.specs.Samples.{State}
 use Rattle.rules.specs.Refusals.{Args, Found, clear, stop, argsOf, early}
 use Rattle.rules.specs.Calls.{found}
-use Rattle.store.specs.declared.Small.{Small}
+use Rattle.store.specs.declared.renderer.Renderer714.{Renderer714}
 use Rattle.store.specs.Fields.{smallOf}
 use Rattle.store.specs.Layout.{decode}
 use Rattle.claim.specs.Hall.{hall}
@@ -39,8 +39,8 @@ argsWith pcm meta out codes n = argsOf pcm meta out codes (n .rate) (n .samples)
 
 -- r is the first of 1 to 8 at a stream position, whatever else the state has and whatever stands in an output of so many bytes
 abbrev pub IsEarly : ℕ → ℕ → (List ℕ → Args) → Refusal → Type 0
-IsEarly position bytes args r = (out : List ℕ) → length out ≡ bytes → (t : State hall) → t .position ≡ position → foundOf r ≡ early hall t (args out)
+IsEarly position bytes args r = (out : List ℕ) → length out ≡ bytes → (t : State hall) → t .clock .position ≡ position → foundOf r ≡ early hall t (args out)
 
 -- r is the first of 1 to 14 on each block whose small part s is
-abbrev pub IsFound : Small → ℕ → (List ℕ → Args) → Refusal → Type 0
+abbrev pub IsFound : Renderer714 → ℕ → (List ℕ → Args) → Refusal → Type 0
 IsFound s bytes args r = (b out : List ℕ) → s ≡ smallOf (wordsAt b 0 340) → length out ≡ bytes → foundOf r ≡ found hall (decode b) (args out)

@@ -14,6 +14,7 @@ ghost use Rattle.refusals.specs.Told.{isClear, presentShape, saidShape, 
 use crate::Refusal;
 use crate::present::Present;
 use beds::count_matching;
+use clock::FrameOffset;
 use fields::update::header_at;
 use records::layout::Layout;
 use timed::state::dynamic;
@@ -50,16 +51,17 @@ fn update_refusal(meta: &[u8], u: usize, taken: bool, objects: u32) -> Refusal
 }
 
 // 11 for each update at sample offset t, in the order sent.
-pub fn counts_refusal(meta: &[u8], l: Layout, t: usize, objects: u32) -> Refusal
+pub fn counts_refusal(meta: &[u8], l: Layout, t: FrameOffset, objects: u32) -> Refusal
     requires { ⌜ IsLayout (now meta) l × WholeUpdates (now meta) (l .first) (l .count) ⌝ }
-    ensures { λ r. ⌜ IsEleven (now (meta .entry)) objects t r ⌝ }
+    ensures { λ r. ⌜ IsEleven (now (meta .entry)) objects (t .0) r ⌝ }
 {
     let first = l.first;
     let offset = l.offset;
     let count = l.count;
     let mut i = 0usize;
     while i < count {
-        let r = update_refusal(meta, first[i], offset[i] == t, objects);
+        let x = offset[i];
+        let r = update_refusal(meta, first[i], x.is(t), objects);
         if !is_clear(r) {
             return r;
         }

@@ -1,13 +1,14 @@
 // Refusals 1 to 8 of a push: "Lowest number first among 1 to 8". Each is decided before the next is worked out.
 ghost use mathlib.Core.Path.{_≡_};
 ghost use mathlib.Core.List.{[]};
-ghost use Prim.Native.Nat.{_+_, _*_, _≤_};
+ghost use Prim.Native.Nat.{_*_, _≤_};
 ghost use lib.Dec.{leb};
 ghost use Rattle.records.specs.Laid.{laidOut};
 ghost use Rattle.rules.specs.Refusals as rules;
 ghost use Rattle.refusals.specs.Found.{argsWith, IsEarly};
 use crate::Numbers;
 use crate::Refusal;
+use clock::StreamSample;
 
 // Whether the stride is one of those allowed and an output of so many bytes has room for it: refusal 1.
 pub fn room(stride: u32, bytes: usize) -> bool
@@ -76,16 +77,9 @@ fn sized(pcm: &[u8], codes: &[u8], n: Numbers) -> bool
     channels != 0
 }
 
-// Whether the stream with so many samples more stays within 2^40: refusal 4.
-fn stays(position: u64, samples: u32) -> bool
-    ensures { λ r. ⌜ r ≡ leb (position + samples) 1099511627776 ⌝ }
-{
-    position <= 1099511627776 - samples as u64
-}
-
 // The first of refusals 1 to 8 of a push at a stream position; the output has so many bytes, and `laid` says whether the records are as laid out.
 pub fn refusal(
-    position: u64,
+    position: StreamSample,
     pcm: &[u8],
     meta: &[u8],
     bytes: usize,
@@ -94,7 +88,7 @@ pub fn refusal(
     n: Numbers,
 ) -> Refusal
     requires { ⌜ laid ≡ laidOut (now meta) ⌝ }
-    ensures { λ r. ⌜ IsEarly position bytes (λ out. argsWith (now (pcm .entry)) (now (meta .entry)) out (now (codes .entry)) n) r ⌝ }
+    ensures { λ r. ⌜ IsEarly (position .0) bytes (λ out. argsWith (now (pcm .entry)) (now (meta .entry)) out (now (codes .entry)) n) r ⌝ }
 {
     if !room(n.stride, bytes) {
         return Refusal::Lent;
@@ -105,7 +99,7 @@ pub fn refusal(
     if !angles::listed(n.rate) {
         return Refusal::Rate;
     }
-    if !stays(position, n.samples) {
+    if !position.has_room(n.samples) {
         return Refusal::StreamEnd;
     }
     if !laid {

@@ -23,6 +23,8 @@ use crate::checks::objects_refusal;
 use crate::present::Present;
 use crate::present::present_after;
 use crate::present::present_of;
+use clock::FrameOffset;
+use clock::START;
 use records::layout::Layout;
 use records::order::next_offset;
 use timed::state::MetadataRendererState;
@@ -34,12 +36,6 @@ fn either(a: bool, b: bool) -> bool
         return true;
     }
     b
-}
-
-fn wide(n: u32) -> usize
-    ensures { λ r. ⌜ r ≡ n ⌝ }
-{
-    n as usize
 }
 
 // 9 and 10.
@@ -61,15 +57,15 @@ fn walk_refusal(
     meta: &[u8],
     l: Layout,
     codes: &[u8],
-    samples: usize,
+    end: FrameOffset,
     objects: u32,
 ) -> Refusal
     requires { ⌜ IsLayout (now meta) l × WholeUpdates (now meta) (l .first) (l .count) × (length (now codes) ≤ 18) × (start .beds ≤ 18) ⌝ }
-    ensures { λ r. ⌜ foundOf r ≡ walk (toldOf (now (meta .entry))) objects (now (codes .entry)) samples 0 (presentShape start) ⌝ }
+    ensures { λ r. ⌜ foundOf r ≡ walk (toldOf (now (meta .entry))) objects (now (codes .entry)) (end .0) 0 (presentShape start) ⌝ }
 {
     let mut present = start;
-    let mut t = 0usize;
-    while t < samples {
+    let mut t = START;
+    while t.is_before(end) {
         let counts = counts_refusal(meta, l, t, objects);
         if !is_clear(counts) {
             return counts;
@@ -79,7 +75,7 @@ fn walk_refusal(
         if !is_clear(beds) {
             return beds;
         }
-        t = next_offset(l, t, samples);
+        t = next_offset(l, t, end);
     }
     Refusal::Clear
 }
@@ -102,7 +98,7 @@ pub fn refusal(
     if !is_clear(begin) {
         return begin;
     }
-    let counts = counts_refusal(meta, l, 0, objects);
+    let counts = counts_refusal(meta, l, START, objects);
     if !is_clear(counts) {
         return counts;
     }
@@ -110,10 +106,10 @@ pub fn refusal(
         return Refusal::UnsupportedSampleCount;
     }
     let start = present_of(state);
-    let first = present_after(start, meta, l, 0);
+    let first = present_after(start, meta, l, START);
     let present = objects_refusal(first, objects);
     if !is_clear(present) {
         return present;
     }
-    walk_refusal(start, meta, l, codes, wide(samples), objects)
+    walk_refusal(start, meta, l, codes, FrameOffset(samples), objects)
 }

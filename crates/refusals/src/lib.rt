@@ -11,7 +11,7 @@ ghost use Prim.Native.Nat.{_≤_};
 ghost use Rattle.records.specs.Answers.{IsLayout};
 ghost use Rattle.refusals.specs.Found.{argsWith, IsFound};
 use records::layout::Layout;
-use store::Small;
+use store::renderer::Renderer714;
 
 // The refusals of a push, and none. `foundOf` gives document 01's number and counts for each.
 pub enum Refusal {
@@ -43,7 +43,7 @@ pub struct Numbers {
 
 // `s` is the small part of a valid block, `l` the metadata's layout; the output has `bytes` bytes.
 pub fn push_refusal(
-    s: Small,
+    s: Renderer714,
     pcm: &[u8],
     meta: &[u8],
     bytes: usize,
@@ -54,7 +54,7 @@ pub fn push_refusal(
     requires { ⌜ (s .state .beds ≤ 18) × (s .state .objects ≤ 32) × IsLayout (now meta) l ⌝ }
     ensures { λ r. ⌜ IsFound s bytes (λ out. argsWith (now (pcm .entry)) (now (meta .entry)) out (now (codes .entry)) n) r ⌝ }
 {
-    let first = early::refusal(s.position, pcm, meta, bytes, codes, l.laid, n);
+    let first = early::refusal(s.clock.position, pcm, meta, bytes, codes, l.laid, n);
     let Refusal::Clear = first else {
         return first;
     };

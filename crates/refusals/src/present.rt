@@ -5,6 +5,7 @@ ghost use Prim.Native.Nat.{_≤_};
 ghost use Rattle.updates.specs.Whole.{WholeUpdate, WholeUpdates};
 ghost use Rattle.records.specs.Answers.{IsLayout};
 ghost use Rattle.refusals.specs.Told.{saidShape, presentShape, presentOf, IsAfter};
+use clock::FrameOffset;
 use fields::update::header_at;
 use records::layout::Layout;
 use timed::state::MetadataRendererState;
@@ -53,9 +54,9 @@ fn present_next(p: Present, meta: &[u8], u: usize, taken: bool) -> Present
 }
 
 // The shape after the updates at sample offset t.
-pub fn present_after(p: Present, meta: &[u8], l: Layout, t: usize) -> Present
+pub fn present_after(p: Present, meta: &[u8], l: Layout, t: FrameOffset) -> Present
     requires { ⌜ IsLayout (now meta) l × WholeUpdates (now meta) (l .first) (l .count) × (p .beds ≤ 18) ⌝ }
-    ensures { λ r. ⌜ IsAfter (now (meta .entry)) t p r ⌝ }
+    ensures { λ r. ⌜ IsAfter (now (meta .entry)) (t .0) p r ⌝ }
 {
     let first = l.first;
     let offset = l.offset;
@@ -63,7 +64,8 @@ pub fn present_after(p: Present, meta: &[u8], l: Layout, t: usize) -> Present
     let mut present = p;
     let mut i = 0usize;
     while i < count {
-        present = present_next(present, meta, first[i], offset[i] == t);
+        let x = offset[i];
+        present = present_next(present, meta, first[i], x.is(t));
         i += 1;
     }
     present

@@ -16,6 +16,7 @@ use Rattle.timed.specs.State.{Timed}
 use Rattle.rules.specs.Parts.{0·0, Channels, Places, none as silent, joined, laid}
 use Rattle.rules.specs.Leaves.{Source, Bed, started}
 use Rattle.rules.specs.Mix.{addsOf, objectTerms, sampleAt, Moment}
+use Rattle.rules.specs.Samples as rules
 use Rattle.rules.specs.Samples.{Frame, State, After, opened, updated, slotted, sampled, moment, closing}
 use Rattle.rules.specs.Refusals.{Args, Found, clear, stop}
 use Rattle.rules.specs.Calls.{Call, push, flush, reset, Answer, refused, rendered, nothing, cleared, Result, frameOf, found, step}
@@ -38,21 +39,11 @@ memo n d f = let xs = firsts n 0 f in λ i. let far = f i in cond (ltb i n) (get
 
 abbrev pub withPlaces : Places → State hall → State hall
 withPlaces p r =
-    record {
-      rate = r .rate;
-      position = r .position;
-      phase = r .phase;
-      start = r .start;
-      gain = r .gain;
-      filter = r .filter;
-      meta = r .meta;
-      pending = r .pending;
-      places = p;
-    }
+    record { rate = r .rate; clock = r .clock; limiter = r .limiter; filter = r .filter; meta = r .meta; pending = record { count = r .pending .count; places = p } }
 
 unfoldable pub settled : State hall → State hall
 unfolding memo
-settled r = withPlaces (memo 12 [] (r .places)) r
+settled r = withPlaces (memo 12 [] (r .pending .places)) r
 
 -- one part and then the other
 abbrev pub both : After hall → After hall → After hall
@@ -125,8 +116,7 @@ mixed f k t =
 -- the rules' `passed`, from the sums
 unfoldable pub passing : (ℕ → Float) → List Moment → State hall → After hall
 passing h ms r =
-    closing hall (leb 64 (suc (r .pending))) (started hall (r .meta)) (leb 64 (suc (r .phase))) (suc (r .position)) (suc (r .phase)) (suc (r .pending)) r
-    (next (r .filter) (h 3)) (λ c. laid (r .pending) (cond (eqb c 3) (output (r .filter) (h 3) ∷ []) (h c ∷ [])) (r .places c)) ms
+    closing hall (rules.settled hall 1 (next (r .filter) (h 3)) (λ c. cond (eqb c 3) (output (r .filter) (h 3) ∷ []) (h c ∷ [])) r) ms
 
 -- an update is sent for t, or a slot starts there
 unfoldable pub sentFor : ℕ → List Sent → Bool
@@ -135,7 +125,7 @@ sentFor t (u ∷ us) = eqb (u .offset) t || sentFor t us
 
 unfoldable pub begins : Frame Sent → ℕ → State hall → Bool
 unfolding sentFor
-begins f t r = sentFor t (f .updates) || (started hall (r .meta) && eqb (r .phase) 0)
+begins f t r = sentFor t (f .updates) || (started hall (r .meta) && eqb (r .clock .phase) 0)
 
 -- the rules' `framed` and `pushed`; k is the mixer of r
 unfoldable pub mixes : Frame Sent → ℕ → ℕ → State hall → (ℕ → List Feed) → After hall

@@ -55,7 +55,7 @@ memo-is n d f = fun-ext (λ i. near i (ltb i n) refl)
 
 settled-is : (r : State hall) → settled r ≡ r
 unfolding settled
-settled-is r = ap (λ (p : Places). withPlaces p r) (memo-is 12 [] (r .places))
+settled-is r = ap (λ (p : Places). withPlaces p r) (memo-is 12 [] (r .pending .places))
 
 samples-are : (f : Frame Sent) (n t : ℕ) (r : State hall) → samples f n t r ≡ framed hall f n t r
 unfolding samples
@@ -146,9 +146,9 @@ none-sent t (u ∷ us) r h = let e = neither (eqb (u .offset) t) (sentFor t us) 
 stays : (f : Frame Sent) (t : ℕ) (r : State hall) → begins f t r ≡ false → slotted hall (updated hall t (f .updates) r) .meta ≡ r .meta
 unfolding begins
 stays f t r h =
-    let e = neither (sentFor t (f .updates)) (started hall (r .meta) && eqb (r .phase) 0) h in
+    let e = neither (sentFor t (f .updates)) (started hall (r .meta) && eqb (r .clock .phase) 0) h in
     ap (λ (s : State hall). slotted hall s .meta) (none-sent t (f .updates) r (e .0))
-    ∙ ap (λ (b : Bool). cond b (hall .slot (r .start) (r .meta)) (r .meta)) (e .1)
+    ∙ ap (λ (b : Bool). cond b (hall .slot (r .clock .start) (r .meta)) (r .meta)) (e .1)
 
 module _ (f : Frame Sent) (t : ℕ) (r : State hall) (k : ℕ → List Feed) (e : k ≡ mixer f (r .meta)) where
   abbrev begun : Timed

@@ -66,14 +66,11 @@ startingAt n =
     let r = fresh hall in
     record {
       rate = r .rate;
-      position = n;
-      phase = r .phase;
-      start = r .start;
-      gain = r .gain;
+      clock = record { position = n; phase = r .clock .phase; start = r .clock .start };
+      limiter = r .limiter;
       filter = r .filter;
       meta = r .meta;
       pending = r .pending;
-      places = r .places;
     }
 
 abbrev pub calls : Row → List Call

@@ -100,7 +100,7 @@ module _ (L : Leaves) (r : State L) (a : Args) (k : Acceptable L r a) where
       both-clear (passed 1 0 0 (k .room))
       (both-clear (passed 2 0 0 (k .sized))
       (both-clear (passed 3 0 0 (k .listed))
-      (both-clear (passed 4 0 0 (le-leb (r .position + a .samples) 1099511627776 (k .position)))
+      (both-clear (passed 4 0 0 (le-leb (r .clock .position + a .samples) 1099511627776 (k .position)))
       (both-clear (passed 5 0 0 (k .laidOut)) (both-clear (passed 6 0 0 (k .inRange)) (passed 8 0 0 (k .passes)))))))
 
   same-rate : (eqb (r .rate) 0 || eqb (r .rate) (a .rate)) ≡ true

@@ -103,7 +103,7 @@ module _ (L : Leaves) (r : State L) (a : Args) where
       (unless (room (a .stride) (length (a .out))) 1 0 0
       then unless size 2 0 0
       then unless (listed (a .rate)) 3 0 0
-      then unless (leb (r .position + a .samples) 1099511627776) 4 0 0
+      then unless (leb (r .clock .position + a .samples) 1099511627776) 4 0 0
       then unless (L .laidOut (a .meta)) 5 0 0
       then unless (L .inRange (a .meta)) 6 0 0
       then unless pass 8 0 0)

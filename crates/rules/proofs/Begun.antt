@@ -68,11 +68,11 @@ module _ (L : Leaves) where
     updated-started t [] r k s = sym (or-false (started L (r .meta)))
     updated-started t (u ∷ us) r k s =
         updated-started t us (cond (eqb (L .offset u) t) (appliedAt L t u r) r) (k .1)
-        (either (λ (r : State L). F .Sound (r .meta)) (eqb (L .offset u) t) {x = appliedAt L t u r} {y = r} (F .sound-apply (r .position) u (r .meta) (k .0) s) s)
+        (either (λ (r : State L). F .Sound (r .meta)) (eqb (L .offset u) t) {x = appliedAt L t u r} {y = r} (F .sound-apply (r .clock .position) u (r .meta) (k .0) s) s)
         ∙ go (eqb (L .offset u) t)
       where
         go : (b : Bool) → (started L (cond b (appliedAt L t u r) r .meta) || at t us) ≡ (started L (r .meta) || (b || at t us))
         go true =
-            ap (λ (b : Bool). b || at t us) (ap (λ (s : Shape). s .started) (F .shape-apply (r .position) u (r .meta) (k .0) s) ∙ F .sent-started u (k .0))
+            ap (λ (b : Bool). b || at t us) (ap (λ (s : Shape). s .started) (F .shape-apply (r .clock .position) u (r .meta) (k .0) s) ∙ F .sent-started u (k .0))
             ∙ sym (or-true (started L (r .meta)))
         go false = refl

@@ -32,7 +32,7 @@ module _ (L : Leaves) where
 
   step-means : (r : State L) (c : Call) → Means L (step L r c .answer) (step L r c .next) r
   step-means r (push a) = asked-means (found L r a) a r
-  step-means r (flush out stride) = drained-means (room stride (length out)) (eqb (r .pending) 0) r
+  step-means r (flush out stride) = drained-means (room stride (length out)) (eqb (r .pending .count) 0) r
   step-means r reset = refl
 
 module _ (L : Leaves) (B : Layout L) where

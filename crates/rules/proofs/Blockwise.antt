@@ -2,8 +2,8 @@
 -- nothing.
 use mathlib.Core.Path.{_≡_, refl, sym, ap, ap₂, _∙_}
 use mathlib.Core.List.{List, [], _∷_, _++_, map}
-use Prim.Native.Nat.{ℕ, zero, suc, _*_, _≤_, _<_}
-use native.Mathlib.Nat.{not-suc-le-zero, le-of-suc-le-suc}
+use Prim.Native.Nat.{ℕ, zero, suc, _+_, _*_, _≤_, _<_}
+use native.Mathlib.Nat.{suc-add, not-suc-le-zero, le-of-suc-le-suc}
 use native.Mathlib.Omega.{arith}
 use lib.Dec.{T, lit<}
 use lib.ListN.{length, take, drop, set, length-drop}
@@ -54,7 +54,9 @@ module _ (f g : Channels) where
 
 -- ---- a sample behind the p that wait
 pub laid-behind : (p : ℕ) (ws : List ℕ) (x : Float) → p < length ws → T (fits binary32 x)
-    → take (suc p) (map (ofBits binary32) (set ws p (toBits binary32 x))) ≡ take p (map (ofBits binary32) ws) ++ (x ∷ [])
+    → take (p + 1) (map (ofBits binary32) (set ws p (toBits binary32 x))) ≡ take p (map (ofBits binary32) ws) ++ (x ∷ [])
 laid-behind p [] x h t = absurd (not-suc-le-zero h)
 laid-behind zero (w ∷ ws) x h t = ap (λ (y : Float). y ∷ []) (ofBits-toBits binary32 x t)
-laid-behind (suc p) (w ∷ ws) x h t = ap (λ (l : List Float). ofBits binary32 w ∷ l) (laid-behind p ws x (le-of-suc-le-suc h) t)
+laid-behind (suc p) (w ∷ ws) x h t =
+    ap (λ (k : ℕ). take k (map (ofBits binary32) (set (w ∷ ws) (suc p) (toBits binary32 x)))) (suc-add p 1)
+    ∙ ap (λ (l : List Float). ofBits binary32 w ∷ l) (laid-behind p ws x (le-of-suc-le-suc h) t)

@@ -75,21 +75,21 @@ module _ (L : Leaves) (B : Layout L) (F : Facts L B) where
         let q = is-roomy (a .stride) (length (a .out)) (p .early .room) in
         let d = pushed-fine L B F r a (h .0) (h .1) p rest in
         let y = pushed L (frameOf L a) r in
-        let fit = blocks-fit (d .blocks) (y .next .pending) (r .pending) (a .samples) (a .stride) (d .all) (steady rest .few) (samples-fit a (p .early .sized)) (q .whole) in
+        let fit = blocks-fit (d .blocks) (y .next .pending .count) (r .pending .count) (a .samples) (a .stride) (d .all) (steady rest .few) (samples-fit a (p .early .sized)) (q .whole) in
         record {
           rest = inr (d .next);
           range = λ b. given-out (y .given) (64 * d .blocks) (a .stride) (y .next) (a .out) b fit (q .long) (d .given) (d .length);
         }
 
     -- something waits, so there is a rate
-    pub waiting-good : eqb (r .pending) 0 ≡ false → Good L B F r
+    pub waiting-good : eqb (r .pending .count) 0 ≡ false → Good L B F r
     waiting-good e = go rest
       where
         go : Rest L B F r → Good L B F r
-        go (inl g) = absurd (eqb-false (r .pending) 0 e (g .none))
+        go (inl g) = absurd (eqb-false (r .pending .count) 0 e (g .none))
         go (inr g) = g
 
-    drained-called : (out : List ℕ) (stride : ℕ) (t e : Bool) → room stride (length out) ≡ t → eqb (r .pending) 0 ≡ e → Called (flush out stride) (drained L t e r)
+    drained-called : (out : List ℕ) (stride : ℕ) (t e : Bool) → room stride (length out) ≡ t → eqb (r .pending .count) 0 ≡ e → Called (flush out stride) (drained L t e r)
     drained-called out stride false e p q = record { rest = rest; range = λ b. quiet stride out (left L B (refused 1 0 0) r out stride b) refl refl refl }
     drained-called out stride true true p q = record { rest = rest; range = λ b. quiet stride out (left L B nothing r out stride b) refl refl refl }
     drained-called out stride true false p q =
@@ -99,10 +99,10 @@ module _ (L : Leaves) (B : Layout L) (F : Facts L B) where
         let y = flushed L r in
         record {
           rest = inr (d .next);
-          range = λ b. given-out (y .given) (r .pending) stride (y .next) out b (le-trans (le-of-lt (g .steady .few)) (w .some)) (w .long) (d .given) (d .length);
+          range = λ b. given-out (y .given) (r .pending .count) stride (y .next) out b (le-trans (le-of-lt (g .steady .few)) (w .some)) (w .long) (d .given) (d .length);
         }
 
     pub called : (c : Call) → Lent c → Called c (step L r c)
     called (push a) h = asked-called a h (found L r a) refl
-    called (flush out stride) h = drained-called out stride (room stride (length out)) (eqb (r .pending) 0) refl refl
+    called (flush out stride) h = drained-called out stride (room stride (length out)) (eqb (r .pending .count) 0) refl refl
     called reset h = record { rest = fresh-rest L B F; range = λ b. quiet 0 [] (left L B cleared (fresh L) [] 0 b) refl refl refl }

@@ -31,7 +31,7 @@ idle-nine = let z = zero-f32 in (z, (z, (z, (z, (z, (z, (z, (z, (z, tt)))))))))
 
 module _ (L : Leaves) (B : Layout L) (F : Facts L B) (r : State L) where
   with-filter : Steady L B F r → All F32 (nine (r .filter)) → Clean L r
-  with-filter s f = record { gain = s .gain; filter = f; places = λ c l. all-map F32 (ofBits binary32) (r .places c) (s .places c) }
+  with-filter s f = record { gain = s .gain; filter = f; places = λ c l. all-map F32 (ofBits binary32) (r .pending .places c) (s .places c) }
 
   pub clean : {xs : List Float} → Rest L B F r → Fed L xs r → Clean L r
   clean (inr g) h = with-filter (g .steady) (calm-nine (r .filter) (g .calm))

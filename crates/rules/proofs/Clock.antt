@@ -1,30 +1,29 @@
 -- What updates leave as it was; and the clock and the timed state do not depend on the samples: two renderers that agree on them do so after a sample of two frames with the same updates.
 -- Assumes nothing.
-use mathlib.Core.Path.{_≡_, refl, ap, _∙_}
+use mathlib.Core.Path.{_≡_, refl, _∙_}
 use mathlib.Core.Bool.{cond, not, _&&_, _||_}
 use mathlib.Core.List.{List, [], _∷_}
-use Prim.Native.Nat.{ℕ, suc, _+_}
-use lib.Dec.{eqb, leb}
+use Prim.Native.Nat.{ℕ}
+use lib.Dec.{eqb}
 use Rattle.rules.specs.Leaves.{Leaves, started}
 use Rattle.rules.specs.Mix.{Moment}
-use Rattle.rules.specs.Samples.{State, appliedAt, updated, slotted, passed}
+use Rattle.rules.specs.Samples.{State, restarted, ticked, appliedAt, updated, slotted, passed}
 use Rattle.rules.proofs.Lists.{either, both}
 
 module _ (L : Leaves) where
   -- updates leave all but the slot and the timed state
   pub record Untouched (r s : State L) : Type 0 where
     pub rate : s .rate ≡ r .rate
-    pub position : s .position ≡ r .position
-    pub gain : s .gain ≡ r .gain
+    pub position : s .clock .position ≡ r .clock .position
+    pub limiter : s .limiter ≡ r .limiter
     pub filter : s .filter ≡ r .filter
     pub pending : s .pending ≡ r .pending
-    pub places : s .places ≡ r .places
 
   untouched-self : (r : State L) → Untouched r r
-  untouched-self r = record { rate = refl; position = refl; gain = refl; filter = refl; pending = refl; places = refl }
+  untouched-self r = record { rate = refl; position = refl; limiter = refl; filter = refl; pending = refl }
 
   untouched-one : (t : ℕ) (u : L .Update) (r : State L) → Untouched r (appliedAt L t u r)
-  untouched-one t u r = record { rate = refl; position = refl; gain = refl; filter = refl; pending = refl; places = refl }
+  untouched-one t u r = record { rate = refl; position = refl; limiter = refl; filter = refl; pending = refl }
 
   pub untouched : (t : ℕ) (us : List (L .Update)) (r : State L) → Untouched r (updated L t us r)
   untouched t [] r = untouched-self r
@@ -35,29 +34,20 @@ module _ (L : Leaves) where
       record {
         rate = h .rate ∙ k .rate;
         position = h .position ∙ k .position;
-        gain = h .gain ∙ k .gain;
+        limiter = h .limiter ∙ k .limiter;
         filter = h .filter ∙ k .filter;
         pending = h .pending ∙ k .pending;
-        places = h .places ∙ k .places;
       }
 
   pub record Alike (r s : State L) : Type 0 where
-    pub position : r .position ≡ s .position
-    pub phase : r .phase ≡ s .phase
-    pub start : r .start ≡ s .start
+    pub clock : r .clock ≡ s .clock
     pub meta : r .meta ≡ s .meta
 
   pub alike-self : (r : State L) → Alike r r
-  alike-self r = record { position = refl; phase = refl; start = refl; meta = refl }
+  alike-self r = record { clock = refl; meta = refl }
 
   applied-alike : (t : ℕ) (u : L .Update) (r s : State L) → Alike r s → Alike (appliedAt L t u r) (appliedAt L t u s)
-  applied-alike t u r s a =
-      record {
-        position = a .position;
-        phase = λ i. cond (not (started L (a .meta i)) || eqb t 0) 0 (a .phase i);
-        start = λ i. cond (not (started L (a .meta i)) || eqb t 0) (a .position i) (a .start i);
-        meta = λ i. L .apply (a .position i) u (a .meta i);
-      }
+  applied-alike t u r s a = record { clock = λ i. restarted (not (started L (a .meta i)) || eqb t 0) (a .clock i); meta = λ i. L .apply (a .clock i .position) u (a .meta i) }
 
   updated-alike : (t : ℕ) (us : List (L .Update)) (r s : State L) → Alike r s → Alike (updated L t us r) (updated L t us s)
   updated-alike t [] r s a = a
@@ -66,21 +56,10 @@ module _ (L : Leaves) where
 
   slotted-alike : (r s : State L) → Alike r s → Alike (slotted L r) (slotted L s)
   slotted-alike r s a =
-      record {
-        position = a .position;
-        phase = a .phase;
-        start = a .start;
-        meta = λ i. cond (started L (a .meta i) && eqb (a .phase i) 0) (L .slot (a .start i) (a .meta i)) (a .meta i);
-      }
+      record { clock = a .clock; meta = λ i. cond (started L (a .meta i) && eqb (a .clock i .phase) 0) (L .slot (a .clock i .start) (a .meta i)) (a .meta i) }
 
   pub met-alike : (t : ℕ) (us : List (L .Update)) (r s : State L) → Alike r s → Alike (slotted L (updated L t us r)) (slotted L (updated L t us s))
   met-alike t us r s a = slotted-alike (updated L t us r) (updated L t us s) (updated-alike t us r s a)
 
   pub passed-alike : (m n : Moment) (r s : State L) → Alike r s → Alike (passed L m r .next) (passed L n s .next)
-  passed-alike m n r s a =
-      record {
-        position = ap suc (a .position);
-        phase = λ i. cond (started L (a .meta i)) (cond (leb 64 (suc (a .phase i))) 0 (suc (a .phase i))) (a .phase i);
-        start = λ i. cond (started L (a .meta i) && leb 64 (suc (a .phase i))) (a .start i + 64) (a .start i);
-        meta = a .meta;
-      }
+  passed-alike m n r s a = record { clock = λ i. ticked (started L (a .meta i)) 1 (a .clock i); meta = a .meta }

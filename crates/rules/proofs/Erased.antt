@@ -22,7 +22,7 @@ module _ (L : Leaves) where
   -- a refused call leaves the renderer as it was
   pub stays : (r : State L) (c : Call) → T (isRefused (step L r c .answer)) → step L r c .next ≡ r
   stays r (push a) h = asked-stays (found L r a) a r h
-  stays r (flush out stride) h = drained-stays (room stride (length out)) (eqb (r .pending) 0) r h
+  stays r (flush out stride) h = drained-stays (room stride (length out)) (eqb (r .pending .count) 0) r h
   stays r reset h = absurd h
 
   pub forgotten : (r : State L) (cs : List Call) → run L r (kept L r cs) ≡ accepted L (run L r cs)

@@ -19,9 +19,9 @@ use Rattle.rules.proofs.Frames.{flushed-fine}
 use Rattle.rules.proofs.Called.{waiting-good}
 
 module _ (L : Leaves) (B : Layout L) (F : Facts L B) (r : State L) (rest : Rest L B F r) where
-  drained-holds : (e : Bool) → eqb (r .pending) 0 ≡ e → FlushHolds L r (drained L true e r)
+  drained-holds : (e : Bool) → eqb (r .pending .count) 0 ≡ e → FlushHolds L r (drained L true e r)
   drained-holds true e =
-      let z = eqb-true (r .pending) 0 e in
+      let z = eqb-true (r .pending .count) 0 e in
       record {
         none = λ h. (refl, refl);
         gives = λ h. absurd (omega arith);
@@ -30,14 +30,14 @@ module _ (L : Leaves) (B : Layout L) (F : Facts L B) (r : State L) (rest : Rest 
         untouched = λ h. absurd (omega arith);
       }
   drained-holds false e =
-      let n = eqb-false (r .pending) 0 e in
+      let n = eqb-false (r .pending .count) 0 e in
       record {
         none = λ h. absurd (n h);
         gives = λ h. unfold flushed in refl;
         ready = λ h. flushed-fine L B F r (waiting-good L B F r rest e) .length;
         gain = λ h. unfold flushed in refl;
-        untouched = λ h. unfold flushed in record { pending = refl; rate = refl; position = refl; phase = refl; start = refl; filter = refl; meta = refl; places = refl };
+        untouched = λ h. unfold flushed in record { pending = refl; rate = refl; clock = refl; filter = refl; meta = refl; places = refl };
       }
 
   pub flush-holds : (out : List ℕ) (stride : ℕ) → room stride (length out) ≡ true → FlushHolds L r (step L r (flush out stride))
-  flush-holds out stride h = subst (λ (b : Bool). FlushHolds L r (drained L b (eqb (r .pending) 0) r)) (sym h) (drained-holds (eqb (r .pending) 0) refl)
+  flush-holds out stride h = subst (λ (b : Bool). FlushHolds L r (drained L b (eqb (r .pending .count) 0) r)) (sym h) (drained-holds (eqb (r .pending .count) 0) refl)

@@ -12,7 +12,7 @@ use Rattle.ieee.specs.Bounds.{All}
 use Rattle.words.specs.Words.{Bytes}
 use Rattle.rules.specs.Parts.{Channels, floats}
 use Rattle.rules.specs.Leaves.{Leaves}
-use Rattle.rules.specs.Samples.{Frame, State, updated, slotted, moment, After, sampled, framed, opened, pushed, flushed}
+use Rattle.rules.specs.Samples.{Pending, Frame, State, updated, slotted, moment, After, sampled, framed, opened, pushed, flushed}
 use Rattle.rules.specs.Refusals.{Args}
 use Rattle.rules.specs.Calls.{frameOf}
 use Rattle.rules.specs.Block.{Layout}
@@ -36,14 +36,14 @@ module _ (L : Leaves) (B : Layout L) (F : Facts L B) where
       }
 
   module _ (f : Frame (L .Update)) (k : Admitted L B F f) where
-    pub sampled-fine : (t : ℕ) → t < f .samples → (r : State L) → Good L B F r → Fine L B F (r .pending) 1 (sampled L f t r)
+    pub sampled-fine : (t : ℕ) → t < f .samples → (r : State L) → Good L B F r → Fine L B F (r .pending .count) 1 (sampled L f t r)
     sampled-fine t h r g =
         let s = slotted L (updated L t (f .updates) r) in
         let i = before-good L B F t (f .updates) r (k .updates) g in
-        subst (λ (p : ℕ). Fine L B F p 1 (sampled L f t r)) (untouched L t (f .updates) r .pending)
+        subst (λ (p : Pending). Fine L B F (p .count) 1 (sampled L f t r)) (untouched L t (f .updates) r .pending)
         (passed-fine L B F (moment L f t (s .meta)) (moment-hearable L B F f k t h (s .meta) (i .steady .meta)) s i)
 
-    pub framed-fine : (n t : ℕ) → t + n ≤ f .samples → (r : State L) → Good L B F r → Fine L B F (r .pending) n (framed L f n t r)
+    pub framed-fine : (n t : ℕ) → t + n ≤ f .samples → (r : State L) → Good L B F r → Fine L B F (r .pending .count) n (framed L f n t r)
     framed-fine zero t h r g = record { next = g; given = λ c l. tt; blocks = 0; length = λ c l. refl; all = omega arith }
     framed-fine (suc n) t h r g =
         let x = sampled L f t r in
@@ -55,7 +55,7 @@ module _ (L : Leaves) (B : Layout L) (F : Facts L B) where
           given = λ c l. all-append Unitary (x .given c) (y .given c) (a .given c l) (d .given c l);
           blocks = a .blocks + d .blocks;
           length = λ c l. length-append (x .given c) (y .given c) ∙ sums (a .blocks) (d .blocks) (a .length c l) (d .length c l);
-          all = total (a .blocks) (d .blocks) (x .next .pending) (y .next .pending) (r .pending) (a .all) (d .all);
+          all = total (a .blocks) (d .blocks) (x .next .pending .count) (y .next .pending .count) (r .pending .count) (a .all) (d .all);
         }
       where
         sums : (i j : ℕ) {u v : ℕ} → u ≡ 64 * i → v ≡ 64 * j → u + v ≡ 64 * (i + j)
@@ -64,7 +64,7 @@ module _ (L : Leaves) (B : Layout L) (F : Facts L B) where
         total : (i j u v w : ℕ) → 64 * i + u ≡ w + 1 → 64 * j + v ≡ u + n → 64 * (i + j) + v ≡ w + suc n
         total i j u v w p q = omega arith
 
-  pub pushed-fine : (r : State L) (a : Args) → Bytes (a .pcm) → Bytes (a .meta) → Passed L r a → Rest L B F r → Fine L B F (r .pending) (a .samples) (pushed L (frameOf L a) r)
+  pub pushed-fine : (r : State L) (a : Args) → Bytes (a .pcm) → Bytes (a .meta) → Passed L r a → Rest L B F r → Fine L B F (r .pending .count) (a .samples) (pushed L (frameOf L a) r)
   unfolding pushed
   pushed-fine r a b m p g =
       let k = admitted r a b m p in
@@ -74,23 +74,23 @@ module _ (L : Leaves) (B : Layout L) (F : Facts L B) where
   pub record Drained (r : State L) (a : After L) : Type 0 where
     pub next : Good L B F (a .next)
     pub given : (c : ℕ) → c < 12 → All Unitary (a .given c)
-    pub length : (c : ℕ) → c < 12 → length (a .given c) ≡ r .pending
+    pub length : (c : ℕ) → c < 12 → length (a .given c) ≡ r .pending .count
 
   pub flushed-fine : (r : State L) → Good L B F r → Drained r (flushed L r)
   unfolding flushed
   flushed-fine r g =
       let s = g .steady in
-      let waiting : Channels = λ c. take (r .pending) (floats (r .places) c) in
-      let w : (c : ℕ) → All F32 (waiting c) = λ c. all-take F32 (r .pending) (floats (r .places) c) (all-map F32 (ofBits binary32) (r .places c) (s .places c)) in
+      let waiting : Channels = λ c. take (r .pending .count) (floats (r .pending .places) c) in
+      let w : (c : ℕ) → All F32 (waiting c) = λ c. all-take F32 (r .pending .count) (floats (r .pending .places) c) (all-map F32 (ofBits binary32) (r .pending .places c) (s .places c)) in
       let few = le-of-lt (s .few) in
       record {
         next = record {
           rate = g .rate;
           calm = g .calm;
-          steady = record { meta = s .meta; gain = gain-kept waiting w (r .pending) (r .rate) (g .rate) few (r .gain) (s .gain); places = s .places; long = s .long; few = lit< tt };
+          steady = record { meta = s .meta; gain = gain-kept waiting w (r .pending .count) (r .rate) (g .rate) few (r .limiter .gain) (s .gain); places = s .places; long = s .long; few = lit< tt };
         };
-        given = limited-tame waiting w (r .pending) (r .rate) (g .rate) few (r .gain) (s .gain);
+        given = limited-tame waiting w (r .pending .count) (r .rate) (g .rate) few (r .limiter .gain) (s .gain);
         length = λ c l.
-            let e = length-map (ofBits binary32) (r .places c) ∙ s .long c l in
-            length-limited (r .gain) waiting c ∙ length-take-le (r .pending) (floats (r .places) c) (omega (arith, e, few));
+            let e = length-map (ofBits binary32) (r .pending .places c) ∙ s .long c l in
+            length-limited (r .limiter .gain) waiting c ∙ length-take-le (r .pending .count) (floats (r .pending .places) c) (omega (arith, e, few));
       }

@@ -98,7 +98,7 @@ module _ (L : Leaves) where
     pub room : room (a .stride) (length (a .out)) ≡ true
     pub sized : sized a ≡ true
     pub listed : listed (a .rate) ≡ true
-    pub position : r .position + a .samples ≤ 1099511627776
+    pub position : r .clock .position + a .samples ≤ 1099511627776
     pub laidOut : L .laidOut (a .meta) ≡ true
     pub inRange : L .inRange (a .meta) ≡ true
     pub pass : allPass (a .pcm) 0 ((length (a .codes) + a .objects) * a .samples) ≡ true
@@ -112,14 +112,14 @@ module _ (L : Leaves) where
       let s1 = then-clear (unless (room (a .stride) (length (a .out))) 1 0 0) _ e in
       let s2 = then-clear (unless (sized a) 2 0 0) _ (s1 .1) in
       let s3 = then-clear (unless (listed (a .rate)) 3 0 0) _ (s2 .1) in
-      let s4 = then-clear (unless (leb (r .position + a .samples) 1099511627776) 4 0 0) _ (s3 .1) in
+      let s4 = then-clear (unless (leb (r .clock .position + a .samples) 1099511627776) 4 0 0) _ (s3 .1) in
       let s5 = then-clear (unless (L .laidOut (a .meta)) 5 0 0) _ (s4 .1) in
       let s6 = then-clear (unless (L .inRange (a .meta)) 6 0 0) _ (s5 .1) in
       record {
         room = unless-clear (room (a .stride) (length (a .out))) 1 0 0 (s1 .0);
         sized = unless-clear (sized a) 2 0 0 (s2 .0);
         listed = unless-clear (listed (a .rate)) 3 0 0 (s3 .0);
-        position = leb-true (r .position + a .samples) 1099511627776 (unless-clear (leb (r .position + a .samples) 1099511627776) 4 0 0 (s4 .0));
+        position = leb-true (r .clock .position + a .samples) 1099511627776 (unless-clear (leb (r .clock .position + a .samples) 1099511627776) 4 0 0 (s4 .0));
         laidOut = unless-clear (L .laidOut (a .meta)) 5 0 0 (s5 .0);
         inRange = unless-clear (L .inRange (a .meta)) 6 0 0 (s6 .0);
         pass = unless-clear (allPass (a .pcm) 0 ((length (a .codes) + a .objects) * a .samples)) 8 0 0 (s6 .1);

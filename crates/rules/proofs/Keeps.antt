@@ -29,7 +29,7 @@ module _ (L : Leaves) (B : Layout L) (F : Facts L B) where
 
   pub step-ranged : (r : State L) (c : Call) → Lent c → InRanges F r → InRanges F (step L r c .next)
   step-ranged r (push a) h g = asked-ranged r a (h .1) (found L r a) refl g
-  step-ranged r (flush out stride) h g = drained-ranged r (room stride (length out)) (eqb (r .pending) 0) g
+  step-ranged r (flush out stride) h g = drained-ranged r (room stride (length out)) (eqb (r .pending .count) 0) g
   step-ranged r reset h g = fresh-ranged L B F
 
   -- ---- a block that was taken

@@ -56,10 +56,10 @@ module _ (L : Leaves) (B : Layout L) (F : Facts L B) where
   -- a renderer, but for its rate and its filter
   pub record Steady (r : State L) : Type 0 where
     pub meta : F .Sound (r .meta)
-    pub gain : Gain (r .gain)
-    pub places : (c : ℕ) → All Finite (r .places c)
-    pub long : (c : ℕ) → c < 12 → length (r .places c) ≡ 64
-    pub few : r .pending < 64
+    pub gain : Gain (r .limiter .gain)
+    pub places : (c : ℕ) → All Finite (r .pending .places c)
+    pub long : (c : ℕ) → c < 12 → length (r .pending .places c) ≡ 64
+    pub few : r .pending .count < 64
 
   -- one that has a rate
   pub record Good (r : State L) : Type 0 where
@@ -70,7 +70,7 @@ module _ (L : Leaves) (B : Layout L) (F : Facts L B) where
   -- one that has none yet
   pub record Idle (r : State L) : Type 0 where
     pub rate : r .rate ≡ 0
-    pub none : r .pending ≡ 0
+    pub none : r .pending .count ≡ 0
     pub steady : Steady r
 
   -- the invariant between calls
@@ -84,7 +84,7 @@ module _ (L : Leaves) (B : Layout L) (F : Facts L B) where
   applied-good : (t : ℕ) (u : L .Update) (r : State L) → F .Checked u → Good r → Good (appliedAt L t u r)
   applied-good t u r k g =
       let s = g .steady in
-      record { rate = g .rate; calm = g .calm; steady = record { meta = F .sound-apply (r .position) u (r .meta) k (s .meta); gain = s .gain; places = s .places; long = s .long; few = s .few } }
+      record { rate = g .rate; calm = g .calm; steady = record { meta = F .sound-apply (r .clock .position) u (r .meta) k (s .meta); gain = s .gain; places = s .places; long = s .long; few = s .few } }
 
   pub updated-good : (t : ℕ) (us : List (L .Update)) (r : State L) → All (F .Checked) us → Good r → Good (updated L t us r)
   updated-good t [] r k g = g
@@ -97,7 +97,7 @@ module _ (L : Leaves) (B : Layout L) (F : Facts L B) where
         rate = g .rate;
         calm = g .calm;
         steady = record {
-          meta = either (F .Sound) (started L (r .meta) && eqb (r .phase) 0) (F .sound-slot (r .start) (r .meta) (s .meta)) (s .meta);
+          meta = either (F .Sound) (started L (r .meta) && eqb (r .clock .phase) 0) (F .sound-slot (r .clock .start) (r .meta) (s .meta)) (s .meta);
           gain = s .gain;
           places = s .places;
           long = s .long;
@@ -144,7 +144,7 @@ module _ (L : Leaves) (B : Layout L) (F : Facts L B) where
     pub given : (c : ℕ) → c < 12 → All Unitary (a .given c)
     pub blocks : ℕ
     pub length : (c : ℕ) → c < 12 → length (a .given c) ≡ 64 * blocks
-    pub all : 64 * blocks + a .next .pending ≡ p + n
+    pub all : 64 * blocks + a .next .pending .count ≡ p + n
 
   module _ (m : Moment) (h : Hearable m) (r : State L) (g : Good r) where
     row-finite : (c : ℕ) → All (λ (x : Float). Finite (toBits binary32 x)) (row m (r .filter) c)
@@ -153,13 +153,13 @@ module _ (L : Leaves) (B : Layout L) (F : Facts L B) where
         (stored (heard m c) (heard-bounded m h c .f32), tt)
 
     abbrev places : Places
-    places c = laid (r .pending) (row m (r .filter) c) (r .places c)
+    places c = laid (r .pending .count) (row m (r .filter) c) (r .pending .places c)
 
     places-finite : (c : ℕ) → All Finite (places c)
-    places-finite c = all-laid Finite (r .pending) (row m (r .filter) c) (r .places c) (row-finite c) (g .steady .places c)
+    places-finite c = all-laid Finite (r .pending .count) (row m (r .filter) c) (r .pending .places c) (row-finite c) (g .steady .places c)
 
     places-long : (c : ℕ) → c < 12 → length (places c) ≡ 64
-    places-long c l = length-laid (r .pending) (row m (r .filter) c) (r .places c) ∙ g .steady .long c l
+    places-long c l = length-laid (r .pending .count) (row m (r .filter) c) (r .pending .places c) ∙ g .steady .long c l
 
     floats-finite : (c : ℕ) → All F32 (floats places c)
     floats-finite c = all-map F32 (ofBits binary32) (places c) (places-finite c)
@@ -174,33 +174,33 @@ module _ (L : Leaves) (B : Layout L) (F : Facts L B) where
           calm = calm-next most-range (g .calm) (heard-bounded m h 3);
           steady = record {
             meta = g .steady .meta;
-            gain = either Gain (leb 64 (suc (r .pending))) (gain-kept (floats places) floats-finite 64 (r .rate) (g .rate) (lit≤ tt) (r .gain) (g .steady .gain)) (g .steady .gain);
+            gain = either Gain (leb 64 (r .pending .count + 1)) (gain-kept (floats places) floats-finite 64 (r .rate) (g .rate) (lit≤ tt) (r .limiter .gain) (g .steady .gain)) (g .steady .gain);
             places = places-finite;
             long = places-long;
-            few = few-left (r .pending) (leb 64 (suc (r .pending))) refl;
+            few = few-left (r .pending .count) (leb 64 (r .pending .count + 1)) refl;
           };
         }
 
-    pub passed-fine : Fine (r .pending) 1 (passed L m r)
-    passed-fine = go (leb 64 (suc (r .pending))) refl
+    pub passed-fine : Fine (r .pending .count) 1 (passed L m r)
+    passed-fine = go (leb 64 (r .pending .count + 1)) refl
       where
-        go : (b : Bool) → leb 64 (suc (r .pending)) ≡ b → Fine (r .pending) 1 (passed L m r)
+        go : (b : Bool) → leb 64 (r .pending .count + 1) ≡ b → Fine (r .pending .count) 1 (passed L m r)
         go true e =
             let few = g .steady .few in
-            let most = leb-true 64 (suc (r .pending)) e in
+            let most = leb-true 64 (r .pending .count + 1) e in
             record {
               next = passed-good;
-              given = λ c l. subst (λ (b : Bool). All Unitary (cond b (limited (r .gain) (floats places)) none c)) (sym e)
-                  (limited-tame (floats places) floats-finite 64 (r .rate) (g .rate) (lit≤ tt) (r .gain) (g .steady .gain) c l);
+              given = λ c l. subst (λ (b : Bool). All Unitary (cond b (limited (r .limiter .gain) (floats places)) none c)) (sym e)
+                  (limited-tame (floats places) floats-finite 64 (r .rate) (g .rate) (lit≤ tt) (r .limiter .gain) (g .steady .gain) c l);
               blocks = 1;
-              length = λ c l. ap (λ (b : Bool). length (cond b (limited (r .gain) (floats places)) none c)) e ∙ length-limited (r .gain) (floats places) c ∙ floats-long c l;
-              all = ap (λ (b : Bool). 64 * 1 + cond b 0 (suc (r .pending))) e ∙ (omega arith);
+              length = λ c l. ap (λ (b : Bool). length (cond b (limited (r .limiter .gain) (floats places)) none c)) e ∙ length-limited (r .limiter .gain) (floats places) c ∙ floats-long c l;
+              all = ap (λ (b : Bool). 64 * 1 + cond b 0 (r .pending .count + 1)) e ∙ (omega arith);
             }
         go false e =
             record {
               next = passed-good;
-              given = λ c l. subst (λ (b : Bool). All Unitary (cond b (limited (r .gain) (floats places)) none c)) (sym e) tt;
+              given = λ c l. subst (λ (b : Bool). All Unitary (cond b (limited (r .limiter .gain) (floats places)) none c)) (sym e) tt;
               blocks = 0;
-              length = λ c l. ap (λ (b : Bool). length (cond b (limited (r .gain) (floats places)) none c)) e;
-              all = ap (λ (b : Bool). 64 * 0 + cond b 0 (suc (r .pending))) e ∙ (omega arith);
+              length = λ c l. ap (λ (b : Bool). length (cond b (limited (r .limiter .gain) (floats places)) none c)) e;
+              all = ap (λ (b : Bool). 64 * 0 + cond b 0 (r .pending .count + 1)) e ∙ (omega arith);
             }

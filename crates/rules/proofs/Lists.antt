@@ -2,7 +2,7 @@
 use mathlib.Core.Path.{_≡_, refl, ap, _∙_, subst}
 use mathlib.Core.Bool.{Bool, true, false, cond, _||_}
 use mathlib.Core.List.{List, [], _∷_, _++_, map}
-use Prim.Native.Nat.{ℕ, zero, suc, _<_}
+use Prim.Native.Nat.{ℕ, zero, suc, _+_, _<_}
 use native.Mathlib.Nat.{not-suc-le-zero, le-of-suc-le-suc}
 use borrow.Author.Tests.{lt-ltb, leb-false}
 use lib.Dec.{T, leb, lit<}
@@ -77,6 +77,6 @@ pub zeros-long : (c : ℕ) → c < 12 → length (zeros c) ≡ 64
 zeros-long c h = ap (λ (b : Bool). length {A = ℕ} (cond b (replicate 64 0) [])) (lt-ltb c 12 h)
 
 -- p pending samples and one more, or none where that makes a block
-pub few-left : (p : ℕ) (b : Bool) → leb 64 (suc p) ≡ b → cond b 0 (suc p) < 64
+pub few-left : (p : ℕ) (b : Bool) → leb 64 (p + 1) ≡ b → cond b 0 (p + 1) < 64
 few-left p true e = lit< tt
-few-left p false e = leb-false 64 (suc p) e
+few-left p false e = leb-false 64 (p + 1) e

@@ -55,11 +55,11 @@ module _ (L : Leaves) (B : Layout L) (F : Facts L B) (r : State L) (a : Args) (b
   pub good : Good L B F start
   good = opened-good L B F (a .rate) r (k .rate) rest
 
-  fine : Fine L B F (r .pending) (a .samples) (pushed L f r)
+  fine : Fine L B F (r .pending .count) (a .samples) (pushed L f r)
   fine = pushed-fine L B F r a b m passes rest
 
-  counts : (fine .blocks ≡ whole L r a) × (pushed L f r .next .pending ≡ (r .pending + a .samples) % 64)
-  counts = halves (fine .blocks) (pushed L f r .next .pending) (r .pending + a .samples) (fine .all) (fine .next .steady .few)
+  counts : (fine .blocks ≡ whole L r a) × (pushed L f r .next .pending .count ≡ (r .pending .count + a .samples) % 64)
+  counts = halves (fine .blocks) (pushed L f r .next .pending .count) (r .pending .count + a .samples) (fine .all) (fine .next .steady .few)
 
   count : length (pushed L f r .moments) ≡ a .samples
   unfolding pushed

@@ -58,7 +58,7 @@ module _ (L : Leaves) (B : Layout L) (F : Facts L B) where
         start = s .1;
         gain = g .gain;
         filter = g .filter;
-        meta = F .within-apply (r .position) u (r .meta) (g .position) k (g .meta);
+        meta = F .within-apply (r .clock .position) u (r .meta) (g .position) k (g .meta);
         pending = g .pending;
         idle = g .idle;
         long = g .long;
@@ -66,7 +66,7 @@ module _ (L : Leaves) (B : Layout L) (F : Facts L B) where
         none = g .none;
       }
     where
-      slot-kept : (b : Bool) → (cond b 0 (r .phase) < 64) × (cond b (r .position) (r .start) + cond b 0 (r .phase) ≤ r .position)
+      slot-kept : (b : Bool) → (cond b 0 (r .clock .phase) < 64) × (cond b (r .clock .position) (r .clock .start) + cond b 0 (r .clock .phase) ≤ r .clock .position)
       slot-kept true = (lit< tt, omega arith)
       slot-kept false = (g .phase, g .start)
 
@@ -80,7 +80,7 @@ module _ (L : Leaves) (B : Layout L) (F : Facts L B) where
         start = g .start;
         gain = g .gain;
         filter = g .filter;
-        meta = either (F .Within (r .position)) (started L (r .meta) && eqb (r .phase) 0) (F .within-slot (r .position) (r .start) (r .meta) (omega arith) (g .position) (g .meta)) (g .meta);
+        meta = either (F .Within (r .clock .position)) (started L (r .meta) && eqb (r .clock .phase) 0) (F .within-slot (r .clock .position) (r .clock .start) (r .meta) (omega arith) (g .position) (g .meta)) (g .meta);
         pending = g .pending;
         idle = g .idle;
         long = g .long;
@@ -89,28 +89,28 @@ module _ (L : Leaves) (B : Layout L) (F : Facts L B) where
       }
 
   -- ---- a sample
-  pub passed-ranged : (m : Moment) (r : State L) → listed (r .rate) ≡ true → suc (r .position) ≤ 1099511627776 → R r → R (passed L m r .next)
+  pub passed-ranged : (m : Moment) (r : State L) → listed (r .rate) ≡ true → r .clock .position + 1 ≤ 1099511627776 → R r → R (passed L m r .next)
   passed-ranged m r l h g =
-      let s = slot-kept (started L (r .meta)) (leb 64 (suc (r .phase))) refl in
+      let s = slot-kept (started L (r .meta)) (leb 64 (r .clock .phase + 1)) refl in
       record {
         rate = inr l;
         position = h;
         phase = s .0;
         start = s .1;
-        gain = either Fits (leb 64 (suc (r .pending))) (grown-fits 64 (r .rate) _) (g .gain);
+        gain = either Fits (leb 64 (r .pending .count + 1)) (grown-fits 64 (r .rate) _) (g .gain);
         filter = record { a1 = g .filter .a1; a2 = g .filter .a2; b0 = g .filter .b0; b1 = g .filter .b1; b2 = g .filter .b2; x1 = heard-fits m 3; x2 = g .filter .x1; y1 = sub-fits binary32 _ _; y2 = g .filter .y1 };
-        meta = F .within-later (r .position) (suc (r .position)) (r .meta) (omega arith) (g .meta);
-        pending = few-left (r .pending) (leb 64 (suc (r .pending))) refl;
+        meta = F .within-later (r .clock .position) (r .clock .position + 1) (r .meta) (omega arith) (g .meta);
+        pending = few-left (r .pending .count) (leb 64 (r .pending .count + 1)) refl;
         idle = λ e. absurd (subst T (sym l ∙ ap listed e) tt);
-        long = λ c k. length-laid (r .pending) (row m (r .filter) c) (r .places c) ∙ g .long c k;
-        words = λ c. laid-words (r .pending) (row m (r .filter) c) (r .places c) (row-fits m (r .filter) c) (g .words c);
-        none = λ c k. ap (laid (r .pending) (row m (r .filter) c)) (g .none c k) ∙ laid-none (r .pending) (row m (r .filter) c);
+        long = λ c k. length-laid (r .pending .count) (row m (r .filter) c) (r .pending .places c) ∙ g .long c k;
+        words = λ c. laid-words (r .pending .count) (row m (r .filter) c) (r .pending .places c) (row-fits m (r .filter) c) (g .words c);
+        none = λ c k. ap (laid (r .pending .count) (row m (r .filter) c)) (g .none c k) ∙ laid-none (r .pending .count) (row m (r .filter) c);
       }
     where
-      slot-kept : (run last : Bool) → leb 64 (suc (r .phase)) ≡ last
-          → (cond run (cond last 0 (suc (r .phase))) (r .phase) < 64) × (cond (run && last) (r .start + 64) (r .start) + cond run (cond last 0 (suc (r .phase))) (r .phase) ≤ suc (r .position))
-      slot-kept true true e = let p = g .phase in let s = g .start in let k = leb-true 64 (suc (r .phase)) e in (lit< tt, omega arith)
-      slot-kept true false e = let s = g .start in (leb-false 64 (suc (r .phase)) e, omega arith)
+      slot-kept : (run last : Bool) → leb 64 (r .clock .phase + 1) ≡ last
+          → (cond run (cond last 0 (r .clock .phase + 1)) (r .clock .phase) < 64) × (cond (run && last) (r .clock .start + 64) (r .clock .start) + cond run (cond last 0 (r .clock .phase + 1)) (r .clock .phase) ≤ r .clock .position + 1)
+      slot-kept true true e = let p = g .phase in let s = g .start in let k = leb-true 64 (r .clock .phase + 1) e in (lit< tt, omega arith)
+      slot-kept true false e = let s = g .start in (leb-false 64 (r .clock .phase + 1) e, omega arith)
       slot-kept false last e = let s = g .start in (g .phase, omega arith)
 
   -- ---- a frame
@@ -119,7 +119,7 @@ module _ (L : Leaves) (B : Layout L) (F : Facts L B) where
   updated-ranged t (u ∷ us) r c g =
       updated-ranged t us (cond (eqb (L .offset u) t) (appliedAt L t u r) r) (c .1) (either R (eqb (L .offset u) t) (applied-ranged t u r (c .0) g) g)
 
-  pub framed-ranged : (f : Frame (L .Update)) → All (F .Checked) (f .updates) → (n t : ℕ) (r : State L) → listed (r .rate) ≡ true → r .position + n ≤ 1099511627776 → R r →
+  pub framed-ranged : (f : Frame (L .Update)) → All (F .Checked) (f .updates) → (n t : ℕ) (r : State L) → listed (r .rate) ≡ true → r .clock .position + n ≤ 1099511627776 → R r →
       R (framed L f n t r .next)
   framed-ranged f k zero t r l h g = g
   framed-ranged f k (suc n) t r l h g =
@@ -171,7 +171,7 @@ module _ (L : Leaves) (B : Layout L) (F : Facts L B) where
     position = g .position;
     phase = g .phase;
     start = g .start;
-    gain = grown-fits (r .pending) (r .rate) _;
+    gain = grown-fits (r .pending .count) (r .rate) _;
     filter = g .filter;
     meta = g .meta;
     pending = lit< tt;

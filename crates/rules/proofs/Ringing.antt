@@ -144,5 +144,5 @@ module _ (L : Leaves) where
 
     pub step-fed : (c : Call) → Lent c → Rest L B F r → Fed xs r → Fed (fedSince L xs r c) (step L r c .next)
     step-fed (push a) h rest was = asked-fed a h rest was (found L r a) refl
-    step-fed (flush out stride) h rest was = drained-fed (room stride (length out)) (eqb (r .pending) 0) was
+    step-fed (flush out stride) h rest was = drained-fed (room stride (length out)) (eqb (r .pending .count) 0) was
     step-fed reset h rest was = fresh-fed

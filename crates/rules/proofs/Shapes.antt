@@ -123,18 +123,18 @@ module _ (L : Leaves) (B : Layout L) (F : Facts L B) where
         → L .shape (updated L t us r .meta) ≡ shapeAt all objects codes t (announced L us) (L .shape (r .meta))
     updated-shape all objects codes t [] r k s = refl
     updated-shape all objects codes t (u ∷ us) r k s =
-        let x = either (λ (r : State L). P (r .meta)) (eqb (L .offset u) t) {x = appliedAt L t u r} {y = r} (keeps (r .position) u (r .meta) (k .0) s) s in
+        let x = either (λ (r : State L). P (r .meta)) (eqb (L .offset u) t) {x = appliedAt L t u r} {y = r} (keeps (r .clock .position) u (r .meta) (k .0) s) s in
         updated-shape all objects codes t us (cond (eqb (L .offset u) t) (appliedAt L t u r) r) (k .1) x ∙ ap (shapeAt all objects codes t (announced L us)) (go (eqb (L .offset u) t))
       where
         go : (b : Bool) → L .shape (cond b (appliedAt L t u r) r .meta) ≡ cond b (L .sent u) (L .shape (r .meta))
-        go true = gives (r .position) u (r .meta) (k .0) s
+        go true = gives (r .clock .position) u (r .meta) (k .0) s
         go false = refl
 
   pub slotted-shape : (r : State L) → ((n : ℕ) → L .shape (L .slot n (r .meta)) ≡ L .shape (r .meta)) → L .shape (slotted L r .meta) ≡ L .shape (r .meta)
-  slotted-shape r rests = go (started L (r .meta) && eqb (r .phase) 0)
+  slotted-shape r rests = go (started L (r .meta) && eqb (r .clock .phase) 0)
     where
-      go : (b : Bool) → L .shape (cond b (L .slot (r .start) (r .meta)) (r .meta)) ≡ L .shape (r .meta)
-      go true = rests (r .start)
+      go : (b : Bool) → L .shape (cond b (L .slot (r .clock .start) (r .meta)) (r .meta)) ≡ L .shape (r .meta)
+      go true = rests (r .clock .start)
       go false = refl
 
   module _ (r : State L) (a : Args) (p : Passed L r a) (k : Admitted L B F (frameOf L a)) where

@@ -46,8 +46,8 @@ module _ (L : Leaves) (B : Layout L) (F : Facts L B) where
   )
   call-holds r (flush out stride) g h = (
     λ e. record {
-      answer = ap (λ (b : Bool). drained L b (eqb (r .pending) 0) r .answer) e;
-      next = ap (λ (b : Bool). drained L b (eqb (r .pending) 0) r .next) e;
+      answer = ap (λ (b : Bool). drained L b (eqb (r .pending .count) 0) r .answer) e;
+      next = ap (λ (b : Bool). drained L b (eqb (r .pending .count) 0) r .next) e;
     },
     flush-holds L B F r (g .rest) out stride,
   )
@@ -65,7 +65,7 @@ module _ (L : Leaves) (B : Layout L) (F : Facts L B) where
 
   step-hush : {xs : List Float} (r : State L) (c : Call) → Between xs r → Lent c → Hush L (step L r c .next)
   step-hush r (push a) g h = asked-hush r a g h (found L r a) refl
-  step-hush r (flush out stride) g h = drained-hush r (room stride (length out)) (eqb (r .pending) 0) (g .hush)
+  step-hush r (flush out stride) g h = drained-hush r (room stride (length out)) (eqb (r .pending .count) 0) (g .hush)
   step-hush r reset g h = λ e. inl refl
 
   -- what holds of the calls from a renderer, and from its block

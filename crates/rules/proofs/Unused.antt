@@ -78,7 +78,7 @@ module _ (L : Leaves) where
       other (room (a .stride) (length (a .out))) 1 0 0 (λ e. omega arith)
       and-then other (sized a) 2 0 0 (λ e. omega arith)
       and-then other (listed (a .rate)) 3 0 0 (λ e. omega arith)
-      and-then other (leb (r .position + a .samples) 1099511627776) 4 0 0 (λ e. omega arith)
+      and-then other (leb (r .clock .position + a .samples) 1099511627776) 4 0 0 (λ e. omega arith)
       and-then other (L .laidOut (a .meta)) 5 0 0 (λ e. omega arith)
       and-then other (L .inRange (a .meta)) 6 0 0 (λ e. omega arith)
       and-then other (allPass (a .pcm) 0 ((length (a .codes) + a .objects) * a .samples)) 8 0 0 (λ e. omega arith)
@@ -110,7 +110,7 @@ module _ (L : Leaves) (B : Layout L) where
 
   of-step : (r : State L) (c : Call) → numberOf (step L r c .answer) ≡ 7 → ⊥
   of-step r (push a) e = of-push (found L r a) a r (free-found L r a) e
-  of-step r (flush out stride) e = of-flush (room stride (length out)) (eqb (r .pending) 0) r e
+  of-step r (flush out stride) e = of-flush (room stride (length out)) (eqb (r .pending .count) 0) r e
   of-step r reset e = omega arith
 
   as-answered : (x : Answer) (s : State L) (out : List ℕ) (stride : ℕ) (b : List ℕ) → left L B x s out stride b .answer ≡ x

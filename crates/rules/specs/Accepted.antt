@@ -23,7 +23,7 @@ module _ (L : Leaves) where
     pub room : room (a .stride) (length (a .out)) ≡ true
     pub sized : sized a ≡ true
     pub listed : listed (a .rate) ≡ true
-    pub position : r .position + a .samples ≤ 1099511627776
+    pub position : r .clock .position + a .samples ≤ 1099511627776
     pub laidOut : L .laidOut (a .meta) ≡ true
     pub inRange : L .inRange (a .meta) ≡ true
     pub passes : allPass (a .pcm) 0 ((length (a .codes) + a .objects) * a .samples) ≡ true

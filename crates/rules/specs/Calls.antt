@@ -71,7 +71,7 @@ module _ (L : Leaves) where
 
   abbrev pub step : State L → Call → Result
   step r (push a) = asked (found r a) a r
-  step r (flush out stride) = drained (room stride (length out)) (eqb (r .pending) 0) r
+  step r (flush out stride) = drained (room stride (length out)) (eqb (r .pending .count) 0) r
   step r reset = record { answer = cleared; next = fresh L; moments = [] }
 
   -- the list's results, each call being handed what the one before left

@@ -42,9 +42,9 @@ nine f = f .a1 ∷ f .a2 ∷ f .b0 ∷ f .b1 ∷ f .b2 ∷ f .x1 ∷ f .x2 ∷ f
 
 -- No bad number stays inside: the limiter's gain is finite, above 0 and at most 1; the low-pass's numbers are finite, and so is each sample in a place.
 pub record Clean (L : Leaves) (r : State L) : Type 0 where
-  pub gain : Gain (r .gain)
+  pub gain : Gain (r .limiter .gain)
   pub filter : All F32 (nine (r .filter))
-  pub places : (c : ℕ) → c < 12 → All F32 (floats (r .places) c)
+  pub places : (c : ℕ) → c < 12 → All F32 (floats (r .pending .places) c)
 
 -- the bytes that a call lends are bytes
 abbrev pub Lent : Call → Type 0

@@ -88,7 +88,7 @@ module _ (L : Leaves) where
     -- the sum of channel 3 enters the low-pass
     pub enters : before L r a (suc t) .filter ≡ next (before L r a t .filter) (fed (momentAt L r a t))
     -- what each channel sounds like is laid behind the samples that wait
-    pub sounds : (c : ℕ) → c < 12 → getD (before L r a (suc t) .places c) ((r .pending + t) % 64) 0 ≡ toBits binary32 (soundAt L r a c t)
+    pub sounds : (c : ℕ) → c < 12 → getD (before L r a (suc t) .pending .places c) ((r .pending .count + t) % 64) 0 ≡ toBits binary32 (soundAt L r a c t)
     -- "Samples before the first update are silent."
     pub quiet : begun r a t ≡ false → (c : ℕ) → soundAt L r a c t ≡ 0·0
 
@@ -104,12 +104,12 @@ module _ (L : Leaves) where
     pub next : step L r (push a) .next ≡ pushed L (frameOf L a) r .next
     -- whole blocks are ready on each channel and the remainder waits; the stream has moved by the push's samples, at the push's rate
     pub ready : (c : ℕ) → c < 12 → length (pushed L (frameOf L a) r .given c) ≡ 64 * whole L r a
-    pub waits : pushed L (frameOf L a) r .next .pending ≡ (r .pending + a .samples) % 64
-    pub position : pushed L (frameOf L a) r .next .position ≡ r .position + a .samples
+    pub waits : pushed L (frameOf L a) r .next .pending .count ≡ (r .pending .count + a .samples) % 64
+    pub position : pushed L (frameOf L a) r .next .clock .position ≡ r .clock .position + a .samples
     pub rate : pushed L (frameOf L a) r .next .rate ≡ a .rate
     -- every block is limited by the gain that it meets, and what waits is what no whole block took
-    pub gives : (c : ℕ) → c < 12 → pushed L (frameOf L a) r .given c ≡ limitedBlocks (a .rate) (r .gain) (unlimited L r a) (whole L r a) c
-    pub gain : pushed L (frameOf L a) r .next .gain ≡ gainBefore (a .rate) (r .gain) (unlimited L r a) (whole L r a)
+    pub gives : (c : ℕ) → c < 12 → pushed L (frameOf L a) r .given c ≡ limitedBlocks (a .rate) (r .limiter .gain) (unlimited L r a) (whole L r a) c
+    pub gain : pushed L (frameOf L a) r .next .limiter .gain ≡ gainBefore (a .rate) (r .limiter .gain) (unlimited L r a) (whole L r a)
     pub rest : (c : ℕ) → c < 12 → waiting L (pushed L (frameOf L a) r .next) c ≡ drop (64 * whole L r a) (unlimited L r a c)
     -- a moment for each sample
     pub moments : length (pushed L (frameOf L a) r .moments) ≡ a .samples
@@ -125,22 +125,20 @@ module _ (L : Leaves) where
 
   -- s is r but for the limiter's gain and what is pending
   pub record Drained (r s : State L) : Type 0 where
-    pub pending : s .pending ≡ 0
+    pub pending : s .pending .count ≡ 0
     pub rate : s .rate ≡ r .rate
-    pub position : s .position ≡ r .position
-    pub phase : s .phase ≡ r .phase
-    pub start : s .start ≡ r .start
+    pub clock : s .clock ≡ r .clock
     pub filter : s .filter ≡ r .filter
     pub meta : s .meta ≡ r .meta
-    pub places : s .places ≡ r .places
+    pub places : s .pending .places ≡ r .pending .places
 
   -- "with nothing pending says none"; "Flush treats the remainder as one shorter block": as many samples as were pending on each channel, and nothing is pending after
   pub record FlushHolds (r : State L) (x : Result L) : Type 0 where
-    pub none : r .pending ≡ 0 → (x .answer ≡ nothing) × (x .next ≡ r)
-    pub gives : 0 < r .pending → x .answer ≡ rendered (limited (r .gain) (waiting L r))
-    pub ready : 0 < r .pending → (c : ℕ) → c < 12 → length (given (x .answer) c) ≡ r .pending
-    pub gain : 0 < r .pending → x .next .gain ≡ gainAfter (r .pending) (r .rate) (r .gain) (waiting L r)
-    pub untouched : 0 < r .pending → Drained r (x .next)
+    pub none : r .pending .count ≡ 0 → (x .answer ≡ nothing) × (x .next ≡ r)
+    pub gives : 0 < r .pending .count → x .answer ≡ rendered (limited (r .limiter .gain) (waiting L r))
+    pub ready : 0 < r .pending .count → (c : ℕ) → c < 12 → length (given (x .answer) c) ≡ r .pending .count
+    pub gain : 0 < r .pending .count → x .next .limiter .gain ≡ gainAfter (r .pending .count) (r .rate) (r .limiter .gain) (waiting L r)
+    pub untouched : 0 < r .pending .count → Drained r (x .next)
 
   pub record ResetHolds (x : Result L) : Type 0 where
     pub answer : x .answer ≡ cleared

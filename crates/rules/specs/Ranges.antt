@@ -32,15 +32,15 @@ pub record FilterFits (f : BiquadLowpassState) : Type 0 where
 -- `Within n m`: the timed state m lies in its ranges at the stream position n
 pub record Ranged (L : Leaves) (Within : ℕ → L .Meta → Type 0) (r : State L) : Type 0 where
   pub rate : (r .rate ≡ 0) ⊎ (listed (r .rate) ≡ true)
-  pub position : r .position ≤ 1099511627776
-  pub phase : r .phase < 64
-  pub start : r .start + r .phase ≤ r .position
-  pub gain : Fits (r .gain)
+  pub position : r .clock .position ≤ 1099511627776
+  pub phase : r .clock .phase < 64
+  pub start : r .clock .start + r .clock .phase ≤ r .clock .position
+  pub gain : Fits (r .limiter .gain)
   pub filter : FilterFits (r .filter)
-  pub meta : Within (r .position) (r .meta)
-  pub pending : r .pending < 64
-  pub idle : r .rate ≡ 0 → r .pending ≡ 0
+  pub meta : Within (r .clock .position) (r .meta)
+  pub pending : r .pending .count < 64
+  pub idle : r .rate ≡ 0 → r .pending .count ≡ 0
   -- 64 words for each of the twelve channels
-  pub long : (c : ℕ) → c < 12 → length (r .places c) ≡ 64
-  pub words : (c : ℕ) → Words (r .places c)
-  pub none : (c : ℕ) → 12 ≤ c → r .places c ≡ []
+  pub long : (c : ℕ) → c < 12 → length (r .pending .places c) ≡ 64
+  pub words : (c : ℕ) → Words (r .pending .places c)
+  pub none : (c : ℕ) → 12 ≤ c → r .pending .places c ≡ []

@@ -63,7 +63,7 @@ module _ (L : Leaves) where
       unless (room (a .stride) (length (a .out))) 1 0 0
       then unless (sized a) 2 0 0
       then unless (listed (a .rate)) 3 0 0
-      then unless (leb (r .position + a .samples) 1099511627776) 4 0 0
+      then unless (leb (r .clock .position + a .samples) 1099511627776) 4 0 0
       then unless (L .laidOut (a .meta)) 5 0 0
       then unless (L .inRange (a .meta)) 6 0 0
       then unless (allPass (a .pcm) 0 ((length (a .codes) + a .objects) * a .samples)) 8 0 0

@@ -1,6 +1,6 @@
 -- The rules of document 01, a sample at a time. Assumes nothing.
 use Prim.Native.Nat.{ℕ, zero, suc, _+_}
-use mathlib.Core.Bool.{Bool, cond, not, _&&_, _||_}
+use mathlib.Core.Bool.{Bool, true, cond, not, _&&_, _||_}
 use mathlib.Core.List.{List, [], _∷_, _++_}
 use lib.Dec.{leb, eqb}
 use lib.ListN.{take, length}
@@ -8,6 +8,7 @@ use lib.Ieee.{Float}
 use Rattle.lowpass.specs.Lowpass.{output, next, new}
 use Rattle.lowpass.specs.declared.BiquadLowpassState.{BiquadLowpassState}
 use Rattle.limiter.specs.Limiter.{blockGain, scaled, grown}
+use Rattle.limiter.specs.declared.Limiter.{Limiter}
 use Rattle.rules.specs.Parts.{0·0, 1·0, Channels, none, joined, twelve, Places, floats, laid, zeros}
 use Rattle.rules.specs.Leaves.{Leaves, started}
 use Rattle.rules.specs.Mix.{sampleAt, samplesAt, Moment, heard, fed}
@@ -21,22 +22,47 @@ pub record Frame (U : Type 0) : Type 0 where
   pub pcm : List ℕ
   pub updates : List U
 
+-- ---- the parts of a renderer
+
+-- samples since the stream's start; samples since the slot's start, and the stream position of that start
+pub record Clock : Type 0 where
+  pub position : ℕ
+  pub phase : ℕ
+  pub start : ℕ
+
+-- where `new`, a slot starts at the present sample
+abbrev pub restarted : Bool → Clock → Clock
+restarted new k = record { position = k .position; phase = cond new 0 (k .phase); start = cond new (k .position) (k .start) }
+
+-- n samples later, within a slot of 64 or at its end; the slots go on where `run`
+abbrev pub ticked : Bool → ℕ → Clock → Clock
+ticked run n k =
+    let end = leb 64 (k .phase + n) in
+    record { position = k .position + n; phase = cond run (cond end 0 (k .phase + n)) (k .phase); start = cond (run && end) (k .start + 64) (k .start) }
+
+-- the samples that wait for a whole block: how many, and 64 places of each channel for them, of which they fill the first
+pub record Pending : Type 0 where
+  pub count : ℕ
+  pub places : Places
+
+-- n samples of each channel more, behind those that wait
+abbrev pub appended : ℕ → Channels → Pending → Pending
+appended n xs p = record { count = p .count + n; places = λ c. laid (p .count) (xs c) (p .places c) }
+
+-- where `whole`, none waits any more; the places keep their bits
+abbrev pub emptied : Bool → Pending → Pending
+emptied whole p = record { count = cond whole 0 (p .count); places = p .places }
+
 -- ---- the renderer
 
 pub record Renderer (M : Type 0) : Type 0 where
   -- 0: none yet
   pub rate : ℕ
-  -- samples since the stream's start; samples since the slot's start, and the stream position of that start
-  pub position : ℕ
-  pub phase : ℕ
-  pub start : ℕ
-  -- the limiter's gain, and the low-pass
-  pub gain : Float
+  pub clock : Clock
+  pub limiter : Limiter
   pub filter : BiquadLowpassState
   pub meta : M
-  -- the samples that wait for a whole block: how many, and 64 places of each channel for them, of which they fill the first
-  pub pending : ℕ
-  pub places : Places
+  pub pending : Pending
 
 -- no rate yet: no coefficients and nothing fed
 abbrev pub idle : BiquadLowpassState
@@ -59,24 +85,28 @@ module _ (L : Leaves) where
   State = Renderer (L .Meta)
 
   abbrev pub fresh : State
-  fresh = record { rate = 0; position = 0; phase = 0; start = 0; gain = 1·0; filter = idle; meta = L .blank; pending = 0; places = zeros }
+  fresh =
+      record {
+        rate = 0;
+        clock = record { position = 0; phase = 0; start = 0 };
+        limiter = record { gain = 1·0 };
+        filter = idle;
+        meta = L .blank;
+        pending = record { count = 0; places = zeros };
+      }
 
   -- ---- updates and slots
 
   -- "The first update, and any at a frame's offset 0, starts a new slot there."
   abbrev pub appliedAt : ℕ → L .Update → State → State
   appliedAt t u r =
-      let new = not (started L (r .meta)) || eqb t 0 in
       record {
         rate = r .rate;
-        position = r .position;
-        phase = cond new 0 (r .phase);
-        start = cond new (r .position) (r .start);
-        gain = r .gain;
+        clock = restarted (not (started L (r .meta)) || eqb t 0) (r .clock);
+        limiter = r .limiter;
         filter = r .filter;
-        meta = L .apply (r .position) u (r .meta);
+        meta = L .apply (r .clock .position) u (r .meta);
         pending = r .pending;
-        places = r .places;
       }
 
   -- "Updates are taken in stable order of sample offset": those whose offset is t, in the order sent. One at or past the frame's end is never reached.
@@ -89,14 +119,11 @@ module _ (L : Leaves) where
   slotted r =
       record {
         rate = r .rate;
-        position = r .position;
-        phase = r .phase;
-        start = r .start;
-        gain = r .gain;
+        clock = r .clock;
+        limiter = r .limiter;
         filter = r .filter;
-        meta = cond (started L (r .meta) && eqb (r .phase) 0) (L .slot (r .start) (r .meta)) (r .meta);
+        meta = cond (started L (r .meta) && eqb (r .clock .phase) 0) (L .slot (r .clock .start) (r .meta)) (r .meta);
         pending = r .pending;
-        places = r .places;
       }
 
   -- ---- one sample
@@ -118,31 +145,32 @@ module _ (L : Leaves) where
     pub given : Channels
     pub moments : List Moment
 
-  -- What samples leave once they lie in their places: whether the block is whole, whether the clock runs, whether the slot ends; the stream's position, the phase and the number
-  -- pending after them. "A block of 64 .. scale; then g grows by length / rate, at most 1."
-  abbrev pub closing : Bool → Bool → Bool → ℕ → ℕ → ℕ → State → BiquadLowpassState → Places → List Moment → After
-  closing whole run last position phase pending r low places ms =
+  -- n samples of each channel more: the low-pass after them, and the samples, which wait; the clock goes on from the first update
+  abbrev pub settled : ℕ → BiquadLowpassState → Channels → State → State
+  settled n low xs r =
+      record { rate = r .rate; clock = ticked (started L (r .meta)) n (r .clock); limiter = r .limiter; filter = low; meta = r .meta; pending = appended n xs (r .pending) }
+
+  -- "A block of 64 .. scale; then g grows by length / rate, at most 1": a whole block is given out
+  abbrev pub closing : State → List Moment → After
+  closing r ms =
+      let whole = leb 64 (r .pending .count) in
+      let block = floats (r .pending .places) in
       record {
         next = record {
           rate = r .rate;
-          position = position;
-          phase = cond run (cond last 0 phase) (r .phase);
-          start = cond (run && last) (r .start + 64) (r .start);
-          gain = cond whole (gainAfter 64 (r .rate) (r .gain) (floats places)) (r .gain);
-          filter = low;
+          clock = r .clock;
+          limiter = record { gain = cond whole (gainAfter 64 (r .rate) (r .limiter .gain) block) (r .limiter .gain) };
+          filter = r .filter;
           meta = r .meta;
-          pending = cond whole 0 pending;
-          places = places;
+          pending = emptied whole (r .pending);
         };
-        given = cond whole (limited (r .gain) (floats places)) none;
+        given = cond whole (limited (r .limiter .gain) block) none;
         moments = ms;
       }
 
-  -- a sample more: the filter, the pending block, the clock
+  -- a sample more
   abbrev pub passed : Moment → State → After
-  passed m r =
-      closing (leb 64 (suc (r .pending))) (started L (r .meta)) (leb 64 (suc (r .phase))) (suc (r .position)) (suc (r .phase)) (suc (r .pending)) r
-      (next (r .filter) (fed m)) (λ c. laid (r .pending) (row m (r .filter) c) (r .places c)) (m ∷ [])
+  passed m r = closing (settled 1 (next (r .filter) (fed m)) (row m (r .filter)) r) (m ∷ [])
 
   abbrev pub sampled : Frame (L .Update) → ℕ → State → After
   sampled f t r = let s = slotted (updated t (f .updates) r) in passed (moment f t (s .meta)) s
@@ -163,14 +191,11 @@ module _ (L : Leaves) where
       let first = eqb (r .rate) 0 in
       record {
         rate = cond first rate (r .rate);
-        position = r .position;
-        phase = r .phase;
-        start = r .start;
-        gain = r .gain;
+        clock = r .clock;
+        limiter = r .limiter;
         filter = cond first (new rate) (r .filter);
         meta = r .meta;
         pending = r .pending;
-        places = r .places;
       }
 
   unfoldable pub pushed : Frame (L .Update) → State → After
@@ -178,7 +203,7 @@ module _ (L : Leaves) where
 
   -- the samples that wait for a whole block
   abbrev pub waiting : State → Channels
-  waiting r c = take (r .pending) (floats (r .places) c)
+  waiting r c = take (r .pending .count) (floats (r .pending .places) c)
 
   -- "Flush treats the remainder as one shorter block."
   unfoldable pub flushed : State → After
@@ -186,15 +211,12 @@ module _ (L : Leaves) where
       record {
         next = record {
           rate = r .rate;
-          position = r .position;
-          phase = r .phase;
-          start = r .start;
-          gain = gainAfter (r .pending) (r .rate) (r .gain) (waiting r);
+          clock = r .clock;
+          limiter = record { gain = gainAfter (r .pending .count) (r .rate) (r .limiter .gain) (waiting r) };
           filter = r .filter;
           meta = r .meta;
-          pending = 0;
-          places = r .places;
+          pending = emptied true (r .pending);
         };
-        given = limited (r .gain) (waiting r);
+        given = limited (r .limiter .gain) (waiting r);
         moments = [];
       }

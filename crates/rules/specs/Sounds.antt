@@ -66,4 +66,4 @@ module _ (L : Leaves) (r : State L) (a : Args) where
   unlimited c = waiting L r c ++ sounds (a .samples) c
 
   abbrev pub whole : ℕ
-  whole = (r .pending + a .samples) / 64
+  whole = (r .pending .count + a .samples) / 64

@@ -14,11 +14,11 @@ use Rattle.formats.proofs.Places.{stands-all}
 use Rattle.formats.proofs.Word.{lawful-u32-where, lawful-u32-to, lawful-u32-below, lawful-usize-to, lawful-u8-to, lawful-flag, lawful-float, lawful-u64-to}
 use Rattle.formats.proofs.Parts.{lawful-pair, lawful-array, lawful-struct, lawful-ranged, lawful-such}
 use Rattle.rates.specs.Rates.{lowest, highest, listed}
-use Rattle.store.specs.declared.Small.{Small}
+use Rattle.store.specs.declared.renderer.Renderer714.{Renderer714}
 use Rattle.store.specs.Singles.{Singles, FilterSingles, SourceSingles, TrackSingles, Brief}
 use Rattle.store.specs.Fields.{longest, smallWords, smallOf}
 use Rattle.store.specs.Fields.{vecFormat, sourceFormat, blockFormat, trackFormat, headFormat, elementFormat}
-use Rattle.store.specs.Fields.{filterFormat, payloadFormat, countsFormat, tablesFormat, stateFormat, clockFormat, smallFormat}
+use Rattle.store.specs.Fields.{filterFormat, payloadFormat, countsFormat, tablesFormat, stateFormat, basicsFormat, smallFormat}
 use Rattle.store.specs.Layout.{smallWidth}
 use Rattle.store.specs.Ranges.{related, smallPart}
 
@@ -95,8 +95,8 @@ either false b p q h = q h
 rate-most : (n : ℕ) → T (eqb n 0 || listed n) → n ≤ highest
 rate-most n = either (eqb n 0) (listed n) (λ h. let e = eqb→eq n 0 h in omega arith) (λ h. leb→le n highest (and-r (leb lowest n) (leb n highest) h))
 
-pub lawful-clock : Lawful clockFormat
-lawful-clock =
+pub lawful-basics : Lawful basicsFormat
+lawful-basics =
     lawful-pair (u32Where (λ n. eqb n 0 || listed n)) _ (lawful-u32-where (λ n. eqb n 0 || listed n) (λ n h. let l = rate-most n h in omega arith))
     (lawful-pair (u32Below 64) _ (lawful-u32-below 64 (lit≤ tt))
     (lawful-pair (u64To longest) _ (lawful-u64-to longest (lit< tt))
@@ -104,17 +104,17 @@ lawful-clock =
     (lawful-pair float _ lawful-float (lawful-pair filterFormat (u32Below 64) lawful-filter (lawful-u32-below 64 (lit≤ tt)))))))
 
 pub lawful-small : Lawful smallFormat
-lawful-small = lawful-struct _ _ _ (λ s. refl) (λ y. refl) (lawful-pair clockFormat stateFormat lawful-clock lawful-state)
+lawful-small = lawful-struct _ _ _ (λ s. refl) (λ y. refl) (lawful-pair basicsFormat stateFormat lawful-basics lawful-state)
 
 pub lawful-small-part : Lawful smallPart
 lawful-small-part = lawful-such related smallFormat lawful-small
 
 -- ---- the whole
 
-abbrev pub SmallFull : Small → Type 0
+abbrev pub SmallFull : Renderer714 → Type 0
 SmallFull s = smallPart .In s
 
-module _ (s : Small) (h : SmallFull s) where
+module _ (s : Renderer714) (h : SmallFull s) where
   pub small-long : length (smallWords s) ≡ smallWidth
   unfolding smallWords
   small-long = lawful-small .long s

@@ -16,7 +16,7 @@ use Rattle.timed.specs.Slot.{middle, InRange, noBlock}
 use Rattle.timed.specs.State.{noElement}
 use Rattle.timed.specs.State as timed
 use Rattle.rules.specs.Parts.{Places}
-use Rattle.store.specs.declared.Small.{Small}
+use Rattle.store.specs.declared.renderer.Renderer714.{Renderer714}
 use Rattle.store.specs.Singles.{Brief}
 use Rattle.store.specs.Fields.{elementFormat, smallOf}
 use Rattle.store.specs.Layout.{smallWidth, infosAt, placesAt, size, assembled, infosOf, placesOf, decode}
@@ -34,9 +34,9 @@ idle-out rate pending h e = eqb→eq pending 0 (subst (λ (b : Bool). T (not b |
 
 -- ---- the small part
 
-module _ (s : Small) (h : smallPart .In s) where
+module _ (s : Renderer714) (h : smallPart .In s) where
   abbrev C : Bool
-  C = clockIn (s .rate) (s .phase) (s .position) (s .start) (s .pending)
+  C = clockIn (s .rate) (s .clock .phase) (s .clock .position .0) (s .clock .start .0) (s .pending)
 
   abbrev N : Bool
   N = countsIn (s .state .objects) (s .state .isf) (s .state .beds)
@@ -56,11 +56,11 @@ module _ (s : Small) (h : smallPart .In s) where
   element-test (suc (suc i)) l = absurd (omega arith)
 
   element-both : (i : ℕ) → i < 2 → (leastFlags i (s .state) ≤ timed.elementOf (s .state) i .flags)
-      × (middle ≤ timed.elementOf (s .state) i .remaining + (2097152 + 64 * s .position))
+      × (middle ≤ timed.elementOf (s .state) i .remaining + (2097152 + 64 * s .clock .position .0))
   element-both i l =
       let e = timed.elementOf (s .state) i in
       let a = leb (leastFlags i (s .state)) (e .flags) in
-      let b = leb middle (e .remaining + (2097152 + 64 * s .position)) in
+      let b = leb middle (e .remaining + (2097152 + 64 * s .clock .position .0)) in
       (leb→le _ _ (and-l a b (element-test i l)), leb→le _ _ (and-r a b (element-test i l)))
 
   element-in : (i : ℕ) → i < 2 → elementFormat .In (timed.elementOf (s .state) i)
@@ -68,7 +68,7 @@ module _ (s : Small) (h : smallPart .In s) where
       let e = h .0 .1 .1 .1 .1 .1 in
       all-out (elementFormat .In) noElement (s .state .states) (e .each) i (let m = e .count in omega arith)
 
-  element-range : (i : ℕ) → i < 2 → InRange (s .position) (timed.elementOf (s .state) i)
+  element-range : (i : ℕ) → i < 2 → InRange (s .clock .position .0) (timed.elementOf (s .state) i)
   element-range i l =
       let e = timed.elementOf (s .state) i in
       let ((blocks, (flags, remaining)), (schedule, tracks)) = element-in i l in
@@ -89,7 +89,7 @@ module _ (s : Small) (h : smallPart .In s) where
         targets = tracks .each;
       }
 
-  state-ranged : StateRanged (s .position) (s .state)
+  state-ranged : StateRanged (s .clock .position .0) (s .state)
   state-ranged =
       let ((initialized, (payload, (objects, (isf, (beds, inUse))))), (codes, (gains, (sources, states)))) = h .0 .1 in
       record {
@@ -120,11 +120,11 @@ module _ (s : Small) (h : smallPart .In s) where
         rate = rate;
         phase = phase;
         position = position;
-        start = leb→le _ _ (and-l (leb (s .start + s .phase) (s .position)) (not (eqb (s .rate) 0) || eqb (s .pending) 0) clock);
+        start = leb→le _ _ (and-l (leb (s .clock .start .0 + s .clock .phase) (s .clock .position .0)) (not (eqb (s .rate) 0) || eqb (s .pending) 0) clock);
         gain = gain;
         filter = filter;
         pending = pending;
-        idle = idle-out _ _ (and-r (leb (s .start + s .phase) (s .position)) (not (eqb (s .rate) 0) || eqb (s .pending) 0) clock);
+        idle = idle-out _ _ (and-r (leb (s .clock .start .0 + s .clock .phase) (s .clock .position .0)) (not (eqb (s .rate) 0) || eqb (s .pending) 0) clock);
         state = state-ranged;
         infos = i;
         places = p;

@@ -12,11 +12,11 @@ use lib.Dec.{lit<}
 use Rattle.timed.specs.State.{noElement}
 use Rattle.timed.specs.declared.state.ElementRendererState.{ElementRendererState}
 use Rattle.timed.specs.declared.state.MetadataRendererState.{MetadataRendererState}
-use Rattle.store.specs.declared.Small.{Small}
-use Rattle.store.specs.Fields.{sourceFormat, blockFormat, trackFormat, headFormat, elementFormat, countsFormat, tablesFormat, stateFormat, clockFormat}
-use Rattle.store.specs.Fields.{elementHead, countsOf, tablesOf, clockOf, smallWords}
+use Rattle.store.specs.declared.renderer.Renderer714.{Renderer714}
+use Rattle.store.specs.Fields.{sourceFormat, blockFormat, trackFormat, headFormat, elementFormat, countsFormat, tablesFormat, stateFormat, basicsFormat}
+use Rattle.store.specs.Fields.{elementHead, countsOf, tablesOf, basicsOf, smallWords}
 use Rattle.store.specs.Places.{stateAt, tablesAt, gainsAt, sourcesAt, firstAt}
-use Rattle.store.proofs.Back.{lawful-source, lawful-block, lawful-head, lawful-element, lawful-counts, lawful-clock}
+use Rattle.store.proofs.Back.{lawful-source, lawful-block, lawful-head, lawful-element, lawful-counts, lawful-basics}
 
 pub element-stored : (s : List ℕ) (at : ℕ) (e : ElementRendererState)
     → withWords (withWords (withWords s at (headFormat .put (elementHead e))) (at + 4 * headFormat .width) (array 8 blockFormat .put (e .schedule)))
@@ -63,6 +63,6 @@ module _ (s : List ℕ) (x : MetadataRendererState) where
       s1 (4 * tablesAt) (x .codes) (x .gains, (x .sources, x .states))
       ∙ pair-stored countsFormat tablesFormat lawful-counts s (4 * stateAt) (countsOf x) (tablesOf x)
 
-pub small-stored : (s : List ℕ) (x : Small) → withWords (withWords s 0 (clockFormat .put (clockOf x))) (4 * stateAt) (stateFormat .put (x .state)) ≡ withWords s 0 (smallWords x)
+pub small-stored : (s : List ℕ) (x : Renderer714) → withWords (withWords s 0 (basicsFormat .put (basicsOf x))) (4 * stateAt) (stateFormat .put (x .state)) ≡ withWords s 0 (smallWords x)
 unfolding smallWords
-small-stored s x = pair-stored clockFormat stateFormat lawful-clock s 0 (clockOf x) (x .state)
+small-stored s x = pair-stored basicsFormat stateFormat lawful-basics s 0 (basicsOf x) (x .state)

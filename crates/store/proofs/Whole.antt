@@ -80,13 +80,13 @@ related-full r h =
     let w = h .state .within in
     let m = r .meta .state in
     let e : (i : ℕ) → i < 2 → T (elementRelated (small r) i) =
-    λ i l. and-in (leb (leastFlags i m) (timed.elementOf m i .flags)) (leb middle (timed.elementOf m i .remaining + (2097152 + 64 * r .position)))
+    λ i l. and-in (leb (leastFlags i m) (timed.elementOf m i .flags)) (leb middle (timed.elementOf m i .remaining + (2097152 + 64 * r .clock .position)))
     (le→leb _ _ (h .state .elements i l .enough)) (le→leb _ _ (w .states i l .ramps .least)) in
-    let k : T (clockIn (r .rate) (r .phase) (r .position) (r .start) (r .pending)) =
-    and-in (leb (r .start + r .phase) (r .position)) (not (eqb (r .rate) 0) || eqb (r .pending) 0) (le→leb _ _ (h .start)) (idle-test (r .rate) (r .pending) (h .idle)) in
+    let k : T (clockIn (r .rate) (r .clock .phase) (r .clock .position) (r .clock .start) (r .pending .count)) =
+    and-in (leb (r .clock .start + r .clock .phase) (r .clock .position)) (not (eqb (r .rate) 0) || eqb (r .pending .count) 0) (le→leb _ _ (h .start)) (idle-test (r .rate) (r .pending .count) (h .idle)) in
     let n : T (countsIn (m .objects) (m .isf) (m .beds)) =
     and-in (leb (m .objects - m .isf) 16) (leb (m .beds) (m .objects)) (le→leb _ _ (w .dynamic)) (le→leb _ _ (w .channels)) in
-    and-in (clockIn (r .rate) (r .phase) (r .position) (r .start) (r .pending))
+    and-in (clockIn (r .rate) (r .clock .phase) (r .clock .position) (r .clock .start) (r .pending .count))
     (countsIn (m .objects) (m .isf) (m .beds) && (elementRelated (small r) 0 && elementRelated (small r) 1)) k
     (and-in (countsIn (m .objects) (m .isf) (m .beds)) (elementRelated (small r) 0 && elementRelated (small r) 1) n
     (and-in (elementRelated (small r) 0) (elementRelated (small r) 1) (e 0 (lit< tt)) (e 1 (lit< tt))))
@@ -95,7 +95,7 @@ pub small-full : (r : Renderer Timed) → BlockRanged r → SmallFull (small r)
 small-full r h =
     let p = h .position in
     let s = h .start in (
-      ((h .rate, (h .phase, (p, (omega arith, (h .gain, (h .filter, h .pending)))))), state-full (r .position) (r .meta .state) (h .state)),
+      ((h .rate, (h .phase, (p, (omega arith, (h .gain, (h .filter, h .pending)))))), state-full (r .clock .position) (r .meta .state) (h .state)),
       related-full r h,
     )
 
@@ -130,7 +130,7 @@ module _ (r : Renderer Timed) (h : BlockRanged r) where
   W = smallWords (small r)
 
   abbrev R : List ℕ
-  R = placeRows 12 0 (r .places)
+  R = placeRows 12 0 (r .pending .places)
 
   front-long : length (bytesOf W) ≡ infosAt
   front-long = bytes-length W ∙ ap (λ (n : ℕ). 4 * n) (small-long (small r) (small-full r h))
@@ -150,13 +150,13 @@ module _ (r : Renderer Timed) (h : BlockRanged r) where
   rows-at : drop placesAt (encode r) ≡ R
   rows-at = sym (drop-drop 22528 infosAt (encode r)) ∙ rw rest-back (drop-at (r .meta .infos) R 22528 (h .infos .length))
 
-  place-back : (c : ℕ) → placesOf (encode r) c ≡ r .places c
+  place-back : (c : ℕ) → placesOf (encode r) c ≡ r .pending .places c
   place-back c = by (ltb c 12) refl
     where
-      by : (b : Bool) → ltb c 12 ≡ b → placesOf (encode r) c ≡ r .places c
+      by : (b : Bool) → ltb c 12 ≡ b → placesOf (encode r) c ≡ r .pending .places c
       by true e =
           let l = ltb-true c 12 e in
-          rw (e, words-drop (encode r) placesAt (256 * c) 64, rows-at) (rows-back (r .places) (h .places) 12 0 c (lit≤ tt) l ∙ ap (r .places) (zero-add c))
+          rw (e, words-drop (encode r) placesAt (256 * c) 64, rows-at) (rows-back (r .pending .places) (h .places) 12 0 c (lit≤ tt) l ∙ ap (r .pending .places) (zero-add c))
       by false e = rw e (sym (h .places .none c (ltb-false c 12 e)))
 
   pub decode-encode : decode (encode r) ≡ r
@@ -167,7 +167,7 @@ module _ (r : Renderer Timed) (h : BlockRanged r) where
   unfolding encode
   encode-long =
       length-append (bytesOf W) (r .meta .infos ++ R)
-      ∙ ap₂ (λ (m n : ℕ). m + n) front-long (length-append (r .meta .infos) R ∙ ap₂ (λ (m n : ℕ). m + n) (h .infos .length) (rows-long (r .places) (h .places) 12 0 (lit≤ tt)))
+      ∙ ap₂ (λ (m n : ℕ). m + n) front-long (length-append (r .meta .infos) R ∙ ap₂ (λ (m n : ℕ). m + n) (h .infos .length) (rows-long (r .pending .places) (h .places) 12 0 (lit≤ tt)))
 
 -- ---- bytes
 
@@ -184,17 +184,17 @@ rows-bytes p (suc n) k = bytes-append (bytesOf (p k)) (placeRows n (suc k) p) (b
 pub encode-bytes : (r : Renderer Timed) → Bytes (r .meta .infos) → Bytes (encode r)
 unfolding encode
 encode-bytes r h =
-    bytes-append (bytesOf (smallWords (small r))) (r .meta .infos ++ placeRows 12 0 (r .places)) (bytes-bytes (smallWords (small r)))
-    (bytes-append (r .meta .infos) (placeRows 12 0 (r .places)) h (rows-bytes (r .places) 12 0))
+    bytes-append (bytesOf (smallWords (small r))) (r .meta .infos ++ placeRows 12 0 (r .pending .places)) (bytes-bytes (smallWords (small r)))
+    (bytes-append (r .meta .infos) (placeRows 12 0 (r .pending .places)) h (rows-bytes (r .pending .places) 12 0))
 
 -- ---- a block that was saved
 
 -- the small part of r stored into a block that has r's infos and places
-pub saved-encode : (b : List ℕ) (r : Renderer Timed) → length b ≡ size → length (smallWords (small r)) ≡ smallWidth → infosOf b ≡ r .meta .infos → drop placesAt b ≡ placeRows 12 0 (r .places)
+pub saved-encode : (b : List ℕ) (r : Renderer Timed) → length b ≡ size → length (smallWords (small r)) ≡ smallWidth → infosOf b ≡ r .meta .infos → drop placesAt b ≡ placeRows 12 0 (r .pending .places)
     → withWords b 0 (smallWords (small r)) ≡ encode r
 unfolding encode
 saved-encode b r l n i p =
     let w = smallWords (small r) in
-    let t : drop infosAt b ≡ r .meta .infos ++ placeRows 12 0 (r .places) =
+    let t : drop infosAt b ≡ r .meta .infos ++ placeRows 12 0 (r .pending .places) =
     sym (take-append-drop 22528 (drop infosAt b)) ∙ ap₂ (λ (x y : List ℕ). x ++ y) i (drop-drop 22528 infosAt b ∙ p) in
     stored w b (omega arith) ∙ ap (λ (k : ℕ). bytesOf w ++ drop (4 * k) b) n ∙ ap (λ (x : List ℕ). bytesOf w ++ x) t

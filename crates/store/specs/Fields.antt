@@ -7,14 +7,16 @@ use lib.Ieee.{Float}
 use Rattle.formats.specs.Format.{Format, u32Where, u32To, u32Below, usizeTo, u8To, flag, float, u64To, _⊗_, array, struct, ranged}
 use Rattle.vectors.specs.declared.Vec3.{Vec3}
 use Rattle.lowpass.specs.declared.BiquadLowpassState.{BiquadLowpassState}
-use Rattle.timed.specs.declared.clock.StreamSample.{StreamSample}
+use Rattle.clock.specs.declared.StreamSample.{StreamSample}
 use Rattle.timed.specs.declared.state.BlockState.{BlockState}
 use Rattle.timed.specs.declared.state.Track.{Track}
 use Rattle.timed.specs.declared.state.DynamicSourceState.{DynamicSourceState}
 use Rattle.timed.specs.declared.state.ElementRendererState.{ElementRendererState}
 use Rattle.timed.specs.declared.state.MetadataRendererState.{MetadataRendererState}
 use Rattle.rules.specs.Refusals.{listed}
-use Rattle.store.specs.declared.Small.{Small}
+use Rattle.rules.specs.Samples as rules
+use Rattle.store.specs.declared.renderer.Clock.{Clock}
+use Rattle.store.specs.declared.renderer.Renderer714.{Renderer714}
 use Rattle.store.specs.Singles.{Singles, FilterSingles, SourceSingles, TrackSingles, Brief}
 
 -- 2^40
@@ -112,27 +114,41 @@ stateFormat =
     })
     (countsFormat ⊗ tablesFormat)
 
+-- the code's clock and the rules'
+abbrev pub clockOf : Clock → rules.Clock
+clockOf k = record { position = k .position .0; phase = k .phase; start = k .start .0 }
+
+abbrev pub clockFrom : rules.Clock → Clock
+clockFrom k = record { position = record { 0 = k .position }; start = record { 0 = k .start }; phase = k .phase }
+
 -- rate (0: no frame yet), phase, position, slot start, limiter gain, low-pass, pending
-abbrev pub Clock : Type 0
-Clock = ℕ × (ℕ × (ℕ × (ℕ × (Float × (BiquadLowpassState × ℕ)))))
+abbrev pub Basics : Type 0
+Basics = ℕ × (ℕ × (ℕ × (ℕ × (Float × (BiquadLowpassState × ℕ)))))
 
-abbrev pub clockOf : Small → Clock
-clockOf s = (s .rate, (s .phase, (s .position, (s .start, (s .gain, (s .filter, s .pending))))))
+abbrev pub basicsOf : Renderer714 → Basics
+basicsOf s = (s .rate, (s .clock .phase, (s .clock .position .0, (s .clock .start .0, (s .limiter .gain, (s .filter, s .pending))))))
 
-abbrev pub clockFormat : Format Clock
-clockFormat = u32Where (λ n. eqb n 0 || listed n) ⊗ u32Below 64 ⊗ u64To longest ⊗ u64To longest ⊗ float ⊗ filterFormat ⊗ u32Below 64
+abbrev pub basicsFormat : Format Basics
+basicsFormat = u32Where (λ n. eqb n 0 || listed n) ⊗ u32Below 64 ⊗ u64To longest ⊗ u64To longest ⊗ float ⊗ filterFormat ⊗ u32Below 64
 
 -- each field in its own range
-abbrev pub smallFormat : Format Small
+abbrev pub smallFormat : Format Renderer714
 smallFormat =
     struct
-    (λ s. (clockOf s, s .state))
+    (λ s. (basicsOf s, s .state))
     (λ ((rate, (phase, (position, (start, (gain, (filter, pending)))))), state).
-    record { rate = rate; phase = phase; position = position; start = start; gain = gain; filter = filter; pending = pending; state = state })
-    (clockFormat ⊗ stateFormat)
+    record {
+      rate = rate;
+      clock = clockFrom (record { position = position; phase = phase; start = start });
+      limiter = record { gain = gain };
+      filter = filter;
+      pending = pending;
+      state = state;
+    })
+    (basicsFormat ⊗ stateFormat)
 
-unfoldable pub smallWords : Small → List ℕ
+unfoldable pub smallWords : Renderer714 → List ℕ
 smallWords = smallFormat .put
 
-unfoldable pub smallOf : List ℕ → Small
+unfoldable pub smallOf : List ℕ → Renderer714
 smallOf w = smallFormat .get w 0

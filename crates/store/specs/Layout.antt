@@ -12,31 +12,27 @@ use Rattle.timed.specs.State.{Timed}
 use Rattle.timed.specs.declared.state.ElementRendererState.{ElementRendererState}
 use Rattle.rules.specs.Parts.{0·0, 1·0, Places, zeros}
 use Rattle.rules.specs.Samples.{Renderer, idle}
-use Rattle.store.specs.declared.Small.{Small}
+use Rattle.store.specs.declared.renderer.Renderer714.{Renderer714}
 use Rattle.store.specs.Bytes.{bytesOf}
-use Rattle.store.specs.Fields.{smallWords, smallOf}
+use Rattle.store.specs.Fields.{clockOf, clockFrom, smallWords, smallOf}
 use Rattle.store.specs.Places.{limiterGainAt, remainingIn, firstAt, secondAt}
 pub use Rattle.store.specs.Places.{smallWidth, infosAt, placesAt, size}
 
 -- ---- a renderer's parts
 
-abbrev pub small : Renderer Timed → Small
-small r =
-    record { rate = r .rate; phase = r .phase; position = r .position; start = r .start; gain = r .gain; filter = r .filter; pending = r .pending; state = r .meta .state }
+abbrev pub small : Renderer Timed → Renderer714
+small r = record { rate = r .rate; clock = clockFrom (r .clock); limiter = r .limiter; filter = r .filter; pending = r .pending .count; state = r .meta .state }
 
 -- the small part, with infos and places
-abbrev pub assembled : Small → List ℕ → Places → Renderer Timed
+abbrev pub assembled : Renderer714 → List ℕ → Places → Renderer Timed
 assembled s is ps =
     record {
       rate = s .rate;
-      position = s .position;
-      phase = s .phase;
-      start = s .start;
-      gain = s .gain;
+      clock = clockOf (s .clock);
+      limiter = s .limiter;
       filter = s .filter;
       meta = record { state = s .state; infos = is };
-      pending = s .pending;
-      places = ps;
+      pending = record { count = s .pending; places = ps };
     }
 
 -- ---- from a block and to a block
@@ -59,7 +55,7 @@ placeRows (suc n) c p = bytesOf (p c) ++ placeRows n (suc c) p
 
 unfoldable pub encode : Renderer Timed → List ℕ
 unfolding smallWords bytesOf placeRows
-encode r = bytesOf (smallWords (small r)) ++ (r .meta .infos ++ placeRows rowCount 0 (r .places))
+encode r = bytesOf (smallWords (small r)) ++ (r .meta .infos ++ placeRows rowCount 0 (r .pending .places))
 
 -- ---- a fresh renderer
 
@@ -97,7 +93,15 @@ blank =
 
 -- what a block that reset has filled decodes to; `freshRenderer` of the rules, with `blank`
 abbrev pub freshRenderer : Renderer Timed
-freshRenderer = record { rate = 0; position = 0; phase = 0; start = 0; gain = 1·0; filter = idle; meta = blank; pending = 0; places = zeros }
+freshRenderer =
+    record {
+      rate = 0;
+      clock = record { position = 0; phase = 0; start = 0 };
+      limiter = record { gain = 1·0 };
+      filter = idle;
+      meta = blank;
+      pending = record { count = 0; places = zeros };
+    }
 
 -- its block: zeros, but for the limiter gain 1.0 and the two remaining ramps 0, which stand plus 2^47
 abbrev pub marked : List ℕ → List ℕ

@@ -2,9 +2,9 @@
 use Prim.Native.Nat.{ℕ, _+_, _*_}
 use Rattle.formats.specs.Areas.{infosBytes, placesBytes}
 use Rattle.formats.specs.Format.{u8To, float, array}
-use Rattle.store.specs.Fields.{vecFormat, sourceFormat, elementFormat, filterFormat, countsFormat, clockFormat, smallFormat}
+use Rattle.store.specs.Fields.{vecFormat, sourceFormat, elementFormat, filterFormat, countsFormat, basicsFormat, smallFormat}
 
--- ---- in words: the clock
+-- ---- in words: the rate, the clock, limiter and low-pass, what is pending
 
 abbrev pub phaseAt : ℕ
 phaseAt = 1
@@ -24,7 +24,7 @@ pendingAt = limiterGainAt + 1 + filterFormat .width
 -- ---- the last applied update
 
 abbrev pub stateAt : ℕ
-stateAt = clockFormat .width
+stateAt = basicsFormat .width
 
 abbrev pub objectsAt : ℕ
 objectsAt = stateAt + 1 + 2

@@ -13,7 +13,7 @@ use Rattle.timed.specs.Slot.{middle}
 use Rattle.timed.specs.State.{elementOf}
 use Rattle.timed.specs.declared.state.MetadataRendererState.{MetadataRendererState}
 use Rattle.rules.specs.Refusals.{listed}
-use Rattle.store.specs.declared.Small.{Small}
+use Rattle.store.specs.declared.renderer.Renderer714.{Renderer714}
 use Rattle.store.specs.Fields.{smallFormat}
 use Rattle.store.specs.Layout.{smallWidth, size, infosOf}
 pub use Rattle.store.specs.Fields.{longest}
@@ -37,16 +37,16 @@ leastFlags i s = least i (s .elements) (s .objects) (s .isf)
 abbrev pub elementIn : ℕ → ℕ → ℕ → ℕ → Bool
 elementIn position least flags remaining = leb least flags && leb middle (remaining + (2097152 + 64 * position))
 
-abbrev pub elementRelated : Small → ℕ → Bool
-elementRelated s i = elementIn (s .position) (leastFlags i (s .state)) (elementOf (s .state) i .flags) (elementOf (s .state) i .remaining)
+abbrev pub elementRelated : Renderer714 → ℕ → Bool
+elementRelated s i = elementIn (s .clock .position .0) (leastFlags i (s .state)) (elementOf (s .state) i .flags) (elementOf (s .state) i .remaining)
 
-abbrev pub related : Small → Bool
+abbrev pub related : Renderer714 → Bool
 related s =
-    clockIn (s .rate) (s .phase) (s .position) (s .start) (s .pending)
+    clockIn (s .rate) (s .clock .phase) (s .clock .position .0) (s .clock .start .0) (s .pending)
     && (countsIn (s .state .objects) (s .state .isf) (s .state .beds) && (elementRelated s 0 && elementRelated s 1))
 
 -- the small part
-abbrev pub smallPart : Format Small
+abbrev pub smallPart : Format Renderer714
 smallPart = such related smallFormat
 
 unfoldable pub smallValid : List ℕ → Bool

@@ -1,16 +1,16 @@
-// The state block between calls: its small part by value, its ranges, a fresh block.
+// The state block between calls: the renderer that it holds, its ranges, a fresh block.
 ghost use mathlib.Core.Path.{_≡_};
 ghost use lib.ListN.{length, replicate};
 ghost use Rattle.words.specs.Words.{wordsAt};
 ghost use Rattle.store.specs.Fields.{smallOf};
 ghost use Rattle.store.specs.Layout.{smallWidth, size, encode, freshRenderer};
 use formats::areas;
-use lowpass::BiquadLowpassState;
-use timed::state::MetadataRendererState;
+use renderer::Renderer714;
 
 pub mod places;
 pub mod ranges;
 pub mod read;
+pub mod renderer;
 pub mod write;
 
 // Where a block's infos and its places begin, and its bytes.
@@ -27,20 +27,8 @@ const FIRST_RAMP: usize = 4 * places::FIRST_RAMP;
 
 const SECOND_RAMP: usize = 4 * places::SECOND_RAMP;
 
-// The part of a renderer that goes from call to call by value: the clock, the limiter's gain, the low-pass, the number of pending samples, the timed state.
-pub struct Small {
-    pub rate: u32,
-    pub phase: u32,
-    pub position: u64,
-    pub start: u64,
-    pub gain: f32,
-    pub filter: BiquadLowpassState,
-    pub pending: u32,
-    pub state: MetadataRendererState,
-}
-
-// The small part of a block.
-pub fn load(state: &[u8]) -> Small
+// The renderer of a block, but for what stays in it.
+pub fn load(state: &[u8]) -> Renderer714
     requires { ⌜ length (now state) ≡ size ⌝ }
     ensures { λ r. ⌜ r ≡ smallOf (wordsAt (now (state .entry)) 0 smallWidth) ⌝ }
 {

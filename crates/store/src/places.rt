@@ -23,7 +23,7 @@ pub const ELEMENT: usize = HEAD + SCHEDULE + 16 * TRACK;
 
 pub const FILTER: usize = 9;
 
-// ---- the clock
+// ---- the rate, the clock, limiter and low-pass, what is pending
 
 pub const RATE: usize = 0;
 
@@ -39,11 +39,11 @@ pub const LOWPASS: usize = LIMITER_GAIN + 1;
 
 pub const PENDING: usize = LOWPASS + FILTER;
 
-pub const CLOCK: usize = PENDING + 1;
+pub const BASICS: usize = PENDING + 1;
 
 // ---- the last applied update
 
-pub const INITIALIZED: usize = CLOCK;
+pub const INITIALIZED: usize = BASICS;
 
 pub const PAYLOAD: usize = INITIALIZED + 1;
 
@@ -55,7 +55,7 @@ pub const BEDS: usize = ISF + 1;
 
 pub const IN_USE: usize = BEDS + 1;
 
-pub const COUNTS: usize = IN_USE + 1 - CLOCK;
+pub const COUNTS: usize = IN_USE + 1 - BASICS;
 
 // ---- tables
 

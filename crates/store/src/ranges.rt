@@ -7,7 +7,7 @@ ghost use lib.ListN.{length, getD};
 ghost use Rattle.rules.specs.Refusals as refusals;
 ghost use Rattle.formats.specs.Areas.{infoCount, infosBytes};
 ghost use Rattle.formats.specs.Format.{allAt};
-ghost use Rattle.store.specs.Fields.{longest, elementFormat, countsFormat, tablesFormat, clockFormat, smallFormat, smallOf};
+ghost use Rattle.store.specs.Fields.{longest, elementFormat, countsFormat, tablesFormat, basicsFormat, smallFormat, smallOf};
 ghost use Rattle.store.specs.Places.{stateAt, tablesAt, smallWidth};
 ghost use Rattle.store.specs.Ranges as ranges;
 ghost use Rattle.store.specs.Ranges.{clockIn, countsIn, least, elementIn, smallValid, headsValid, valid};
@@ -69,8 +69,8 @@ fn rate_valid(rate: u32) -> bool
 
 // ---- each field by itself
 
-fn clock_fields(w: &Words) -> bool
-    ensures { λ r. ⌜ r ≡ clockFormat .test (now (w .entry)) 0 ⌝ }
+fn basics_fields(w: &Words) -> bool
+    ensures { λ r. ⌜ r ≡ basicsFormat .test (now (w .entry)) 0 ⌝ }
 {
     rate_valid(w[places::RATE])
         & ((w[places::PHASE] < 64)
@@ -117,10 +117,10 @@ fn tables_fields(w: &Words) -> bool
 fn fields_valid(w: &Words) -> bool
     ensures { λ r. ⌜ r ≡ smallFormat .test (now (w .entry)) 0 ⌝ }
 {
-    let clock = clock_fields(w);
+    let basics = basics_fields(w);
     let counts = counts_fields(w);
     let tables = tables_fields(w);
-    clock & (counts & tables)
+    basics & (counts & tables)
 }
 
 // ---- what fields owe each other

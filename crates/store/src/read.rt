@@ -6,11 +6,13 @@ ghost use Rattle.formats.specs.Format.{u8To, array};
 ghost use Rattle.formats.specs.Format as format;
 ghost use Rattle.store.specs.Fields.{vecFormat, sourceFormat, blockFormat, trackFormat, elementFormat, filterFormat, stateFormat, smallOf};
 ghost use Rattle.store.specs.Places.{stateAt, smallWidth};
-use crate::Small;
 use crate::places;
 use crate::places::Words;
+use crate::renderer::Clock;
+use crate::renderer::Renderer714;
+use clock::StreamSample;
+use limiter::Limiter;
 use lowpass::BiquadLowpassState;
-use timed::clock::StreamSample;
 use timed::state::BlockState;
 use timed::state::DynamicSourceState;
 use timed::state::ElementRendererState;
@@ -233,19 +235,23 @@ fn state(w: &Words) -> MetadataRendererState
 }
 
 // The small part from its words.
-pub fn small(w: &Words) -> Small
+pub fn small(w: &Words) -> Renderer714
     ensures { λ r. ⌜ r ≡ smallOf (now (w .entry)) ⌝ }
 {
     let filter = filter(w, places::LOWPASS);
     let state = state(w);
-    Small {
+    Renderer714 {
         rate: w[places::RATE],
-        phase: w[places::PHASE],
-        position: long(w, places::POSITION),
-        start: long(w, places::START),
-        gain: float(w, places::LIMITER_GAIN),
-        filter: filter,
+        clock: Clock {
+            position: StreamSample(long(w, places::POSITION)),
+            start: StreamSample(long(w, places::START)),
+            phase: w[places::PHASE],
+        },
+        limiter: Limiter {
+            gain: float(w, places::LIMITER_GAIN),
+        },
+        filter,
         pending: w[places::PENDING],
-        state: state,
+        state,
     }
 }

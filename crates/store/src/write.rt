@@ -5,10 +5,10 @@ ghost use lib.ListN.{length};
 ghost use Rattle.words.specs.Words.{withWords};
 ghost use Rattle.formats.specs.Format.{u8To, float, array};
 ghost use Rattle.store.specs.Places.{stateAt, size};
-ghost use Rattle.store.specs.Fields.{sourceFormat, blockFormat, trackFormat, headFormat, elementFormat, countsFormat, stateFormat, clockFormat};
-ghost use Rattle.store.specs.Fields.{elementHead, countsOf, clockOf, smallWords};
-use crate::Small;
+ghost use Rattle.store.specs.Fields.{sourceFormat, blockFormat, trackFormat, headFormat, elementFormat, countsFormat, stateFormat, basicsFormat};
+ghost use Rattle.store.specs.Fields.{elementHead, countsOf, basicsOf, smallWords};
 use crate::places;
+use crate::renderer::Renderer714;
 use timed::state::BlockState;
 use timed::state::DynamicSourceState;
 use timed::state::ElementRendererState;
@@ -28,7 +28,7 @@ const SCHEDULE: usize = 4 * places::SCHEDULE;
 
 const ELEMENT: usize = 4 * places::ELEMENT;
 
-const STATE: usize = 4 * places::CLOCK;
+const STATE: usize = 4 * places::BASICS;
 
 const CODES: usize = 4 * places::CODES;
 
@@ -98,18 +98,21 @@ fn counts_words(x: MetadataRendererState) -> [u32; places::COUNTS]
     ]
 }
 
-fn clock_words(x: Small) -> [u32; places::CLOCK]
-    ensures { λ r. ⌜ clockFormat .Spells r 0 (clockOf x) ⌝ }
+fn basics_words(x: Renderer714) -> [u32; places::BASICS]
+    ensures { λ r. ⌜ basicsFormat .Spells r 0 (basicsOf x) ⌝ }
 {
+    let clock = x.clock;
+    let position = clock.position.0;
+    let start = clock.start.0;
     let f = x.filter;
     [
         x.rate,
-        x.phase,
-        formats::low(x.position),
-        formats::high(x.position),
-        formats::low(x.start),
-        formats::high(x.start),
-        words::bits_of(x.gain),
+        clock.phase,
+        formats::low(position),
+        formats::high(position),
+        formats::low(start),
+        formats::high(start),
+        words::bits_of(x.limiter.gain),
         words::bits_of(f.a1),
         words::bits_of(f.a2),
         words::bits_of(f.b0),
@@ -225,11 +228,11 @@ fn put_state(s: &mut [u8], x: MetadataRendererState)
 }
 
 // The small part of a block, whole; the rest of the block is kept.
-pub fn save(state: &mut [u8], x: Small)
+pub fn save(state: &mut [u8], x: Renderer714)
     requires { ⌜ length (now state) ≡ size ⌝ }
     ensures { λ _. ⌜ now (state .exit) ≡ withWords (now (state .entry)) 0 (smallWords x) ⌝ }
 {
-    let w = clock_words(x);
+    let w = basics_words(x);
     words::put_words(state, 0, &w);
     let timed = x.state;
     put_state(state, timed);

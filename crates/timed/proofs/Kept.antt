@@ -10,7 +10,7 @@ use Rattle.timed.specs.declared.slot.Timing.{Timing}
 use Rattle.timed.proofs.Keeps.{cond-keeps, set-each}
 use Rattle.timed.proofs.Ramps.{sources-range, later}
 
-slot-of-within : (p : ℕ) (w : Timing) (i : ℕ) (t : Timed) → w .start ≤ p → Within p (t .state) → Within p (slotOf w i t .state)
+slot-of-within : (p : ℕ) (w : Timing) (i : ℕ) (t : Timed) → w .start .0 ≤ p → Within p (t .state) → Within p (slotOf w i t .state)
 unfolding slotOf
 slot-of-within p w i t early h =
     record {

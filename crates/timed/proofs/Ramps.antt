@@ -37,18 +37,18 @@ least : (p ramp offset payload start : ℕ) → start ≤ p → middle ≤ middl
 least p ramp offset payload start l = omega arith
 
 -- a slot that starts no later than the stream position p
-module _ (p : ℕ) (w : Timing) (r : Reach) (early : w .start ≤ p) where
+module _ (p : ℕ) (w : Timing) (r : Reach) (early : w .start .0 ≤ p) where
   applied-ramps : (b : ℕ) (k : SlotWork) → b < 8 → due w (getD (k .slot .schedule) b noBlock) ≡ true → InSlot p k → InSlot p (blockApplied w r b k)
   unfolding blockApplied
   applied-ramps b k l d h =
       let x = getD (k .slot .schedule) b noBlock in
       let y : BlockState = record { offset = x .offset; ramp = x .ramp; used = true } in
-      let t = ltb-true (w .payload + x .offset) (w .start + 1048576) (both (x .used) (ltb (w .payload + x .offset) (w .start + 1048576)) (sym (due-shifted w x) ∙ d)) in
+      let t = ltb-true (w .payload .0 + x .offset) (w .start .0 + 1048576) (both (x .used) (ltb (w .payload .0 + x .offset) (w .start .0 + 1048576)) (sym (due-shifted w x) ∙ d)) in
       record {
         offsets = set-each (λ i z. i < 8 → z .offset ≤ 2097152) (k .slot .schedule) b y noBlock (h .offsets b) (h .offsets);
         ramps = set-each (λ i z. i < 8 → z .ramp ≤ 2097152) (k .slot .schedule) b y noBlock (h .ramps b) (h .ramps);
-        most = rw (left-shifted w x) (most (x .ramp) (x .offset) (w .payload) (w .start) (h .ramps b l) t);
-        least = rw (left-shifted w x) (least p (x .ramp) (x .offset) (w .payload) (w .start) early);
+        most = rw (left-shifted w x) (most (x .ramp) (x .offset) (w .payload .0) (w .start .0) (h .ramps b l) t);
+        least = rw (left-shifted w x) (least p (x .ramp) (x .offset) (w .payload .0) (w .start .0) early);
       }
 
   pub blocks-ramps : (n : ℕ) (k : SlotWork) → n ≤ 8 → InSlot p k → InSlot p (blocksApplied w r n k)
@@ -75,7 +75,7 @@ ramp-ramps p before n s h =
 
 -- ---- the element
 
-pub sources-range : (p : ℕ) (w : Timing) (r : Reach) (e : ElementRendererState) (gains : List Float) (sources : List DynamicSourceState) (is : List ℕ) → w .start ≤ p → InRange p e → InRange p (updatedSources w r e gains sources is .updated .element)
+pub sources-range : (p : ℕ) (w : Timing) (r : Reach) (e : ElementRendererState) (gains : List Float) (sources : List DynamicSourceState) (is : List ℕ) → w .start .0 ≤ p → InRange p e → InRange p (updatedSources w r e gains sources is .updated .element)
 unfolding updatedSources
 sources-range p w r e gains sources is early h =
     record { blocks = h .blocks; ramps = ramp-ramps p (e .tracks) (r .count) _ (blocks-ramps p w r early (e .blocks) _ (h .blocks) (h .ramps)) }

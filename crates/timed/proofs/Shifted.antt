@@ -69,24 +69,24 @@ module _ (w : Timing) (b : BlockState) where
   offset-is : Is (offsetOf b) (b .offset) 1048576
   offset-is = is-less (b .offset) 1048576
 
-  timecode-is : Is (timecode w) (w .start) (w .payload)
-  timecode-is = is-less (w .start) (w .payload)
+  timecode-is : Is (timecode w) (w .start .0) (w .payload .0)
+  timecode-is = is-less (w .start .0) (w .payload .0)
 
   pub due-shifted : due w b ≡ dueShifted w b
   unfolding due
-  due-shifted = by (b .used) (is-lt (offsetOf b) (timecode w) (b .offset) 1048576 (w .start) (w .payload) offset-is timecode-is)
+  due-shifted = by (b .used) (is-lt (offsetOf b) (timecode w) (b .offset) 1048576 (w .start .0) (w .payload .0) offset-is timecode-is)
     where
-      by : (u : Bool) {s : Bool} → s ≡ ltb (b .offset + w .payload) (w .start + 1048576) → (not u && s) ≡ cond u false (ltb (w .payload + b .offset) (w .start + 1048576))
+      by : (u : Bool) {s : Bool} → s ≡ ltb (b .offset + w .payload .0) (w .start .0 + 1048576) → (not u && s) ≡ cond u false (ltb (w .payload .0 + b .offset) (w .start .0 + 1048576))
       by true e = refl
-      by false e = e ∙ (let q : b .offset + w .payload ≡ w .payload + b .offset = omega arith in rw q)
+      by false e = e ∙ (let q : b .offset + w .payload .0 ≡ w .payload .0 + b .offset = omega arith in rw q)
 
-  left-is : Is (leftAfter w b) (b .ramp + (w .payload + b .offset)) (1048576 + (w .start + 1048576))
+  left-is : Is (leftAfter w b) (b .ramp + (w .payload .0 + b .offset)) (1048576 + (w .start .0 + 1048576))
   unfolding leftAfter
   left-is =
-      is-minus (rampOf b) (timecode w -ℤ offsetOf b) (b .ramp) 1048576 (w .start + 1048576) (w .payload + b .offset) (is-less (b .ramp) 1048576)
-      (is-minus (timecode w) (offsetOf b) (w .start) (w .payload) (b .offset) 1048576 timecode-is offset-is)
+      is-minus (rampOf b) (timecode w -ℤ offsetOf b) (b .ramp) 1048576 (w .start .0 + 1048576) (w .payload .0 + b .offset) (is-less (b .ramp) 1048576)
+      (is-minus (timecode w) (offsetOf b) (w .start .0) (w .payload .0) (b .offset) 1048576 timecode-is offset-is)
 
-  same-sum : b .ramp + (w .payload + b .offset) + M - (1048576 + (w .start + 1048576)) ≡ leftShifted w b
+  same-sum : b .ramp + (w .payload .0 + b .offset) + M - (1048576 + (w .start .0 + 1048576)) ≡ leftShifted w b
   same-sum = omega arith
 
   pub left-shifted : keptAs (leftAfter w b) ≡ leftShifted w b
@@ -124,16 +124,16 @@ module _ (e : ElementRendererState) where
 
   pub begins-shifted : (w : Timing) → begins w e ≡ beginsShifted w e
   unfolding begins
-  begins-shifted w = by (eqb (e .blocks) 0) from-zero (is-le (firstOffset e) (timecode w) o 1048576 (w .start) (w .payload) (first-is e) (is-less (w .start) (w .payload)))
+  begins-shifted w = by (eqb (e .blocks) 0) from-zero (is-le (firstOffset e) (timecode w) o 1048576 (w .start .0) (w .payload .0) (first-is e) (is-less (w .start .0) (w .payload .0)))
     where
-      turn : o + w .payload ≡ w .payload + o
+      turn : o + w .payload .0 ≡ w .payload .0 + o
       turn = omega arith
 
-      chain : (s : Bool) {t : Bool} → t ≡ leb (o + w .payload) (w .start + 1048576) → (s && t) ≡ cond s (leb (w .payload + o) (w .start + 1048576)) false
+      chain : (s : Bool) {t : Bool} → t ≡ leb (o + w .payload .0) (w .start .0 + 1048576) → (s && t) ≡ cond s (leb (w .payload .0 + o) (w .start .0 + 1048576)) false
       chain true h = h ∙ rw turn
       chain false h = refl
 
-      by : (n : Bool) {s t u : Bool} → s ≡ u → t ≡ leb (o + w .payload) (w .start + 1048576)
-          → (not n && s && t) ≡ cond (cond n false u) (leb (w .payload + o) (w .start + 1048576)) false
+      by : (n : Bool) {s t u : Bool} → s ≡ u → t ≡ leb (o + w .payload .0) (w .start .0 + 1048576)
+          → (not n && s && t) ≡ cond (cond n false u) (leb (w .payload .0 + o) (w .start .0 + 1048576)) false
       by true h k = refl
       by false {s} {t} h k = rw (← h) (chain s k)

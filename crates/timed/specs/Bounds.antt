@@ -13,8 +13,8 @@ use Rattle.timed.specs.declared.slot.Reach.{Reach}
 
 -- "Stream positions lie from 0 to 2^40"
 pub record InTime (w : Timing) : Type 0 where
-  pub start : w .start ≤ 1099511627776
-  pub payload : w .payload ≤ 1099511627776
+  pub start : w .start .0 ≤ 1099511627776
+  pub payload : w .payload .0 ≤ 1099511627776
 
 -- every info that is reached is one of the 512
 pub record Reaches (r : Reach) : Type 0 where

@@ -61,7 +61,7 @@ firstOffset e = offsetOf (getD (e .schedule) 0 noBlock)
 
 -- "The timecode is the slot's start less the last applied update's stream position."
 abbrev pub timecode : Timing → ℤ
-timecode w = pos (w .start) -ℤ pos (w .payload)
+timecode w = pos (w .start .0) -ℤ pos (w .payload .0)
 
 -- "A block is applied when the timecode is greater than its offset. That happens once per update."
 unfoldable pub due : Timing → BlockState → Bool

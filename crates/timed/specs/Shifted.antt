@@ -10,13 +10,13 @@ use Rattle.timed.specs.declared.state.ElementRendererState.{ElementRende
 use Rattle.timed.specs.declared.slot.Timing.{Timing}
 
 abbrev pub dueShifted : Timing → BlockState → Bool
-dueShifted w b = cond (b .used) false (ltb (w .payload + b .offset) (w .start + 1048576))
+dueShifted w b = cond (b .used) false (ltb (w .payload .0 + b .offset) (w .start .0 + 1048576))
 
 abbrev pub leftShifted : Timing → BlockState → ℕ
-leftShifted w b = middle + b .ramp + b .offset + w .payload - (w .start + 2097152)
+leftShifted w b = middle + b .ramp + b .offset + w .payload .0 - (w .start .0 + 2097152)
 
 abbrev pub activeShifted : ElementRendererState → Bool
 activeShifted e = cond (eqb (e .blocks) 0) false (leb 1048576 (getD (e .schedule) 0 noBlock .offset))
 
 abbrev pub beginsShifted : Timing → ElementRendererState → Bool
-beginsShifted w e = cond (activeShifted e) (leb (w .payload + getD (e .schedule) 0 noBlock .offset) (w .start + 1048576)) false
+beginsShifted w e = cond (activeShifted e) (leb (w .payload .0 + getD (e .schedule) 0 noBlock .offset) (w .start .0 + 1048576)) false

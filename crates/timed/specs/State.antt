@@ -55,7 +55,7 @@ slotOf w i t = slotLeft (t .state) i (updatedSources w (reachOf (t .state) i) (e
 
 -- "The timecode is the slot's start less the last applied update's stream position."
 abbrev pub timingOf : ℕ → MetadataRendererState → Timing
-timingOf start s = record { start = start; payload = s .payload .0 }
+timingOf start s = record { start = record { 0 = start }; payload = s .payload }
 
 -- "At the start of each 64-sample slot, take the last element .. An element with no blocks, or a first offset below 0, does nothing."
 unfoldable pub slotAt : ℕ → Timed → Timed

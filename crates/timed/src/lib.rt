@@ -1,5 +1,4 @@
 // The timed state: updates, elements and slots (document 01, item 5).
-pub mod clock;
 pub mod infos;
 pub mod objects;
 pub mod slot;

@@ -16,11 +16,12 @@ use crate::state::BlockState;
 use crate::state::DynamicSourceState;
 use crate::state::ElementRendererState;
 use crate::state::Track;
+use clock::StreamSample;
 
 // The stream positions of a slot's start and of the last applied update: the timecode is their difference.
 pub struct Timing {
-    pub start: u64,
-    pub payload: u64,
+    pub start: StreamSample,
+    pub payload: StreamSample,
 }
 
 // Where an element finds its infos: those of bed i from `beds` + 8 i on, those of dynamic object d from `first` + 8 d on, and how many there are of each.
@@ -40,7 +41,9 @@ impl BlockState {
         if self.used {
             return false;
         }
-        when.payload + (self.offset as u64) < when.start + 1048576
+        let payload = when.payload;
+        let start = when.start;
+        payload.plus(self.offset).is_before(start.plus(1048576))
     }
 
     // The ramp that remains after the block, plus 2^47.
@@ -48,8 +51,10 @@ impl BlockState {
         requires { ⌜ InTime when ⌝ }
         ensures { λ r. ⌜ r ≡ keptAs (leftAfter when self) ⌝ }
     {
-        140737488355328 + self.ramp as u64 + self.offset as u64 + when.payload
-            - (when.start + 2097152)
+        let payload = when.payload;
+        let start = when.start;
+        let end = payload.plus(self.offset).plus(self.ramp);
+        end.past(start.plus(2097152))
     }
 }
 
@@ -171,7 +176,9 @@ impl ElementRendererState {
         if self.active() {
             let schedule = self.schedule;
             let block = schedule[0];
-            return when.payload + (block.offset as u64) <= when.start + 1048576;
+            let payload = when.payload;
+            let start = when.start;
+            return payload.plus(block.offset).is_up_to(start.plus(1048576));
         }
         false
     }

@@ -4,7 +4,7 @@
 // What is kept from slot to slot: `MetadataRendererState` and its parts. Tables have their full length, with counts beside them. The object infos stay in lent bytes.
 ghost use mathlib.Core.Path.{_≡_};
 ghost use Prim.Native.Nat.{_-_};
-use crate::clock::StreamSample;
+use clock::StreamSample;
 use vectors::Vec3;
 
 // A dynamic object as it is panned; `place` is the source's `cubical_position`, `placed` its `position_valid`.

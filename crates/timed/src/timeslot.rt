@@ -9,13 +9,13 @@ ghost use Rattle.timed.specs.Sizes.{mostElements, allBytes};
 ghost use Rattle.timed.specs.State.{elementTaken, slotOf, slotAt};
 ghost use Rattle.timed.specs.Bounds.{InTime, Within};
 ghost use Rattle.timed.specs.Contracts.{IsTimed};
-use crate::clock::StreamSample;
 use crate::infos::BLOCKS;
 use crate::infos::ELEMENT_INFOS;
 use crate::slot::Reach;
 use crate::slot::Timing;
 use crate::state;
 use crate::state::MetadataRendererState;
+use clock::StreamSample;
 
 impl MetadataRendererState {
     // The last element whose first block offset is from 0 up to the timecode, else element 0.
@@ -84,8 +84,8 @@ impl MetadataRendererState {
         }
         let payload = self.payload;
         let when = Timing {
-            start: start.0,
-            payload: payload.0,
+            start: start,
+            payload: payload,
         };
         let index = self.element_at(when);
         let states = self.states;

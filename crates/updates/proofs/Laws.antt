@@ -11,7 +11,7 @@ use native.Mathlib.Omega.{arith}
 use native.Mathlib.Nat.{mul-le-mul-right, suc-mul}
 use Rattle.timed.specs.State.{noElement}
 use Rattle.timed.specs.Contracts.{IsTimed}
-use Rattle.timed.specs.declared.clock.StreamSample.{StreamSample}
+use Rattle.clock.specs.declared.StreamSample.{StreamSample}
 use Rattle.timed.specs.declared.state.DynamicSourceState.{DynamicSourceState}
 use Rattle.timed.specs.declared.state.MetadataRendererState.{MetadataRendererState}
 use Rattle.timed.specs.declared.state.ElementRendererState.{ElementRendererState}

@@ -16,9 +16,9 @@ ghost use Rattle.updates.specs.Applied.{nextSources, nextGains, codesGiv
 ghost use Rattle.updates.specs.Contracts.{IsCounts, IsWork};
 use crate::element::Counts;
 use crate::element::apply_element;
+use clock::StreamSample;
 use fields::update::header_at;
 use records::layout::element_after;
-use timed::clock::StreamSample;
 use timed::infos::ELEMENT_INFOS;
 use timed::state;
 use timed::state::DynamicSourceState;
@@ -109,47 +109,53 @@ fn same_counts(elements: usize, given: usize, last: Counts, counts: Counts) -> b
     last.dynamic == counts.dynamic
 }
 
-// The update at record u, applied at a sample of the stream.
-pub fn apply_update(
-    s: MetadataRendererState,
-    infos: &mut [u8],
-    meta: &[u8],
-    u: usize,
-    at: StreamSample,
-) -> MetadataRendererState
-    requires { ⌜ (length (now infos) ≡ allBytes) × WholeUpdate (now meta) u ⌝ }
-    ensures { λ r. ⌜ IsTimed (applied (at .0) (updateOf (now (meta .entry)) u) (record { state = s; infos = now (infos .entry) })) r (now (infos .exit)) ⌝ }
-{
-    let h = header_at(meta, u);
-    let counts = Counts {
-        objects: h.objects,
-        isf: h.bed_or_isf,
-        dynamic: state::dynamic(h.objects, h.bed_or_isf),
-    };
-    let last = Counts {
-        objects: s.objects,
-        isf: s.isf,
-        dynamic: state::dynamic(s.objects, s.isf),
-    };
-    let same = same_counts(s.elements, h.elements, last, counts);
-    let states = s.states;
-    let next = apply_elements(states, infos, meta, u, h.elements, counts, same);
-    let before = s.codes;
-    let codes = next_codes(before, meta, u);
-    let heard = s.gains;
-    let gains = next_gains(heard, s.beds, h.beds);
-    let moved = s.sources;
-    let sources = next_sources(moved, last.dynamic, counts.dynamic);
-    MetadataRendererState {
-        initialized: true,
-        payload: at,
-        objects: h.objects,
-        isf: h.bed_or_isf,
-        beds: h.beds,
-        elements: h.elements,
-        codes: codes,
-        gains: gains,
-        states: next,
-        sources: sources,
+// The timed state, as an update finds it and leaves it.
+pub struct TimedState(pub MetadataRendererState);
+
+impl TimedState {
+    // The update at record u, applied at a sample of the stream.
+    pub fn apply_update(
+        self,
+        infos: &mut [u8],
+        meta: &[u8],
+        u: usize,
+        at: StreamSample,
+    ) -> TimedState
+        requires { ⌜ (length (now infos) ≡ allBytes) × WholeUpdate (now meta) u ⌝ }
+        ensures { λ r. ⌜ IsTimed (applied (at .0) (updateOf (now (meta .entry)) u) (record { state = self .0; infos = now (infos .entry) })) (r .0) (now (infos .exit)) ⌝ }
+    {
+        let s = self.0;
+        let h = header_at(meta, u);
+        let counts = Counts {
+            objects: h.objects,
+            isf: h.bed_or_isf,
+            dynamic: state::dynamic(h.objects, h.bed_or_isf),
+        };
+        let last = Counts {
+            objects: s.objects,
+            isf: s.isf,
+            dynamic: state::dynamic(s.objects, s.isf),
+        };
+        let same = same_counts(s.elements, h.elements, last, counts);
+        let states = s.states;
+        let next = apply_elements(states, infos, meta, u, h.elements, counts, same);
+        let before = s.codes;
+        let codes = next_codes(before, meta, u);
+        let heard = s.gains;
+        let gains = next_gains(heard, s.beds, h.beds);
+        let moved = s.sources;
+        let sources = next_sources(moved, last.dynamic, counts.dynamic);
+        TimedState(MetadataRendererState {
+            initialized: true,
+            payload: at,
+            objects: h.objects,
+            isf: h.bed_or_isf,
+            beds: h.beds,
+            elements: h.elements,
+            codes: codes,
+            gains: gains,
+            states: next,
+            sources: sources,
+        })
     }
 }

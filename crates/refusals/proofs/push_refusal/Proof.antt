@@ -26,7 +26,7 @@ returns c b out e l =
     let x = c .before .refusal .result in
     let rest = later (announced hall (hall .updates (args .meta))) (args .objects) (args .codes) (args .samples) (args .rate) (decode b .rate) (hall .shape (decode b .meta)) in
     first-stops (foundOf x) rest (not-clear x (c .match .keys2))
-    ∙ ap (λ (f : Found). f then rest) (c .before .refusal .ensures out l (decode b) (sym (ap (λ (r : State hall). r .position) (loaded b (a .s) e))))
+    ∙ ap (λ (f : Found). f then rest) (c .before .refusal .ensures out l (decode b) (sym (ap (λ (r : State hall). r .clock .position) (loaded b (a .s) e))))
 
 refusal-requires-2 : tie.Need-refusal-requires-2
 refusal-requires-2 c κs =
@@ -46,7 +46,7 @@ returns-2 c b out e l =
     let args = argsWith (a .pcm .now) (a .meta .now) out (a .codes .now) (a .n) in
     let at : State hall → Found = λ r. later (announced hall (hall .updates (args .meta))) (args .objects) (args .codes) (args .samples) (args .rate) (r .rate) (hall .shape (r .meta)) in
     then-second (early hall (decode b) args) (at (decode b)) (foundOf (c .refusal2 .result))
-    (sym (f .refusal .ensures out l (decode b) (sym (ap (λ (r : State hall). r .position) (loaded b (a .s) e)))) ∙ ap foundOf (c .before .before .enum-told .given .1))
+    (sym (f .refusal .ensures out l (decode b) (sym (ap (λ (r : State hall). r .clock .position) (loaded b (a .s) e)))) ∙ ap foundOf (c .before .before .enum-told .given .1))
     (c .refusal2 .ensures ∙ ap at (loaded b (a .s) e))
 
 pub push-refusal-spec : {M : Type 1} → statement M

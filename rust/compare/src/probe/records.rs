@@ -1,7 +1,7 @@
 #[repr(C)]
 #[derive(Clone, Copy, Debug, PartialEq, Eq)]
 pub struct Header {
-    pub offset: usize,
+    pub offset: u32,
     pub objects: usize,
     pub bed_or_isf: usize,
     pub beds: usize,
@@ -39,8 +39,8 @@ unsafe extern "C" {
     fn probe_object_place(meta: *const u8, length: usize, e: usize, o: usize, b: usize) -> usize;
     fn probe_block(meta: *const u8, length: usize, r: usize) -> Block;
     fn probe_info(meta: *const u8, length: usize, r: usize) -> Info;
-    fn probe_next_offset(meta: *const u8, length: usize, t: usize, end: usize) -> usize;
-    fn probe_sent_at(meta: *const u8, length: usize, t: usize, from: usize) -> usize;
+    fn probe_next_offset(meta: *const u8, length: usize, t: u32, end: u32) -> u32;
+    fn probe_sent_at(meta: *const u8, length: usize, t: u32, from: usize) -> usize;
 }
 
 /// 5, 6, or 0 for neither.
@@ -88,11 +88,11 @@ pub fn info(meta: &[u8], r: usize) -> Info {
 }
 
 /// The least sample offset above t, where it is below `end`, else `end`.
-pub fn next_offset(meta: &[u8], t: usize, end: usize) -> usize {
+pub fn next_offset(meta: &[u8], t: u32, end: u32) -> u32 {
     unsafe { probe_next_offset(meta.as_ptr(), meta.len(), t, end) }
 }
 
 /// The first update from `from` on whose sample offset is t, or their number.
-pub fn sent_at(meta: &[u8], t: usize, from: usize) -> usize {
+pub fn sent_at(meta: &[u8], t: u32, from: usize) -> usize {
     unsafe { probe_sent_at(meta.as_ptr(), meta.len(), t, from) }
 }

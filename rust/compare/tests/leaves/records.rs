@@ -5,8 +5,9 @@
 //! And 119 lists with literal answers, sentence by sentence of document 01 (`records.txt`).
 
 use compare::probe::records;
-use compare::reading::{Update, read};
+use compare::records::read::{Update, read};
 use compare::{Generator, drawn};
+use oracle::frame::DEPTHS;
 
 const LISTS: usize = 2_000_000;
 
@@ -43,7 +44,7 @@ fn draw_object(inputs: &mut Generator, rare: bool) -> [u8; 40] {
     let depth = if rare {
         inputs.float()
     } else {
-        inputs.pick(&[0.25, 0.5, 1.0, 2.0])
+        inputs.pick(&DEPTHS)
     };
     put(0, 32, depth);
     r
@@ -173,7 +174,7 @@ fn same_meaning(list: &[u8], updates: &[Update]) {
 
 /// The updates as the Rust sorts them, at or past the end dropped but for offset 0, against the
 /// walk from time to time.
-fn same_order(list: &[u8], updates: &[Update], samples: usize) {
+fn same_order(list: &[u8], updates: &[Update], samples: u32) {
     let mut sorted: Vec<usize> = (0..updates.len()).collect();
     sorted.sort_by_key(|&i| updates[i].header.offset);
     sorted.retain(|&i| updates[i].header.offset == 0 || updates[i].header.offset < samples);
@@ -207,7 +208,7 @@ fn records_as_an_independent_reading_has_them() {
         if let Ok((updates, _)) = reading
             && inputs.chance(4)
         {
-            let samples = inputs.below(1_537) as usize;
+            let samples = inputs.below(1_537) as u32;
             same_meaning(&list, &updates);
             same_order(&list, &updates, samples);
         }

@@ -18,7 +18,7 @@ returns c =
 returns-2 : tie.Need-returns-2
 returns-2 c =
     let a = c .before .before .before .before .args in
-    rw (c .if2 .taken) (slot-begins (a .l) (a .t) (a .phase) (eqb (a .phase) 0) refl (past (c .before .before .before .sent-at .ensures) (omega arith)))
+    rw (c .if2 .taken) (slot-begins (a .l) (a .t .0) (a .phase) (eqb (a .phase) 0) refl (past (c .before .before .before .sent-at .ensures) (omega arith)))
 
 returns-3 : tie.Need-returns-3
 returns-3 c = record { none = past (c .before .before .before .sent-at .ensures) (omega arith); slot = rw (c .if2 .left) }

@@ -1,12 +1,12 @@
 -- The layout has the offsets of the updates. Assumes nothing.
 use mathlib.Core.Path.{refl, subst}
 use Prim.Native.Nat.{ℕ}
-use lib.ListN.{getD}
 use borrow.Author.Tests.{le-leb, lt-leb}
 use borrow.Author.Needs.{needs}
 use Rattle.fields.specs.Update.{offset}
 use Rattle.records.specs.Laid.{updateAt, count}
 use Rattle.records.specs.Order.{FirstAt}
+use Rattle.records.specs.Answers.{offsetAt}
 use Rattle.records.proofs.Times.{first-same}
 use Rattle.probes.proofs.probe_records.probe_sent_at.Statement.{statement}
 use Rattle.probes.proofs.probe_records.probe_sent_at.Tie as tie
@@ -20,8 +20,8 @@ returns-2 c =
     let m = a .meta .now in
     let l = c .before .before .before .layout-of in
     simp (le-leb _ _ (rw (l .ensures .counted) at (c .before .if1 .left)))
-    (first-same (λ i. getD (l .result .offset) i 0) (λ i. offset m (updateAt m i)) (count m) (a .t) (a .from) (c .sent-at .result) (l .ensures .offsets)
-    (subst (λ (n : ℕ). FirstAt (λ i. getD (l .result .offset) i 0) n (a .t) (a .from) (c .sent-at .result)) (l .ensures .counted) (c .sent-at .ensures)))
+    (first-same (offsetAt (l .result)) (λ i. offset m (updateAt m i)) (count m) (a .t .0) (a .from) (c .sent-at .result) (l .ensures .offsets)
+    (subst (λ (n : ℕ). FirstAt (offsetAt (l .result)) n (a .t .0) (a .from) (c .sent-at .result)) (l .ensures .counted) (c .sent-at .ensures)))
 
 pub probe-sent-at-spec : {M : Type 1} → statement M
 probe-sent-at-spec =

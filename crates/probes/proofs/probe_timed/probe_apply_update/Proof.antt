@@ -42,11 +42,11 @@ apply-update-requires c κs =
 
 returns-5 : tie.Need-returns-5
 returns-5 c =
-    let a = c .before .before .before .before .before .before .before .before .before .before .before .before .before .before .args in
-    let g = c .before .before .before .before .before .before .before .before .before .before .layout-of .ensures in
-    let one : a .i < count (a .meta .now) = omega (arith, g .counted, c .before .before .before .before .before .if4 .left) in
-    simp (eq-eqb _ _ (c .before .before .before .before .before .before .before .before .before .before .before .if1 .left), sym (c .before .before .before .before .before .before .before .before .before .before .layout-of .ensures .fits) ∙ not-false _ (c .before .before .before .before .before .before .before .before .if2 .left), sym (c .before .before .before .before .before .before .before .in-range .ensures) ∙ not-false _ (c .before .before .before .before .before .before .if3 .left), lt-ltb _ _ one)
-    (rw (g .firsts (a .i) one) at (c .before .before .apply-update .ensures))
+    let a = c .before .before .before .before .before .before .before .before .before .before .before .before .before .before .before .args in
+    let g = c .before .before .before .before .before .before .before .before .before .before .before .layout-of .ensures in
+    let one : a .i < count (a .meta .now) = omega (arith, g .counted, c .before .before .before .before .before .before .if4 .left) in
+    simp (eq-eqb _ _ (c .before .before .before .before .before .before .before .before .before .before .before .before .if1 .left), sym (c .before .before .before .before .before .before .before .before .before .before .before .layout-of .ensures .fits) ∙ not-false _ (c .before .before .before .before .before .before .before .before .before .if2 .left), sym (c .before .before .before .before .before .before .before .before .in-range .ensures) ∙ not-false _ (c .before .before .before .before .before .before .before .if3 .left), lt-ltb _ _ one)
+    (rw (g .firsts (a .i) one) at (c .before .before .before .apply-update .ensures))
 
 pub probe-apply-update-spec : {M : Type 1} → statement M
 probe-apply-update-spec =

@@ -62,11 +62,11 @@ returns-4 c =
     (o .objects-refusal .result) (o .objects-refusal .ensures) (sym (c .before .is-clear3 .ensures) ∙ not-true _ (c .if4 .taken))
 
 walk-refusal-requires : tie.Need-walk-refusal-requires
-walk-refusal-requires c κs = let beds = ap (λ (p : Present). p .beds) (c .before .before .before .before .before .present-of .ensures) in search needs
+walk-refusal-requires c κs = let beds = ap (λ (p : Present). p .beds) (c .before .before .before .before .present-of .ensures) in search needs
 
 returns-5 : tie.Need-returns-5
 returns-5 c =
-    let d = c .before .before in
+    let d = c .before in
     let o = d .before .before in
     let p = o .before .before in
     let e = p .before .before in
@@ -80,7 +80,7 @@ returns-5 c =
     (k .counts-refusal .result) (k .counts-refusal .ensures) (sym (e .before .is-clear2 .ensures) ∙ not-false _ (e .if2 .left))
     (p .before .if3 .left) (p .present-of .result) (o .before .present-after .result) (ap presentShape (p .present-of .ensures)) (o .before .present-after .ensures)
     (o .objects-refusal .result) (o .objects-refusal .ensures) (sym (d .before .is-clear3 .ensures) ∙ not-false _ (d .if4 .left))
-    (c .walk-refusal .result) (rw (c .before .wide .ensures) at (c .walk-refusal .ensures))
+    (c .walk-refusal .result) (c .walk-refusal .ensures)
 
 pub refusal-spec : {M : Type 1} → statement M
 refusal-spec =
@@ -95,6 +95,5 @@ refusal-spec =
     present-after-requires
     (λ c κs. search needs) (λ c κs. search needs)
     returns-4
-    (λ c κs. search needs)
     walk-refusal-requires
     returns-5)

@@ -10,9 +10,9 @@ returns : tie.Need-returns
 unfolding smallOf
 returns c =
     let g = c .before in
-    let b = g .before in
+    let b = g .before .before in
     let a = b .before in
-    let s = a .before .before .before in
+    let s = a .before .before in
     let f = s .before in
     let w = f .before .args .w .now in
     lawful-small .reads w 0 _ ((refl, (refl, (a .long .ensures, (b .long2 .ensures, (g .float .ensures, (f .filter .ensures, refl)))))), s .state .ensures)
@@ -22,7 +22,9 @@ small-spec =
     tie.close
     (tie.spec
     (λ c κs. search needs) (λ c κs. search needs)
-    (λ c. search needs) (λ c. search needs)
-    (λ c κs. search needs) (λ c κs. search needs) (λ c κs. search needs)
+    (λ c. search needs)
+    (λ c κs. search needs) (λ c κs. search needs)
+    (λ c. search needs)
+    (λ c κs. search needs)
     (λ c. search needs)
     returns)

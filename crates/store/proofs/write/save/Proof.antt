@@ -6,9 +6,9 @@ use Prim.Native.Nat.{ℕ, _*_}
 use lib.ListN.{length}
 use Rattle.words.specs.Words.{withWords}
 use Rattle.formats.proofs.Places.{spelled}
-use Rattle.store.specs.Fields.{clockOf, clockFormat, stateFormat}
+use Rattle.store.specs.Fields.{basicsOf, basicsFormat, stateFormat}
 use Rattle.store.specs.Places.{stateAt}
-use Rattle.store.proofs.Back.{lawful-clock}
+use Rattle.store.proofs.Back.{lawful-basics}
 use Rattle.store.proofs.Stores.{small-stored}
 use Rattle.store.proofs.write.save.Statement.{statement}
 use Rattle.store.proofs.write.save.Tie as tie
@@ -19,10 +19,10 @@ returns c =
     let p = t .before .before .before .before .before in
     let h = p .before .before .before in
     let a = h .before .before .args in
-    let n : length (h .clock-words .result) ≡ clockFormat .width = search needs in
+    let n : length (h .basics-words .result) ≡ basicsFormat .width = search needs in
     t .put-state .ensures
     ∙ ap (λ (s : List ℕ). withWords s (4 * stateAt) (stateFormat .put (a .x .state))) (p .put-words .ensures
-    ∙ ap (withWords (a .state .now) 0) (spelled clockFormat lawful-clock (clockOf (a .x)) (h .clock-words .result) n (h .clock-words .ensures)))
+    ∙ ap (withWords (a .state .now) 0) (spelled basicsFormat lawful-basics (basicsOf (a .x)) (h .basics-words .result) n (h .basics-words .ensures)))
     ∙ small-stored (a .state .now) (a .x)
 
 pub save-spec : {M : Type 1} → statement M

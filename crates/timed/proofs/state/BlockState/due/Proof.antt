@@ -1,5 +1,6 @@
 -- `timed::state::BlockState::due`: a used block is not due. Assumes nothing.
-use mathlib.Core.Path.{sym, _∙_}
+use mathlib.Core.Path.{sym, ap₂, _∙_}
+use lib.Dec.{ltb}
 use borrow.Author.Needs.{needs}
 use Rattle.timed.specs.Rules.{due}
 use Rattle.timed.proofs.Shifted.{due-shifted}
@@ -11,12 +12,16 @@ unfolding due
 returns c = search needs
 
 returns-2 : tie.Need-returns-2
-returns-2 c = let s = c .before .before .before .before .args in sym (due-shifted (s .when) (s .self) ∙ rw (c .before .before .before .if1 .left))
+returns-2 c =
+    let p = c .before .before in
+    let e = p .before .before .before in
+    let s = e .before .args in
+    c .is-before .ensures ∙ ap₂ ltb (p .plus .ensures) (c .before .plus2 .ensures) ∙ sym (due-shifted (s .when) (s .self) ∙ rw (e .if1 .left))
 
 pub due-spec : {M : Type 1} → statement M
 due-spec =
     tie.close
     (tie.spec
     returns
-    (λ c. search needs) (λ c. search needs) (λ c. search needs)
+    (λ c κs. search needs) (λ c κs. search needs) (λ c κs. search needs)
     returns-2)
