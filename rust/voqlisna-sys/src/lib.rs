@@ -1,0 +1,62 @@
+// SPDX-License-Identifier: Apache-2.0
+//! The C entries of the hall renderer, as `include/voqlisna.h` has them.
+//!
+//! A slice is a pointer and a length in bytes. Every entry takes arguments of any length and content, and ends. What the
+//! caller owes is what Rust's references owe: pointers good for their length and not null, `state` and `out` overlapping
+//! no other slice; and the processor's default float mode. The crate `voqlisna` sees to all of it.
+#![no_std]
+
+/// The version of the interface that these declarations are of; [`hall_version`] answers the library's.
+pub const VERSION: u32 = 1;
+
+/// What [`hall_push`], [`hall_flush`] and [`hall_reset`] answer.
+#[repr(C)]
+#[derive(Clone, Copy, Debug, PartialEq, Eq)]
+pub struct Answer {
+    /// 0 rendered, 1 refused, 2 nothing pending, 3 done.
+    pub kind: u32,
+    /// The refusal, 0 else.
+    pub number: u32,
+    /// Its first count.
+    pub first: u32,
+    /// Its second count.
+    pub second: u32,
+    /// Samples written on each channel.
+    pub ready: usize,
+}
+
+const _: () = assert!(size_of::<Answer>() == 24);
+
+unsafe extern "C" {
+    /// Bytes of a state block.
+    pub safe fn hall_state_size() -> usize;
+    /// Steps with every change of the block's layout or of a signature.
+    pub safe fn hall_version() -> u32;
+    /// Renders a frame.
+    pub fn hall_push(
+        state: *mut u8,
+        state_length: usize,
+        pcm: *const u8,
+        pcm_length: usize,
+        meta: *const u8,
+        meta_length: usize,
+        out: *mut u8,
+        out_length: usize,
+        codes: *const u8,
+        codes_length: usize,
+        rate: u32,
+        samples: u32,
+        objects: u32,
+        stride: u32,
+    ) -> Answer;
+    /// Gives out what is pending.
+    pub fn hall_flush(
+        state: *mut u8,
+        state_length: usize,
+        out: *mut u8,
+        out_length: usize,
+        stride: u32,
+    ) -> Answer;
+    /// Makes a new renderer of a block, whatever its bytes were.
+    pub fn hall_reset(state: *mut u8, state_length: usize) -> Answer;
+}
