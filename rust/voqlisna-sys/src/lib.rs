@@ -9,6 +9,9 @@
 /// The version of the interface that these declarations are of; [`hall_version`] answers the library's.
 pub const VERSION: u32 = 1;
 
+/// Bytes of a state block of this version, for blocks that are not on a heap; [`hall_state_size`] answers the library's.
+pub const STATE_SIZE: usize = 26_960;
+
 /// What [`hall_push`], [`hall_flush`] and [`hall_reset`] answer.
 #[repr(C)]
 #[derive(Clone, Copy, Debug, PartialEq, Eq)]

@@ -1,31 +1,65 @@
-//! What to push where a frame was refused. A refused call has changed nothing, the clock included, so the next try starts from the same state.
-#[cfg(feature = "alloc")]
-use crate::Stride;
-use crate::memory::{Bytes, Floats, OwnFloats};
-use crate::{Bed, Frame, Metadata, Output, Pcm, Rate, Refusal, Rendered, Renderer, ShapeError};
+// SPDX-License-Identifier: Apache-2.0
+//! What to push where a frame was refused. A refused call has not moved the clock, so the next try starts from the same
+//! state.
 
-/// Remembers the last accepted frame's channels, and has silence at hand.
-#[derive(Debug)]
+use crate::memory::{Bytes, Floats, OwnFloats};
+use crate::shape::{BEDS, CHANNELS};
+use crate::{
+    Bed, Frame, Metadata, Output, Pcm, Rate, Refusal, Rendered, Renderer, ShapeError, Stride,
+};
+
+/// Remembers the channels of the last frame that was taken, and has silence at hand.
+///
+/// ```
+/// # use voqlisna::*;
+/// # let mut memory = [0; MetadataWriter::bytes_for(1, &[])];
+/// # let mut writer = MetadataWriter::new(&mut memory);
+/// # writer.update(Update { at: 0, objects: 1, fixed: 0, beds: &[] })?;
+/// # let update = writer.finish();
+/// let stride = Stride::MAX;
+/// let (mut renderer, mut out) = (Renderer::new()?, Output::new(stride));
+/// let mut concealer = Concealer::new(stride);
+/// let mut sound = [0.5; 256];
+/// for broken in [false, true] {
+///     if broken {
+///         sound[17] = f32::NAN;
+///     }
+///     let frame = Frame::new(Rate::HZ_48000, &[], Pcm::packed(&sound, 1)?, update)?;
+///     let outcome = renderer.push_or_conceal(&frame, &mut out, &mut concealer)?;
+///     assert_eq!(outcome.rendered.ready(), 256);
+///     assert_eq!(outcome.way, if broken { Way::MetadataOnly } else { Way::Whole });
+///     assert_eq!(outcome.refusal, broken.then_some(Refusal::Sample));
+/// }
+/// # Ok::<(), Box<dyn std::error::Error>>(())
+/// ```
 pub struct Concealer<M: Floats = OwnFloats> {
     silence: M,
-    beds: [Bed; 18],
-    bed_count: usize,
+    beds: [Bed; BEDS],
+    last: Option<Channels>,
+}
+
+/// The channels of a frame; its beds stand in the concealer.
+#[derive(Clone, Copy)]
+struct Channels {
+    rate: Rate,
+    beds: usize,
     objects: usize,
-    rate: Option<Rate>,
 }
 
 /// How the sound went on.
 #[derive(Clone, Copy, Debug, PartialEq, Eq)]
 pub enum Way {
-    /// The frame itself.
+    /// By the frame itself.
     Whole,
-    /// Its sound with the places that stood (after 5, 6, and 11, 13, 14 where it has metadata): updates in it are lost.
+    /// By its sound, at the places that stood (after 5 and 6, and after 11, 13 and 14 where it has metadata): its updates
+    /// are lost.
     SoundOnly,
-    /// Silence with its metadata (after 8): objects move on.
+    /// By silence with its metadata (after 8): objects move on.
     MetadataOnly,
-    /// Silence on the channels of the last frame whose channels were accepted.
+    /// By silence on the channels of the last frame whose channels were taken: its updates are lost.
     Silence,
 }
+
 /// What came of a frame.
 #[derive(Clone, Copy, Debug)]
 pub struct Outcome<'o> {
@@ -39,128 +73,147 @@ pub struct Outcome<'o> {
 
 #[cfg(feature = "alloc")]
 impl Concealer {
-    /// Silence for 34 channels of the stride's samples.
+    /// For frames of up to the stride's samples.
     pub fn new(stride: Stride) -> Self {
-        Self::make(alloc::vec![0.0; 34 * stride.samples()].into_boxed_slice())
+        Self::make(crate::memory::zeros(places(stride)))
     }
 }
+
 impl<'m> Concealer<&'m mut [f32]> {
-    /// Over lent memory of channels × samples places, which is zeroed.
-    pub fn over(memory: &'m mut [f32]) -> Self {
-        memory.fill(0.0);
-        Self::make(memory)
+    /// Over lent memory of 34 × stride places or more, which is zeroed.
+    pub fn over(memory: &'m mut [f32], stride: Stride) -> Result<Self, ShapeError> {
+        let needed = places(stride);
+        let silence = memory
+            .get_mut(..needed)
+            .ok_or(ShapeError::Memory { needed })?;
+        silence.fill(0.0);
+        Ok(Self::make(silence))
     }
 }
+
+const fn places(stride: Stride) -> usize {
+    stride.samples().saturating_mul(CHANNELS)
+}
+
 impl<M: Floats> Concealer<M> {
-    fn make(silence: M) -> Self {
+    const fn make(silence: M) -> Self {
         Self {
             silence,
-            beds: [Bed::Center; 18],
-            bed_count: 0,
-            objects: 0,
-            rate: None,
+            beds: [Bed::Center; BEDS],
+            last: None,
         }
     }
-    /// The next stream starts: nothing is remembered.
-    pub fn reset(&mut self) {
-        self.bed_count = 0;
-        self.objects = 0;
-        self.rate = None
+
+    /// A new stream: nothing is remembered.
+    pub const fn reset(&mut self) {
+        self.last = None;
     }
-    fn remember(&mut self, f: &Frame<'_>) {
-        self.beds[..f.beds().len()].copy_from_slice(f.beds());
-        self.bed_count = f.beds().len();
-        self.objects = f.objects();
-        self.rate = Some(f.rate());
+
+    fn remember(&mut self, frame: &Frame<'_>) {
+        for (place, bed) in self.beds.iter_mut().zip(frame.beds()) {
+            *place = *bed;
+        }
+        self.last = Some(Channels {
+            rate: frame.rate(),
+            beds: frame.beds().len(),
+            objects: frame.objects(),
+        });
     }
-    fn silent<'a>(
-        &'a self,
-        rate: Rate,
-        beds: &'a [Bed],
-        objects: usize,
-        samples: usize,
-        m: Metadata<'a>,
-    ) -> Result<Frame<'a>, ShapeError> {
-        let channels = beds.len() + objects;
-        let needed = channels * samples;
-        let zeros = self
-            .silence
-            .get()
-            .get(..needed)
-            .ok_or(ShapeError::Memory { needed })?;
-        Frame::new(rate, beds, Pcm::packed(zeros, channels)?, m)
+
+    /// The frame with zeros for its samples; none where it is longer than the concealer's stride.
+    fn silenced<'a>(&'a self, frame: &Frame<'a>) -> Option<Frame<'a>> {
+        let pcm = self.zeros(frame.pcm().samples(), frame.pcm().channels())?;
+        Frame::new(frame.rate(), frame.beds(), pcm, frame.metadata()).ok()
+    }
+
+    /// Silence of so many samples on the last channels.
+    fn silence(&self, samples: usize) -> Option<Frame<'_>> {
+        let Channels {
+            rate,
+            beds,
+            objects,
+        } = self.last?;
+        let pcm = self.zeros(samples, beds.saturating_add(objects))?;
+        Frame::new(rate, self.beds.get(..beds)?, pcm, Metadata::NONE).ok()
+    }
+
+    fn zeros(&self, samples: usize, channels: usize) -> Option<Pcm<'_>> {
+        let zeros = self.silence.get().get(..samples.saturating_mul(channels))?;
+        Pcm::packed(zeros, channels).ok()
     }
 }
+
 impl<B: Bytes> Renderer<B> {
-    /// Pushes the frame, or what comes nearest to it, so that the clock moves by its samples.
+    /// Pushes the frame, or what comes nearest to it, so that the clock moves by its samples. At most three pushes.
     ///
-    /// Refused for good, with the frame's own refusal: 1 to 4 and 12 (the host's), 9 (flush, reset, push again), 10 (nothing has begun:
-    /// play silence), where no accepted frame came before, and where an update that waited (R-12) falls in the frame and does not fit:
-    /// it refuses every frame at its sample, so only [`Renderer::reset`] goes on. At most three pushes.
+    /// Refused for good, with the frame's own refusal and nothing changed: 1 to 4 and 12 (the host's to mend), 9 (flush,
+    /// reset and push again), 10 (nothing has begun: play silence), any where no frame was taken before, and frames
+    /// longer than the concealer's stride. Give every frame of a stream to this function and not to
+    /// [`Renderer::push`], so that the concealer knows the channels; [`Concealer::reset`] goes with [`Renderer::reset`].
     pub fn push_or_conceal<'o, M: Floats, S: Floats>(
         &mut self,
         frame: &Frame<'_>,
         out: &'o mut Output<M>,
-        by: &mut Concealer<S>,
+        concealer: &mut Concealer<S>,
     ) -> Result<Outcome<'o>, Refusal> {
-        let first = match self.push(frame, out).map(|r| r.ready()) {
-            Ok(ready) => {
-                by.remember(frame);
-                return Ok(Outcome {
-                    rendered: out.rendered(ready),
-                    way: Way::Whole,
-                    refusal: None,
-                });
+        let (ready, way, refusal) = match self.ready(frame, out) {
+            Ok(ready) => (ready, Way::Whole, None),
+            Err(refusal) => {
+                let (ready, way) = self
+                    .conceal(frame, refusal, out, concealer)
+                    .ok_or(refusal)?;
+                (ready, way, Some(refusal))
             }
-            Err(r) => r,
         };
-        let next = match first {
-            Refusal::Records
-            | Refusal::Value
-            | Refusal::Objects { .. }
-            | Refusal::BedMissing { .. }
-            | Refusal::BedUnsupported(_) => {
-                (!frame.metadata().is_empty()).then(|| (Way::SoundOnly, frame.without_metadata()))
-            }
-            Refusal::Sample => by
-                .silent(
-                    frame.rate(),
-                    frame.beds(),
-                    frame.objects(),
-                    frame.pcm().samples(),
-                    frame.metadata(),
-                )
-                .ok()
-                .map(|f| (Way::MetadataOnly, f)),
-            other => return Err(other),
-        };
-        if let Some((way, f)) = next {
-            if let Ok(ready) = self.push(&f, out).map(|r| r.ready()) {
-                by.remember(frame);
-                return Ok(Outcome {
-                    rendered: out.rendered(ready),
-                    way,
-                    refusal: Some(first),
-                });
-            }
+        if way != Way::Silence {
+            concealer.remember(frame);
         }
-        let Some(rate) = by.rate else {
-            return Err(first);
-        };
-        let f = by
-            .silent(
-                rate,
-                &by.beds[..by.bed_count],
-                by.objects,
-                frame.pcm().samples(),
-                Metadata::NONE,
-            )
-            .map_err(|_| first)?;
-        let ready = self.push(&f, out).map(|r| r.ready()).map_err(|_| first)?;
         Ok(Outcome {
             rendered: out.rendered(ready),
-            way: Way::Silence,
-            refusal: Some(first),
+            way,
+            refusal,
         })
+    }
+
+    /// A push of which only the number of ready samples is kept, so that the output is free again.
+    fn ready<M: Floats>(
+        &mut self,
+        frame: &Frame<'_>,
+        out: &mut Output<M>,
+    ) -> Result<usize, Refusal> {
+        self.push(frame, out).map(|rendered| rendered.ready())
+    }
+
+    /// The second and the third try.
+    fn conceal<M: Floats, S: Floats>(
+        &mut self,
+        frame: &Frame<'_>,
+        refusal: Refusal,
+        out: &mut Output<M>,
+        concealer: &Concealer<S>,
+    ) -> Option<(usize, Way)> {
+        let second = match refusal.number() {
+            5 | 6 | 11 | 13 | 14 => {
+                let with_metadata = !frame.metadata().is_empty();
+                with_metadata.then(|| (frame.without_metadata(), Way::SoundOnly))
+            }
+            8 => concealer
+                .silenced(frame)
+                .map(|frame| (frame, Way::MetadataOnly)),
+            _ => return None,
+        };
+        let third = concealer
+            .silence(frame.pcm().samples())
+            .map(|frame| (frame, Way::Silence));
+        [second, third]
+            .into_iter()
+            .flatten()
+            .find_map(|(frame, way)| self.ready(&frame, out).ok().map(|ready| (ready, way)))
+    }
+}
+
+impl<M: Floats> core::fmt::Debug for Concealer<M> {
+    fn fmt(&self, f: &mut core::fmt::Formatter<'_>) -> core::fmt::Result {
+        f.debug_struct("Concealer").finish_non_exhaustive()
     }
 }

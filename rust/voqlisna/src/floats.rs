@@ -1,55 +1,70 @@
+// SPDX-License-Identifier: Apache-2.0
 //! The processor's float mode around a call.
 
-/// Runs `f` in the default float mode (round to nearest, subnormals kept, exceptions masked), and gives the caller's mode back.
+use core::arch::asm;
+use core::mem::MaybeUninit;
+
+// MXCSR: bits 0-5 are flags, 6 is "denormals are zero", 7-12 are the exception masks, 13-14 the rounding, 15 "flush to zero".
+const CONTROL: u32 = 0xffc0;
+const DEFAULT: u32 = 0x1f80;
+
+/// Runs `f` in the default float mode (rounding to nearest, subnormals kept, exceptions masked), and gives the caller's
+/// mode back.
 ///
-/// Every call of this crate does this itself. Mode and call stand in one `asm!` block, since a block must leave the mode as it found it.
+/// The renderer's promises are about that mode; audio threads often run in another. Every call of this crate that
+/// computes does this itself; it is public for hosts on [`crate::sys`]. A panic of `f` ends the process where the mode
+/// had to be changed.
+///
+/// ```
+/// let version = voqlisna::with_default_floats(|| voqlisna::sys::hall_version());
+/// assert_eq!(version, voqlisna::sys::VERSION);
+/// ```
 #[inline]
 pub fn with_default_floats<F: FnOnce() -> R, R>(f: F) -> R {
-    #[cfg(target_arch = "x86_64")]
-    {
-        // Bit 6 denormals are zero, 7-12 exception masks, 13-14 rounding, 15 flush to zero; 0-5 are flags.
-        const CONTROL: u32 = 0xffc0;
-        const DEFAULT: u32 = 0x1f80;
-        let mut mode = 0u32;
-        // SAFETY: writes the four bytes of `mode` and nothing else.
-        unsafe {
-            core::arch::asm!("stmxcsr [{}]", in(reg) &mut mode, options(nostack, preserves_flags))
-        };
-        if mode & CONTROL == DEFAULT {
-            return f();
-        }
-        let mut job = Job {
-            f: Some(f),
-            r: None,
-        };
-        let default = DEFAULT;
-        // SAFETY: `thunk` takes the one pointer that it gets here and does not unwind (extern "C"); the stack is aligned for a call
-        // where an asm! block starts; r12 is kept by the callee; the mode at the end is that of the start.
-        unsafe {
-            core::arch::asm!(
-                "ldmxcsr [{default}]", "call {thunk}", "ldmxcsr [r12]",
-                default = in(reg) &default,
-                thunk = sym thunk::<F, R>,
-                in("r12") &mode,
-                in("rdi") &mut job,
-                clobber_abi("sysv64"),
-            );
-        }
-        match job.r {
-            Some(r) => r,
-            None => unreachable!(), // the thunk has filled it
-        }
+    let mode = mode();
+    if mode & CONTROL == DEFAULT {
+        return f();
     }
-    #[cfg(not(target_arch = "x86_64"))]
-    f()
+    let mut job = Job {
+        f: MaybeUninit::new(f),
+        r: MaybeUninit::uninit(),
+    };
+    // Setting the mode, the call and restoring stand in one block, since a block must leave the mode as it found it.
+    // SAFETY: `run` takes the one pointer that it gets here, to a job not run yet, and does not unwind; the stack is
+    // aligned for a call where an asm! block starts; r12 is kept by the callee; the mode at the end is that of the start.
+    unsafe {
+        asm!(
+            "ldmxcsr [{default}]",
+            "call {run}",
+            "ldmxcsr [r12]",
+            default = in(reg) &DEFAULT,
+            run = sym run::<F, R>,
+            in("r12") &mode,
+            in("rdi") &mut job,
+            clobber_abi("sysv64"),
+        );
+    }
+    // SAFETY: `run` has returned, so it has written the result.
+    unsafe { job.r.assume_init() }
 }
+
+fn mode() -> u32 {
+    let mut mode = 0;
+    // SAFETY: writes the four bytes of `mode` and nothing else.
+    unsafe { asm!("stmxcsr [{}]", in(reg) &mut mode, options(nostack, preserves_flags)) };
+    mode
+}
+
 struct Job<F, R> {
-    f: Option<F>,
-    r: Option<R>,
+    f: MaybeUninit<F>,
+    r: MaybeUninit<R>,
 }
-#[cfg(target_arch = "x86_64")]
-extern "sysv64" fn thunk<F: FnOnce() -> R, R>(job: &mut Job<F, R>) {
-    if let Some(f) = job.f.take() {
-        job.r = Some(f());
-    }
+
+/// # Safety
+///
+/// Once for each job: `f` is moved out of it.
+unsafe extern "sysv64" fn run<F: FnOnce() -> R, R>(job: &mut Job<F, R>) {
+    // SAFETY: `f` is initialised when the job is made, and this is the one read of it.
+    let f = unsafe { job.f.assume_init_read() };
+    job.r.write(f());
 }

@@ -1,17 +1,27 @@
+// SPDX-License-Identifier: Apache-2.0
 //! Why a call was refused.
-use crate::Bed;
+
 use core::fmt;
 use voqlisna_sys::Answer;
 
-/// A refused call. State and lent memory are as before the call.
+/// A refused call. It has changed nothing: neither the renderer, nor its clock, nor the output.
+///
+/// ```
+/// use voqlisna::{Blame, Refusal};
+/// let refusal = Refusal::RateChanged { expected: 48_000, provided: 44_100 };
+/// assert_eq!((refusal.number(), refusal.counts()), (9, (48_000, 44_100)));
+/// assert_eq!(refusal.blame(), Blame::Stream);
+/// assert_eq!(refusal.to_string(), "the stream runs at 48000 Hz and the frame at 44100: flush and reset first");
+/// ```
 #[non_exhaustive]
 #[derive(Clone, Copy, Debug, PartialEq, Eq, Hash)]
 pub enum Refusal {
-    /// 1: stride, output or state block. Cannot arise through this crate; seen only by hosts on [`crate::sys`].
+    /// 1: stride, output or state block. Cannot arise through this crate; hosts on [`crate::sys`] meet it.
     Memory,
-    /// 2: samples, beds, objects, a bed code, or the length of the PCM.
+    /// 2: samples, beds, objects, a bed code, or the length of the PCM. Through this crate only by a frame with more
+    /// samples than the output's stride.
     Frame,
-    /// 3: a rate that is not taken.
+    /// 3: a rate outside 8,000 to 192,000. Cannot arise through this crate.
     Rate,
     /// 4: the stream would pass 2^40 samples.
     StreamEnd,
@@ -21,7 +31,7 @@ pub enum Refusal {
     Value,
     /// 8: a sample not finite or beyond ±16.
     Sample,
-    /// 9: the rate changed in mid-stream.
+    /// 9: another rate than the stream's.
     RateChanged {
         /// The stream's.
         expected: u32,
@@ -30,7 +40,7 @@ pub enum Refusal {
     },
     /// 10: no update has come yet.
     NoUpdate,
-    /// 11: the frame has another number of objects than the metadata.
+    /// 11: another number of dynamic objects than the metadata's.
     Objects {
         /// The metadata's.
         expected: u32,
@@ -39,13 +49,16 @@ pub enum Refusal {
     },
     /// 12: no samples.
     NoSamples,
-    /// 13: the metadata names a bed that the frame lacks.
+    /// 13: a bed of the metadata has no channel in the frame.
     BedMissing {
-        /// How many such beds the metadata names.
+        /// How many beds of the update match it.
         expected: u32,
     },
-    /// 14: a bed that no layout plays (rear center).
-    BedUnsupported(Option<Bed>),
+    /// 14: a bed that no speaker plays.
+    BedUnsupported {
+        /// Its code: 6, rear center.
+        code: u32,
+    },
     /// A number that this version does not know.
     Other {
         /// The library's number.
@@ -56,6 +69,7 @@ pub enum Refusal {
         second: u32,
     },
 }
+
 /// Whose fault a refusal is.
 #[derive(Clone, Copy, Debug, PartialEq, Eq, Hash)]
 pub enum Blame {
@@ -65,13 +79,24 @@ pub enum Blame {
     Programme,
     /// The decoder's samples.
     Decoder,
-    /// Frame and programme do not fit each other.
+    /// The stream by the rules' own: frames and metadata, each right in itself, do not fit each other.
     Stream,
 }
+
 impl Refusal {
-    /// Reads an answer of kind 1.
-    pub const fn from_answer(a: Answer) -> Self {
-        match a.number {
+    /// The refusal that an answer tells; none where it tells another thing.
+    pub const fn from_answer(answer: Answer) -> Option<Self> {
+        let Answer {
+            kind: 1,
+            number,
+            first,
+            second,
+            ..
+        } = answer
+        else {
+            return None;
+        };
+        Some(match number {
             1 => Self::Memory,
             2 => Self::Frame,
             3 => Self::Rate,
@@ -80,25 +105,26 @@ impl Refusal {
             6 => Self::Value,
             8 => Self::Sample,
             9 => Self::RateChanged {
-                expected: a.first,
-                provided: a.second,
+                expected: first,
+                provided: second,
             },
             10 => Self::NoUpdate,
             11 => Self::Objects {
-                expected: a.first,
-                provided: a.second,
+                expected: first,
+                provided: second,
             },
             12 => Self::NoSamples,
-            13 => Self::BedMissing { expected: a.first },
-            14 => Self::BedUnsupported(Bed::from_code(a.first as u8)),
+            13 => Self::BedMissing { expected: first },
+            14 => Self::BedUnsupported { code: first },
             number => Self::Other {
                 number,
-                first: a.first,
-                second: a.second,
+                first,
+                second,
             },
-        }
+        })
     }
-    /// The number of documents 01 and 02.
+
+    /// As docs/INTERFACE.md numbers them.
     pub const fn number(self) -> u32 {
         match self {
             Self::Memory => 1,
@@ -113,50 +139,73 @@ impl Refusal {
             Self::Objects { .. } => 11,
             Self::NoSamples => 12,
             Self::BedMissing { .. } => 13,
-            Self::BedUnsupported(_) => 14,
+            Self::BedUnsupported { .. } => 14,
             Self::Other { number, .. } => number,
         }
     }
-    /// The two counts.
+
+    /// The two counts, 0 where it has none.
     pub const fn counts(self) -> (u32, u32) {
         match self {
             Self::RateChanged { expected, provided } | Self::Objects { expected, provided } => {
                 (expected, provided)
             }
             Self::BedMissing { expected } => (expected, 0),
-            Self::BedUnsupported(Some(bed)) => (bed as u32, 0),
+            Self::BedUnsupported { code } => (code, 0),
             Self::Other { first, second, .. } => (first, second),
             _ => (0, 0),
         }
     }
+
     /// Whose fault it is.
     pub const fn blame(self) -> Blame {
-        match self {
-            Self::Records | Self::Value | Self::BedUnsupported(_) => Blame::Programme,
-            Self::Sample => Blame::Decoder,
-            Self::RateChanged { .. }
-            | Self::NoUpdate
-            | Self::Objects { .. }
-            | Self::BedMissing { .. } => Blame::Stream,
+        match self.number() {
+            5 | 6 => Blame::Programme,
+            8 => Blame::Decoder,
+            9..=14 => Blame::Stream,
             _ => Blame::Host,
         }
     }
 }
+
 impl fmt::Display for Refusal {
     fn fmt(&self, f: &mut fmt::Formatter<'_>) -> fmt::Result {
-        match self {
-            Self::RateChanged { expected, provided } => write!(
-                f,
-                "the stream runs at {expected} Hz and the frame at {provided}"
-            ),
-            Self::Objects { expected, provided } => write!(
-                f,
-                "the metadata has {expected} objects and the frame {provided}"
-            ),
-            Self::Sample => f.write_str("a sample is not finite or beyond ±16"),
-            Self::NoUpdate => f.write_str("no metadata has come yet"),
-            other => write!(f, "{other:?}"), // the skeleton's place for the other sentences
-        }
+        f.write_str(match *self {
+            Self::Memory => "the stride, the output or the state block is not one",
+            Self::Frame => "the frame has too many samples, beds or objects, an unknown bed code, or PCM of another length",
+            Self::Rate => "the rate is outside 8,000 to 192,000 Hz",
+            Self::StreamEnd => "the stream would pass 2^40 samples: reset",
+            Self::Records => "the metadata records are not as laid out, or a count is over its limit",
+            Self::Value => "a value in the metadata is out of its range",
+            Self::Sample => "a sample is not finite or beyond ±16",
+            Self::NoUpdate => "no metadata has come yet",
+            Self::NoSamples => "the frame has no samples",
+            Self::RateChanged { expected, provided } => {
+                return write!(f, "the stream runs at {expected} Hz and the frame at {provided}: flush and reset first");
+            }
+            Self::Objects { expected, provided } => {
+                return write!(f, "the metadata has {expected} dynamic objects and the frame {provided}");
+            }
+            Self::BedMissing { expected } => {
+                return write!(f, "a bed of the metadata ({expected} of its beds match it) has no channel in the frame");
+            }
+            Self::BedUnsupported { code } => {
+                return write!(f, "a bed of the metadata has code {code} (rear center), which no speaker plays");
+            }
+            Self::Other { number, first, second } => return write!(f, "refusal {number} ({first}, {second})"),
+        })
     }
 }
+
 impl core::error::Error for Refusal {}
+
+impl fmt::Display for Blame {
+    fn fmt(&self, f: &mut fmt::Formatter<'_>) -> fmt::Result {
+        f.pad(match self {
+            Self::Host => "host",
+            Self::Programme => "programme",
+            Self::Decoder => "decoder",
+            Self::Stream => "stream",
+        })
+    }
+}

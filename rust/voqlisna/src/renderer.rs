@@ -1,12 +1,145 @@
+// SPDX-License-Identifier: Apache-2.0
 //! The renderer.
-use crate::memory::{Bytes, Floats, OwnBytes, as_bytes_mut};
-use crate::{Bed, Frame, Output, Refusal, Rendered, with_default_floats};
+
+use crate::memory::{Bytes, Floats, OwnBytes};
+use crate::{Frame, Output, Refusal, Rendered, entry};
+use core::fmt;
 use voqlisna_sys::{self as sys, Answer};
 
-/// One stream into one hall. `Send` and `Sync`: it has no interior mutability and the library no globals.
-#[derive(Debug)]
+/// One stream into one hall.
+///
+/// `Send` and `Sync`: nothing in it changes behind a shared reference, and the library has no globals. Its block is
+/// written by the library alone, so that no call is ever refused for it:
+///
+/// ```compile_fail,E0594
+/// # use voqlisna::Renderer;
+/// # fn f(renderer: Renderer) {
+/// renderer.block()[0] = 1;
+/// # }
+/// ```
+///
+/// ```
+/// use voqlisna::*;
+/// let mut renderer = Renderer::new()?;
+/// let mut out = Output::new(Stride::MAX);
+/// let frame = Frame::new(Rate::HZ_48000, &[], Pcm::packed(&[0.0; 100], 1)?, Metadata::NONE)?;
+/// assert_eq!(renderer.push(&frame, &mut out).err(), Some(Refusal::NoUpdate));
+/// assert!(renderer.flush(&mut out).is_none());
+/// # Ok::<(), Box<dyn std::error::Error>>(())
+/// ```
 pub struct Renderer<B: Bytes = OwnBytes> {
     block: B,
+}
+
+#[cfg(feature = "alloc")]
+impl Renderer {
+    /// A new renderer in memory of its own.
+    pub fn new() -> Result<Self, MakeError> {
+        Self::make(crate::memory::zeros(sys::hall_state_size()))
+    }
+}
+
+impl<'m> Renderer<&'m mut [u8]> {
+    /// The same over lent memory of exactly [`Renderer::block_size`] bytes, of any alignment and content.
+    ///
+    /// ```
+    /// use voqlisna::{Renderer, sys};
+    /// let mut memory = [0; sys::STATE_SIZE];
+    /// assert!(Renderer::over(&mut memory).is_ok());
+    /// assert!(Renderer::over(&mut memory[1..]).is_err());
+    /// ```
+    pub fn over(memory: &'m mut [u8]) -> Result<Self, MakeError> {
+        Self::make(memory)
+    }
+}
+
+impl<B: Bytes> Renderer<B> {
+    /// Bytes of a state block, from the library.
+    pub fn block_size() -> usize {
+        sys::hall_state_size()
+    }
+
+    fn make(mut block: B) -> Result<Self, MakeError> {
+        let (expected, found) = (sys::VERSION, sys::hall_version());
+        if expected != found {
+            return Err(MakeError::Version { expected, found });
+        }
+        // A reset refuses a block of another length and nothing else.
+        match Refusal::from_answer(entry::reset(block.lend())) {
+            Some(_) => Err(MakeError::Length {
+                needed: sys::hall_state_size(),
+            }),
+            None => Ok(Self { block }),
+        }
+    }
+
+    /// Takes up a block that is valid.
+    pub(crate) const fn adopt(block: B) -> Self {
+        Self { block }
+    }
+
+    /// Renders a frame. Whole blocks of 64 samples become ready; up to 63 samples wait for the next call.
+    pub fn push<'o, M: Floats>(
+        &mut self,
+        frame: &Frame<'_>,
+        out: &'o mut Output<M>,
+    ) -> Result<Rendered<'o>, Refusal> {
+        let stride = out.stride();
+        read(
+            entry::push(self.block.lend(), frame, out.lend(), stride),
+            out,
+        )
+    }
+
+    /// Gives out what waits, at a programme's end; none where nothing waits. The renderer goes on afterwards.
+    ///
+    /// ```
+    /// # use voqlisna::*;
+    /// # let mut memory = [0; MetadataWriter::bytes_for(1, &[])];
+    /// # let mut writer = MetadataWriter::new(&mut memory);
+    /// # writer.update(Update { at: 0, objects: 1, fixed: 0, beds: &[] })?;
+    /// # let mut renderer = Renderer::new()?;
+    /// # let mut out = Output::new(Stride::MAX);
+    /// let frame = Frame::new(Rate::HZ_48000, &[], Pcm::packed(&[0.0; 100], 1)?, writer.finish())?;
+    /// assert_eq!(renderer.push(&frame, &mut out)?.ready(), 64);
+    /// assert_eq!(renderer.flush(&mut out).map(|r| r.ready()), Some(36));
+    /// assert!(renderer.flush(&mut out).is_none());
+    /// # Ok::<(), Box<dyn std::error::Error>>(())
+    /// ```
+    pub fn flush<'o, M: Floats>(&mut self, out: &'o mut Output<M>) -> Option<Rendered<'o>> {
+        let stride = out.stride();
+        let answer = entry::flush(self.block.lend(), out.lend(), stride);
+        // A flush refuses only what is lent (1), which this crate settles; what is left is kind 0, or 2: nothing waits.
+        read(answer, out).ok().filter(|_| answer.kind == 0)
+    }
+
+    /// A new stream. Samples that wait are lost: flush first.
+    pub fn reset(&mut self) {
+        entry::reset(self.block.lend()); // refuses a block of another length, which this is not
+    }
+
+    /// The state block, as docs/STATE-BLOCK.md lays it out.
+    pub fn block(&self) -> &[u8] {
+        self.block.get()
+    }
+
+    /// Gives the block up, to the C entries.
+    pub fn into_block(self) -> B {
+        self.block
+    }
+}
+
+fn read<M: Floats>(answer: Answer, out: &Output<M>) -> Result<Rendered<'_>, Refusal> {
+    match Refusal::from_answer(answer) {
+        Some(refusal) => Err(refusal),
+        None => Ok(out.rendered(answer.ready)),
+    }
+}
+
+impl<B: Bytes> fmt::Debug for Renderer<B> {
+    fn fmt(&self, f: &mut fmt::Formatter<'_>) -> fmt::Result {
+        f.debug_struct("Renderer").finish_non_exhaustive()
+    }
 }
 
 /// A renderer cannot be made.
@@ -20,133 +153,25 @@ pub enum MakeError {
         /// The library's.
         found: u32,
     },
-    /// Lent memory is not exactly `Renderer::block_size()` bytes.
+    /// Lent memory of another length.
     Length {
-        /// What it must be.
+        /// Bytes that it must have.
         needed: usize,
     },
 }
-impl core::fmt::Display for MakeError {
-    fn fmt(&self, f: &mut core::fmt::Formatter<'_>) -> core::fmt::Result {
-        write!(f, "{self:?}")
+
+impl fmt::Display for MakeError {
+    fn fmt(&self, f: &mut fmt::Formatter<'_>) -> fmt::Result {
+        match self {
+            Self::Version { expected, found } => {
+                write!(
+                    f,
+                    "the library is version {found} and this program is for {expected}: run rt staticlib hall again"
+                )
+            }
+            Self::Length { needed } => write!(f, "a state block has {needed} bytes"),
+        }
     }
 }
+
 impl core::error::Error for MakeError {}
-
-#[cfg(feature = "alloc")]
-impl Renderer {
-    /// A new renderer. The one allocation.
-    pub fn new() -> Result<Self, MakeError> {
-        Self::make(own())
-    }
-}
-#[cfg(feature = "alloc")]
-fn own() -> OwnBytes {
-    alloc::vec![0; sys::hall_state_size()].into_boxed_slice()
-}
-
-impl<'m> Renderer<&'m mut [u8]> {
-    /// The same over lent memory of exactly [`Renderer::block_size`] bytes, of any alignment and content.
-    pub fn over(memory: &'m mut [u8]) -> Result<Self, MakeError> {
-        Self::make(memory)
-    }
-}
-
-impl<B: Bytes> Renderer<B> {
-    /// Bytes of a state block, from the library.
-    pub fn block_size() -> usize {
-        sys::hall_state_size()
-    }
-
-    pub(crate) fn make(mut block: B) -> Result<Self, MakeError> {
-        let (expected, found) = (sys::VERSION, sys::hall_version());
-        if expected != found {
-            return Err(MakeError::Version { expected, found });
-        }
-        let s = block.lend();
-        let needed = sys::hall_state_size();
-        if s.len() != needed {
-            return Err(MakeError::Length { needed });
-        }
-        // SAFETY: one slice, lent for the call.
-        let a = unsafe { sys::hall_reset(s.as_mut_ptr(), s.len()) };
-        if a.kind == 1 {
-            return Err(MakeError::Length { needed });
-        }
-        Ok(Self { block })
-    }
-    pub(crate) fn adopt(block: B) -> Self {
-        Self { block }
-    }
-
-    /// Renders a frame. What is ready is read from the answer; up to 63 samples wait for the next call.
-    pub fn push<'o, M: Floats>(
-        &mut self,
-        frame: &Frame<'_>,
-        out: &'o mut Output<M>,
-    ) -> Result<Rendered<'o>, Refusal> {
-        let stride = out.stride().get();
-        let (s, o) = (self.block.lend(), as_bytes_mut(out.lend()));
-        let (p, m, c) = (
-            frame.pcm.as_bytes(),
-            frame.metadata.as_bytes(),
-            Bed::codes(frame.beds),
-        );
-        // SAFETY: five slices, the two `&mut` ones overlapping nothing; all live through the call; default float mode.
-        let a = with_default_floats(|| unsafe {
-            sys::hall_push(
-                s.as_mut_ptr(),
-                s.len(),
-                p.as_ptr(),
-                p.len(),
-                m.as_ptr(),
-                m.len(),
-                o.as_mut_ptr(),
-                o.len(),
-                c.as_ptr(),
-                c.len(),
-                frame.rate.hertz(),
-                frame.pcm.samples() as u32,
-                frame.objects as u32,
-                stride,
-            )
-        });
-        self.read(a, out)
-            .map(|r| r.unwrap_or_else(|| out.rendered(0)))
-    }
-    /// Gives out what waits, at a programme's end: none where nothing waits. The renderer goes on afterwards.
-    pub fn flush<'o, M: Floats>(&mut self, out: &'o mut Output<M>) -> Option<Rendered<'o>> {
-        let stride = out.stride().get();
-        let (s, o) = (self.block.lend(), as_bytes_mut(out.lend()));
-        // SAFETY: two slices that do not overlap.
-        let a = with_default_floats(|| unsafe {
-            sys::hall_flush(s.as_mut_ptr(), s.len(), o.as_mut_ptr(), o.len(), stride)
-        });
-        self.read(a, out).ok().flatten()
-    }
-    /// A new stream in the same hall. Samples that wait are lost: flush first.
-    pub fn reset(&mut self) {
-        let s = self.block.lend();
-        // SAFETY: one slice. A block of this type is never refused.
-        unsafe { sys::hall_reset(s.as_mut_ptr(), s.len()) };
-    }
-    fn read<'o, M: Floats>(
-        &self,
-        a: Answer,
-        out: &'o Output<M>,
-    ) -> Result<Option<Rendered<'o>>, Refusal> {
-        match a.kind {
-            0 => Ok(Some(out.rendered(a.ready.min(out.stride().samples())))),
-            1 => Err(Refusal::from_answer(a)),
-            _ => Ok(None),
-        }
-    }
-    /// The state block, as docs/STATE-BLOCK.md lays it out.
-    pub fn block(&self) -> &[u8] {
-        self.block.get()
-    }
-    /// Gives the block up, to the C entries or to a snapshot.
-    pub fn into_block(self) -> B {
-        self.block
-    }
-}

@@ -1,62 +1,75 @@
+// SPDX-License-Identifier: Apache-2.0
 //! A renderer kept and brought back.
-use crate::Renderer;
+
 use crate::memory::Bytes;
+use crate::{Frame, Metadata, Pcm, Rate, Refusal, Renderer, Stride, entry};
+use core::fmt;
 use voqlisna_sys as sys;
 
-/// A saved renderer: "HALL", version, length, check sum (each u32), then the block.
-#[derive(Clone, Copy, Debug)]
-pub struct Snapshot<'a>(&'a [u8]);
-/// Why a snapshot is not taken.
-#[non_exhaustive]
-#[derive(Clone, Copy, Debug, PartialEq, Eq)]
-pub enum SnapshotError {
-    /// Not "HALL", or cut.
-    NotOne,
-    /// Another version of the library wrote it.
-    Version(u32),
-    /// The check sum is another: damaged.
-    Damaged,
-    /// A field outside its range (refusal 1).
-    Range,
-    /// Memory too small.
-    Memory {
-        /// Bytes.
-        needed: usize,
-    },
+const MAGIC: [u8; 4] = *b"HALL";
+const HEAD: usize = 16;
+
+/// A saved renderer: "HALL", then version, length and CRC-32 of the block, each a little-endian u32, then the block.
+///
+/// ```
+/// use voqlisna::{Renderer, Snapshot, SnapshotError};
+/// let renderer = Renderer::new()?;
+/// let mut file = vec![0; Snapshot::size()];
+/// renderer.save(&mut file)?;
+///
+/// let again = Renderer::restore(Snapshot::read(&file)?)?;
+/// assert_eq!(again.block(), renderer.block());
+///
+/// file[100] ^= 1;
+/// assert_eq!(Snapshot::read(&file).err(), Some(SnapshotError::Damaged));
+/// # Ok::<(), Box<dyn std::error::Error>>(())
+/// ```
+#[derive(Clone, Copy)]
+pub struct Snapshot<'a> {
+    bytes: &'a [u8],
+    block: &'a [u8],
 }
+
 impl<'a> Snapshot<'a> {
     /// Bytes of a snapshot.
     pub fn size() -> usize {
-        16 + sys::hall_state_size()
+        sys::hall_state_size().saturating_add(HEAD)
     }
-    /// The bytes, to be stored.
-    pub const fn as_bytes(&self) -> &'a [u8] {
-        self.0
-    }
+
     /// Checks head, version, length and sum.
     pub fn read(bytes: &'a [u8]) -> Result<Self, SnapshotError> {
-        if bytes.len() < 16 || &bytes[..4] != b"HALL" {
+        let Some((head, block)) = bytes.split_first_chunk::<HEAD>() else {
             return Err(SnapshotError::NotOne);
-        }
-        let word = |at: usize| {
-            u32::from_le_bytes([bytes[at], bytes[at + 1], bytes[at + 2], bytes[at + 3]])
         };
-        if word(4) != sys::VERSION {
-            return Err(SnapshotError::Version(word(4)));
-        }
-        if bytes.len() != Self::size() || word(8) as usize != bytes.len() - 16 {
+        let [a, b, c, d, version @ ..] = head;
+        if [*a, *b, *c, *d] != MAGIC {
             return Err(SnapshotError::NotOne);
         }
-        if word(12) != crc32(&bytes[16..]) {
+        let [v0, v1, v2, v3, length @ .., s0, s1, s2, s3] = version;
+        let version = u32::from_le_bytes([*v0, *v1, *v2, *v3]);
+        if version != sys::VERSION {
+            return Err(SnapshotError::Version(version));
+        }
+        if bytes.len() != Self::size() || *length != (block.len() as u32).to_le_bytes() {
+            return Err(SnapshotError::NotOne);
+        }
+        if u32::from_le_bytes([*s0, *s1, *s2, *s3]) != crc32(block) {
             return Err(SnapshotError::Damaged);
         }
-        Ok(Self(bytes))
+        Ok(Self { bytes, block })
     }
+
+    /// To be stored.
+    pub const fn as_bytes(&self) -> &'a [u8] {
+        self.bytes
+    }
+
     /// The block itself.
-    pub fn block(&self) -> &'a [u8] {
-        &self.0[16..]
+    pub const fn block(&self) -> &'a [u8] {
+        self.block
     }
 }
+
 impl<B: Bytes> Renderer<B> {
     /// Saves the renderer into lent memory of [`Snapshot::size`] bytes or more.
     pub fn save<'s>(&self, to: &'s mut [u8]) -> Result<Snapshot<'s>, SnapshotError> {
@@ -64,78 +77,110 @@ impl<B: Bytes> Renderer<B> {
         let to = to
             .get_mut(..needed)
             .ok_or(SnapshotError::Memory { needed })?;
-        to[16..].copy_from_slice(block);
-        to[..4].copy_from_slice(b"HALL");
-        for (k, n) in [sys::VERSION, block.len() as u32, crc32(block)]
-            .into_iter()
-            .enumerate()
-        {
-            to[4 + 4 * k..8 + 4 * k].copy_from_slice(&n.to_le_bytes())
+        let words = [sys::VERSION, block.len() as u32, crc32(block)].map(u32::to_le_bytes);
+        let bytes = MAGIC.iter().chain(words.as_flattened()).chain(block);
+        for (place, byte) in to.iter_mut().zip(bytes) {
+            *place = *byte;
         }
-        Ok(Snapshot(to))
+        let bytes: &[u8] = to;
+        Ok(Snapshot {
+            bytes,
+            block: bytes.get(HEAD..).unwrap_or_default(),
+        })
     }
 }
+
 impl<'m> Renderer<&'m mut [u8]> {
-    /// Brings a snapshot back into lent memory. Fields out of range are refused by the library itself.
-    pub fn restore_over(s: Snapshot<'_>, memory: &'m mut [u8]) -> Result<Self, SnapshotError> {
-        let needed = sys::hall_state_size();
+    /// Brings a snapshot back into lent memory of exactly [`Renderer::block_size`] bytes. See [`Renderer::restore`].
+    pub fn restore_over(
+        snapshot: Snapshot<'_>,
+        memory: &'m mut [u8],
+    ) -> Result<Self, SnapshotError> {
+        let needed = snapshot.block.len();
         if memory.len() != needed {
             return Err(SnapshotError::Memory { needed });
         }
-        memory.copy_from_slice(s.block());
-        if !is_valid(memory) {
-            return Err(SnapshotError::Range);
-        }
-        Ok(Self::adopt(memory))
+        memory.copy_from_slice(snapshot.block); // of one length
+        take_up(memory)
     }
-}
-#[cfg(feature = "alloc")]
-impl Renderer {
-    /// Brings a snapshot back.
-    pub fn restore(s: Snapshot<'_>) -> Result<Self, SnapshotError> {
-        let mut block: alloc::boxed::Box<[u8]> = s.block().into();
-        if !is_valid(&mut block) {
-            return Err(SnapshotError::Range);
-        }
-        Ok(Self::adopt(block))
-    }
-}
-/// A push of no samples is always refused and changes nothing; it is 1 exactly where the block is not valid.
-fn is_valid(block: &mut [u8]) -> bool {
-    let mut out = [0u8; 12 * 64 * 4];
-    let (p, n) = (out.as_mut_ptr(), out.len());
-    let none = core::ptr::NonNull::<u8>::dangling().as_ptr();
-    // SAFETY: two slices that do not overlap, and three of length 0.
-    let a = unsafe {
-        sys::hall_push(
-            block.as_mut_ptr(),
-            block.len(),
-            none,
-            0,
-            none,
-            0,
-            p,
-            n,
-            none,
-            0,
-            48_000,
-            0,
-            0,
-            64,
-        )
-    };
-    a.number != 1
 }
 
-impl core::fmt::Display for SnapshotError {
-    fn fmt(&self, f: &mut core::fmt::Formatter<'_>) -> core::fmt::Result {
-        write!(f, "{self:?}")
-    } // sentences, in the real crate
+#[cfg(feature = "alloc")]
+impl Renderer {
+    /// Brings a snapshot back: the renderer goes on where it was.
+    ///
+    /// A block with a field out of its range is turned down by the library itself. One that is in range but that no run
+    /// has left (a forged one) is taken; its floats may be any, and so may its samples.
+    pub fn restore(snapshot: Snapshot<'_>) -> Result<Self, SnapshotError> {
+        take_up(snapshot.block.into())
+    }
 }
-impl core::error::Error for SnapshotError {}
+
+/// A push of no samples is refused and changes nothing; it is 1 exactly where the block is not valid.
+fn take_up<B: Bytes>(mut block: B) -> Result<Renderer<B>, SnapshotError> {
+    const STRIDE: Stride = match Stride::for_frames_of(0) {
+        Some(stride) => stride,
+        None => Stride::MAX,
+    };
+    let mut out = [0.0; STRIDE.of_all_speakers()];
+    let nothing = Frame::new(Rate::HZ_48000, &[], Pcm::EMPTY, Metadata::NONE)
+        .map_err(|_| SnapshotError::Range)?;
+    let answer = entry::push(block.lend(), &nothing, &mut out, STRIDE);
+    match Refusal::from_answer(answer) {
+        Some(Refusal::Memory) => Err(SnapshotError::Range),
+        _ => Ok(Renderer::adopt(block)),
+    }
+}
+
 /// CRC-32 as in PNG and zip, bit by bit: not for the audio thread.
 fn crc32(bytes: &[u8]) -> u32 {
-    !bytes.iter().fold(!0u32, |c, b| {
-        (0..8).fold(c ^ u32::from(*b), |c, _| (c >> 1) ^ (0xedb8_8320 * (c & 1)))
-    })
+    let step = |sum: u32, _| (sum >> 1) ^ (0xedb8_8320 & (sum & 1).wrapping_neg());
+    !bytes
+        .iter()
+        .fold(!0, |sum, byte| (0..8).fold(sum ^ u32::from(*byte), step))
 }
+
+impl fmt::Debug for Snapshot<'_> {
+    fn fmt(&self, f: &mut fmt::Formatter<'_>) -> fmt::Result {
+        f.debug_struct("Snapshot")
+            .field("bytes", &self.bytes.len())
+            .finish_non_exhaustive()
+    }
+}
+
+/// Why a snapshot is not taken.
+#[non_exhaustive]
+#[derive(Clone, Copy, Debug, PartialEq, Eq)]
+pub enum SnapshotError {
+    /// Not a snapshot, or cut.
+    NotOne,
+    /// Another version of the library wrote it.
+    Version(u32),
+    /// The check sum is another.
+    Damaged,
+    /// A field of the block is out of its range.
+    Range,
+    /// Memory of another length.
+    Memory {
+        /// Bytes that it must have.
+        needed: usize,
+    },
+}
+
+impl fmt::Display for SnapshotError {
+    fn fmt(&self, f: &mut fmt::Formatter<'_>) -> fmt::Result {
+        match self {
+            Self::NotOne => f.write_str("not a snapshot of a renderer, or not a whole one"),
+            Self::Version(found) => write!(
+                f,
+                "a snapshot of version {found}; this program reads {}",
+                sys::VERSION
+            ),
+            Self::Damaged => f.write_str("the snapshot is damaged: its check sum is another"),
+            Self::Range => f.write_str("the snapshot's block has a field out of its range"),
+            Self::Memory { needed } => write!(f, "the lent memory must have {needed} bytes"),
+        }
+    }
+}
+
+impl core::error::Error for SnapshotError {}
