@@ -1,4 +1,4 @@
-//! Links the Rattle functions that crates/probes and crates/hall export.
+//! Links the Rattle functions that crates/probes exports; those of crates/hall come with `voqlisna-sys`.
 
 use std::env;
 use std::path::PathBuf;
@@ -10,16 +10,14 @@ fn main() {
     }
     let root = PathBuf::from(env::var("CARGO_MANIFEST_DIR").unwrap()).join("../..");
     let folder = root.join("target/staticlib");
-    println!("cargo::rustc-link-search=native={}", folder.display());
-    for name in ["probes", "hall"] {
-        let library = folder.join(format!("lib{name}.a"));
-        println!("cargo::rerun-if-changed={}", library.display());
-        if !library.exists() {
-            println!(
-                "cargo::error=target/staticlib/lib{name}.a is missing: run `rt staticlib {name}` first"
-            );
-            return;
-        }
-        println!("cargo::rustc-link-lib=static={name}");
+    let library = folder.join("libprobes.a");
+    println!("cargo::rerun-if-changed={}", library.display());
+    if !library.exists() {
+        println!(
+            "cargo::error=target/staticlib/libprobes.a is missing: run `rt staticlib probes` first"
+        );
+        return;
     }
+    println!("cargo::rustc-link-search=native={}", folder.display());
+    println!("cargo::rustc-link-lib=static=probes");
 }
