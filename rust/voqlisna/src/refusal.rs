@@ -171,7 +171,7 @@ impl Refusal {
 impl fmt::Display for Refusal {
     fn fmt(&self, f: &mut fmt::Formatter<'_>) -> fmt::Result {
         f.write_str(match *self {
-            Self::Memory => "the stride, the output or the state block is not one",
+            Self::Memory => "what is lent is not as it must be: the stride, the output or the state block",
             Self::Frame => "the frame has too many samples, beds or objects, an unknown bed code, or PCM of another length",
             Self::Rate => "the rate is outside 8,000 to 192,000 Hz",
             Self::StreamEnd => "the stream would pass 2^40 samples: reset",
