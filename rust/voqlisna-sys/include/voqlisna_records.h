@@ -99,19 +99,19 @@ static inline uint8_t *hall_put_object(uint8_t *to, const hall_object *object) {
 /* A sentence for a person. */
 static inline const char *hall_refusal_text(uint32_t number) {
   switch (number) {
-    case 1: return "what is lent is not as it must be: the stride, the output or the state block";
-    case 2: return "the frame has too many samples, beds or objects, an unknown bed code, or PCM of another length";
+    case 1: return "the stride, the output or the state block is not as it must be";
+    case 2: return "too many samples, beds or objects, an unknown bed, or PCM of another length";
     case 3: return "the rate is outside 8,000 to 192,000 Hz";
     case 4: return "the stream would pass 2^40 samples: reset";
-    case 5: return "the metadata records are not as laid out, or a count is over its limit";
+    case 5: return "metadata records are not as laid out, or a count is over its limit";
     case 6: return "a value in the metadata is out of its range";
     case 8: return "a sample is not finite or beyond +-16";
     case 9: return "the frame has another rate than the stream: flush and reset first";
     case 10: return "no metadata has come yet";
     case 11: return "the metadata has another number of dynamic objects than the frame";
     case 12: return "the frame has no samples";
-    case 13: return "a bed of the metadata has no channel in the frame";
-    case 14: return "a bed of the metadata is rear center, which no speaker plays";
+    case 13: return "the frame lacks a bed of the metadata";
+    case 14: return "the metadata has a bed of rear center, which no speaker plays";
     default: return "an unknown refusal";
   }
 }

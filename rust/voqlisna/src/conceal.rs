@@ -1,6 +1,6 @@
 // SPDX-License-Identifier: Apache-2.0
-//! What to push where a frame was refused. A refused call has not moved the clock, so the next try starts from the same
-//! state.
+//! What to push where a frame was refused. A refused call has not moved the clock, so the next try
+//! starts from the same state.
 
 use crate::memory::{Bytes, Floats, OwnFloats};
 use crate::shape::{BEDS, CHANNELS};
@@ -51,12 +51,13 @@ struct Channels {
 pub enum Way {
     /// By the frame itself.
     Whole,
-    /// By its sound, at the places that stood (after 5 and 6, and after 11, 13 and 14 where it has metadata): its updates
-    /// are lost.
+    /// By its sound, at the places that stood (after 5 and 6, and after 11, 13 and 14 where it has
+    /// metadata): its updates are lost.
     SoundOnly,
     /// By silence with its metadata (after 8): objects move on.
     MetadataOnly,
-    /// By silence on the channels of the last frame whose channels were taken: its updates are lost.
+    /// By silence on the channels of the last frame whose channels were taken: its updates are
+    /// lost.
     Silence,
 }
 
@@ -144,12 +145,15 @@ impl<M: Floats> Concealer<M> {
 }
 
 impl<B: Bytes> Renderer<B> {
-    /// Pushes the frame, or what comes nearest to it, so that the clock moves by its samples. At most three pushes.
+    /// Pushes the frame, or what comes nearest to it, so that the clock moves by its samples. At
+    /// most three pushes.
     ///
-    /// Refused for good, with the frame's own refusal and nothing changed: 1 to 4 and 12 (the host's to mend), 9 (flush,
-    /// reset and push again), 10 (nothing has begun: play silence), any where no frame was taken before, and frames
-    /// longer than the concealer's stride. Give every frame of a stream to this function and not to
-    /// [`Renderer::push`], so that the concealer knows the channels; [`Concealer::reset`] goes with [`Renderer::reset`].
+    /// Refused for good, with the frame's own refusal and nothing changed: 1 to 4 and 12 (the
+    /// host's to mend), 9 (flush, reset and push again), 10 (nothing has begun: play silence), and
+    /// frames of which each try is refused, as before the first that is taken, or that are longer
+    /// than the concealer's stride. Give every frame of a stream to this function and not to
+    /// [`Renderer::push`], so that the concealer knows the channels; [`Concealer::reset`] goes
+    /// with [`Renderer::reset`].
     pub fn push_or_conceal<'o, M: Floats, S: Floats>(
         &mut self,
         frame: &Frame<'_>,

@@ -10,7 +10,8 @@ pub(crate) fn push(state: &mut [u8], frame: &Frame<'_>, out: &mut [f32], stride:
     let (pcm, meta) = (frame.pcm().as_bytes(), frame.metadata().as_bytes());
     let codes = Bed::codes(frame.beds());
     let (samples, objects) = (frame.pcm().count(), frame.object_count());
-    // SAFETY: five slices that live through the call; the two written ones are borrowed mutably, so they overlap nothing.
+    // SAFETY: five slices that live through the call; the two written ones are borrowed mutably, so
+    // they overlap nothing.
     with_default_floats(|| unsafe {
         sys::hall_push(
             state.as_mut_ptr(),

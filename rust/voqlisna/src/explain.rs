@@ -7,14 +7,15 @@ use crate::{Bed, Frame, Refusal, Stride};
 use core::fmt;
 use voqlisna_sys as sys;
 
-/// What is behind the refusal of a frame that was pushed with this stride; none where the frame does not tell, or where
-/// the refusal is not this frame's.
+/// What is behind the refusal of a frame that was pushed with this stride; none where the frame
+/// does not tell, or where the refusal is not this frame's.
 ///
 /// ```
 /// use voqlisna::*;
 /// let mut sound = [0.0; 4];
 /// sound[3] = f32::INFINITY;
-/// let frame = Frame::new(Rate::HZ_48000, &[Bed::Center], Pcm::packed(&sound, 2)?, Metadata::NONE)?;
+/// let pcm = Pcm::packed(&sound, 2)?;
+/// let frame = Frame::new(Rate::HZ_48000, &[Bed::Center], pcm, Metadata::NONE)?;
 /// let cause = explain(&frame, Stride::MAX, Refusal::Sample).unwrap();
 /// assert_eq!(cause.to_string(), "channel 1, sample 1 is inf");
 /// # Ok::<(), ShapeError>(())
@@ -116,7 +117,8 @@ pub enum Argument {
 }
 
 impl Arguments<'_> {
-    /// What is behind this refusal of the call: for 1, 2, 5, 6 and 8; none where these arguments are no reason for it.
+    /// What is behind this refusal of the call: for 1, 2, 5, 6 and 8; none where these arguments
+    /// are no reason for it.
     pub fn explain(&self, refusal: Refusal) -> Option<Cause> {
         match refusal {
             Refusal::Memory => Some(Cause::Argument(self.lent())),

@@ -4,16 +4,17 @@
 use core::arch::asm;
 use core::mem::MaybeUninit;
 
-// MXCSR: bits 0-5 are flags, 6 is "denormals are zero", 7-12 are the exception masks, 13-14 the rounding, 15 "flush to zero".
+// MXCSR: bits 0-5 are flags, 6 is "denormals are zero", 7-12 are the exception masks, 13-14 the
+// rounding, 15 "flush to zero".
 const CONTROL: u32 = 0xffc0;
 const DEFAULT: u32 = 0x1f80;
 
-/// Runs `f` in the default float mode (rounding to nearest, subnormals kept, exceptions masked), and gives the caller's
-/// mode back.
+/// Runs `f` in the default float mode (rounding to nearest, subnormals kept, exceptions masked),
+/// and gives the caller's mode back.
 ///
-/// The renderer's promises are about that mode; audio threads often run in another. Every call of this crate that
-/// computes does this itself; it is public for hosts on [`crate::sys`]. A panic of `f` ends the process where the mode
-/// had to be changed.
+/// The renderer's promises are about that mode; audio threads often run in another. Every call of
+/// this crate that computes does this itself; it is public for hosts on [`crate::sys`]. A panic of
+/// `f` ends the process where the mode had to be changed.
 ///
 /// ```
 /// let version = voqlisna::with_default_floats(|| voqlisna::sys::hall_version());
@@ -29,9 +30,11 @@ pub fn with_default_floats<F: FnOnce() -> R, R>(f: F) -> R {
         f: MaybeUninit::new(f),
         r: MaybeUninit::uninit(),
     };
-    // Setting the mode, the call and restoring stand in one block, since a block must leave the mode as it found it.
-    // SAFETY: `run` takes the one pointer that it gets here, to a job not run yet, and does not unwind; the stack is
-    // aligned for a call where an asm! block starts; r12 is kept by the callee; the mode at the end is that of the start.
+    // Setting the mode, the call and restoring stand in one block, since a block must leave the
+    // mode as it found it.
+    // SAFETY: `run` takes the one pointer that it gets here, to a job not run yet, and does not
+    // unwind; the stack is aligned for a call where an asm! block starts; r12 is kept by the
+    // callee; the mode at the end is that of the start.
     unsafe {
         asm!(
             "ldmxcsr [{default}]",

@@ -9,7 +9,8 @@ use crate::{Bed, Metadata, Pcm, Rate};
 /// ```
 /// use voqlisna::*;
 /// let sound = [0.0; 3 * 256];
-/// let frame = Frame::new(Rate::HZ_48000, &[Bed::Center], Pcm::packed(&sound, 3)?, Metadata::NONE)?;
+/// let pcm = Pcm::packed(&sound, 3)?;
+/// let frame = Frame::new(Rate::HZ_48000, &[Bed::Center], pcm, Metadata::NONE)?;
 /// assert_eq!(frame.objects(), 2);
 /// # Ok::<(), ShapeError>(())
 /// ```
@@ -23,6 +24,15 @@ pub struct Frame<'a> {
 }
 
 impl<'a> Frame<'a> {
+    /// No channel, no samples: push refuses it.
+    pub(crate) const NOTHING: Frame<'static> = Frame {
+        rate: Rate::HZ_48000,
+        beds: &[],
+        objects: 0,
+        pcm: Pcm::EMPTY,
+        metadata: Metadata::NONE,
+    };
+
     /// The first channels are the beds, the rest objects.
     pub fn new(
         rate: Rate,

@@ -1,5 +1,6 @@
 // SPDX-License-Identifier: Apache-2.0
-//! A proved 7.1.4 hall renderer, safe from Rust: beds and moving objects in, twelve loudspeaker feeds out.
+//! A proved 7.1.4 hall renderer, safe from Rust: beds and moving objects in, twelve loudspeaker
+//! feeds out.
 //!
 //! ```
 //! use voqlisna::*;
@@ -22,10 +23,11 @@
 //! # Ok::<(), Box<dyn std::error::Error>>(())
 //! ```
 //!
-//! No function panics, locks, reads the clock or keeps a pointer. Memory is taken from the heap only by the functions
-//! named `new`, `fixed`, `up_to` and `restore`; each has a twin over lent memory, so that the crate works without `std`
-//! and, without the feature `alloc`, without a heap. An audio thread may call everything but those, [`explain`] and
-//! [`Renderer::save`]; a call takes less than 32 KiB of its stack. [`sys`] has the C entries themselves.
+//! No function panics, locks, reads the clock or keeps a pointer. Memory is taken from the heap
+//! only by the functions named `new`, `fixed`, `up_to` and `restore`; each has a twin over lent
+//! memory, so that the crate works without `std` and, without the feature `alloc`, without a heap.
+//! An audio thread may call everything but those, [`explain`] and [`Renderer::save`]; a call takes
+//! less than 32 KiB of its stack. [`sys`] has the C entries themselves.
 #![no_std]
 #![deny(
     missing_docs,
@@ -39,8 +41,6 @@
 )]
 #[cfg(feature = "alloc")]
 extern crate alloc;
-#[cfg(feature = "std")]
-extern crate std;
 
 mod bed;
 mod conceal;
@@ -84,5 +84,6 @@ pub use shape::ShapeError;
 pub use snapshot::{Snapshot, SnapshotError};
 pub use speaker::{Speaker, WAVE_MASK};
 pub use steady::Steady;
+/// The C entries and their declarations, for hosts that call them themselves.
 pub use voqlisna_sys as sys;
 pub use writer::{BuildError, MetadataWriter, Update, UpdateWriter};

@@ -13,8 +13,8 @@ pub(crate) const MOST_SIZE: f32 = 1.0;
 
 /// When a block of an element starts, and how long its objects take to their new places.
 ///
-/// A block applies at the first slot of 64 samples whose time since the update is greater than its offset, so with offset
-/// 0 at sample 64.
+/// A block applies at the first slot of 64 samples whose time since the update is greater than its
+/// offset, so with offset 0 at sample 64.
 #[derive(Clone, Copy, Debug, PartialEq, Eq, Default)]
 pub struct Block {
     /// Samples after the update, within ±1,048,576.
@@ -46,26 +46,36 @@ pub enum Anchor {
     Room,
     /// The screen.
     Screen,
-    /// A speaker.
+    /// Nothing: the object stays where it is. Beds are always so.
     Speaker,
 }
 
 impl Anchor {
-    /// All three, by their number in a record.
+    /// All three, by code.
     pub const ALL: [Self; 3] = [Self::Room, Self::Screen, Self::Speaker];
+
+    /// 0 to 2, as in a record.
+    pub const fn code(self) -> u8 {
+        self as u8
+    }
+
+    /// None above 2.
+    pub fn from_code(code: u8) -> Option<Self> {
+        Self::ALL.get(usize::from(code)).copied()
+    }
 }
 
-/// How a screen-anchored position is drawn away from the screen.
+/// How a screen-anchored position leaves the screen: by its y to this power.
 #[derive(Clone, Copy, Debug, PartialEq, Eq, Default)]
 pub enum Depth {
-    /// To the power 0.25.
+    /// 0.25.
     Quarter,
-    /// To the power 0.5.
+    /// 0.5.
     Half,
-    /// As it is.
+    /// 1.
     #[default]
     One,
-    /// Squared.
+    /// 2.
     Two,
 }
 
@@ -81,6 +91,11 @@ impl Depth {
             Self::One => 1.0,
             Self::Two => 2.0,
         }
+    }
+
+    /// None for every other number.
+    pub fn from_factor(factor: f32) -> Option<Self> {
+        Self::ALL.into_iter().find(|depth| depth.factor() == factor)
     }
 }
 
@@ -98,19 +113,19 @@ pub struct Object {
     pub anchor: Anchor,
     /// 0 to 8.
     pub gain: Option<f32>,
-    /// The place, or the step to it.
+    /// The place, or a step.
     pub position: Option<Room>,
     /// The position is to be used.
     pub valid: bool,
-    /// The position is added to the last one that was not differential.
+    /// The position is a step from the last one that was no step, and ends in the room.
     pub differential: bool,
-    /// Along the line from the middle through the position; an infinite one counts as 100.
+    /// Of a room-anchored position; an infinite one counts as 100.
     pub distance: Option<f32>,
     /// 0 to 1.
     pub size: Option<f32>,
-    /// How far a screen-anchored position keeps to the screen.
+    /// Of a screen-anchored position: 0 scales it to the screen, 1 leaves it in the room.
     pub screen_factor: f32,
-    /// For a screen-anchored position.
+    /// Of a screen-anchored position.
     pub depth: Depth,
 }
 
@@ -170,7 +185,7 @@ impl Object {
         }
         let mut r = [0; RECORD];
         r[0] = 4;
-        r[1] = self.anchor as u8;
+        r[1] = self.anchor.code();
         r[2] = self.flags();
         let word = |x: Option<f32>| x.map_or([0; 4], f32::to_le_bytes);
         r[4..8].copy_from_slice(&word(self.gain));

@@ -5,7 +5,8 @@ use crate::memory::{Floats, OwnFloats};
 use crate::shape::SAMPLES;
 use crate::{Rendered, ShapeError, Speaker};
 
-/// Places of a channel in the output, and so the most samples of a frame: a multiple of 64 from 64 to 1,536.
+/// Places of a channel in the output, and so the most samples of a frame: a multiple of 64 from 64
+/// to 1,536.
 ///
 /// ```
 /// use voqlisna::Stride;
@@ -16,23 +17,26 @@ use crate::{Rendered, ShapeError, Speaker};
 pub struct Stride(u32);
 
 impl Stride {
+    /// 64.
+    pub const MIN: Self = Self(64);
+
     /// 1,536.
     pub const MAX: Self = Self(SAMPLES as u32);
 
     /// None where it is no multiple of 64 from 64 to 1,536.
     pub const fn new(places: u32) -> Option<Self> {
-        if places % 64 == 0 && places >= 64 && places <= Self::MAX.0 {
+        if places % 64 == 0 && places >= Self::MIN.0 && places <= Self::MAX.0 {
             Some(Self(places))
         } else {
             None
         }
     }
 
-    /// The least for frames of up to `samples`. It holds what becomes ready of them, whatever waited before. None above
-    /// 1,536.
+    /// The least for frames of up to `samples`. It holds what becomes ready of them, whatever
+    /// waited before. None above 1,536.
     pub const fn for_frames_of(samples: u32) -> Option<Self> {
         match samples {
-            0 => Some(Self(64)),
+            0 => Some(Self::MIN),
             1..=1536 => Some(Self(samples.next_multiple_of(64))),
             _ => None,
         }
@@ -60,7 +64,8 @@ impl Stride {
 /// let mut memory = [0.0; 12 * 256];
 /// let stride = Stride::new(256).unwrap();
 /// assert!(Output::over(&mut memory[..], stride).is_ok());
-/// assert_eq!(Output::over(&mut memory[1..], stride).err(), Some(ShapeError::Memory { needed: 3072 }));
+/// let short = Output::over(&mut memory[1..], stride).err();
+/// assert_eq!(short, Some(ShapeError::Memory { needed: 3072 }));
 /// ```
 pub struct Output<M: Floats = OwnFloats> {
     memory: M,

@@ -12,7 +12,7 @@ use crate::{Stride, memory::zeros};
 /// use voqlisna::{Pcm, ShapeError};
 /// let two_channels = [0.0f32; 512];
 /// assert_eq!(Pcm::packed(&two_channels, 2)?.samples(), 256);
-/// assert_eq!(Pcm::packed(&two_channels, 3).err(), Some(ShapeError::Length { got: 2048, of: 12 }));
+/// assert_eq!(Pcm::packed(&two_channels, 3).err(), Some(ShapeError::Length { got: 512, of: 3 }));
 /// # Ok::<(), ShapeError>(())
 /// ```
 #[derive(Clone, Copy, Debug)]
@@ -32,7 +32,11 @@ impl<'a> Pcm<'a> {
 
     /// One slice, channel after channel.
     pub fn packed(samples: &'a [f32], channels: usize) -> Result<Self, ShapeError> {
-        Self::bytes(as_bytes(samples), channels)
+        let (got, of) = (samples.len(), channels);
+        Self::bytes(as_bytes(samples), channels).map_err(|error| match error {
+            ShapeError::Length { .. } => ShapeError::Length { got, of },
+            other => other,
+        })
     }
 
     /// The same as little-endian f32 of any alignment: for decoders that write bytes.
@@ -78,7 +82,8 @@ impl<'a> Pcm<'a> {
     }
 }
 
-/// Memory in which channels are brought together, for decoders whose channels lie apart or interleaved.
+/// Memory in which channels are brought together, for decoders whose channels lie apart or
+/// interleaved.
 ///
 /// ```
 /// use voqlisna::{Pcm, Stage, Stride};

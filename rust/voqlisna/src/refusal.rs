@@ -11,15 +11,16 @@ use voqlisna_sys::Answer;
 /// let refusal = Refusal::RateChanged { expected: 48_000, provided: 44_100 };
 /// assert_eq!((refusal.number(), refusal.counts()), (9, (48_000, 44_100)));
 /// assert_eq!(refusal.blame(), Blame::Stream);
-/// assert_eq!(refusal.to_string(), "the stream runs at 48000 Hz and the frame at 44100: flush and reset first");
+/// assert!(refusal.to_string().starts_with("the stream runs at 48000 Hz and the frame at 44100"));
 /// ```
 #[non_exhaustive]
 #[derive(Clone, Copy, Debug, PartialEq, Eq, Hash)]
 pub enum Refusal {
-    /// 1: stride, output or state block. Cannot arise through this crate; hosts on [`crate::sys`] meet it.
+    /// 1: stride, output or state block. Cannot arise through this crate; hosts on [`crate::sys`]
+    /// meet it.
     Memory,
-    /// 2: samples, beds, objects, a bed code, or the length of the PCM. Through this crate only by a frame with more
-    /// samples than the output's stride.
+    /// 2: samples, beds, objects, a bed code, or the length of the PCM. Through this crate only by
+    /// a frame with more samples than the output's stride.
     Frame,
     /// 3: a rate outside 8,000 to 192,000. Cannot arise through this crate.
     Rate,
@@ -79,7 +80,8 @@ pub enum Blame {
     Programme,
     /// The decoder's samples.
     Decoder,
-    /// The stream by the rules' own: frames and metadata, each right in itself, do not fit each other.
+    /// The stream by the rules' own: frames and metadata, each right in itself, do not fit each
+    /// other.
     Stream,
 }
 
@@ -171,29 +173,44 @@ impl Refusal {
 impl fmt::Display for Refusal {
     fn fmt(&self, f: &mut fmt::Formatter<'_>) -> fmt::Result {
         f.write_str(match *self {
-            Self::Memory => "what is lent is not as it must be: the stride, the output or the state block",
-            Self::Frame => "the frame has too many samples, beds or objects, an unknown bed code, or PCM of another length",
+            Self::Memory => "the stride, the output or the state block is not as it must be",
+            Self::Frame => {
+                "too many samples, beds or objects, an unknown bed, or PCM of another length"
+            }
             Self::Rate => "the rate is outside 8,000 to 192,000 Hz",
             Self::StreamEnd => "the stream would pass 2^40 samples: reset",
-            Self::Records => "the metadata records are not as laid out, or a count is over its limit",
+            Self::Records => "metadata records are not as laid out, or a count is over its limit",
             Self::Value => "a value in the metadata is out of its range",
             Self::Sample => "a sample is not finite or beyond ±16",
             Self::NoUpdate => "no metadata has come yet",
             Self::NoSamples => "the frame has no samples",
-            Self::RateChanged { expected, provided } => {
-                return write!(f, "the stream runs at {expected} Hz and the frame at {provided}: flush and reset first");
-            }
-            Self::Objects { expected, provided } => {
-                return write!(f, "the metadata has {expected} dynamic objects and the frame {provided}");
-            }
-            Self::BedMissing { expected } => {
-                return write!(f, "a bed of the metadata ({expected} of its beds match it) has no channel in the frame");
-            }
-            Self::BedUnsupported { code } => {
-                return write!(f, "a bed of the metadata has code {code} (rear center), which no speaker plays");
-            }
-            Self::Other { number, first, second } => return write!(f, "refusal {number} ({first}, {second})"),
+            _ => return self.with_counts(f),
         })
+    }
+}
+
+impl Refusal {
+    fn with_counts(self, f: &mut fmt::Formatter<'_>) -> fmt::Result {
+        let (first, second) = self.counts();
+        match self.number() {
+            9 => write!(
+                f,
+                "the stream runs at {first} Hz and the frame at {second}: flush and reset first"
+            ),
+            11 => write!(
+                f,
+                "the metadata has {first} dynamic objects and the frame {second}"
+            ),
+            13 => write!(
+                f,
+                "the frame lacks a bed of the metadata ({first} of its beds match it)"
+            ),
+            14 => write!(
+                f,
+                "the metadata has a bed of code {first} (rear center), which no speaker plays"
+            ),
+            number => write!(f, "refusal {number} ({first}, {second})"),
+        }
     }
 }
 

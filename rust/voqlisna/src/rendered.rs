@@ -18,7 +18,8 @@ use crate::{ShapeError, Speaker, Stride};
 ///
 /// ```
 /// # use voqlisna::*;
-/// # fn f(renderer: &mut Renderer, frame: &Frame<'_>, out: &mut Output) -> Result<(), Box<dyn std::error::Error>> {
+/// # use std::error::Error;
+/// # fn f(renderer: &mut Renderer, frame: &Frame<'_>, out: &mut Output) -> Result<(), Box<dyn Error>> {
 /// let rendered = renderer.push(frame, out)?;
 /// for (speaker, samples) in rendered.channels() {
 ///     println!("{speaker}: {:?}", samples.first());

@@ -8,8 +8,8 @@ use voqlisna_sys::{self as sys, Answer};
 
 /// One stream into one hall.
 ///
-/// `Send` and `Sync`: nothing in it changes behind a shared reference, and the library has no globals. Its block is
-/// written by the library alone, so that no call is ever refused for it:
+/// `Send` and `Sync`: nothing in it changes behind a shared reference, and the library has no
+/// globals. Its block is written by the library alone, so that no call is ever refused for it:
 ///
 /// ```compile_fail,E0594
 /// # use voqlisna::Renderer;
@@ -40,7 +40,8 @@ impl Renderer {
 }
 
 impl<'m> Renderer<&'m mut [u8]> {
-    /// The same over lent memory of exactly [`Renderer::block_size`] bytes, of any alignment and content.
+    /// The same over lent memory of exactly [`Renderer::block_size`] bytes, of any alignment and
+    /// content.
     ///
     /// ```
     /// use voqlisna::{Renderer, sys};
@@ -78,7 +79,8 @@ impl<B: Bytes> Renderer<B> {
         Self { block }
     }
 
-    /// Renders a frame. Whole blocks of 64 samples become ready; up to 63 samples wait for the next call.
+    /// Renders a frame. Whole blocks of 64 samples become ready; up to 63 samples wait for the next
+    /// call.
     pub fn push<'o, M: Floats>(
         &mut self,
         frame: &Frame<'_>,
@@ -91,7 +93,8 @@ impl<B: Bytes> Renderer<B> {
         )
     }
 
-    /// Gives out what waits, at a programme's end; none where nothing waits. The renderer goes on afterwards.
+    /// Gives out what waits, at a programme's end; none where nothing waits. The renderer goes on
+    /// afterwards.
     ///
     /// ```
     /// # use voqlisna::*;
@@ -109,7 +112,8 @@ impl<B: Bytes> Renderer<B> {
     pub fn flush<'o, M: Floats>(&mut self, out: &'o mut Output<M>) -> Option<Rendered<'o>> {
         let stride = out.stride();
         let answer = entry::flush(self.block.lend(), out.lend(), stride);
-        // A flush refuses only what is lent (1), which this crate settles; what is left is kind 0, or 2: nothing waits.
+        // A flush refuses only what is lent (1), which this crate settles; what is left is kind 0,
+        // or 2: nothing waits.
         read(answer, out).ok().filter(|_| answer.kind == 0)
     }
 
@@ -166,7 +170,7 @@ impl fmt::Display for MakeError {
             Self::Version { expected, found } => {
                 write!(
                     f,
-                    "the library is version {found} and this program is for {expected}: run rt staticlib hall again"
+                    "the library is version {found} and not {expected}: run rt staticlib hall again"
                 )
             }
             Self::Length { needed } => write!(f, "a state block has {needed} bytes"),

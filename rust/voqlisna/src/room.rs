@@ -1,8 +1,10 @@
 // SPDX-License-Identifier: Apache-2.0
-//! Places: as records have them, and as they are panned. Two types, so that the axes cannot be mixed up.
+//! Places: as records have them, and as they are panned. Two types, so that the axes cannot be
+//! mixed up.
 
-/// A place as a record has it: x from 0 at the left wall to 1 at the right one, y from 0 at the screen to 1 at the rear
-/// wall, z from 0 at the ears to 1 at the ceiling. A record may have places outside, too.
+/// A place as a record has it: x from 0 at the left wall to 1 at the right one, y from 0 at the
+/// screen to 1 at the rear wall, z from 0 at the ears to 1 at the ceiling. A record may have places
+/// outside, too.
 ///
 /// ```
 /// use voqlisna::{Panned, Room};
@@ -38,7 +40,8 @@ impl Room {
     }
 }
 
-/// A place as it is panned: x to the right and z to the front, both from -1 to 1, y up from the ears, 0 to 1.
+/// A place as it is panned: x to the right and z to the front, both from -1 to 1, y up from the
+/// ears, 0 to 1.
 #[derive(Clone, Copy, Debug, PartialEq, Default)]
 pub struct Panned {
     /// To the right.

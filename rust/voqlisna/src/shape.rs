@@ -16,7 +16,7 @@ pub(crate) const SAMPLES: usize = 1536;
 #[non_exhaustive]
 #[derive(Clone, Copy, Debug, PartialEq, Eq)]
 pub enum ShapeError {
-    /// A length that is not a whole number of channels.
+    /// A length, of samples or bytes as given, that is not one for whole channels.
     Length {
         /// What it is.
         got: usize,
@@ -77,7 +77,7 @@ impl fmt::Display for ShapeError {
             Self::Beds { got, channels } => {
                 write!(
                     f,
-                    "{got} beds in {channels} channels; a frame has at most {BEDS}, each with its channel"
+                    "{got} beds in {channels} channels; a frame has at most {BEDS}"
                 )
             }
             Self::Objects(got) => write!(f, "{got} objects; a frame has at most {OBJECTS}"),

@@ -2,14 +2,15 @@
 //! A renderer kept and brought back.
 
 use crate::memory::Bytes;
-use crate::{Frame, Metadata, Pcm, Rate, Refusal, Renderer, Stride, entry};
+use crate::{Frame, Refusal, Renderer, Stride, entry};
 use core::fmt;
 use voqlisna_sys as sys;
 
 const MAGIC: [u8; 4] = *b"HALL";
 const HEAD: usize = 16;
 
-/// A saved renderer: "HALL", then version, length and CRC-32 of the block, each a little-endian u32, then the block.
+/// A saved renderer: "HALL", then version, length and CRC-32 of the block, each a little-endian
+/// u32, then the block.
 ///
 /// ```
 /// use voqlisna::{Renderer, Snapshot, SnapshotError};
@@ -91,7 +92,8 @@ impl<B: Bytes> Renderer<B> {
 }
 
 impl<'m> Renderer<&'m mut [u8]> {
-    /// Brings a snapshot back into lent memory of exactly [`Renderer::block_size`] bytes. See [`Renderer::restore`].
+    /// Brings a snapshot back into lent memory of exactly [`Renderer::block_size`] bytes. See
+    /// [`Renderer::restore`].
     pub fn restore_over(
         snapshot: Snapshot<'_>,
         memory: &'m mut [u8],
@@ -109,23 +111,19 @@ impl<'m> Renderer<&'m mut [u8]> {
 impl Renderer {
     /// Brings a snapshot back: the renderer goes on where it was.
     ///
-    /// A block with a field out of its range is turned down by the library itself. One that is in range but that no run
-    /// has left (a forged one) is taken; its floats may be any, and so may its samples.
+    /// A block with a field out of its range is turned down by the library itself. One that is in
+    /// range but that no run has left (a forged one) is taken; its floats may be any, and so may
+    /// its samples.
     pub fn restore(snapshot: Snapshot<'_>) -> Result<Self, SnapshotError> {
         take_up(snapshot.block.into())
     }
 }
 
-/// A push of no samples is refused and changes nothing; it is 1 exactly where the block is not valid.
+/// A push of no samples is refused and changes nothing; it is 1 exactly where the block is not
+/// valid.
 fn take_up<B: Bytes>(mut block: B) -> Result<Renderer<B>, SnapshotError> {
-    const STRIDE: Stride = match Stride::for_frames_of(0) {
-        Some(stride) => stride,
-        None => Stride::MAX,
-    };
-    let mut out = [0.0; STRIDE.of_all_speakers()];
-    let nothing = Frame::new(Rate::HZ_48000, &[], Pcm::EMPTY, Metadata::NONE)
-        .map_err(|_| SnapshotError::Range)?;
-    let answer = entry::push(block.lend(), &nothing, &mut out, STRIDE);
+    let mut out = [0.0; Stride::MIN.of_all_speakers()];
+    let answer = entry::push(block.lend(), &Frame::NOTHING, &mut out, Stride::MIN);
     match Refusal::from_answer(answer) {
         Some(Refusal::Memory) => Err(SnapshotError::Range),
         _ => Ok(Renderer::adopt(block)),

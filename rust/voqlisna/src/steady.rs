@@ -4,8 +4,8 @@
 use crate::memory::{Floats, OwnFloats};
 use crate::{Rendered, ShapeError, Speaker};
 
-/// The most samples of a callback, and those that may lie beside them: a delay and what waits in the renderer, below 64
-/// each.
+/// The most samples of a callback, and those that may lie beside them: a delay and what waits in
+/// the renderer, below 64 each.
 const MOST: usize = 65_536;
 const SPARE: usize = 128;
 
@@ -42,7 +42,8 @@ pub struct Steady<M: Floats = OwnFloats> {
 
 #[cfg(feature = "alloc")]
 impl Steady {
-    /// For callbacks of always so many samples: the delay is 64 - gcd(samples, 64), the least that never runs dry.
+    /// For callbacks of always so many samples: the delay is 64 - gcd(samples, 64), the least that
+    /// never runs dry.
     pub fn fixed(samples: usize) -> Result<Self, ShapeError> {
         Self::fixed_over(crate::memory::zeros(Self::places_for(samples)?), samples)
     }
@@ -54,7 +55,8 @@ impl Steady {
 }
 
 impl<M: Floats> Steady<M> {
-    /// Places of lent memory for callbacks of up to so many samples: 12 × (samples + 128). At most 65,536 samples.
+    /// Places of lent memory for callbacks of up to so many samples: 12 × (samples + 128). At most
+    /// 65,536 samples.
     pub const fn places_for(samples: usize) -> Result<usize, ShapeError> {
         if samples > MOST {
             return Err(ShapeError::Samples {
@@ -106,8 +108,8 @@ impl<M: Floats> Steady<M> {
         self.held
     }
 
-    /// Takes what a call gave. Fails, and takes nothing, where it does not fit: after pushes of as many samples as are
-    /// taken out it always fits.
+    /// Takes what a call gave. Fails, and takes nothing, where it does not fit: after pushes of as
+    /// many samples as are taken out it always fits.
     pub fn put(&mut self, rendered: &Rendered<'_>) -> Result<(), ShapeError> {
         let needed = self.held.saturating_add(rendered.ready());
         if needed > self.room {
@@ -129,8 +131,8 @@ impl<M: Floats> Steady<M> {
         Ok(())
     }
 
-    /// Gives out `frames` samples of the speakers named, interleaved in their order; fewer where fewer are held or fit.
-    /// Answers how many.
+    /// Gives out `frames` samples of the speakers named, interleaved in their order; fewer where
+    /// fewer are held or fit. Answers how many.
     pub fn take_interleaved(
         &mut self,
         speakers: &[Speaker],

@@ -1,6 +1,6 @@
 // SPDX-License-Identifier: Apache-2.0
-//! Metadata written over lent memory. What is written so far is always whole: there is no order to get wrong and nothing
-//! to finish.
+//! Metadata written over lent memory. What is written so far is always whole: there is no order to
+//! get wrong and nothing to finish.
 
 use crate::metadata::{Bytes40, RECORD};
 use crate::shape::{BEDS, OBJECTS};
@@ -21,8 +21,8 @@ pub struct Update<'a> {
     pub at: u16,
     /// Objects in all, beds included: at most 32.
     pub objects: u8,
-    /// How many of them, from the first, are not dynamic (`bed_or_isf_objects`). The frame has a channel for each of the
-    /// others, at most 16.
+    /// How many of them, from the first, are not dynamic (`bed_or_isf_objects`). The frame has a
+    /// channel for each of the others, at most 16.
     pub fixed: u8,
     /// The beds: at most 18, and no more than objects.
     pub beds: &'a [Bed],
@@ -92,7 +92,8 @@ impl<'m> MetadataWriter<'m> {
         }
     }
 
-    /// Bytes of an update with so many objects and elements of so many blocks: 40 × (1 + Σ (1 + blocks × (1 + objects))).
+    /// Bytes of an update with so many objects and elements of so many blocks: 40 × (1 + Σ (1 +
+    /// blocks × (1 + objects))).
     pub const fn bytes_for(objects: usize, mut blocks_of_elements: &[usize]) -> usize {
         let mut records = 1usize;
         while let [blocks, rest @ ..] = blocks_of_elements {
@@ -187,7 +188,8 @@ pub struct UpdateWriter<'w, 'm> {
 }
 
 impl UpdateWriter<'_, '_> {
-    /// One element, at most two: its blocks, at most 8, and `object(o, b)` for each object o and, of it, each block b.
+    /// One element, at most two: its blocks, at most 8, and `object(o, b)` for each object o and,
+    /// of it, each block b.
     ///
     /// Where it fails, the update has the elements that were added before.
     pub fn element(

@@ -84,44 +84,38 @@ pub(super) fn object(r: &Bytes40) -> Result<Said<'_>, Wrong> {
     limit(1, "as an anchor", r[1], 2)?;
     limit(2, "as flags", r[2], 63)?;
     zeros(r, 3, 4)?;
-    let has = |bit: u8| r[2] & bit != 0;
-    for (bit, from, to) in [(4, 4, 8), (8, 8, 20), (16, 20, 24), (32, 24, 28)] {
-        if !has(bit) {
+    for (flag, from, to) in [(4, 4, 8), (8, 8, 20), (16, 20, 24), (32, 24, 28)] {
+        if r[2] & flag == 0 {
             zeros(r, from, to)?;
         }
     }
     zeros(r, 36, 40)?;
+    let object = values(r);
     let factor = float(r, 32);
-    let depth = Depth::ALL
-        .into_iter()
-        .find(|depth| depth.factor() == factor);
-    let object = Object {
-        anchor: Anchor::ALL
-            .get(usize::from(r[1]))
-            .copied()
-            .unwrap_or_default(),
+    let depth =
+        (Depth::from_factor(factor).is_none()).then_some((32, Why::Depth { value: factor }));
+    let value = range(4, "gain", object.gain, MOST_GAIN)
+        .or(range(24, "size", object.size, MOST_SIZE))
+        .or(depth);
+    let record = Record::Object(object);
+    Ok(Said { record, value })
+}
+
+/// An object as it stands in the record.
+fn values(r: &Bytes40) -> Object {
+    let has = |flag: u8| r[2] & flag != 0;
+    let (x, y, z) = (float(r, 8), float(r, 12), float(r, 16));
+    Object {
+        anchor: Anchor::from_code(r[1]).unwrap_or_default(),
         gain: has(4).then(|| float(r, 4)),
-        position: has(8).then(|| Room {
-            x: float(r, 8),
-            y: float(r, 12),
-            z: float(r, 16),
-        }),
+        position: has(8).then_some(Room { x, y, z }),
         valid: has(1),
         differential: has(2),
         distance: has(16).then(|| float(r, 20)),
         size: has(32).then(|| float(r, 24)),
         screen_factor: float(r, 28),
-        depth: depth.unwrap_or_default(),
-    };
-    let value = range(4, "gain", object.gain, MOST_GAIN)
-        .or(range(24, "size", object.size, MOST_SIZE))
-        .or(depth
-            .is_none()
-            .then_some((32, Why::Depth { value: factor })));
-    Ok(Said {
-        record: Record::Object(object),
-        value,
-    })
+        depth: Depth::from_factor(float(r, 32)).unwrap_or_default(),
+    }
 }
 
 /// Bytes that must be zero.

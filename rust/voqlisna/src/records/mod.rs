@@ -1,5 +1,6 @@
 // SPDX-License-Identifier: Apache-2.0
-//! Metadata records read back, for tools. Nothing here is used on the way to the renderer: push decides.
+//! Metadata records read back, for tools. Nothing here is used on the way to the renderer: push
+//! decides.
 //!
 //! ```
 //! use voqlisna::records::{self, Record};
@@ -48,8 +49,8 @@ pub enum Record<'a> {
     },
     /// Kind 3.
     Block(Block),
-    /// Kind 4. Values out of their range stand in it as they are; a depth factor that is none of the four as
-    /// [`crate::Depth::One`].
+    /// Kind 4. Values out of their range stand in it as they are; a depth factor that is none of
+    /// the four as [`crate::Depth::One`].
     Object(Object),
 }
 
@@ -88,7 +89,8 @@ pub const fn read(bytes: &[u8]) -> Records<'_> {
     }
 }
 
-/// The first fault with this number, 5 or 6. Where push refuses by 5, a 6 in an earlier record is not the reason.
+/// The first fault with this number, 5 or 6. Where push refuses by 5, a 6 in an earlier record is
+/// not the reason.
 pub fn first_fault(bytes: &[u8], number: u8) -> Option<Fault> {
     read(bytes).find_map(|record| {
         record

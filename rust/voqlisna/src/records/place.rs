@@ -1,6 +1,6 @@
 // SPDX-License-Identifier: Apache-2.0
-//! The order of records: an update; for each of its elements the element's record, its blocks, then for each object all
-//! blocks.
+//! The order of records: an update; for each of its elements the element's record, its blocks, then
+//! for each object all blocks.
 
 use super::Record;
 use core::fmt;

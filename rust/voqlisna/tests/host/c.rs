@@ -1,5 +1,6 @@
 // SPDX-License-Identifier: Apache-2.0
-//! The C header and a host in C, compiled, linked and run: its words are those of the same frames through the crate.
+//! The C header and a host in C, compiled, linked and run: its words are those of the same frames
+//! through the crate.
 
 use crate::tools::{is_installed, library_folder, output};
 use std::fmt::Write;
@@ -16,7 +17,8 @@ fn source() -> PathBuf {
     Path::new(env!("CARGO_MANIFEST_DIR")).join("../c/host.c")
 }
 
-/// Compiles rust/c/host.c by this compiler and standard, links it with the library, and answers the program.
+/// Compiles rust/c/host.c by this compiler and standard, links it with the library, and answers the
+/// program.
 fn compiled(compiler: &str, language: &str, standard: &str) -> PathBuf {
     let program = Path::new(env!("CARGO_TARGET_TMPDIR")).join(format!("host-{standard}"));
     let mut command = Command::new(compiler);
@@ -70,6 +72,13 @@ fn answer(kind: u32, ready: usize) -> Answer {
     }
 }
 
+fn refused(number: u32) -> Answer {
+    Answer {
+        number,
+        ..answer(1, 0)
+    }
+}
+
 fn sound(frame: usize) -> Vec<f32> {
     let count = |i| frame * SAMPLES + i;
     let bed = (0..SAMPLES).map(|i| (count(i) % 100) as f32 / 64.0);
@@ -115,19 +124,13 @@ fn expected() -> String {
     );
     print(&mut text, "reset", answer(3, 0), None);
     for k in 0..FRAMES {
-        let (pcm, with_metadata) = (sound(k), k % 2 == 0);
-        let metadata = if with_metadata {
-            metadata(&mut memory, k as f32 / 8.0)
-        } else {
-            Metadata::NONE
+        let pcm = sound(k);
+        let metadata = match k % 2 {
+            0 => metadata(&mut memory, k as f32 / 8.0),
+            _ => Metadata::NONE,
         };
-        let frame = Frame::new(
-            Rate::HZ_48000,
-            &[Bed::Bass],
-            Pcm::packed(&pcm, 2).unwrap(),
-            metadata,
-        )
-        .unwrap();
+        let pcm = Pcm::packed(&pcm, 2).unwrap();
+        let frame = Frame::new(Rate::HZ_48000, &[Bed::Bass], pcm, metadata).unwrap();
         match renderer.push(&frame, &mut out) {
             Ok(rendered) => print(
                 &mut text,
@@ -135,15 +138,7 @@ fn expected() -> String {
                 answer(0, rendered.ready()),
                 Some(rendered),
             ),
-            Err(refusal) => print(
-                &mut text,
-                "push",
-                Answer {
-                    number: refusal.number(),
-                    ..answer(1, 0)
-                },
-                None,
-            ),
+            Err(refusal) => print(&mut text, "push", refused(refusal.number()), None),
         }
     }
     let rendered = renderer.flush(&mut out).unwrap();
@@ -157,7 +152,8 @@ fn expected() -> String {
     text
 }
 
-/// The refusals that host.c lists at its end are worded as the crate words them, where no count stands in the sentence.
+/// The refusals that host.c lists at its end are worded as the crate words them, where no count
+/// stands in the sentence.
 fn says_the_same(lines: &str) {
     assert_eq!(lines.lines().count(), 16);
     for (number, line) in (0..).zip(lines.lines()) {

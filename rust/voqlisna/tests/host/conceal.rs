@@ -1,6 +1,6 @@
 // SPDX-License-Identifier: Apache-2.0
-//! Each way of going on is taken after the refusals that it is for, and moves the clock by the frame's samples; where
-//! none is, nothing changes.
+//! Each way of going on is taken after the refusals that it is for, and moves the clock by the
+//! frame's samples; where none is, nothing changes.
 
 use crate::draw::{Draw, Scene};
 use voqlisna::*;
@@ -114,7 +114,8 @@ fn each_refusal_has_its_way() {
         s.push(&good, 2, &update(2, &[Bed::SurroundLeft])),
         Ok((Way::SoundOnly, Some(13)))
     );
-    // Another number of objects than the state's: no metadata to leave out, so silence on the channels of before.
+    // Another number of objects than the state's: no metadata to leave out, so silence on the
+    // channels of before.
     assert_eq!(
         s.push(&[0.25; 3 * SAMPLES], 3, &[]),
         Ok((Way::Silence, Some(11)))

@@ -1,6 +1,6 @@
 // SPDX-License-Identifier: Apache-2.0
-//! Any arguments straight into the entry: what `Arguments::explain` names behind a refusal by 1, 2, 5, 6 or 8 is the
-//! reason, since mending it, and nothing else, takes that reason away.
+//! Any arguments straight into the entry: what `Arguments::explain` names behind a refusal by 1, 2,
+//! 5, 6 or 8 is the reason, since mending it, and nothing else, takes that reason away.
 
 use crate::draw::{Draw, Scene, damage};
 use crate::raw;

@@ -1,5 +1,6 @@
 // SPDX-License-Identifier: Apache-2.0
-//! The float mode: the caller's is kept, and does not reach the samples, which it would without the guard.
+//! The float mode: the caller's is kept, and does not reach the samples, which it would without the
+//! guard.
 
 use crate::raw;
 use std::arch::asm;
@@ -19,8 +20,9 @@ fn mode() -> u32 {
 }
 
 fn set(mode: u32) {
-    // SAFETY: reads four bytes. The mode stays changed behind the block, which Rust does not allow a program; what is
-    // under test is a thread in which a foreign library has done so, and no float is computed until it is set back.
+    // SAFETY: reads four bytes. The mode stays changed behind the block, which Rust does not allow
+    // a program; what is under test is a thread in which a foreign library has done so, and no
+    // float is computed until it is set back.
     unsafe { asm!("ldmxcsr [{}]", in(reg) &mode) };
 }
 
@@ -34,29 +36,35 @@ fn under<R>(control: u32, f: impl FnOnce() -> R) -> (R, u32) {
     (result, after)
 }
 
-/// Three seconds of a bass bed and an object that fade out; each frame goes to `push`.
+/// A bass bed that stays and an object with a place.
+fn places(memory: &mut [u8]) -> Metadata<'_> {
+    let mut writer = MetadataWriter::new(memory);
+    let update = Update {
+        at: 0,
+        objects: 2,
+        fixed: 1,
+        beds: &[Bed::Bass],
+    };
+    let objects = [
+        Object::KEEP,
+        Object::at(Room {
+            x: 0.3,
+            y: 0.4,
+            z: 0.5,
+        })
+        .gain(0.7),
+    ];
+    let update = writer.update(update).unwrap();
+    update
+        .element(&[Block::default()], |object, _| objects[object])
+        .unwrap();
+    writer.finish()
+}
+
+/// Three seconds in which both fade out; each frame goes to `push`.
 fn fade(mut push: impl FnMut(&Frame<'_>)) {
     let mut memory = [0; MetadataWriter::bytes_for(2, &[1])];
-    let mut writer = MetadataWriter::new(&mut memory);
-    let place = Object::at(Room {
-        x: 0.3,
-        y: 0.4,
-        z: 0.5,
-    })
-    .gain(0.7);
-    writer
-        .update(Update {
-            at: 0,
-            objects: 2,
-            fixed: 1,
-            beds: &[Bed::Bass],
-        })
-        .unwrap()
-        .element(&[Block::default()], |object, _| {
-            if object == 0 { Object::KEEP } else { place }
-        })
-        .unwrap();
-    let mut metadata = writer.finish();
+    let mut metadata = places(&mut memory);
     for k in 0..FRAMES {
         let mut pcm = [0.0; 2 * SAMPLES];
         for i in 0..SAMPLES {
@@ -65,15 +73,8 @@ fn fade(mut push: impl FnMut(&Frame<'_>)) {
             pcm[i] = (level * (t * 0.01).sin()) as f32;
             pcm[SAMPLES + i] = (level * (t * 0.05).sin()) as f32;
         }
-        push(
-            &Frame::new(
-                Rate::HZ_48000,
-                &[Bed::Bass],
-                Pcm::packed(&pcm, 2).unwrap(),
-                metadata,
-            )
-            .unwrap(),
-        );
+        let pcm = Pcm::packed(&pcm, 2).unwrap();
+        push(&Frame::new(Rate::HZ_48000, &[Bed::Bass], pcm, metadata).unwrap());
         metadata = Metadata::NONE;
     }
 }

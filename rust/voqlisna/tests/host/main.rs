@@ -1,5 +1,6 @@
 // SPDX-License-Identifier: Apache-2.0
-//! The crate held against the entries under it, and the entries' other hosts: C, and a cargo project elsewhere.
+//! The crate held against the entries under it, and the entries' other hosts: C, and a cargo
+//! project elsewhere.
 
 mod c;
 mod conceal;
@@ -12,7 +13,9 @@ mod parser;
 mod raw;
 mod runs;
 mod sentences;
+mod shapes;
 mod snapshot;
+mod stack;
 mod steady;
 mod tools;
 mod version;

@@ -1,6 +1,6 @@
 // SPDX-License-Identifier: Apache-2.0
-//! A cargo project in a folder of its own: with a path dependency and `VOQLISNA_LIB_DIR` it builds, links and runs,
-//! offline; without the library it is told what to do.
+//! A cargo project in a folder of its own: with a path dependency and `VOQLISNA_LIB_DIR` it builds,
+//! links and runs, offline; without the library it is told what to do.
 
 use crate::tools::{cargo, library_folder, output, run};
 use std::fs;

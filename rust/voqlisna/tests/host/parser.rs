@@ -1,6 +1,6 @@
 // SPDX-License-Identifier: Apache-2.0
-//! The parser is a second reading of the layout: it finds a 5 or a 6 exactly where push refuses by it, and mending the
-//! byte that `explain` names moves the refusal on.
+//! The parser is a second reading of the layout: it finds a 5 or a 6 exactly where push refuses by
+//! it, and mending the byte that `explain` names moves the refusal on.
 
 use crate::draw::{Draw, Scene, damage};
 use voqlisna::records::{Fault, Why, first_fault};

@@ -1,5 +1,6 @@
 // SPDX-License-Identifier: Apache-2.0
-//! Random runs once through the crate and once through the entries: the same answers, blocks and samples.
+//! Random runs once through the crate and once through the entries: the same answers, blocks and
+//! samples.
 
 use crate::draw::{Draw, Owned, Scene, damage};
 use crate::raw;

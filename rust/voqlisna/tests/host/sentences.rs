@@ -64,49 +64,56 @@ fn blame_is_as_the_interface_has_it() {
     }
 }
 
+/// A sentence, not the name of a variant.
+fn is_a_sentence(error: &dyn std::error::Error) {
+    let said = error.to_string();
+    assert!(said.contains(' ') && !said.contains(['{', '"']), "{said}");
+    assert_ne!(said, format!("{error:?}"));
+}
+
 #[test]
-fn every_error_is_a_sentence_and_an_error() {
-    let errors: [Box<dyn std::error::Error>; 22] = [
-        Box::new(refusal(9)),
-        Box::new(refusal(13)),
-        Box::new(refusal(77)),
-        Box::new(MakeError::Version {
-            expected: 1,
-            found: 2,
-        }),
-        Box::new(MakeError::Length { needed: 5 }),
-        Box::new(ShapeError::Length { got: 3, of: 2 }),
-        Box::new(ShapeError::Uneven {
+fn every_refusal_and_shape_error_is_a_sentence() {
+    (0..20).for_each(|number| is_a_sentence(&refusal(number)));
+    let shape = [
+        ShapeError::Length { got: 3, of: 2 },
+        ShapeError::Uneven {
             channel: 1,
             got: 3,
             expected: 2,
-        }),
-        Box::new(ShapeError::Samples { got: 3, most: 2 }),
-        Box::new(ShapeError::Channels(0)),
-        Box::new(ShapeError::Channels(99)),
-        Box::new(ShapeError::Beds {
+        },
+        ShapeError::Samples { got: 3, most: 2 },
+        ShapeError::Channels(0),
+        ShapeError::Channels(99),
+        ShapeError::Beds {
             got: 3,
             channels: 2,
-        }),
-        Box::new(ShapeError::Objects(17)),
-        Box::new(ShapeError::Memory { needed: 5 }),
-        Box::new(BuildError::Full { needed: 40 }),
-        Box::new(BuildError::Dynamic),
-        Box::new(BuildError::Offset),
-        Box::new(SnapshotError::NotOne),
-        Box::new(SnapshotError::Version(3)),
-        Box::new(SnapshotError::Damaged),
-        Box::new(SnapshotError::Range),
-        Box::new(SnapshotError::Memory { needed: 5 }),
-        Box::new(records::first_fault(&[1; 40], 5).unwrap()),
+        },
+        ShapeError::Objects(17),
+        ShapeError::Memory { needed: 5 },
     ];
-    for error in errors {
-        let (said, debug) = (error.to_string(), format!("{error:?}"));
-        assert!(
-            said.contains(' ') && !said.contains(['{', '"']) && said != debug,
-            "{said}"
-        );
-    }
+    shape.iter().for_each(|error| is_a_sentence(error));
+}
+
+#[test]
+fn every_other_error_is_a_sentence() {
+    is_a_sentence(&MakeError::Version {
+        expected: 1,
+        found: 2,
+    });
+    is_a_sentence(&MakeError::Length { needed: 5 });
+    use BuildError::*;
+    let (limits, full) = (
+        [Updates, Objects, Dynamic, Beds, Elements, Blocks],
+        Full { needed: 1 },
+    );
+    limits.iter().for_each(|error| is_a_sentence(error));
+    [full, Offset, Gain, Size]
+        .iter()
+        .for_each(|error| is_a_sentence(error));
+    use SnapshotError::*;
+    let snapshot = [NotOne, Version(3), Damaged, Range, Memory { needed: 5 }];
+    snapshot.iter().for_each(|error| is_a_sentence(error));
+    is_a_sentence(&records::first_fault(&[1; 40], 5).unwrap());
 }
 
 #[test]
@@ -127,7 +134,7 @@ fn speakers_are_in_the_order_of_wave_files() {
     assert_eq!(format!("{:>4}", Speaker::Bass), " LFE");
 }
 
-/// An object at a speaker's place sounds from it alone, and from none at another level than the gain's root.
+/// To within the rounding of `Panned::room`.
 #[test]
 fn an_object_at_a_speakers_place_sounds_from_it_alone() {
     let mut out = Output::new(Stride::for_frames_of(256).unwrap());

@@ -67,7 +67,8 @@ impl Counting {
     }
 }
 
-/// Callbacks of these lengths through `steady`: never dry, and the numbers in their order behind the delay.
+/// Callbacks of these lengths through `steady`: never dry, and the numbers in their order behind
+/// the delay.
 fn runs<M: Floats>(mut steady: Steady<M>, lengths: impl Iterator<Item = usize>, name: &str) {
     let (mut source, mut heard, mut to) = (Counting::new(), 0, vec![0.0; 2 * 2000]);
     for samples in lengths {

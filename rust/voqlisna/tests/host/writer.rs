@@ -1,6 +1,6 @@
 // SPDX-License-Identifier: Apache-2.0
-//! What the writer writes is never refused by 5 or 6, whatever it is told, and is read back by the parser; what it turns
-//! down leaves the records as they were.
+//! What the writer writes is never refused by 5 or 6, whatever it is told, and is read back by the
+//! parser; what it turns down leaves the records as they were.
 
 use crate::draw::Draw;
 use std::collections::HashMap;
@@ -80,59 +80,53 @@ fn add(draw: &mut Draw, writer: &mut MetadataWriter<'_>) -> Result<(), BuildErro
 
 /// Reads records and writes them again.
 fn again(bytes: &[u8]) -> Vec<u8> {
-    let all: Vec<_> = read(bytes).map(|placed| placed.unwrap()).collect();
+    let all: Vec<_> = read(bytes).map(|placed| placed.unwrap().record).collect();
     let mut memory = vec![0xee; bytes.len()];
     let mut writer = MetadataWriter::new(&mut memory);
-    let starts = |r: &Record<'_>| matches!(r, Record::Update { .. });
-    for update in all.chunk_by(|_, next| !starts(&next.record)) {
-        let Record::Update {
-            at,
-            objects,
-            fixed,
-            codes,
-            ..
-        } = update[0].record
-        else {
-            panic!("{update:?}")
-        };
-        let beds: Vec<Bed> = codes
-            .iter()
-            .map(|code| Bed::from_code(*code).unwrap())
-            .collect();
-        let mut writing = writer
-            .update(Update {
-                at,
-                objects,
-                fixed,
-                beds: &beds,
-            })
-            .unwrap();
-        let opens = |r: &Record<'_>| matches!(r, Record::Element { .. });
-        for element in update[1..].chunk_by(|_, next| !opens(&next.record)) {
-            let blocks: Vec<Block> = element
-                .iter()
-                .filter_map(|p| {
-                    if let Record::Block(b) = p.record {
-                        Some(b)
-                    } else {
-                        None
-                    }
-                })
-                .collect();
-            let mut objects = element.iter().filter_map(|p| {
-                if let Record::Object(o) = p.record {
-                    Some(o)
-                } else {
-                    None
+    for update in all.chunk_by(|_, next| !matches!(next, Record::Update { .. })) {
+        let mut writing = begin(&mut writer, &update[0]);
+        for element in update[1..].chunk_by(|_, next| !matches!(next, Record::Element { .. })) {
+            let (mut blocks, mut objects) = (Vec::new(), Vec::new());
+            for record in &element[1..] {
+                match record {
+                    Record::Block(block) => blocks.push(*block),
+                    Record::Object(object) => objects.push(*object),
+                    other => panic!("{other:?}"),
                 }
-            });
+            }
+            let count = blocks.len();
             writing = writing
-                .element(&blocks, |_, _| objects.next().unwrap())
+                .element(&blocks, |o, b| objects[o * count + b])
                 .unwrap();
-            assert!(objects.next().is_none());
         }
     }
     writer.finish().as_bytes().to_vec()
+}
+
+fn begin<'w, 'm>(writer: &'w mut MetadataWriter<'m>, record: &Record<'_>) -> UpdateWriter<'w, 'm> {
+    let Record::Update {
+        at,
+        objects,
+        fixed,
+        codes,
+        ..
+    } = *record
+    else {
+        panic!("{record:?}")
+    };
+    let beds: Vec<_> = codes
+        .iter()
+        .map(|code| Bed::from_code(*code).unwrap())
+        .collect();
+    let beds = &beds;
+    writer
+        .update(Update {
+            at,
+            objects,
+            fixed,
+            beds,
+        })
+        .unwrap()
 }
 
 #[test]
