@@ -61,7 +61,7 @@ int main(int count, char **words) {
   const size_t size = hall_state_size();
   uint8_t *state = (uint8_t *)malloc(size);
   const uint32_t thread = count > 1 ? USUAL : AUDIO;
-  uint32_t number, mode;
+  uint32_t number, mode, inside;
   int frame;
   if (hall_version() != HALL_VERSION || size != HALL_STATE_SIZE || !state) return 1;
   (void)words;
@@ -78,9 +78,10 @@ int main(int count, char **words) {
     print("push", answer, out);
   }
   mode = hall_enter_floats();
+  inside = hall_enter_floats();
   print("flush", hall_flush(state, size, out, sizeof out, STRIDE), out);
   print("flush", hall_flush(state, size, out, sizeof out, STRIDE), out);
   for (number = 0; number < 16; number++) printf("%u: %s\n", number, hall_refusal_text(number));
   free(state);
-  return (mode & CONTROL) == thread ? 0 : 2;
+  return (mode & CONTROL) == thread && (inside & CONTROL) == USUAL ? 0 : 2;
 }

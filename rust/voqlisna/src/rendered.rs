@@ -18,17 +18,18 @@ use crate::{ShapeError, Speaker, Stride};
 ///
 /// ```
 /// # use voqlisna::*;
-/// # use std::error::Error;
-/// # fn f(renderer: &mut Renderer, frame: &Frame<'_>, out: &mut Output) -> Result<(), Box<dyn Error>> {
-/// let rendered = renderer.push(frame, out)?;
+/// # let mut memory = [0; MetadataWriter::bytes_for(1, &[])];
+/// # let mut writer = MetadataWriter::new(&mut memory);
+/// # writer.update(Update { at: 0, objects: 1, fixed: 0, beds: &[] })?;
+/// # let (mut renderer, mut out) = (Renderer::new()?, Output::new(Stride::MAX));
+/// # let frame = Frame::new(Rate::HZ_48000, &[], Pcm::packed(&[0.5; 480], 1)?, writer.finish())?;
+/// let rendered = renderer.push(&frame, &mut out)?;
 /// for (speaker, samples) in rendered.channels() {
 ///     println!("{speaker}: {:?}", samples.first());
 /// }
-/// let mut device = [0.0; 12 * 1536];
-/// let written = rendered.interleave_into(&mut device)?;
-/// assert_eq!(written, 12 * rendered.ready());
-/// # Ok(())
-/// # }
+/// let mut device = [0.0; 12 * 480];
+/// assert_eq!(rendered.interleave_into(&mut device)?, 12 * 448);
+/// # Ok::<(), Box<dyn std::error::Error>>(())
 /// ```
 #[derive(Clone, Copy)]
 pub struct Rendered<'o> {
@@ -53,11 +54,9 @@ impl<'o> Rendered<'o> {
 
     /// One channel's samples.
     pub fn channel(&self, speaker: Speaker) -> &'o [f32] {
-        let mut channels = self.samples.chunks_exact(self.stride.samples());
-        channels
-            .nth(speaker.channel())
-            .and_then(|channel| channel.get(..self.ready))
-            .unwrap_or_default()
+        let start = speaker.channel().saturating_mul(self.stride.samples());
+        let end = start.saturating_add(self.ready);
+        self.samples.get(start..end).unwrap_or_default()
     }
 
     /// All twelve, by channel.

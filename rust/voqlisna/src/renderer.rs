@@ -39,6 +39,17 @@ impl Renderer {
     }
 }
 
+impl Renderer {
+    /// Bytes of a state block, from the library.
+    ///
+    /// ```
+    /// assert_eq!(voqlisna::Renderer::block_size(), voqlisna::sys::STATE_SIZE);
+    /// ```
+    pub fn block_size() -> usize {
+        sys::hall_state_size()
+    }
+}
+
 impl<'m> Renderer<&'m mut [u8]> {
     /// The same over lent memory of exactly [`Renderer::block_size`] bytes, of any alignment and
     /// content.
@@ -55,11 +66,6 @@ impl<'m> Renderer<&'m mut [u8]> {
 }
 
 impl<B: Bytes> Renderer<B> {
-    /// Bytes of a state block, from the library.
-    pub fn block_size() -> usize {
-        sys::hall_state_size()
-    }
-
     fn make(mut block: B) -> Result<Self, MakeError> {
         let (expected, found) = (sys::VERSION, sys::hall_version());
         if expected != found {

@@ -116,12 +116,9 @@ impl<M: Floats> Steady<M> {
             return Err(ShapeError::Memory { needed });
         }
         let at = self.place(self.held);
-        for (row, (_, samples)) in self
-            .ring
-            .lend()
-            .chunks_exact_mut(self.room)
-            .zip(rendered.channels())
-        {
+        for (speaker, samples) in rendered.channels() {
+            let row = self.row(speaker);
+            let row = self.ring.lend().get_mut(row).unwrap_or_default();
             let (behind, from) = row.split_at_mut_checked(at).unwrap_or_default();
             for (place, x) in from.iter_mut().chain(behind).zip(samples) {
                 *place = *x;
@@ -144,12 +141,7 @@ impl<M: Floats> Steady<M> {
             .min(self.held)
             .min(to.len().checked_div(width).unwrap_or(0));
         for (k, speaker) in speakers.iter().enumerate() {
-            let row = self
-                .ring
-                .get()
-                .chunks_exact(self.room)
-                .nth(speaker.channel())
-                .unwrap_or_default();
+            let row = self.ring.get().get(self.row(*speaker)).unwrap_or_default();
             let (behind, from) = row.split_at_checked(self.start).unwrap_or_default();
             let places = to.iter_mut().skip(k).step_by(width).take(count);
             for (place, x) in places.zip(from.iter().chain(behind)) {
@@ -159,6 +151,12 @@ impl<M: Floats> Steady<M> {
         self.start = self.place(count);
         self.held = self.held.saturating_sub(count);
         count
+    }
+
+    /// The places of a channel.
+    const fn row(&self, speaker: Speaker) -> core::ops::Range<usize> {
+        let start = speaker.channel().saturating_mul(self.room);
+        start..start.saturating_add(self.room)
     }
 
     /// The place `count` behind the start.

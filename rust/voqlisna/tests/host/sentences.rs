@@ -143,6 +143,9 @@ fn an_object_at_a_speakers_place_sounds_from_it_alone() {
             assert_eq!(speaker, Speaker::Bass);
             continue;
         };
+        let Panned { x, y, z } = place.room().panned();
+        let off = (x - place.x).abs() + (y - place.y).abs() + (z - place.z).abs();
+        assert!(off < 1e-6, "{speaker}");
         let mut memory = [0; MetadataWriter::bytes_for(1, &[1])];
         let mut writer = MetadataWriter::new(&mut memory);
         let object = Object::at(place.room()).gain(1.0);

@@ -110,6 +110,14 @@ fn a_frame_has_a_channel_for_each_bed_and_at_most_16_objects() {
 }
 
 #[test]
+fn an_output_has_twelve_channels_of_the_stride() {
+    let mut memory = vec![0.0; 12 * 64];
+    assert!(Output::over(&mut memory[..], Stride::MIN).is_ok());
+    let short = Output::over(&mut memory[1..], Stride::MIN).err();
+    assert_eq!(short, Some(ShapeError::Memory { needed: 768 }));
+}
+
+#[test]
 fn limits_are_those_of_the_interface() {
     let taken = |numbers: std::ops::Range<u32>, test: fn(u32) -> bool| -> Vec<u32> {
         numbers.filter(|n| test(*n)).collect()

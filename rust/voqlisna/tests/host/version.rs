@@ -49,7 +49,7 @@ fn library_header_and_crates_are_of_one_version() {
 #[test]
 fn numbers_of_the_header_are_those_of_the_crates() {
     assert_eq!(sys::hall_state_size(), sys::STATE_SIZE);
-    assert_eq!(Renderer::<Box<[u8]>>::block_size(), sys::STATE_SIZE);
+    assert_eq!(Renderer::block_size(), sys::STATE_SIZE);
     assert_eq!(defined("HALL_STATE_SIZE"), sys::STATE_SIZE as u64);
     assert_eq!(defined("HALL_MAX_STRIDE"), Stride::MAX.samples() as u64);
     assert_eq!(defined("HALL_WAVE_MASK"), u64::from(WAVE_MASK));
