@@ -13,6 +13,7 @@ pub mod ranges;
 pub mod reading;
 pub mod recorded;
 pub mod rows;
+pub mod scale;
 pub mod seeds;
 pub mod streams;
 

@@ -47,6 +47,15 @@ pub struct Model {
     amended: Option<amended::Oracle>,
     /// Samples of the stream before the oracle's first.
     pub before: u64,
+    /// The last push that 1 to 8 let pass.
+    judged: Option<Judged>,
+}
+
+/// A push that 1 to 8 let pass.
+pub struct Judged {
+    /// The renderer before it.
+    pub before: State,
+    pub frame: Frame,
 }
 
 impl Model {
@@ -56,6 +65,7 @@ impl Model {
             rust: Oracle::new(),
             amended: None,
             before: 0,
+            judged: None,
         }
     }
 
@@ -72,15 +82,35 @@ impl Model {
         amended.unwrap_or_else(|| self.rust.state())
     }
 
+    /// The same with the samples before the oracle's first counted in its positions.
+    pub fn moved_state(&self) -> State {
+        let mut state = self.state();
+        let before = self.before as i64;
+        state.stream_sample_offset += before;
+        state.metadata_timeslot_stream_sample += before;
+        state.metadata.payload_stream_sample += before;
+        state
+    }
+
     /// A channel was lifted since the last reset.
     pub fn lifted(&self) -> bool {
         self.amended.is_some()
     }
 
+    /// What the last push was judged to be, where 1 to 8 let it pass.
+    pub fn judged(&self) -> Option<&Judged> {
+        self.judged.as_ref()
+    }
+
     pub fn push(&mut self, call: &Call, stride: usize) -> Outcome {
-        let state = self.state();
-        match judged(&state, self.before, call, stride) {
-            Ok(frame) => self.render(&state, &frame),
+        self.judged = None;
+        let before = self.state();
+        match judged(&before, self.before, call, stride) {
+            Ok(frame) => {
+                let outcome = self.render(&before, &frame);
+                self.judged = Some(Judged { before, frame });
+                outcome
+            }
             Err(number) => Outcome::Refused([number, 0, 0]),
         }
     }
@@ -189,18 +219,38 @@ pub fn judged(state: &State, before: u64, call: &Call, stride: usize) -> Result<
 /// Document 02's R-1: one of these updates, applied in turn, meets an element that would be kept
 /// and another number of dynamic objects than that of the update before.
 pub fn lifts(state: &Metadata, updates: &[&Update]) -> bool {
-    let blocks = |state: &Metadata| state.elements.iter().map(|e| e.block_used.len()).collect();
+    met(state, updates).iter().any(|met| met.lifted)
+}
+
+/// What the elements of an update meet.
+pub struct Met {
+    /// Those that are kept by document 01, of all.
+    pub kept: usize,
+    pub all: usize,
+    /// Those that would be kept start afresh.
+    pub lifted: bool,
+}
+
+/// The same of each of these updates, applied in turn.
+pub fn met(state: &Metadata, updates: &[&Update]) -> Vec<Met> {
+    let blocks = state.elements.iter().map(|e| e.block_used.len());
     let mut last = Counts {
         objects: state.object_count,
         dynamic: state.object_count.saturating_sub(state.bed_or_isf_objects),
-        blocks: blocks(state),
+        blocks: blocks.collect(),
     };
-    updates.iter().any(|update| {
+    let meets = |update: &&Update| {
         let next = Counts::of(update);
-        let lifted = last.keeps(&next) && last.dynamic != next.dynamic;
+        let kept = last.kept(&next);
+        let met = Met {
+            kept,
+            all: next.blocks.len(),
+            lifted: kept > 0 && last.dynamic != next.dynamic,
+        };
         last = next;
-        lifted
-    })
+        met
+    };
+    updates.iter().map(meets).collect()
 }
 
 /// What an update is held against by the next one.
@@ -221,11 +271,13 @@ impl Counts {
         }
     }
 
-    /// By document 01 an element is kept.
-    fn keeps(&self, next: &Counts) -> bool {
-        self.objects == next.objects
-            && self.blocks.len() == next.blocks.len()
-            && self.blocks.iter().zip(&next.blocks).any(|(a, b)| a == b)
+    /// The elements that are kept by document 01.
+    fn kept(&self, next: &Counts) -> usize {
+        if self.objects != next.objects || self.blocks.len() != next.blocks.len() {
+            return 0;
+        }
+        let pairs = self.blocks.iter().zip(&next.blocks);
+        pairs.filter(|(a, b)| a == b).count()
     }
 }
 

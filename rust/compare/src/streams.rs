@@ -40,16 +40,31 @@ pub fn append(stream: &mut Vec<u8>, step: &Step) {
 
 /// A seeded stream of up to 16 steps; one in five is damaged.
 pub fn stream(seed: u64) -> Vec<u8> {
+    let (mut inputs, mut stream) = undamaged(seed);
+    if inputs.chance(5) {
+        damage(&mut inputs, &mut stream);
+    }
+    stream
+}
+
+/// The same, damaged in one to three places.
+pub fn damaged(seed: u64) -> Vec<u8> {
+    let (mut inputs, mut stream) = undamaged(seed);
+    for _ in 0..1 + inputs.below(3) {
+        damage(&mut inputs, &mut stream);
+    }
+    stream
+}
+
+/// The stream, and the generator behind it.
+fn undamaged(seed: u64) -> (Generator, Vec<u8>) {
     let mut inputs = Generator::new(seed.wrapping_mul(0x5851_f42d_4c95_7f2d));
     let mut calls = Calls::new(inputs.bits(), STRIDE as u64);
     let mut stream = Vec::new();
     for _ in 0..inputs.below(17) {
         append(&mut stream, &calls.next_step());
     }
-    if inputs.chance(5) {
-        damage(&mut inputs, &mut stream);
-    }
-    stream
+    (inputs, stream)
 }
 
 fn damage(inputs: &mut Generator, stream: &mut Vec<u8>) {
@@ -69,8 +84,9 @@ fn damage(inputs: &mut Generator, stream: &mut Vec<u8>) {
         4 => spoil_record(inputs, stream),
         _ => {
             // A header, a flush or a reset.
-            let heads: Vec<usize> = (0..stream.len())
-                .step_by(40)
+            let whole = 0..records as usize;
+            let heads: Vec<usize> = whole
+                .map(|record| 40 * record)
                 .filter(|&at| matches!(stream[at], 5 | 7 | 8))
                 .collect();
             if !heads.is_empty() {
@@ -82,21 +98,31 @@ fn damage(inputs: &mut Generator, stream: &mut Vec<u8>) {
 }
 
 /// What stops `hallrender`.
-struct BadRecord;
+pub struct BadRecord;
+
+/// The steps of a stream, up to its end or to a bad record.
+pub fn steps(stream: &[u8]) -> (Vec<Step>, Option<BadRecord>) {
+    let mut records = Records { rest: stream };
+    let mut steps = Vec::new();
+    while !records.rest.is_empty() {
+        match records.step() {
+            Ok(step) => steps.push(step),
+            Err(bad) => return (steps, Some(bad)),
+        }
+    }
+    (steps, None)
+}
 
 /// The standard output of `hallrender` for that standard input.
 pub fn played(stream: &[u8]) -> String {
     let mut text = String::new();
     let mut model = Model::new();
-    let mut records = Records { rest: stream };
-    while !records.rest.is_empty() {
-        match records.step() {
-            Ok(step) => print(&mut text, &outcome(&mut model, &step)),
-            Err(BadRecord) => {
-                text.push_str("bad record\n");
-                break;
-            }
-        }
+    let (steps, bad) = steps(stream);
+    for step in &steps {
+        print(&mut text, &outcome(&mut model, step));
+    }
+    if let Some(BadRecord) = bad {
+        text.push_str("bad record\n");
     }
     text
 }

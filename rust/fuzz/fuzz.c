@@ -1,0 +1,200 @@
+/* SPDX-License-Identifier: Apache-2.0 */
+/* The entries under a coverage-guided fuzzer. The input is a list of calls on one state block, each a head of 32 bytes and its
+   metadata (README.md). Aborts at: a refused call that changed a byte; an answer that cannot be; a ready count that does not follow
+   from the pending one; a sample out of range; a byte written behind the ready samples; a block out of range after an accepted call. */
+#include "mend.h"
+#include "spots.h"
+#include "voqlisna.h"
+#include <stdio.h>
+#include <stdlib.h>
+#include <string.h>
+#include <unistd.h>
+
+enum { CALLS = 24, HEAD = 32, STRIDE = 1536, CHANNELS = 34, RECORDS = 1024, STREAM = 40 };
+
+/* One renderer's memory, with a byte more than the largest that is lent. */
+static uint8_t state[1 << 16], before[1 << 16], out[48 * STRIDE], kept[48 * STRIDE], records[40 * RECORDS];
+static float pcm[CHANNELS * STRIDE];
+static int damaged; /* the block was written from outside since the last reset: its floats may be any */
+static int printing; /* each answer, where one input is run again */
+
+static uint32_t half(const uint8_t *p) { return (uint32_t)(p[0] | p[1] << 8); }
+static uint32_t word(const uint8_t *p) { return half(p) | half(p + 2) << 16; }
+static uint64_t both(const uint8_t *p) { return word(p) | (uint64_t)word(p + 4) << 32; }
+static void put_both(uint8_t *p, uint64_t n) { memcpy(p, &n, 8); }
+static void fail(const char *why) { fputs(why, stderr), fputc('\n', stderr), abort(); }
+
+/* Mostly a stride, else a number beside one. */
+static uint32_t stride_of(uint8_t b) {
+  static const uint32_t others[16] = {0, 1, 63, 65, 96, 1535, 1537, 1600, 1 << 16, 1 << 26, 1u << 31, UINT32_MAX, 32, 127, 129, 1472 + 32};
+  return b < 240 ? 64u * (1u + b % 24u) : others[b - 240];
+}
+
+/* What a push is given, from its head. */
+typedef struct {
+  uint8_t codes[255];
+  uint32_t beds, objects, samples, rate;
+  size_t pcm, meta;
+} push;
+
+static void fill_pcm(push *p, uint8_t loudness, int8_t more) {
+  static const float peaks[8] = {0.0f, 0.25f, 0.5f, 1.0f, 2.0f, 16.0f, 16.000002f, __builtin_nanf("")};
+  size_t values = (size_t)(p->beds + p->objects) * p->samples, most = CHANNELS * STRIDE;
+  if (values > most) values = most;
+  for (size_t i = 0; i < values; i++) pcm[i] = peaks[loudness] * (float)((int)(i % 7) - 3) / 3.0f;
+  p->pcm = 4 * values;
+  if (more >= 120 && values < most) p->pcm += (size_t)(more - 119);
+  if (more <= -120 && p->pcm >= 8) p->pcm -= (size_t)(-119 - more) % 8;
+}
+
+/* As many bed channels and objects as the first update has. */
+static void fit(push *p) {
+  if (p->meta < 40) return;
+  p->objects = records[4] > records[5] ? (uint32_t)(records[4] - records[5]) : 0;
+  p->beds = records[6] <= 18 ? records[6] : 18;
+  memcpy(p->codes, records + 8, p->beds);
+}
+
+static push push_of(const uint8_t *head, size_t count) {
+  push p = {.beds = head[9], .objects = head[8], .samples = half(head + 6), .rate = word(head + 2), .meta = 40 * count};
+  for (uint32_t i = 0; i < p.beds; i++) p.codes[i] = head[14 + i % 18];
+  if (head[0] & 8) p.meta = 40 * mend(records, count);
+  if (head[0] & 16) fit(&p);
+  fill_pcm(&p, head[0] >> 5, (int8_t)head[12]);
+  return p;
+}
+
+/* Moves the stream to so many samples before its end, or writes a byte of the block. */
+static void damage(const uint8_t *head, size_t size) {
+  uint64_t room = half(head + 6), position = both(state + 8), end = (uint64_t)1 << STREAM;
+  if (head[1] & 1) {
+    if (position > end / 2) return;
+    const int places[3] = {8, 16, 72}; /* position, slot start, payload position */
+    for (int i = 0; i < 3; i++) put_both(state + places[i], both(state + places[i]) + end - room - position);
+  } else {
+    state[head[1] & 2 ? word(head + 2) % size : word(head + 2) % 1360] = head[8];
+    damaged = 1;
+  }
+}
+
+static void check_answer(hall_answer a, int pushed) {
+  if (a.kind > 3 || (a.kind != HALL_REFUSED && (a.number || a.first || a.second))) fail("an answer that cannot be");
+  if (a.kind != HALL_REFUSED) return;
+  if (a.number < 1 || a.number > 14 || a.number == 7 || a.ready || (!pushed && a.number != 1)) fail("a refusal that cannot be");
+  int counts = a.number == 9 || a.number == 11 || a.number == 13 || a.number == 14;
+  if (!counts && (a.first || a.second)) fail("counts that cannot be");
+}
+
+static void check_output(hall_answer a, size_t stride) {
+  for (size_t c = 0; c < 12; c++) {
+    for (size_t i = 0; i < a.ready; i++) {
+      float x;
+      memcpy(&x, out + 4 * (c * stride + i), 4);
+      if (!damaged && !(x >= -1.0f && x <= 1.0f)) fail("a sample out of range");
+    }
+    if (memcmp(out + 4 * (c * stride + a.ready), kept, 4 * (stride - a.ready))) fail("a byte behind the ready samples");
+  }
+  if (memcmp(out + 48 * stride, kept, sizeof out - 48 * stride)) fail("a byte behind the channels");
+}
+
+/* A push of no samples looks at the block first: 1 says that it is out of range. */
+static int refused_by_1(size_t size) {
+  static uint8_t room[48 * 64];
+  return hall_push(state, size, room, 0, room, 0, room, sizeof room, room, 0, 48000, 0, 0, 64).number == 1;
+}
+
+/* What the fuzzer is told of the answer and of the block that it left. */
+static void tell(hall_answer a, size_t stride, uint32_t last) {
+  spot(a.kind == HALL_REFUSED ? a.number : 16 + a.kind);
+  spot(32 + 16 * (last & 15) + a.number);                    /* to 287 */
+  spot(288 + word(state + 80) % 33);                         /* objects */
+  spot(328 + word(state + 88) % 19 * 3 + word(state + 92) % 3); /* beds, elements */
+  spot(392 + (unsigned)a.ready / 64);
+  spot(424 + word(state + 64) / 8 + 8 * (word(state + 4) / 8 & 7)); /* pending, phase: to 487 */
+  for (unsigned e = 0; e < word(state + 92) % 3; e++) {
+    const uint8_t *element = state + 624 + 368 * e;
+    unsigned used = 0, moves = 0;
+    for (unsigned b = 0; b < 8; b++) used |= (element[24 + 12 * b] & 1u) << b;
+    for (unsigned t = 0; t < 16; t++) moves += element[112 + 16 * t] & 1u;
+    spot(512 + used);                                        /* to 767 */
+    spot(768 + 17 * e + moves);
+    spot(804 + 2 * e + (both(element + 8) > (uint64_t)1 << 47)); /* a ramp goes on */
+  }
+  spot(808 + (word(state + 24) != 0x3f800000u) + 2 * (state[68] & 1u)); /* limiter gain, initialized */
+  unsigned heard = 0;
+  for (size_t c = 0; c < 12 && a.ready; c++) heard += word(out + 4 * c * stride) != 0;
+  spot(820 + heard);
+}
+
+/* Bytes of the output that is lent: as few as may be, one fewer, or all. */
+static size_t room_of(uint32_t stride, uint8_t b) {
+  if (b == 252 || stride == 0 || stride > STRIDE) return sizeof out;
+  return 48 * (size_t)stride - (b == 255);
+}
+
+static hall_answer call(const uint8_t *head, size_t count, size_t size, uint32_t stride, uint32_t *samples, int *pushed) {
+  size_t room = room_of(stride, head[13]), block = size - (head[13] == 254);
+  int op = head[0] & 7;
+  *samples = 0, *pushed = 0;
+  if (op == 6) return hall_reset(state, block);
+  if (op == 5) return hall_flush(state, block, out, room, stride);
+  push p = push_of(head, count);
+  *samples = p.samples, *pushed = 1;
+  if (head[13] == 253 && p.meta) p.meta--;
+  return hall_push(state, block, (uint8_t *)pcm, p.pcm, records, p.meta, out, room, p.codes, p.beds, p.rate, p.samples, p.objects, stride);
+}
+
+static void run(const uint8_t *p, size_t n) {
+  size_t size = hall_state_size();
+  uint32_t last = 0;
+  const uint8_t *end = p + n;
+  memset(state, 0xa5, sizeof state);
+  if (hall_reset(state, size).kind != HALL_DONE) fail("reset");
+  damaged = 0;
+  for (int calls = 0; calls < CALLS && end - p >= HEAD; calls++) {
+    const uint8_t *head = p;
+    uint32_t stride = stride_of(head[1]), samples, pending = word(state + 64);
+    size_t count = half(head + 10), left = (size_t)(end - p - HEAD) / 40;
+    int pushed;
+    p += HEAD;
+    if ((head[0] & 7) == 7) { damage(head, size); continue; }
+    if ((head[0] & 7) > 4) count = 0;
+    if (count > left) count = left;
+    if (count > RECORDS) count = RECORDS;
+    memcpy(records, p, 40 * count), p += 40 * count;
+    memcpy(before, state, size), memset(out, 0x5a, sizeof out), memcpy(kept, out, sizeof out);
+    hall_answer a = call(head, count, size, stride, &samples, &pushed);
+    if (printing) printf("%u %u %u %u %zu\n", a.kind, a.number, a.first, a.second, a.ready);
+    check_answer(a, pushed);
+    tell(a, stride, last), last = a.number;
+    if (a.kind == HALL_REFUSED || a.kind == HALL_NONE) {
+      if (memcmp(before, state, size) || memcmp(out, kept, sizeof out)) fail("a refused call changed a byte");
+      continue;
+    }
+    if (a.kind == HALL_DONE) damaged = 0;
+    if (pushed && a.ready != (pending + samples) / 64 * 64) fail("ready of a push");
+    if (!pushed && a.kind == HALL_RENDERED && a.ready != pending) fail("ready of a flush");
+    if (a.kind == HALL_RENDERED) check_output(a, stride);
+    if (refused_by_1(size)) fail("an accepted call left a block out of range");
+  }
+}
+
+#ifdef __AFL_FUZZ_TESTCASE_LEN
+__AFL_FUZZ_INIT();
+int main(void) {
+  __AFL_INIT();
+  const uint8_t *input = __AFL_FUZZ_TESTCASE_BUF;
+  while (__AFL_LOOP(10000)) run(input, (size_t)__AFL_FUZZ_TESTCASE_LEN);
+  return 0;
+}
+#else
+/* Runs one input and prints its answers: `replay < FILE`. */
+int main(void) {
+  static uint8_t input[1 << 20];
+  size_t n = 0;
+  for (ssize_t k; (k = read(0, input + n, sizeof input - n)) > 0;) n += (size_t)k;
+  printing = 1;
+  run(input, n);
+  return 0;
+}
+#endif
