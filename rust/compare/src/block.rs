@@ -1,7 +1,7 @@
 //! A state block (docs/STATE-BLOCK.md) beside the Rust's own state.
 
 use crate::same;
-use oracle::frame::Anchor;
+use oracle::frame::{ANCHORS, DEPTHS};
 use oracle::state::{Element, Info, Metadata, Source, State};
 
 struct Block<'a>(&'a [u8]);
@@ -103,8 +103,8 @@ impl Block<'_> {
         let distance = present(16, at + 12).map(|x| if x.is_infinite() { 100.0 } else { x });
         (flags & 1 != 0) == info.valid_position
             && (flags & 2 != 0) == info.differential_position
-            && [Anchor::Room, Anchor::Screen, Anchor::Speaker][usize::from(anchor)] == info.anchor
-            && [0.25, 0.5, 1.0, 2.0][usize::from(depth)] == info.depth_factor
+            && ANCHORS[usize::from(anchor)] == info.anchor
+            && DEPTHS[usize::from(depth)] == info.depth_factor
             && same_value(present(4, at + 4), info.gain)
             && same_value(present(32, at + 8), info.size)
             && same_value(distance, info.distance)
@@ -231,8 +231,8 @@ impl Block<'_> {
             distance: present(16, at + 12).map(|x| if x.is_infinite() { 100.0 } else { x }),
             size: present(32, at + 8),
             screen_factor: self.float(at + 16),
-            depth_factor: [0.25, 0.5, 1.0, 2.0][usize::from(depth)],
-            anchor: [Anchor::Room, Anchor::Screen, Anchor::Speaker][usize::from(anchor)],
+            depth_factor: DEPTHS[usize::from(depth)],
+            anchor: ANCHORS[usize::from(anchor)],
             position: self.floats(at + 20),
             last_precise: self.floats(at + 32),
         }

@@ -1,7 +1,7 @@
 //! Calls as a host makes them, over bytes.
 
-use crate::probe::timed::records;
-use crate::{Frames, Generator};
+use crate::entry::{self, Answer};
+use crate::{Frames, Generator, records};
 use oracle::frame::Frame;
 
 /// The arguments of a push but for what is lent to write.
@@ -23,7 +23,7 @@ impl From<&Frame> for Call {
             samples: frame.samples as u32,
             codes: frame.beds.clone(),
             objects: frame.objects as u32,
-            meta: records(&frame.updates),
+            meta: records::write(&frame.updates),
             pcm: frame.pcm.iter().flat_map(|x| x.to_le_bytes()).collect(),
         }
     }
@@ -34,6 +34,17 @@ pub enum Step {
     Push(Call),
     Flush,
     Reset,
+}
+
+impl Step {
+    /// What the entry answers.
+    pub fn call(&self, state: &mut [u8], out: &mut [u8], stride: u32) -> Answer {
+        match self {
+            Step::Push(call) => entry::push(state, call, out, stride),
+            Step::Flush => entry::flush(state, out, stride),
+            Step::Reset => entry::reset(state),
+        }
+    }
 }
 
 /// A bed of code 2 with an update that names it at offset 0.

@@ -1,5 +1,5 @@
 use crate::Generator;
-use oracle::frame::{Anchor, Block, Element, Frame, Object, Update};
+use oracle::frame::{ANCHORS, Block, DEPTHS, Element, Frame, Object, Update};
 use oracle::state::State;
 
 /// A seeded stream of frames that document 01's checks 1 to 6 and 8 let pass: mostly accepted,
@@ -50,8 +50,6 @@ const UNLIKE: [u32; 64] = [
     33_153, 34_420, 40_853, 43_146, 44_389, 44_559, 44_907, 53_025, 59_700, 73_084, 81_157, 98_100,
     99_338, 11_492, 48_971,
 ];
-const DEPTHS: [f32; 4] = [0.25, 0.5, 1.0, 2.0];
-const ANCHORS: [Anchor; 3] = [Anchor::Room, Anchor::Screen, Anchor::Speaker];
 /// Metadata records that a frame of `hallrender` has at most.
 const PROGRAM_RECORDS: u64 = 1_200;
 /// Those of document 01's largest frame: 16 updates of 32 objects, 2 elements, 8 blocks.

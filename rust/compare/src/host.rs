@@ -2,7 +2,7 @@
 
 use crate::calls::{Call, Step};
 use crate::entry::{self, Answer, BLOCK};
-use crate::model::{Model, Outcome};
+use crate::model::{Model, Outcome, STREAM_END};
 use crate::{Frames, same};
 
 /// What reset makes of any block.
@@ -83,31 +83,30 @@ impl Host {
         }
     }
 
+    /// A call that must come out as the model has it.
+    pub fn step(&mut self, model: &mut Model, step: &Step, name: &str) -> Outcome {
+        let outcome = model.step(step, self.stride);
+        self.calls(&outcome, |s, o, n| step.call(s, o, n), name);
+        if outcome == Outcome::Reset {
+            assert!(self.state == fresh(), "{name}");
+        }
+        outcome
+    }
+
     pub fn push(&mut self, model: &mut Model, call: &Call, name: &str) -> Outcome {
         let outcome = model.push(call, self.stride);
         self.calls(&outcome, |s, o, n| entry::push(s, call, o, n), name);
         outcome
     }
 
-    pub fn flush(&mut self, model: &mut Model, name: &str) -> Outcome {
-        let outcome = model.flush();
-        self.calls(&outcome, entry::flush, name);
-        outcome
-    }
-
-    pub fn reset(&mut self, model: &mut Model, name: &str) -> Outcome {
-        let outcome = model.reset();
-        self.calls(&outcome, |s, _, _| entry::reset(s), name);
-        assert!(self.state == fresh(), "{name}");
-        outcome
-    }
-
-    /// A call that must come out as the model has it.
-    pub fn step(&mut self, model: &mut Model, step: &Step, name: &str) -> Outcome {
-        match step {
-            Step::Push(call) => self.push(model, call, name),
-            Step::Flush => self.flush(model, name),
-            Step::Reset => self.reset(model, name),
+    /// Moves a renderer to so many samples before the stream's end.
+    pub fn move_on(&mut self, model: &mut Model, room: u64) {
+        let position = model.state().stream_sample_offset as u64;
+        model.before = STREAM_END - room - position;
+        // Position, slot start, payload position.
+        for at in [8, 16, 72] {
+            let number: &mut [u8; 8] = (&mut self.state[at..at + 8]).try_into().unwrap();
+            *number = (u64::from_le_bytes(*number) + model.before).to_le_bytes();
         }
     }
 }

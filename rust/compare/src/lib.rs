@@ -10,8 +10,8 @@ pub mod host;
 pub mod model;
 pub mod probe;
 pub mod ranges;
-pub mod reading;
 pub mod recorded;
+pub mod records;
 pub mod rows;
 pub mod scale;
 pub mod seeds;
@@ -20,6 +20,12 @@ pub mod streams;
 pub use frames::{Frames, largest_frame};
 pub use generator::{EDGES, Generator};
 pub use seeds::Drawn;
+
+/// The floats of little-endian bytes.
+pub fn floats(bytes: &[u8]) -> Vec<f32> {
+    let words = bytes.as_chunks().0.iter();
+    words.map(|&word| f32::from_le_bytes(word)).collect()
+}
 
 /// Equal bit for bit, all NaNs being equal.
 pub fn same(a: f32, b: f32) -> bool {

@@ -2,7 +2,7 @@
 
 use crate::calls::{Call, Calls, Step};
 use crate::{Generator, streams};
-use oracle::frame::{Anchor, Block, Element, Frame, Object, Update};
+use oracle::frame::{ANCHORS, Anchor, Block, DEPTHS, Element, Frame, Object, Update};
 use std::collections::BTreeMap;
 use std::path::PathBuf;
 
@@ -140,20 +140,18 @@ fn beds(list: &mut List) {
 
 /// Anchors, depth factors, positions of any kind, sizes, ramps, kept and new elements.
 fn objects(list: &mut List) {
-    let anchors = [Anchor::Room, Anchor::Screen, Anchor::Speaker];
-    let depths = [0.25, 0.5, 1.0, 2.0];
     let moving = |shift: f32| {
         move |o: usize, b: usize| {
             let at = 0.2 * o as f32 + 0.3 * b as f32 + shift;
             let object = placed(
-                anchors[o % 3],
+                ANCHORS[o % 3],
                 [at % 1.0, 1.0 - at % 1.0, 0.5 * at],
                 0.7,
                 0.0,
             );
             Object {
                 screen: 0.25 * (o % 5) as f32,
-                depth: depths[(o / 3) % 4],
+                depth: DEPTHS[(o / 3) % 4],
                 distance: [None, Some(1.5), Some(f32::INFINITY)][o / 3 % 3],
                 ..object
             }
@@ -184,7 +182,7 @@ fn objects(list: &mut List) {
     list.push(&frame, vec![update(0, &[], 4, &[ramps], differential)]);
     list.push(&frame, vec![update(0, &[], 4, &[ramps], differential)]);
     let odd = [f32::NAN, f32::INFINITY, -f32::INFINITY, -0.0];
-    let strange = |o: usize, _: usize| placed(anchors[o % 3], [odd[o], 0.5, odd[3 - o]], 1.0, 1.0);
+    let strange = |o: usize, _: usize| placed(ANCHORS[o % 3], [odd[o], 0.5, odd[3 - o]], 1.0, 1.0);
     list.push(&frame, vec![update(0, &[], 4, &[&[(0, 0)]], strange)]);
     list.flush();
 }

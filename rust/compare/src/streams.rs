@@ -4,16 +4,11 @@
 use crate::Generator;
 use crate::calls::{Call, Calls, Step, spoil_order, spoil_record};
 use crate::model::{Model, Outcome};
+use crate::records::{record, zero};
 use std::fmt::Write;
 
 /// The stride of `hallrender`.
 pub const STRIDE: usize = 256;
-
-fn record(kind: u8) -> [u8; 40] {
-    let mut record = [0; 40];
-    record[0] = kind;
-    record
-}
 
 /// The records of a step.
 pub fn append(stream: &mut Vec<u8>, step: &Step) {
@@ -119,20 +114,12 @@ pub fn played(stream: &[u8]) -> String {
     let mut model = Model::new();
     let (steps, bad) = steps(stream);
     for step in &steps {
-        print(&mut text, &outcome(&mut model, step));
+        print(&mut text, &model.step(step, STRIDE));
     }
     if let Some(BadRecord) = bad {
         text.push_str("bad record\n");
     }
     text
-}
-
-fn outcome(model: &mut Model, step: &Step) -> Outcome {
-    match step {
-        Step::Push(call) => model.push(call, STRIDE),
-        Step::Flush => model.flush(),
-        Step::Reset => model.reset(),
-    }
 }
 
 fn print(text: &mut String, outcome: &Outcome) {
@@ -213,8 +200,4 @@ impl<'a> Records<'a> {
             pcm,
         })
     }
-}
-
-fn zero(bytes: &[u8]) -> bool {
-    bytes.iter().all(|&byte| byte == 0)
 }

@@ -61,6 +61,11 @@ pub enum Anchor {
     Speaker,
 }
 
+/// The anchors by code.
+pub const ANCHORS: [Anchor; 3] = [Anchor::Room, Anchor::Screen, Anchor::Speaker];
+/// The depth factors, and in a state block their codes.
+pub const DEPTHS: [f32; 4] = [0.25, 0.5, 1.0, 2.0];
+
 /// An object in a block.
 #[derive(Clone, Copy, Debug, PartialEq)]
 pub struct Object {
@@ -75,18 +80,35 @@ pub struct Object {
     pub depth: f32,
 }
 
+impl Object {
+    /// It says nothing.
+    pub const SILENT: Self = Self {
+        anchor: Anchor::Room,
+        position_valid: false,
+        differential: false,
+        gain: None,
+        position: None,
+        distance: None,
+        size: None,
+        screen: 1.0,
+        depth: 1.0,
+    };
+
+    /// The record's flags, by place.
+    pub fn flags(&self) -> [bool; 6] {
+        [
+            self.position_valid,
+            self.differential,
+            self.gain.is_some(),
+            self.position.is_some(),
+            self.distance.is_some(),
+            self.size.is_some(),
+        ]
+    }
+}
+
 impl Default for Object {
     fn default() -> Self {
-        Self {
-            anchor: Anchor::Room,
-            position_valid: false,
-            differential: false,
-            gain: None,
-            position: None,
-            distance: None,
-            size: None,
-            screen: 1.0,
-            depth: 1.0,
-        }
+        Self::SILENT
     }
 }

@@ -1,8 +1,8 @@
 // SPDX-License-Identifier: Apache-2.0
 //! Writes the first inputs of the fuzzer (rust/fuzz), 200 lists of calls: `fuzz_seeds FOLDER`.
 
-use compare::Generator;
 use compare::calls::{Call, Calls, Step};
+use compare::{Generator, floats};
 use std::path::PathBuf;
 use std::{env, fs, process};
 
@@ -19,8 +19,8 @@ fn head(operation: u8, stride: u8) -> [u8; 32] {
 
 /// The PCM is told by its loudness alone, in the fuzzer's steps.
 fn loudness(call: &Call) -> u8 {
-    let samples = call.pcm.as_chunks().0.iter();
-    let peak = samples.fold(0f32, |peak, &x| match f32::from_le_bytes(x).abs() {
+    let samples = floats(&call.pcm);
+    let peak = samples.iter().fold(0f32, |peak, x| match x.abs() {
         x if x.is_nan() || peak.is_nan() => f32::NAN,
         x => peak.max(x),
     });

@@ -4,7 +4,7 @@
 use compare::Generator;
 use compare::calls::Call;
 use compare::entry::{self, Answer, BLOCK};
-use oracle::frame::{Anchor, Block, Element, Frame, Object, Update};
+use oracle::frame::{ANCHORS, Block, Element, Frame, Object, Update};
 use std::arch::asm;
 use std::thread;
 
@@ -33,7 +33,7 @@ fn depth(call: &mut dyn FnMut() -> Answer) -> (usize, Answer) {
 fn update(inputs: &mut Generator, offset: usize) -> Update {
     let objects = BEDS.len() + OBJECTS;
     let mut object = || Object {
-        anchor: inputs.pick(&[Anchor::Room, Anchor::Screen, Anchor::Speaker]),
+        anchor: inputs.pick(&ANCHORS),
         position_valid: true,
         gain: Some(0.7),
         position: Some(std::array::from_fn(|_| inputs.between(0.0, 1.0))),

@@ -1,3 +1,5 @@
+use crate::floats;
+
 unsafe extern "C" {
     fn probe_max_abs_slice(samples: *const f32, length: usize) -> f32;
     fn probe_scale_slice_into(
@@ -84,9 +86,4 @@ pub fn bytes(block: &[f32; 768]) -> [u8; 3072] {
         to.copy_from_slice(&x.to_bits().to_le_bytes());
     }
     places
-}
-
-fn floats(bytes: &[u8]) -> Vec<f32> {
-    let words = bytes.chunks(4).map(|b| [b[0], b[1], b[2], b[3]]);
-    words.map(f32::from_le_bytes).collect()
 }

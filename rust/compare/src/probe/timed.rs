@@ -1,7 +1,5 @@
 // The timed state crosses by value, the infos and the metadata as bytes.
 
-use oracle::frame::{Anchor, Object, Update};
-
 #[repr(C)]
 #[derive(Clone, Copy, Debug, Default)]
 pub struct Vec3 {
@@ -150,67 +148,4 @@ impl Default for Timed {
     fn default() -> Self {
         Self::new()
     }
-}
-
-/// Document 01, "What a call receives": records of 40 bytes.
-pub fn records(updates: &[Update]) -> Vec<u8> {
-    let mut bytes = Vec::new();
-    for update in updates {
-        let mut record = [0; 40];
-        record[0] = 1;
-        record[2..4].copy_from_slice(&update.offset.to_le_bytes());
-        record[4] = update.objects;
-        record[5] = update.bed_or_isf_objects;
-        record[6] = update.beds.len() as u8;
-        record[7] = update.elements.len() as u8;
-        record[8..][..update.beds.len()].copy_from_slice(&update.beds);
-        bytes.extend(record);
-        for element in &update.elements {
-            let mut record = [0; 40];
-            record[..2].copy_from_slice(&[2, element.blocks.len() as u8]);
-            bytes.extend(record);
-            for block in &element.blocks {
-                let mut record = [0; 40];
-                record[0] = 3;
-                record[8..16].copy_from_slice(&block.offset.to_le_bytes());
-                record[16..24].copy_from_slice(&block.ramp.to_le_bytes());
-                bytes.extend(record);
-            }
-            for object in element.objects.iter().flatten() {
-                bytes.extend(object_record(object));
-            }
-        }
-    }
-    bytes
-}
-
-fn object_record(object: &Object) -> [u8; 40] {
-    let mut record = [0; 40];
-    record[0] = 4;
-    record[1] = match object.anchor {
-        Anchor::Room => 0,
-        Anchor::Screen => 1,
-        Anchor::Speaker => 2,
-    };
-    record[2] = u8::from(object.position_valid)
-        | u8::from(object.differential) << 1
-        | u8::from(object.gain.is_some()) << 2
-        | u8::from(object.position.is_some()) << 3
-        | u8::from(object.distance.is_some()) << 4
-        | u8::from(object.size.is_some()) << 5;
-    let [x, y, z] = object.position.unwrap_or_default();
-    let floats = [
-        object.gain.unwrap_or_default(),
-        x,
-        y,
-        z,
-        object.distance.unwrap_or_default(),
-        object.size.unwrap_or_default(),
-        object.screen,
-        object.depth,
-    ];
-    for (place, float) in record[4..36].chunks_exact_mut(4).zip(floats) {
-        place.copy_from_slice(&float.to_le_bytes());
-    }
-    record
 }

@@ -53,7 +53,7 @@ unsafe extern "C" {
 }
 
 /// The powers that a depth factor names, by code.
-pub const DEPTHS: [f32; 4] = [0.25, 0.5, 1.0, 2.0];
+pub use oracle::frame::DEPTHS;
 
 pub fn vec_add(lhs: Vector, rhs: Vector) -> Vector {
     probe_vec_add(lhs.into(), rhs.into()).into()

@@ -6,7 +6,7 @@ mod text;
 
 use crate::calls::Call;
 use crate::model::{Model, Outcome};
-use crate::probe::timed::records;
+use crate::records;
 use oracle::frame::Update;
 
 pub use lists::groups;
@@ -58,7 +58,7 @@ pub fn text() -> String {
 
 impl From<&Push> for Call {
     fn from(push: &Push) -> Self {
-        let mut meta = records(&push.updates);
+        let mut meta = records::write(&push.updates);
         for &(at, byte) in &push.spoilt {
             meta[at] = byte;
         }

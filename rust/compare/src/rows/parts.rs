@@ -149,18 +149,7 @@ pub fn at_once(ramp: i64, objects: &[Object]) -> Element {
     element([(0, 0), (-1, ramp)], &objects)
 }
 
-/// An object that says nothing.
-pub const SILENT: Object = Object {
-    anchor: Anchor::Room,
-    position_valid: false,
-    differential: false,
-    gain: None,
-    position: None,
-    distance: None,
-    size: None,
-    screen: 1.0,
-    depth: 1.0,
-};
+pub const SILENT: Object = Object::SILENT;
 
 pub fn at(x: f32, y: f32, z: f32) -> Object {
     Object {

@@ -6,18 +6,23 @@
 mod damage;
 mod reached;
 mod seen;
+mod table;
 
 use crate::calls::{Call, Calls, Step};
 use crate::host::Host;
-use crate::model::{Model, Outcome, STREAM_END};
+use crate::model::{Judged, Model, Outcome};
 use crate::{Generator, block, ranges, streams};
 use oracle::frame::Update;
+use seen::Push;
 use std::vec;
 
 pub use reached::{Reached, What};
 
 /// Calls of most runs and of one in 32, those on damaged memory apart.
 const CALLS: [usize; 2] = [16, 160];
+
+/// Bytes of the most metadata that a frame of `hallrender` has.
+const LONG: usize = 40 * 1_200;
 
 /// Where a run's calls come from.
 enum Source {
@@ -34,6 +39,8 @@ struct Run<'a> {
     model: Model,
     /// The last applied update.
     last: Option<Update>,
+    /// That of the last accepted push.
+    stride: usize,
     reached: &'a mut Reached,
 }
 
@@ -51,22 +58,11 @@ pub fn run(seed: u64, reached: &mut Reached) {
         run.call(step, name);
         if k == 3 && to_the_end {
             let room = run.inputs.below(2_000);
-            move_on(&mut run.host, &mut run.model, room);
+            run.host.move_on(&mut run.model, room);
         }
         assert!(ranges::hold(&run.host.state), "{name}: the ranges");
         let differs = block::difference(&run.host.state, &run.model.moved_state());
         assert_eq!(differs, None, "{name}: the renderer in the block");
-    }
-}
-
-/// Moves a renderer to so many samples before the stream's end.
-pub fn move_on(host: &mut Host, model: &mut Model, room: u64) {
-    let position = model.state().stream_sample_offset as u64;
-    model.before = STREAM_END - room - position;
-    // Position, slot start, payload position.
-    for at in [8, 16, 72] {
-        let number: &mut [u8; 8] = (&mut host.state[at..at + 8]).try_into().unwrap();
-        *number = (u64::from_le_bytes(*number) + model.before).to_le_bytes();
     }
 }
 
@@ -94,6 +90,7 @@ impl<'a> Run<'a> {
             host: Host::new(stride),
             model: Model::new(),
             last: None,
+            stride,
             reached,
         }
     }
@@ -130,12 +127,12 @@ impl<'a> Run<'a> {
         let outcome = self.host.step(&mut self.model, &step, name);
         self.count(&outcome);
         match (&step, &outcome) {
-            (Step::Push(_), Outcome::Ready(_)) => self.pushed(),
+            (Step::Push(call), Outcome::Ready(_)) => self.pushed(call),
             (Step::Flush, Outcome::Ready(_)) => {
                 let gain = self.model.state().limiter_gain;
                 self.reached.one(What::Flush);
                 self.reached.add(What::Limited, (gain < 1.0).into());
-                let again = self.host.flush(&mut self.model, name);
+                let again = self.host.step(&mut self.model, &step, name);
                 assert_eq!(again, Outcome::Nothing, "{name}: a second flush");
                 self.count(&again);
             }
@@ -178,17 +175,25 @@ impl<'a> Run<'a> {
     }
 
     /// After an accepted push.
-    fn pushed(&mut self) {
-        let judged = self.model.judged().unwrap();
-        if let Some(update) = judged.frame.applied().last() {
-            self.last = Some((*update).clone());
+    fn pushed(&mut self, call: &Call) {
+        let Judged { before, frame } = self.model.take_judged().unwrap();
+        if let Some(&update) = frame.applied().last() {
+            self.last = Some(update.clone());
         }
-        seen::frame(
-            self.reached,
-            &self.model,
-            self.host.stride,
-            self.last.as_ref(),
-        );
+        let push = Push {
+            before: &before.metadata,
+            after: &self.model.state(),
+            frame: &frame,
+            last: self.last.as_ref(),
+        };
+        push.count(self.reached);
+        let (host, reached) = (&self.host, &mut self.reached);
+        reached.add(What::Lifted, self.model.lifted().into());
+        reached.add(What::LongList, (call.meta.len() > LONG).into());
+        reached.add(What::LongOutput, (host.out.len() > 48 * host.stride).into());
+        reached.one(What::Stride(host.stride as u32));
+        reached.add(What::OtherStride, (self.stride != host.stride).into());
+        self.stride = host.stride;
     }
 
     fn count(&mut self, outcome: &Outcome) {

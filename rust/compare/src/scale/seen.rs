@@ -2,50 +2,76 @@
 //! What is reached by a call that is accepted, from the renderer before it and after it.
 
 use super::reached::{Reached, What};
-use crate::model::{Judged, Model, Outcome, met};
-use oracle::frame::{Frame, Object, Update};
-use oracle::state::{Element, Metadata};
+use crate::model::{Outcome, met};
+use oracle::frame::{DEPTHS, Frame, Object, Update};
+use oracle::state::{Element, Metadata, State};
 
-/// An accepted push: the metadata's state before it and after it.
-struct Push<'a> {
-    before: &'a Metadata,
-    after: &'a Metadata,
-    samples: usize,
-    /// An update was applied.
-    updated: bool,
+/// An accepted push, with the state before it and after it.
+pub struct Push<'a> {
+    pub before: &'a Metadata,
+    pub after: &'a State,
+    pub frame: &'a Frame,
+    /// The last applied update, of this push or an earlier one.
+    pub last: Option<&'a Update>,
 }
 
-/// An accepted push; `last` is the last applied update.
-pub fn frame(reached: &mut Reached, model: &Model, stride: usize, last: Option<&Update>) {
-    let Judged { before, frame } = model.judged().unwrap();
-    let after = model.state();
-    let updates = frame.applied();
-    reached.one(What::Frame);
-    reached.one(What::Stride(stride as u32));
-    reached.one(What::Rate(frame.rate));
-    reached.add(What::Limited, (after.limiter_gain < 1.0).into());
-    reached.add(What::Lifted, model.lifted().into());
-    for &code in &frame.beds {
-        reached.one(What::Input(code));
+impl Push<'_> {
+    pub fn count(&self, reached: &mut Reached) {
+        let updates = self.frame.applied();
+        reached.one(What::Frame);
+        reached.one(What::Rate(self.frame.rate));
+        reached.add(What::Limited, (self.after.limiter_gain < 1.0).into());
+        for &code in &self.frame.beds {
+            reached.one(What::Input(code));
+        }
+        for &code in &self.after.metadata.bed_channels {
+            reached.one(What::Bed(code));
+        }
+        let dropped = self.frame.updates.len() - updates.len();
+        reached.add(What::Dropped, dropped as u64);
+        reached.add(What::Silence, self.silent(&updates).into());
+        elements(reached, self.before, &updates);
+        self.objects(reached, !updates.is_empty());
+        self.ramps(reached, !updates.is_empty());
     }
-    for &code in &after.metadata.bed_channels {
-        reached.one(What::Bed(code));
+
+    /// Samples come before the first update.
+    fn silent(&self, updates: &[&Update]) -> bool {
+        let first = updates.first().map(|update| update.offset.into());
+        !self.before.initialized && first.unwrap_or(self.frame.samples) > 0
     }
-    let dropped = frame.updates.len() - updates.len();
-    reached.add(What::Dropped, dropped as u64);
-    let silence = silent(&before.metadata, frame, &updates);
-    reached.add(What::Silence, silence.into());
-    elements(reached, &before.metadata, &updates);
-    let push = Push {
-        before: &before.metadata,
-        after: &after.metadata,
-        samples: frame.samples,
-        updated: !updates.is_empty(),
-    };
-    if let Some(last) = last {
-        objects(reached, &push, last);
+
+    /// The object records of the blocks that were applied to dynamic objects.
+    fn objects(&self, reached: &mut Reached, updated: bool) {
+        let Some(last) = self.last else {
+            return;
+        };
+        let metadata = &self.after.metadata;
+        for (e, element) in metadata.elements.iter().enumerate() {
+            let blocks = applied(self.before.elements.get(e), element, updated);
+            let objects = last.elements[e].objects.iter();
+            for object in objects.skip(metadata.bed_or_isf_objects) {
+                blocks.iter().for_each(|&b| record(reached, &object[b]));
+            }
+        }
     }
-    ramps(reached, &push);
+
+    /// Ramps that were going before the push.
+    fn ramps(&self, reached: &mut Reached, updated: bool) {
+        // A slot starts at most every 64 samples, one more at offset 0.
+        let most = 64 * (self.frame.samples as i64 / 64 + 2);
+        for (e, was) in self.before.elements.iter().enumerate() {
+            let left = was.future_distance;
+            if left <= 0 || !was.update_now.contains(&true) {
+                continue;
+            }
+            let is = self.after.metadata.elements.get(e);
+            let over = is.is_none_or(|is| is.future_distance <= 0);
+            let newly = is.is_some_and(|is| !applied(Some(was), is, updated).is_empty());
+            reached.add(What::RampEnded, (over && !newly && !updated).into());
+            reached.add(What::RampCut, (left > most && (newly || over)).into());
+        }
+    }
 }
 
 fn elements(reached: &mut Reached, before: &Metadata, updates: &[&Update]) {
@@ -55,14 +81,6 @@ fn elements(reached: &mut Reached, before: &Metadata, updates: &[&Update]) {
         reached.add(What::New, (met.all - kept) as u64);
         reached.add(What::Lift, met.lifted.into());
     }
-}
-
-/// Samples come before the first update.
-fn silent(before: &Metadata, frame: &Frame, updates: &[&Update]) -> bool {
-    let first = updates
-        .first()
-        .map_or(frame.samples, |update| update.offset.into());
-    !before.initialized && first > 0
 }
 
 /// The samples that a push or a flush gives.
@@ -80,49 +98,11 @@ fn applied(before: Option<&Element>, after: &Element, updated: bool) -> Vec<usiz
     blocks.filter(|&b| after.block_used[b] && !was(b)).collect()
 }
 
-/// The object records of the blocks that were applied to dynamic objects, in the last update.
-fn objects(reached: &mut Reached, push: &Push, last: &Update) {
-    let first = push.after.bed_or_isf_objects;
-    for (e, element) in push.after.elements.iter().enumerate() {
-        let blocks = applied(push.before.elements.get(e), element, push.updated);
-        for object in last.elements[e].objects.iter().skip(first) {
-            blocks.iter().for_each(|&b| record(reached, &object[b]));
-        }
-    }
-}
-
 fn record(reached: &mut Reached, object: &Object) {
-    let flags = [
-        object.position_valid,
-        object.differential,
-        object.gain.is_some(),
-        object.position.is_some(),
-        object.distance.is_some(),
-        object.size.is_some(),
-    ];
-    for (flag, place) in flags.into_iter().zip(0..) {
+    for (flag, place) in object.flags().into_iter().zip(0..) {
         reached.add(What::Flag(place), flag.into());
     }
     reached.one(What::Anchor(object.anchor as u8));
-    let depth = [0.25, 0.5, 1.0, 2.0]
-        .iter()
-        .position(|&d| d == object.depth);
+    let depth = DEPTHS.iter().position(|&depth| depth == object.depth);
     reached.one(What::Depth(depth.unwrap() as u8));
-}
-
-/// Ramps that were going before the push.
-fn ramps(reached: &mut Reached, push: &Push) {
-    // A slot starts at most every 64 samples, one more at offset 0.
-    let most = 64 * (push.samples as i64 / 64 + 2);
-    for (e, was) in push.before.elements.iter().enumerate() {
-        let left = was.future_distance;
-        if left <= 0 || !was.update_now.contains(&true) {
-            continue;
-        }
-        let is = push.after.elements.get(e);
-        let over = is.is_none_or(|is| is.future_distance <= 0);
-        let newly = is.is_some_and(|is| !applied(Some(was), is, push.updated).is_empty());
-        reached.add(What::RampEnded, (over && !newly && !push.updated).into());
-        reached.add(What::RampCut, (left > most && (newly || over)).into());
-    }
 }

@@ -2,7 +2,7 @@
 //! every answer arises.
 
 use compare::calls::{Call, Step, spoil, spoil_record};
-use compare::entry::{self, Answer, BLOCK};
+use compare::entry::{Answer, BLOCK};
 use compare::host::{Host, fresh, used_block};
 use compare::model::{Model, Outcome, judged, rightly_lent};
 use compare::{Frames, Generator, block, ranges, seeds};
@@ -112,11 +112,7 @@ fn case(seed: u64) -> Case {
 
 fn called(case: &Case) -> (Answer, Vec<u8>, Vec<u8>) {
     let (mut state, mut out) = (case.state.clone(), case.out.clone());
-    let answer = match &case.step {
-        Step::Push(call) => entry::push(&mut state, call, &mut out, case.stride),
-        Step::Flush => entry::flush(&mut state, &mut out, case.stride),
-        Step::Reset => entry::reset(&mut state),
-    };
+    let answer = case.step.call(&mut state, &mut out, case.stride);
     (answer, state, out)
 }
 
@@ -208,11 +204,7 @@ fn expected(case: &Case) -> (Outcome, Option<Model>) {
         (0, Step::Reset) => (Outcome::Reset, None),
         (0, step) => {
             let mut model = Model::of_block(&case.state);
-            let outcome = match step {
-                Step::Push(call) => model.push(call, case.stride as usize),
-                _ => model.flush(),
-            };
-            (outcome, Some(model))
+            (model.step(step, case.stride as usize), Some(model))
         }
         (number, _) => (Outcome::Refused([number, 0, 0]), None),
     }
@@ -231,11 +223,7 @@ fn any_bytes_as_in_the_rust() {
             out: case.out,
             stride: stride as usize,
         };
-        let call = |state: &mut [u8], out: &mut [u8], _| match &case.step {
-            Step::Push(call) => entry::push(state, call, out, stride),
-            Step::Flush => entry::flush(state, out, stride),
-            Step::Reset => entry::reset(state),
-        };
+        let call = |s: &mut [u8], o: &mut [u8], _| case.step.call(s, o, stride);
         host.calls(&outcome, call, "any bytes");
         if let Some(model) = model {
             let differs = block::difference(&host.state, &model.state());

@@ -1,7 +1,7 @@
 //! State blocks (docs/STATE-BLOCK.md): out of range they are refused, in range they are taken, at
 //! the ends of every range and with floats of any bits.
 
-use compare::calls::{Call, bed_frame};
+use compare::calls::{Call, Step, bed_frame};
 use compare::entry::{self, BLOCK};
 use compare::host::{Host, used_block};
 use compare::model::{Model, Outcome, lifts};
@@ -215,7 +215,7 @@ fn blocks_in_range_go_on_as_in_the_rust() {
         for k in 0..4 {
             let name = &format!("call {k}");
             if k == 3 || inputs.chance(8) {
-                host.flush(&mut model, name);
+                host.step(&mut model, &Step::Flush, name);
             } else {
                 let frame = frames.next_frame();
                 let before = model.state().metadata;

@@ -4,6 +4,7 @@
 
 use compare::calls::{Call, Step, bed_frame};
 use compare::entry::{self, Answer};
+use compare::floats;
 use compare::host::Host;
 use compare::model::{Model, Outcome};
 use compare::probe::{limiter, panning, roots};
@@ -33,11 +34,7 @@ fn said(answer: Answer) -> Said {
 fn both_say(stride: usize, list: &[(Step, Said)]) {
     let mut host = Host::new(stride);
     for (k, (step, expected)) in list.iter().enumerate() {
-        let answer = match step {
-            Step::Push(call) => entry::push(&mut host.state, call, &mut host.out, stride as u32),
-            Step::Flush => entry::flush(&mut host.state, &mut host.out, stride as u32),
-            Step::Reset => entry::reset(&mut host.state),
-        };
+        let answer = step.call(&mut host.state, &mut host.out, stride as u32);
         assert_eq!(said(answer), *expected, "call {k}");
     }
     if cfg!(no_sources) {
@@ -187,8 +184,7 @@ fn a_block_at_offset_0() {
     let mut host = Host::new(128);
     let answer = entry::push(&mut host.state, &call, &mut host.out, 128);
     assert_eq!(said(answer), Said::Ready(128));
-    let words = host.out[4 * 2 * 128..][..4 * 128].as_chunks().0;
-    let found: Vec<f32> = words.iter().map(|&word| f32::from_le_bytes(word)).collect();
+    let found = floats(&host.out[4 * 2 * 128..][..4 * 128]);
     assert_eq!(found, expected);
     if !cfg!(no_sources) {
         let Outcome::Ready(channels) = Model::new().push(&call, 128) else {
@@ -241,8 +237,7 @@ fn a_lifted_channel() {
     let mut host = Host::new(64);
     for (call, heard, sample) in [(&bed, 2, 0.707), (&object, 0, 0.707f32.sqrt())] {
         entry::push(&mut host.state, call, &mut host.out, 64);
-        let words = host.out.as_chunks().0.iter();
-        let found: Vec<f32> = words.map(|&word| f32::from_le_bytes(word)).collect();
+        let found = floats(&host.out);
         let mut expected = [[0.0; 64]; 12];
         expected[heard] = [0.5 * sample; 64];
         assert_eq!(found, expected.concat());

@@ -3,7 +3,7 @@
 
 use compare::calls::{Call, Calls, Step};
 use compare::host::Host;
-use compare::model::{Model, Outcome, judged, lifts};
+use compare::model::{Judged, Model, Outcome, lifts};
 use compare::{all_same, block, ranges, seeds};
 use oracle::frame::Frame;
 use oracle::state::Metadata;
@@ -64,12 +64,11 @@ impl Run {
     }
 
     fn push(&mut self, call: &Call, name: &str, tally: &mut Tally) {
-        let state = self.model.state();
         let outcome = self.host.push(&mut self.model, call, name);
-        let Ok(frame) = judged(&state, 0, call, STRIDE) else {
+        let Some(Judged { before, frame }) = self.model.take_judged() else {
             return;
         };
-        let lifts = lifts(&state.metadata, &frame.applied());
+        let lifts = lifts(&before.metadata, &frame.applied());
         if let Some(mut rust) = self.rust.take() {
             rust.store_debug_rows(frame.samples / 64 + 1);
             let same = match (rust.push(&frame), &outcome) {
@@ -85,7 +84,7 @@ impl Run {
         }
         self.unlike |= self.rust.is_none();
         if matches!(outcome, Outcome::Ready(_)) {
-            self.count(&state.metadata, &frame, lifts, tally);
+            self.count(&before.metadata, &frame, lifts, tally);
         }
     }
 
@@ -115,12 +114,12 @@ impl Run {
         match self.calls.next_step() {
             Step::Push(call) => self.push(&call, name, tally),
             Step::Flush => {
-                self.host.flush(&mut self.model, name);
+                self.host.step(&mut self.model, &Step::Flush, name);
                 self.rust.as_mut().map(Oracle::flush);
             }
             Step::Reset => {
                 tally.resets += u64::from(self.model.lifted());
-                self.host.reset(&mut self.model, name);
+                self.host.step(&mut self.model, &Step::Reset, name);
                 self.rust = Some(Oracle::new());
                 self.numbers.clear();
             }

@@ -4,4 +4,6 @@
 mod edges;
 mod entries;
 mod lifted;
+mod longest;
 mod program;
+mod stream_end;

@@ -55,11 +55,7 @@ fn played<'a>(turns: impl Iterator<Item = &'a Turn>) -> (Vec<Seen>, Vec<u8>) {
     let seen = |turn: &Turn| {
         let mut out = vec![0x5a; turn.room];
         let stride = turn.stride as u32;
-        let answer = match &turn.step {
-            Step::Push(call) => entry::push(&mut state, call, &mut out, stride),
-            Step::Flush => entry::flush(&mut state, &mut out, stride),
-            Step::Reset => entry::reset(&mut state),
-        };
+        let answer = turn.step.call(&mut state, &mut out, stride);
         Seen { answer, out }
     };
     (turns.map(seen).collect(), state)

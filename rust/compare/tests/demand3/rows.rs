@@ -1,6 +1,7 @@
 //! The rows of crates/rows: what they say is the oracle's, and the exported entries'.
 
 use compare::entry::{self, Answer, BLOCK};
+use compare::floats;
 use compare::model::Outcome;
 use compare::rows::{self, Row, Turn};
 use std::fs;
@@ -37,11 +38,7 @@ fn outcomes(row: &Row) -> Vec<Outcome> {
     let seen = |turn: &Turn| {
         let mut out = vec![0; turn.room()];
         let answer = lent(turn, &mut state, &mut out);
-        let channel = |c: usize| {
-            let samples = out[4 * c * turn.stride() as usize..].as_chunks().0;
-            let samples = samples[..answer.ready].iter();
-            samples.map(|&word| f32::from_le_bytes(word)).collect()
-        };
+        let channel = |c: usize| floats(&out[4 * c * turn.stride() as usize..][..4 * answer.ready]);
         match answer.kind {
             0 => Outcome::Ready((0..12).map(channel).collect()),
             1 => Outcome::Refused([answer.number, answer.first, answer.second]),

@@ -3,13 +3,10 @@
 
 use compare::model::lifts;
 use compare::probe::timed::{self, MIDDLE, Timed, ZERO};
-use compare::{Drawn, Generator, drawn, same};
-use oracle::frame::{Anchor, Block, Element, Object, Update};
+use compare::{Drawn, Generator, drawn, records, same};
+use oracle::frame::{ANCHORS, Block, DEPTHS, Element, Object, Update};
 use oracle::state::Metadata;
 use oracle::{amended, leaf};
-
-const DEPTHS: [f32; 4] = [0.25, 0.5, 1.0, 2.0];
-const ANCHORS: [Anchor; 3] = [Anchor::Room, Anchor::Screen, Anchor::Speaker];
 
 /// What stays alike from update to update, so that sources and elements are kept.
 #[derive(Clone)]
@@ -260,7 +257,7 @@ fn compare_slots(mut inputs: Drawn, most: u64, slots: usize, lifted: usize) {
             let updates: Vec<_> = (0..1 + inputs.below(2))
                 .map(|_| update(&mut inputs, &kept))
                 .collect();
-            let records = timed::records(&updates);
+            let records = records::write(&updates);
             for (index, update) in updates.iter().enumerate() {
                 ours.apply_update(&records, index, at);
                 theirs.apply_update(update, at as i64);

@@ -1,7 +1,8 @@
-//! Metadata records read by a cursor that goes forward record by record: document 01's refusals 5
-//! and 6, written apart from the Rattle code.
+//! Records read by a cursor that goes forward record by record: document 01's refusals 5 and 6.
 
+use super::zero;
 use crate::probe::records::{Block, Header, Info};
+use oracle::frame::{self, ANCHORS, DEPTHS, Object};
 
 pub struct Update {
     pub place: usize,
@@ -16,6 +17,47 @@ pub struct Element {
     pub blocks: Vec<Block>,
     /// Object after object, each in all blocks, with its record.
     pub objects: Vec<Vec<(usize, Info)>>,
+}
+
+impl Update {
+    /// In document 01's terms.
+    pub fn update(&self) -> frame::Update {
+        frame::Update {
+            offset: self.header.offset as u16,
+            objects: self.header.objects as u8,
+            bed_or_isf_objects: self.header.bed_or_isf as u8,
+            beds: self.codes.iter().map(|&code| code as u8).collect(),
+            elements: self.elements.iter().map(Element::element).collect(),
+        }
+    }
+}
+
+impl Element {
+    fn element(&self) -> frame::Element {
+        let block = |&Block { offset, ramp }: &Block| frame::Block { offset, ramp };
+        let object =
+            |blocks: &Vec<(usize, Info)>| blocks.iter().map(|(_, info)| object(info)).collect();
+        frame::Element {
+            blocks: self.blocks.iter().map(block).collect(),
+            objects: self.objects.iter().map(object).collect(),
+        }
+    }
+}
+
+fn object(info: &Info) -> Object {
+    let [flags, anchor, depth, _] = info.head.to_le_bytes();
+    let present = |bit: u8, bits: u32| (flags & bit != 0).then_some(f32::from_bits(bits));
+    Object {
+        anchor: ANCHORS[usize::from(anchor)],
+        position_valid: flags & 1 != 0,
+        differential: flags & 2 != 0,
+        gain: present(4, info.gain),
+        position: (flags & 8 != 0).then_some([info.x, info.y, info.z].map(f32::from_bits)),
+        distance: present(16, info.distance),
+        size: present(32, info.size),
+        screen: f32::from_bits(info.screen),
+        depth: DEPTHS[usize::from(depth)],
+    }
 }
 
 /// What stops a reading: refusal 5.
@@ -126,9 +168,7 @@ impl<'a> Cursor<'a> {
         }
         let word = |at: usize| u32::from_le_bytes(r[at..at + 4].try_into().unwrap());
         let float = |at: usize| f32::from_bits(word(at));
-        let depth = [0.25, 0.5, 1.0, 2.0]
-            .iter()
-            .position(|&factor| factor == float(32));
+        let depth = DEPTHS.iter().position(|&factor| factor == float(32));
         let over =
             |bit: u8, at: usize, most: f32| flags & bit != 0 && !(0.0..=most).contains(&float(at));
         self.outside |= over(4, 4, 8.0) || over(32, 24, 1.0) || depth.is_none();
@@ -144,10 +184,6 @@ impl<'a> Cursor<'a> {
         };
         Ok((place, info))
     }
-}
-
-fn zero(bytes: &[u8]) -> bool {
-    bytes.iter().all(|&byte| byte == 0)
 }
 
 /// The updates with refusal 0 or 6, or refusal 5.

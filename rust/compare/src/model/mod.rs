@@ -1,0 +1,179 @@
+//! What documents 01 and 02 have a call answer: refusals 1 to 8, read here apart from the Rattle
+//! code, and the oracle for everything else: the unchanged Rust, and the amended one from a lifted
+//! bed channel to the next reset.
+
+mod judged;
+mod met;
+
+use crate::block;
+use crate::calls::{Call, Step};
+use crate::entry::Answer;
+use oracle::frame::Frame;
+use oracle::state::State;
+use oracle::{Oracle, Pushed, amended};
+
+pub use judged::{judged, rightly_lent};
+pub use met::{Met, lifts, met};
+
+#[derive(Clone, Debug, PartialEq)]
+pub enum Outcome {
+    /// The ready samples of the twelve channels.
+    Ready(Vec<Vec<f32>>),
+    /// The number and the two counts.
+    Refused([u32; 3]),
+    Nothing,
+    Reset,
+}
+
+impl Outcome {
+    /// What the entries answer.
+    pub fn answer(&self) -> Answer {
+        let (kind, [number, first, second], ready) = match self {
+            Outcome::Ready(channels) => (0, [0; 3], channels[0].len()),
+            Outcome::Refused(refusal) => (1, *refusal, 0),
+            Outcome::Nothing => (2, [0; 3], 0),
+            Outcome::Reset => (3, [0; 3], 0),
+        };
+        Answer {
+            kind,
+            number,
+            first,
+            second,
+            ready,
+        }
+    }
+}
+
+/// The stream's last sample.
+pub const STREAM_END: u64 = 1 << 40;
+
+pub struct Model {
+    rust: Oracle,
+    /// In the Rust's place since a channel was lifted.
+    amended: Option<amended::Oracle>,
+    /// Samples of the stream before the oracle's first.
+    pub before: u64,
+    /// The last push that 1 to 8 let pass.
+    judged: Option<Judged>,
+}
+
+/// A push that 1 to 8 let pass.
+pub struct Judged {
+    /// The renderer before it.
+    pub before: State,
+    pub frame: Frame,
+}
+
+impl Model {
+    #[expect(clippy::new_without_default)]
+    pub fn new() -> Self {
+        Model {
+            rust: Oracle::new(),
+            amended: None,
+            before: 0,
+            judged: None,
+        }
+    }
+
+    /// What a block in range holds.
+    pub fn of_block(bytes: &[u8]) -> Self {
+        Model {
+            rust: Oracle::in_state(&block::state(bytes)),
+            ..Model::new()
+        }
+    }
+
+    pub fn state(&self) -> State {
+        let amended = self.amended.as_ref().map(amended::Oracle::state);
+        amended.unwrap_or_else(|| self.rust.state())
+    }
+
+    /// The same with the samples before the oracle's first counted in its positions.
+    pub fn moved_state(&self) -> State {
+        let mut state = self.state();
+        let before = self.before as i64;
+        state.stream_sample_offset += before;
+        state.metadata_timeslot_stream_sample += before;
+        state.metadata.payload_stream_sample += before;
+        state
+    }
+
+    /// A channel was lifted since the last reset.
+    pub fn lifted(&self) -> bool {
+        self.amended.is_some()
+    }
+
+    /// The last push, where 1 to 8 let it pass.
+    pub fn take_judged(&mut self) -> Option<Judged> {
+        self.judged.take()
+    }
+
+    pub fn push(&mut self, call: &Call, stride: usize) -> Outcome {
+        self.judged = None;
+        let before = self.state();
+        match judged(&before, self.before, call, stride) {
+            Ok(frame) => {
+                let outcome = self.render(&before, &frame);
+                self.judged = Some(Judged { before, frame });
+                outcome
+            }
+            Err(number) => Outcome::Refused([number, 0, 0]),
+        }
+    }
+
+    /// What a frame that 1 to 8 let pass comes to. A refused one lifts nothing.
+    fn render(&mut self, state: &State, frame: &Frame) -> Outcome {
+        // "leading silence leaves fewer debug rows than ready blocks; there the rules above alone hold"
+        let rows = frame.samples / 64 + 1;
+        let lifts = self.amended.is_none() && lifts(&state.metadata, &frame.applied());
+        if lifts {
+            self.amended = Some(amended::Oracle::in_state(state));
+        }
+        let pushed = match &mut self.amended {
+            Some(amended) => {
+                amended.store_debug_rows(rows);
+                amended.push(frame)
+            }
+            None => {
+                self.rust.store_debug_rows(rows);
+                self.rust.push(frame)
+            }
+        };
+        if lifts && !matches!(pushed, Pushed::Ready(_)) {
+            self.amended = None;
+        }
+        match pushed {
+            Pushed::Ready(ready) => Outcome::Ready(ready),
+            Pushed::Refused(refusal) => Outcome::Refused([
+                refusal.number.into(),
+                refusal.counts[0] as u32,
+                refusal.counts[1] as u32,
+            ]),
+            Pushed::Panicked => panic!("the oracle panicked at {frame:?}"),
+        }
+    }
+
+    /// What a call at that stride comes to.
+    pub fn step(&mut self, step: &Step, stride: usize) -> Outcome {
+        match step {
+            Step::Push(call) => self.push(call, stride),
+            Step::Flush => self.flush(),
+            Step::Reset => self.reset(),
+        }
+    }
+
+    pub fn flush(&mut self) -> Outcome {
+        let flushed = match &mut self.amended {
+            Some(amended) => amended.flush(),
+            None => self.rust.flush(),
+        };
+        flushed.map_or(Outcome::Nothing, Outcome::Ready)
+    }
+
+    pub fn reset(&mut self) -> Outcome {
+        self.rust.reset();
+        self.amended = None;
+        self.before = 0;
+        Outcome::Reset
+    }
+}
