@@ -2,9 +2,9 @@
 /* The entries under a coverage-guided fuzzer. The input is a list of calls on one state block, each a head of 32 bytes and its
    metadata (README.md). Aborts at: a refused call that changed a byte; an answer that cannot be; a ready count that does not follow
    from the pending one; a sample out of range; a byte written behind the ready samples; a block out of range after an accepted call. */
+#include "made.h"
 #include "mend.h"
 #include "spots.h"
-#include "voqlisna.h"
 #include <stdio.h>
 #include <stdlib.h>
 #include <string.h>
@@ -13,7 +13,7 @@
 enum { CALLS = 24, HEAD = 32, STRIDE = 1536, CHANNELS = 34, RECORDS = 1024, STREAM = 40 };
 
 /* One renderer's memory, with a byte more than the largest that is lent. */
-static uint8_t state[1 << 16], before[1 << 16], out[48 * STRIDE], kept[48 * STRIDE], records[40 * RECORDS];
+static uint8_t state[1 << 16], before[1 << 16], out[48 * STRIDE], kept[48 * STRIDE], records[40 * RECORDS], codes[255];
 static float pcm[CHANNELS * STRIDE];
 static int damaged; /* the block was written from outside since the last reset: its floats may be any */
 static int printing; /* each answer, where one input is run again */
@@ -30,38 +30,56 @@ static uint32_t stride_of(uint8_t b) {
   return b < 240 ? 64u * (1u + b % 24u) : others[b - 240];
 }
 
-/* What a push is given, from its head. */
-typedef struct {
-  uint8_t codes[255];
-  uint32_t beds, objects, samples, rate;
-  size_t pcm, meta;
-} push;
-
-static void fill_pcm(push *p, uint8_t loudness, int8_t more) {
+/* PCM for the counts, of that loudness; now and then some bytes too many or too few. */
+static size_t fill_pcm(const made *m, uint8_t loudness, int8_t more) {
   static const float peaks[8] = {0.0f, 0.25f, 0.5f, 1.0f, 2.0f, 16.0f, 16.000002f, __builtin_nanf("")};
-  size_t values = (size_t)(p->beds + p->objects) * p->samples, most = CHANNELS * STRIDE;
+  size_t values = (m->codes_length + m->objects) * m->samples, most = CHANNELS * STRIDE;
   if (values > most) values = most;
   for (size_t i = 0; i < values; i++) pcm[i] = peaks[loudness] * (float)((int)(i % 7) - 3) / 3.0f;
-  p->pcm = 4 * values;
-  if (more >= 120 && values < most) p->pcm += (size_t)(more - 119);
-  if (more <= -120 && p->pcm >= 8) p->pcm -= (size_t)(-119 - more) % 8;
+  if (more >= 120 && values < most - 2) return 4 * values + (size_t)(more - 119);
+  if (more <= -120 && values > 1) return 4 * values - (size_t)(-119 - more) % 8;
+  return 4 * values;
 }
 
 /* As many bed channels and objects as the first update has. */
-static void fit(push *p) {
-  if (p->meta < 40) return;
-  p->objects = records[4] > records[5] ? (uint32_t)(records[4] - records[5]) : 0;
-  p->beds = records[6] <= 18 ? records[6] : 18;
-  memcpy(p->codes, records + 8, p->beds);
+static void fit(made *m) {
+  if (m->meta_length < 40) return;
+  m->objects = records[4] > records[5] ? (uint32_t)(records[4] - records[5]) : 0;
+  m->codes_length = records[6] <= 18 ? records[6] : 18;
+  memcpy(codes, records + 8, m->codes_length);
 }
 
-static push push_of(const uint8_t *head, size_t count) {
-  push p = {.beds = head[9], .objects = head[8], .samples = half(head + 6), .rate = word(head + 2), .meta = 40 * count};
-  for (uint32_t i = 0; i < p.beds; i++) p.codes[i] = head[14 + i % 18];
-  if (head[0] & 8) p.meta = 40 * mend(records, count);
-  if (head[0] & 16) fit(&p);
-  fill_pcm(&p, head[0] >> 5, (int8_t)head[12]);
-  return p;
+/* A push, from its head and the records behind it. */
+static void push_of(made *m, const uint8_t *head, size_t count) {
+  m->rate = word(head + 2), m->samples = half(head + 6), m->objects = head[8];
+  m->codes = codes, m->codes_length = head[9];
+  for (size_t i = 0; i < m->codes_length; i++) codes[i] = head[14 + i % 18];
+  m->meta = records, m->meta_length = 40 * (head[0] & 8 ? mend(records, count) : count);
+  if (head[0] & 16) fit(m);
+  if (head[13] == 253 && m->meta_length) m->meta_length--;
+  m->pcm = (uint8_t *)pcm, m->pcm_length = fill_pcm(m, head[0] >> 5, (int8_t)head[12]);
+}
+
+/* Bytes of the output that is lent: as few as may be, one fewer, or all. */
+static size_t room_of(uint32_t stride, uint8_t b) {
+  if (b == 252 || stride == 0 || stride > STRIDE) return sizeof out;
+  return 48 * (size_t)stride - (b == 255);
+}
+
+/* The call of a head. */
+static made call(const uint8_t *head, size_t count, size_t size) {
+  made m = {.entry = (head[0] & 7) == 6 ? RESET : (head[0] & 7) == 5 ? FLUSH : PUSH, .stride = stride_of(head[1])};
+  m.state = state, m.before = before, m.state_length = size - (head[13] == 254);
+  m.out = out, m.kept = kept, m.out_length = room_of(m.stride, head[13]);
+  m.pcm = m.meta = m.codes = records;
+  if (m.entry == PUSH) push_of(&m, head, count);
+  memcpy(before, state, size), memset(out, 0x5a, sizeof out), memcpy(kept, out, sizeof out);
+  if (m.entry == RESET) m.answer = hall_reset(m.state, m.state_length);
+  else if (m.entry == FLUSH) m.answer = hall_flush(m.state, m.state_length, m.out, m.out_length, m.stride);
+  else
+    m.answer = hall_push(m.state, m.state_length, m.pcm, m.pcm_length, m.meta, m.meta_length, m.out, m.out_length, m.codes,
+                         m.codes_length, m.rate, m.samples, m.objects, m.stride);
+  return m;
 }
 
 /* Moves the stream to so many samples before its end, or writes a byte of the block. */
@@ -77,22 +95,24 @@ static void damage(const uint8_t *head, size_t size) {
   }
 }
 
-static void check_answer(hall_answer a, int pushed) {
+static void check_answer(const made *m) {
+  hall_answer a = m->answer;
   if (a.kind > 3 || (a.kind != HALL_REFUSED && (a.number || a.first || a.second))) fail("an answer that cannot be");
   if (a.kind != HALL_REFUSED) return;
-  if (a.number < 1 || a.number > 14 || a.number == 7 || a.ready || (!pushed && a.number != 1)) fail("a refusal that cannot be");
+  if (a.number < 1 || a.number > 14 || a.number == 7 || a.ready) fail("a refusal that cannot be");
+  if (m->entry != PUSH && a.number != 1) fail("a refusal that is not this entry's");
   int counts = a.number == 9 || a.number == 11 || a.number == 13 || a.number == 14;
   if (!counts && (a.first || a.second)) fail("counts that cannot be");
 }
 
-static void check_output(hall_answer a, size_t stride) {
+static void check_output(size_t ready, size_t stride) {
   for (size_t c = 0; c < 12; c++) {
-    for (size_t i = 0; i < a.ready; i++) {
+    for (size_t i = 0; i < ready; i++) {
       float x;
       memcpy(&x, out + 4 * (c * stride + i), 4);
       if (!damaged && !(x >= -1.0f && x <= 1.0f)) fail("a sample out of range");
     }
-    if (memcmp(out + 4 * (c * stride + a.ready), kept, 4 * (stride - a.ready))) fail("a byte behind the ready samples");
+    if (memcmp(out + 4 * (c * stride + ready), kept, 4 * (stride - ready))) fail("a byte behind the ready samples");
   }
   if (memcmp(out + 48 * stride, kept, sizeof out - 48 * stride)) fail("a byte behind the channels");
 }
@@ -126,22 +146,19 @@ static void tell(hall_answer a, size_t stride, uint32_t last) {
   spot(820 + heard);
 }
 
-/* Bytes of the output that is lent: as few as may be, one fewer, or all. */
-static size_t room_of(uint32_t stride, uint8_t b) {
-  if (b == 252 || stride == 0 || stride > STRIDE) return sizeof out;
-  return 48 * (size_t)stride - (b == 255);
-}
-
-static hall_answer call(const uint8_t *head, size_t count, size_t size, uint32_t stride, uint32_t *samples, int *pushed) {
-  size_t room = room_of(stride, head[13]), block = size - (head[13] == 254);
-  int op = head[0] & 7;
-  *samples = 0, *pushed = 0;
-  if (op == 6) return hall_reset(state, block);
-  if (op == 5) return hall_flush(state, block, out, room, stride);
-  push p = push_of(head, count);
-  *samples = p.samples, *pushed = 1;
-  if (head[13] == 253 && p.meta) p.meta--;
-  return hall_push(state, block, (uint8_t *)pcm, p.pcm, records, p.meta, out, room, p.codes, p.beds, p.rate, p.samples, p.objects, stride);
+static void check(const made *m, size_t size) {
+  hall_answer a = m->answer;
+  uint32_t pending = word(before + 64);
+  check_answer(m);
+  if (a.kind == HALL_REFUSED || a.kind == HALL_NONE) {
+    if (memcmp(before, state, size) || memcmp(out, kept, sizeof out)) fail("a refused call changed a byte");
+    return;
+  }
+  if (m->entry == PUSH && a.ready != (pending + m->samples) / 64 * 64) fail("ready of a push");
+  if (m->entry == FLUSH && a.ready != pending) fail("ready of a flush");
+  if (m->entry == RESET) damaged = 0;
+  else check_output(a.ready, m->stride);
+  if (refused_by_1(size)) fail("an accepted call left a block out of range");
 }
 
 static void run(const uint8_t *p, size_t n) {
@@ -153,29 +170,18 @@ static void run(const uint8_t *p, size_t n) {
   damaged = 0;
   for (int calls = 0; calls < CALLS && end - p >= HEAD; calls++) {
     const uint8_t *head = p;
-    uint32_t stride = stride_of(head[1]), samples, pending = word(state + 64);
-    size_t count = half(head + 10), left = (size_t)(end - p - HEAD) / 40;
-    int pushed;
+    int op = head[0] & 7;
+    size_t count = op < 5 ? half(head + 10) : 0, left = (size_t)(end - p - HEAD) / 40;
     p += HEAD;
-    if ((head[0] & 7) == 7) { damage(head, size); continue; }
-    if ((head[0] & 7) > 4) count = 0;
+    if (op == 7) { damage(head, size); continue; }
     if (count > left) count = left;
     if (count > RECORDS) count = RECORDS;
     memcpy(records, p, 40 * count), p += 40 * count;
-    memcpy(before, state, size), memset(out, 0x5a, sizeof out), memcpy(kept, out, sizeof out);
-    hall_answer a = call(head, count, size, stride, &samples, &pushed);
-    if (printing) printf("%u %u %u %u %zu\n", a.kind, a.number, a.first, a.second, a.ready);
-    check_answer(a, pushed);
-    tell(a, stride, last), last = a.number;
-    if (a.kind == HALL_REFUSED || a.kind == HALL_NONE) {
-      if (memcmp(before, state, size) || memcmp(out, kept, sizeof out)) fail("a refused call changed a byte");
-      continue;
-    }
-    if (a.kind == HALL_DONE) damaged = 0;
-    if (pushed && a.ready != (pending + samples) / 64 * 64) fail("ready of a push");
-    if (!pushed && a.kind == HALL_RENDERED && a.ready != pending) fail("ready of a flush");
-    if (a.kind == HALL_RENDERED) check_output(a, stride);
-    if (refused_by_1(size)) fail("an accepted call left a block out of range");
+    made m = call(head, count, size);
+    if (printing) printf("%u %u %u %u %zu\n", m.answer.kind, m.answer.number, m.answer.first, m.answer.second, m.answer.ready);
+    tell(m.answer, m.stride, last), last = m.answer.number;
+    beside(&m);
+    check(&m, size);
   }
 }
 

@@ -3,6 +3,7 @@
 
 pub mod block;
 pub mod calls;
+pub mod case;
 pub mod entry;
 mod frames;
 mod generator;

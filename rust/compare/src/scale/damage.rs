@@ -1,11 +1,11 @@
 // SPDX-License-Identifier: Apache-2.0
 //! What a host can do wrong: memory, counts and lengths, and bytes of the block.
 
-use crate::calls::{Call, Step, spoil_record};
+use crate::calls::{Call, spoil_record};
 use crate::entry::{self, BLOCK};
 use crate::host::Host;
-use crate::model::{Model, Outcome};
-use crate::{Generator, block, ranges};
+use crate::model::Outcome;
+use crate::{Generator, ranges};
 
 const ONE: Outcome = Outcome::Refused([1, 0, 0]);
 
@@ -82,27 +82,4 @@ pub fn block(inputs: &mut Generator, state: &mut Vec<u8>) {
             field.put(state, inputs.pick(&ends));
         }
     }
-}
-
-/// The step on the block as it is, within its ranges or not: what comes of it, by the entries and
-/// the model; out of range 1 but for a reset.
-pub fn on_block(host: &mut Host, inside: bool, step: &Step, name: &str) -> Outcome {
-    let name = &format!("{name}, a damaged block");
-    if !inside && *step != Step::Reset {
-        let call = |s: &mut [u8], o: &mut [u8], n| match step {
-            Step::Push(call) => entry::push(s, call, o, n),
-            _ => entry::flush(s, o, n),
-        };
-        host.calls(&ONE, call, name);
-        return ONE;
-    }
-    let mut model = if inside {
-        Model::of_block(&host.state)
-    } else {
-        Model::new()
-    };
-    let outcome = host.step(&mut model, step, name);
-    let differs = block::difference(&host.state, &model.state());
-    assert_eq!(differs, None, "{name}: the renderer in it");
-    outcome
 }

@@ -9,6 +9,7 @@ mod seen;
 mod table;
 
 use crate::calls::{Call, Calls, Step};
+use crate::case::Case;
 use crate::host::Host;
 use crate::model::{Judged, Model, Outcome};
 use crate::{Generator, block, ranges, streams};
@@ -160,18 +161,20 @@ impl<'a> Run<'a> {
     /// The step on a damaged copy of the block: refusal 1 where it is out of range, else what the
     /// model has of that block.
     fn on_a_damaged_block(&mut self, step: &Step, name: &str) {
-        let kept = self.host.state.clone();
-        damage::block(&mut self.inputs, &mut self.host.state);
-        let inside = ranges::hold(&self.host.state);
-        let outcome = damage::on_block(&mut self.host, inside, step, name);
-        let what = if inside {
+        let mut case = Case {
+            state: self.host.state.clone(),
+            out: self.host.out.clone(),
+            stride: self.host.stride as u32,
+            step: step.clone(),
+        };
+        damage::block(&mut self.inputs, &mut case.state);
+        let outcome = case.check(&case.called(), &format!("{name}, a damaged block"));
+        self.count(&outcome);
+        self.reached.one(if ranges::hold(&case.state) {
             What::BlockInside
         } else {
             What::BlockOutside
-        };
-        self.reached.one(what);
-        self.count(&outcome);
-        self.host.state = kept;
+        });
     }
 
     /// After an accepted push.

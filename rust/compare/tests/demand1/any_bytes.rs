@@ -2,21 +2,13 @@
 //! every answer arises.
 
 use compare::calls::{Call, Step, spoil, spoil_record};
-use compare::entry::{Answer, BLOCK};
-use compare::host::{Host, fresh, used_block};
-use compare::model::{Model, Outcome, judged, rightly_lent};
+use compare::case::{Case, Seen};
+use compare::entry::BLOCK;
+use compare::host::{fresh, used_block};
 use compare::{Frames, Generator, block, ranges, seeds};
 use std::collections::BTreeMap;
 
 const CASES: u64 = 20_000;
-
-/// All arguments of one call.
-struct Case {
-    state: Vec<u8>,
-    out: Vec<u8>,
-    stride: u32,
-    step: Step,
-}
 
 /// Any bytes, or zeros.
 fn bytes(inputs: &mut Generator, length: usize) -> Vec<u8> {
@@ -110,28 +102,6 @@ fn case(seed: u64) -> Case {
     }
 }
 
-fn called(case: &Case) -> (Answer, Vec<u8>, Vec<u8>) {
-    let (mut state, mut out) = (case.state.clone(), case.out.clone());
-    let answer = case.step.call(&mut state, &mut out, case.stride);
-    (answer, state, out)
-}
-
-/// The refusal among 1 to 8 but 7, by a reading that needs no Rust; else 0.
-fn early(case: &Case) -> u32 {
-    let lent = || rightly_lent(&case.state, case.out.len(), case.stride);
-    match &case.step {
-        Step::Reset => u32::from(case.state.len() != BLOCK),
-        _ if !lent() => 1,
-        Step::Flush => 0,
-        Step::Push(call) => {
-            let state = block::state(&case.state);
-            judged(&state, 0, call, case.stride as usize)
-                .err()
-                .unwrap_or(0)
-        }
-    }
-}
-
 /// The samples that are ready, and those that are pending after the call.
 fn ready_and_pending(case: &Case) -> (usize, usize) {
     let pending = usize::from(case.state[64]);
@@ -176,8 +146,8 @@ fn any_bytes() {
     let mut answers = BTreeMap::new();
     for seed in seeds!(0..CASES) {
         let case = case(seed);
-        let (answer, state, out) = called(&case);
-        let number = early(&case);
+        let Seen { answer, state, out } = case.called();
+        let number = case.early();
         if number != 0 || answer.number < 9 {
             assert_eq!(answer.number, number, "{answer:?}");
         }
@@ -198,36 +168,12 @@ fn any_bytes() {
     }
 }
 
-/// What the documents and the Rust have the call come to, with the renderer that it leaves.
-fn expected(case: &Case) -> (Outcome, Option<Model>) {
-    match (early(case), &case.step) {
-        (0, Step::Reset) => (Outcome::Reset, None),
-        (0, step) => {
-            let mut model = Model::of_block(&case.state);
-            (model.step(step, case.stride as usize), Some(model))
-        }
-        (number, _) => (Outcome::Refused([number, 0, 0]), None),
-    }
-}
-
 /// The same calls: the answer with its counts, the samples and the renderer are the Rust's.
 #[test]
 #[cfg_attr(no_sources, ignore = "Rust sources not at hand")]
 fn any_bytes_as_in_the_rust() {
     for seed in seeds!(0..CASES) {
         let case = case(seed);
-        let (outcome, model) = expected(&case);
-        let stride = case.stride;
-        let mut host = Host {
-            state: case.state,
-            out: case.out,
-            stride: stride as usize,
-        };
-        let call = |s: &mut [u8], o: &mut [u8], _| case.step.call(s, o, stride);
-        host.calls(&outcome, call, "any bytes");
-        if let Some(model) = model {
-            let differs = block::difference(&host.state, &model.state());
-            assert_eq!(differs, None);
-        }
+        case.check(&case.called(), "any bytes");
     }
 }
