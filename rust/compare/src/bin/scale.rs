@@ -11,17 +11,16 @@ use std::{env, panic, process, thread};
 const USAGE: &str = "\
 usage: scale [--minutes M | --runs N] [--seed S] [--threads T]
   --minutes M   runs for M minutes
-  --runs N      N runs (1000)
+  --runs N      N runs (1000, where no time is given)
   --seed S      the first run's seed, the others follow it (0)
   --threads T   at once (as many as the machine has)";
 
 /// Finds that are told; then it ends.
 const FINDS: usize = 10;
 
-#[derive(Debug)]
 struct Options {
     minutes: Option<u64>,
-    runs: u64,
+    runs: Option<u64>,
     seed: u64,
     threads: usize,
 }
@@ -29,7 +28,7 @@ struct Options {
 fn options() -> Option<Options> {
     let mut options = Options {
         minutes: None,
-        runs: 1_000,
+        runs: None,
         seed: 0,
         threads: thread::available_parallelism().map_or(1, usize::from),
     };
@@ -38,11 +37,14 @@ fn options() -> Option<Options> {
         let number: u64 = words.next()?.parse().ok()?;
         match word.as_str() {
             "--minutes" => options.minutes = Some(number),
-            "--runs" => options.runs = number,
+            "--runs" => options.runs = Some(number),
             "--seed" => options.seed = number,
             "--threads" => options.threads = number.max(1) as usize,
             _ => return None,
         }
+    }
+    if options.minutes.is_none() {
+        options.runs = options.runs.or(Some(1_000));
     }
     Some(options)
 }
@@ -60,11 +62,11 @@ struct Work {
 
 impl Work {
     fn done(&self, run: u64) -> bool {
-        let over = match self.options.minutes {
-            Some(minutes) => self.began.elapsed() >= Duration::from_secs(60 * minutes),
-            None => run >= self.options.runs,
-        };
-        over || self.finds.lock().unwrap().len() >= FINDS
+        let Options { minutes, runs, .. } = self.options;
+        let elapsed = self.began.elapsed();
+        runs.is_some_and(|runs| run >= runs)
+            || minutes.is_some_and(|m| elapsed >= Duration::from_secs(m.saturating_mul(60)))
+            || self.finds.lock().unwrap().len() >= FINDS
     }
 
     fn work(&self) {
@@ -107,7 +109,10 @@ fn main() {
         eprintln!("{USAGE}");
         process::exit(2);
     };
-    let threads = options.threads;
+    if cfg!(no_sources) {
+        eprintln!("scale: the Rust sources are not at hand: VOQLISNA_RUST_SRC names their folder");
+        process::exit(2);
+    }
     let work = Work {
         options,
         began: Instant::now(),
@@ -116,20 +121,20 @@ fn main() {
         finds: Mutex::default(),
     };
     thread::scope(|scope| {
-        for _ in 0..threads {
+        for _ in 0..work.options.threads {
             scope.spawn(|| work.work());
         }
     });
-    let finds = work.finds.into_inner().unwrap();
-    println!("{}", work.reached.into_inner().unwrap());
-    println!(
-        "seeds from {}, {threads} threads, {} s",
-        work.options.seed,
-        work.began.elapsed().as_secs()
+    let Options { seed, threads, .. } = work.options;
+    let (seconds, finds) = (
+        work.began.elapsed().as_secs(),
+        work.finds.into_inner().unwrap(),
     );
-    finds
-        .iter()
-        .for_each(|&seed| println!("differs: {}", command(seed)));
-    println!("{} runs differ", finds.len());
+    println!("{}", work.reached.into_inner().unwrap());
+    println!("seeds from {seed}, threads {threads}, seconds {seconds}");
+    for &seed in &finds {
+        println!("differs: {}", command(seed));
+    }
+    println!("runs that differ: {}", finds.len());
     process::exit(i32::from(!finds.is_empty()));
 }
