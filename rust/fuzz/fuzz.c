@@ -1,7 +1,8 @@
 /* SPDX-License-Identifier: Apache-2.0 */
 /* The entries under a coverage-guided fuzzer. The input is a list of calls on one state block, each a head of 32 bytes and its
    metadata (README.md). Aborts at: a refused call that changed a byte; an answer that cannot be; a ready count that does not follow
-   from the pending one; a sample out of range; a byte written behind the ready samples; a block out of range after an accepted call. */
+   from the pending one; a sample out of range; a byte written behind the ready samples or behind the block; a block out of range after
+   an accepted call; beside the model, anything that differs from it. */
 #include "made.h"
 #include "mend.h"
 #include "spots.h"
@@ -10,9 +11,9 @@
 #include <string.h>
 #include <unistd.h>
 
-enum { CALLS = 24, HEAD = 32, STRIDE = 1536, CHANNELS = 34, RECORDS = 1024, STREAM = 40 };
+enum { CALLS = 24, HEAD = 32, STRIDE = 1536, CHANNELS = 34, RECORDS = 1024, STREAM = 40, BEHIND = 64 };
 
-/* One renderer's memory, with a byte more than the largest that is lent. */
+/* One renderer's memory, longer than what is lent of it. */
 static uint8_t state[1 << 16], before[1 << 16], out[48 * STRIDE], kept[48 * STRIDE], records[40 * RECORDS], codes[255];
 static float pcm[CHANNELS * STRIDE];
 static int damaged; /* the block was written from outside since the last reset: its floats may be any */
@@ -26,7 +27,7 @@ static void fail(const char *why) { fputs(why, stderr), fputc('\n', stderr), abo
 
 /* Mostly a stride, else a number beside one. */
 static uint32_t stride_of(uint8_t b) {
-  static const uint32_t others[16] = {0, 1, 63, 65, 96, 1535, 1537, 1600, 1 << 16, 1 << 26, 1u << 31, UINT32_MAX, 32, 127, 129, 1472 + 32};
+  static const uint32_t others[16] = {0, 1, 63, 65, 96, 1535, 1537, 1600, 1 << 16, 1 << 26, 1u << 31, UINT32_MAX, 32, 127, 129, 1504};
   return b < 240 ? 64u * (1u + b % 24u) : others[b - 240];
 }
 
@@ -73,7 +74,7 @@ static made call(const uint8_t *head, size_t count, size_t size) {
   m.out = out, m.kept = kept, m.out_length = room_of(m.stride, head[13]);
   m.pcm = m.meta = m.codes = records;
   if (m.entry == PUSH) push_of(&m, head, count);
-  memcpy(before, state, size), memset(out, 0x5a, sizeof out), memcpy(kept, out, sizeof out);
+  memcpy(before, state, size + BEHIND), memset(out, 0x5a, sizeof out), memcpy(kept, out, sizeof out);
   if (m.entry == RESET) m.answer = hall_reset(m.state, m.state_length);
   else if (m.entry == FLUSH) m.answer = hall_flush(m.state, m.state_length, m.out, m.out_length, m.stride);
   else
@@ -126,30 +127,31 @@ static int refused_by_1(size_t size) {
 /* What the fuzzer is told of the answer and of the block that it left. */
 static void tell(hall_answer a, size_t stride, uint32_t last) {
   spot(a.kind == HALL_REFUSED ? a.number : 16 + a.kind);
-  spot(32 + 16 * (last & 15) + a.number);                    /* to 287 */
-  spot(288 + word(state + 80) % 33);                         /* objects */
+  spot(32 + 16 * (last & 15) + a.number);                       /* from 32: the refusal, and the one before */
+  spot(288 + word(state + 80) % 33);                            /* objects */
   spot(328 + word(state + 88) % 19 * 3 + word(state + 92) % 3); /* beds, elements */
   spot(392 + (unsigned)a.ready / 64);
-  spot(424 + word(state + 64) / 8 + 8 * (word(state + 4) / 8 & 7)); /* pending, phase: to 487 */
+  spot(424 + (word(state + 64) / 8 & 7) + 8 * (word(state + 4) / 8 & 7)); /* pending samples, phase */
   for (unsigned e = 0; e < word(state + 92) % 3; e++) {
     const uint8_t *element = state + 624 + 368 * e;
     unsigned used = 0, moves = 0;
     for (unsigned b = 0; b < 8; b++) used |= (element[24 + 12 * b] & 1u) << b;
     for (unsigned t = 0; t < 16; t++) moves += element[112 + 16 * t] & 1u;
-    spot(512 + used);                                        /* to 767 */
-    spot(768 + 17 * e + moves);
+    spot(512 + used);                                            /* blocks applied */
+    spot(768 + 17 * e + moves);                                  /* objects that move */
     spot(804 + 2 * e + (both(element + 8) > (uint64_t)1 << 47)); /* a ramp goes on */
   }
   spot(808 + (word(state + 24) != 0x3f800000u) + 2 * (state[68] & 1u)); /* limiter gain, initialized */
   unsigned heard = 0;
   for (size_t c = 0; c < 12 && a.ready; c++) heard += word(out + 4 * c * stride) != 0;
-  spot(820 + heard);
+  spot(820 + heard); /* channels that are heard */
 }
 
 static void check(const made *m, size_t size) {
   hall_answer a = m->answer;
   uint32_t pending = word(before + 64);
   check_answer(m);
+  if (memcmp(before + size, state + size, BEHIND)) fail("a byte behind the block");
   if (a.kind == HALL_REFUSED || a.kind == HALL_NONE) {
     if (memcmp(before, state, size) || memcmp(out, kept, sizeof out)) fail("a refused call changed a byte");
     return;
