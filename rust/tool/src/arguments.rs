@@ -6,7 +6,7 @@ use std::ffi::OsString;
 
 /// What a refused frame does to a rendering.
 #[derive(Clone, Copy, PartialEq)]
-pub enum Refused {
+pub enum Policy {
     Conceal,
     Stop,
 }
@@ -22,7 +22,7 @@ pub enum Picture {
 pub struct Render {
     pub from: OsString,
     pub to: OsString,
-    pub refused: Refused,
+    pub policy: Policy,
     pub rf64: bool,
 }
 
@@ -52,37 +52,45 @@ pub fn read() -> Result<Command, Trouble> {
 
 fn parse(mut parser: Parser) -> Result<Command, Trouble> {
     let name = match parser.next().map_err(wrong)? {
-        None => return Err(Trouble::Wrong("a command is missing: voqlisna help lists them".into())),
+        None => {
+            let message = "a command is missing: voqlisna help lists them";
+            return Err(Trouble::Wrong(message.into()));
+        }
         Some(Short('h') | Long("help")) => return Ok(Command::Help),
         Some(Short('V') | Long("version")) => return Ok(Command::Version),
         Some(Value(name)) => name.to_string_lossy().into_owned(),
         Some(other) => return Err(unknown(&other, &["help", "version"])),
     };
-    let known = match name.as_str() {
-        "demo" => vec!["o", "s"],
-        "render" => vec!["o", "conceal", "stop", "rf64"],
-        "undump" | "map" | "plot" => vec!["o"],
-        _ => vec![],
+    let known: &[&str] = match name.as_str() {
+        "demo" => &["o", "s"],
+        "render" => &["o", "conceal", "stop", "rf64"],
+        "undump" | "map" | "plot" => &["o"],
+        _ => &[],
     };
-    let given = Given::read(&mut parser, &known)?;
+    let given = Given::read(&mut parser, known)?;
     if given.help {
         return Ok(Command::Help);
     }
-    match name.as_str() {
+    command(&name, given)
+}
+
+fn command(name: &str, given: Given) -> Result<Command, Trouble> {
+    let from = || given.only("IN");
+    match name {
+        "check" => Ok(Command::Check { from: from()? }),
+        "dump" => Ok(Command::Dump { from: from()? }),
+        "hex" => Ok(Command::Hex { from: from()? }),
         "demo" => given.demo(),
         "render" => given.render(),
-        "check" => Ok(Command::Check { from: given.only("IN")? }),
-        "dump" => Ok(Command::Dump { from: given.only("IN")? }),
-        "hex" => Ok(Command::Hex { from: given.only("IN")? }),
         "undump" => given.undump(),
         "map" => given.none().and_then(|g| g.draw(Picture::Map)),
         "plot" => given.plot(),
         "version" => given.none().map(|_| Command::Version),
         "help" => given.none().map(|_| Command::Help),
-        _ => Err(Trouble::Wrong(format!(
-            "unknown command {name}{}",
-            meant(&name, &COMMANDS, "")
-        ))),
+        _ => {
+            let meant = meant(name, &COMMANDS, "");
+            Err(Trouble::Wrong(format!("unknown command {name}{meant}")))
+        }
     }
 }
 
@@ -168,7 +176,9 @@ impl Given {
 
     fn render(self) -> Result<Command, Trouble> {
         if self.conceal && self.stop {
-            return Err(Trouble::Wrong("--conceal and --stop: only one of them".into()));
+            return Err(Trouble::Wrong(
+                "--conceal and --stop: only one of them".into(),
+            ));
         }
         let to = self.to("a WAVE file")?;
         if self.rf64 && to == "-" {
@@ -179,7 +189,11 @@ impl Given {
         Ok(Command::Render(Render {
             from: self.only("IN")?,
             to,
-            refused: if self.stop { Refused::Stop } else { Refused::Conceal },
+            policy: if self.stop {
+                Policy::Stop
+            } else {
+                Policy::Conceal
+            },
             rf64: self.rf64,
         }))
     }
@@ -227,7 +241,11 @@ fn unknown(arg: &Arg<'_>, known: &[&str]) -> Trouble {
         Value(value) => return too_much(value),
     };
     let long: Vec<&str> = known.iter().copied().filter(|k| k.len() > 1).collect();
-    let meant = if dashes == "--" { meant(&name, &long, dashes) } else { String::new() };
+    let meant = if dashes == "--" {
+        meant(&name, &long, dashes)
+    } else {
+        String::new()
+    };
     Trouble::Wrong(format!("unknown option {dashes}{name}{meant}"))
 }
 
@@ -280,35 +298,72 @@ mod tests {
         }
     }
 
+    const TAKEN: [&str; 21] = [
+        "demo",
+        "demo -o x -s 0.5",
+        "demo -s20",
+        "render a -o b",
+        "render a -o b --conceal",
+        "render - -o - --stop",
+        "render a -o b --rf64",
+        "check a",
+        "dump -",
+        "undump a -o b",
+        "hex a",
+        "map -o b",
+        "plot bass -o b",
+        "plot limiter -o -",
+        "plot levels -o b",
+        "version",
+        "--version",
+        "-V",
+        "help",
+        "-h",
+        "render --help",
+    ];
+
+    /// Lines, and what is said of them.
+    const NOT: [(&str, &str); 16] = [
+        ("rendr a", "unknown command rendr; did you mean render?"),
+        ("sing", "unknown command sing"),
+        (
+            "render a -o b --rf46",
+            "unknown option --rf46; did you mean --rf64?",
+        ),
+        ("render a -o b --meters", "unknown option --meters"),
+        ("check a --stop", "unknown option --stop"),
+        (
+            "render a",
+            "-o FILE is missing (a WAVE file to write, or - for standard output)",
+        ),
+        ("render -o b", "IN is missing"),
+        ("render a c -o b", "unexpected argument c"),
+        (
+            "render a -o b --stop --conceal",
+            "--conceal and --stop: only one of them",
+        ),
+        (
+            "render a -o - --rf64",
+            "--rf64 needs a file: its sizes are written at the end",
+        ),
+        ("demo -s 0", "-s 0: seconds from 0.01 to 3600 are taken"),
+        ("demo -s x", "-s x: seconds from 0.01 to 3600 are taken"),
+        ("plot bas -o b", "no plot of bas; did you mean bass?"),
+        (
+            "plot -o b",
+            "what to plot (bass, limiter or levels) is missing",
+        ),
+        ("version 2", "unexpected argument 2"),
+        ("demo -o", "missing argument for option '-o'"),
+    ];
+
     #[test]
     fn what_is_taken_and_what_not() {
-        for line in [
-            "demo", "demo -o x -s 0.5", "demo -s20", "render a -o b", "render a -o b --conceal",
-            "render - -o - --stop", "render a -o b --rf64", "check a", "dump -", "undump a -o b",
-            "hex a", "map -o b", "plot bass -o b", "plot limiter -o -", "plot levels -o b",
-            "version", "--version", "-V", "help", "-h", "render --help",
-        ] {
+        for line in TAKEN {
             let args: Vec<&str> = line.split(' ').collect();
             assert_eq!(said(&args), "taken", "{line}");
         }
-        for (line, message) in [
-            ("rendr a", "unknown command rendr; did you mean render?"),
-            ("sing", "unknown command sing"),
-            ("render a -o b --rf46", "unknown option --rf46; did you mean --rf64?"),
-            ("render a -o b --meters", "unknown option --meters"),
-            ("check a --stop", "unknown option --stop"),
-            ("render a", "-o FILE is missing (a WAVE file to write, or - for standard output)"),
-            ("render -o b", "IN is missing"),
-            ("render a c -o b", "unexpected argument c"),
-            ("render a -o b --stop --conceal", "--conceal and --stop: only one of them"),
-            ("render a -o - --rf64", "--rf64 needs a file: its sizes are written at the end"),
-            ("demo -s 0", "-s 0: seconds from 0.01 to 3600 are taken"),
-            ("demo -s x", "-s x: seconds from 0.01 to 3600 are taken"),
-            ("plot bas -o b", "no plot of bas; did you mean bass?"),
-            ("plot -o b", "what to plot (bass, limiter or levels) is missing"),
-            ("version 2", "unexpected argument 2"),
-            ("demo -o", "missing argument for option '-o'"),
-        ] {
+        for (line, message) in NOT {
             let args: Vec<&str> = line.split(' ').collect();
             assert_eq!(said(&args), message, "{line}");
         }

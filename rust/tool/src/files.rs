@@ -34,12 +34,15 @@ pub fn open(path: &OsStr) -> Result<(Box<dyn Read>, Option<u64>), Trouble> {
 
 /// Refuses to write over what is read.
 pub fn apart(from: &OsStr, to: &OsStr) -> Result<(), Trouble> {
-    let place = |path: &OsStr| fs::metadata(path).ok().map(|m| (m.dev(), m.ino(), m.is_file()));
+    let place = |path: &OsStr| {
+        fs::metadata(path)
+            .ok()
+            .map(|m| (m.dev(), m.ino(), m.is_file()))
+    };
     match (place(from), place(to)) {
-        (Some(a), Some(b)) if a == b && a.2 && from != "-" => Err(Trouble::Wrong(format!(
-            "{} would be written over while it is read",
-            name_in(from)
-        ))),
+        (Some(a), Some(b)) if a == b && a.2 && from != "-" && to != "-" => Err(Trouble::Wrong(
+            format!("{} would be written over while it is read", name_in(from)),
+        )),
         _ => Ok(()),
     }
 }

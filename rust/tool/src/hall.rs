@@ -1,27 +1,26 @@
 // SPDX-License-Identifier: Apache-2.0
 //! A programme through the renderer, ask after ask, as `render`, `check` and `demo` take it.
-use crate::arguments::Refused;
+use crate::arguments::Policy;
 use crate::programme::{Ask, Broken, Packet, Programme};
 use crate::trouble::Trouble;
 use std::collections::BTreeMap;
-use voqlisna::{Bed, Concealer, MakeError, Output, Refusal, Rendered, Renderer, Stride};
+use voqlisna::{Concealer, MakeError, Output, Refusal, Rendered, Renderer, Stride};
 
 /// A frame that was refused.
-pub struct Lost<'a> {
+pub struct Refused<'a> {
     /// From 1.
     pub number: u64,
     /// The programme's time at the frame's start, in seconds.
     pub at: f64,
     pub frame: &'a Packet,
-    pub beds: Option<&'a [Bed]>,
     pub refusal: Refusal,
 }
 
 /// What hears of a run.
 pub trait Listener {
-    /// Samples that are ready, at the rate of the frame.
+    /// Samples that are ready, at the stream's rate.
     fn sound(&mut self, rate: u32, sound: &Rendered<'_>) -> Result<(), Trouble>;
-    fn refused(&mut self, lost: &Lost<'_>) -> Result<(), Trouble>;
+    fn refused(&mut self, what: &Refused<'_>) -> Result<(), Trouble>;
     /// After each ask, with the part of the programme that is read.
     fn step(&mut self, _part: Option<f64>, _counts: &Counts) {}
 }
@@ -38,10 +37,25 @@ pub struct Counts {
     pub lost: u64,
     /// Refused frames by the refusal's number.
     pub refused: BTreeMap<u32, u64>,
+    /// The run ended at a refused frame.
     pub stopped: bool,
 }
 
 impl Counts {
+    fn add(&mut self, frame: &Packet, refusal: Option<Refusal>, lost: bool) {
+        self.frames += 1;
+        self.seconds += frame.seconds();
+        self.longest = self.longest.max(frame.samples);
+        if let Some(refusal) = refusal {
+            *self.refused.entry(refusal.number()).or_default() += 1;
+            if lost {
+                self.lost += 1;
+            } else {
+                self.concealed += 1;
+            }
+        }
+    }
+
     pub fn refused(&self) -> u64 {
         self.concealed + self.lost
     }
@@ -71,7 +85,7 @@ impl Hall {
     pub fn run(
         &mut self,
         programme: &mut dyn Programme,
-        refused: Refused,
+        policy: Policy,
         listener: &mut dyn Listener,
     ) -> Result<(Counts, Option<Broken>), Trouble> {
         let (mut counts, mut frame) = (Counts::default(), Packet::default());
@@ -86,7 +100,7 @@ impl Hall {
                     self.rate = None;
                 }
                 Ok(Some(Ask::Frame)) => {
-                    self.frame(&frame, refused, &mut counts, listener)?;
+                    self.frame(&frame, policy, &mut counts, listener)?;
                     if counts.stopped {
                         break None;
                     }
@@ -108,14 +122,12 @@ impl Hall {
     fn frame(
         &mut self,
         frame: &Packet,
-        refused: Refused,
+        policy: Policy,
         counts: &mut Counts,
         listener: &mut dyn Listener,
     ) -> Result<(), Trouble> {
-        let beds = frame.beds();
-        let beds = beds.as_deref();
         let rate = self.rate.unwrap_or(frame.rate);
-        let (refusal, lost) = match self.push(frame, beds, refused) {
+        let (refusal, lost) = match self.push(frame, policy) {
             Ok((sound, refusal)) => {
                 listener.sound(rate, &sound)?;
                 self.rate = Some(rate);
@@ -123,37 +135,35 @@ impl Hall {
             }
             Err(refusal) => (Some(refusal), true),
         };
-        counts.frames += 1;
-        counts.longest = counts.longest.max(frame.samples);
-        if let Some(refusal) = refusal {
-            *counts.refused.entry(refusal.number()).or_default() += 1;
-            *(if lost { &mut counts.lost } else { &mut counts.concealed }) += 1;
-            counts.stopped = refused == Refused::Stop;
-            let (number, at) = (counts.frames, counts.seconds);
-            listener.refused(&Lost { number, at, frame, beds, refusal })?;
-        }
-        counts.seconds += frame.seconds();
-        Ok(())
+        let at = counts.seconds;
+        counts.add(frame, refusal, lost);
+        let Some(refusal) = refusal else {
+            return Ok(());
+        };
+        counts.stopped = policy == Policy::Stop;
+        listener.refused(&Refused {
+            number: counts.frames,
+            at,
+            frame,
+            refusal,
+        })
     }
 
+    /// The sound, and why it is not the frame's own; or why there is none.
     fn push(
         &mut self,
         frame: &Packet,
-        beds: Option<&[Bed]>,
-        refused: Refused,
+        policy: Policy,
     ) -> Result<(Rendered<'_>, Option<Refusal>), Refusal> {
-        let frame = frame.frame(beds)?;
-        match refused {
-            Refused::Stop => {
-                let sound = self.renderer.push(&frame, &mut self.out)?;
-                Ok((sound, None))
-            }
-            Refused::Conceal => {
-                let by = &mut self.concealer;
-                let o = self.renderer.push_or_conceal(&frame, &mut self.out, by)?;
-                Ok((o.rendered, o.refusal))
-            }
+        let beds = frame.beds();
+        let frame = frame.frame(beds.as_deref())?;
+        if policy == Policy::Stop {
+            let sound = self.renderer.push(&frame, &mut self.out)?;
+            return Ok((sound, None));
         }
+        let by = &mut self.concealer;
+        let outcome = self.renderer.push_or_conceal(&frame, &mut self.out, by)?;
+        Ok((outcome.rendered, outcome.refusal))
     }
 }
 

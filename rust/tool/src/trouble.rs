@@ -3,10 +3,8 @@
 use std::io;
 
 pub enum Trouble {
-    /// 1: a frame was refused; what there is to say has been said.
-    Refused,
-    /// 1: nothing was accepted.
-    Nothing(String),
+    /// 1: a frame was refused; what there is to say about it, if it has not been said.
+    Refused(Option<String>),
     /// 2: input or arguments are wrong.
     Wrong(String),
     /// 3: reading or writing failed.
@@ -19,7 +17,7 @@ impl Trouble {
     pub fn code(&self) -> u8 {
         match self {
             Self::Closed => 0,
-            Self::Refused | Self::Nothing(_) => 1,
+            Self::Refused(_) => 1,
             Self::Wrong(_) => 2,
             Self::Failed(_) => 3,
         }
@@ -27,8 +25,9 @@ impl Trouble {
 
     pub fn message(&self) -> Option<&str> {
         match self {
-            Self::Refused | Self::Closed => None,
-            Self::Nothing(m) | Self::Wrong(m) | Self::Failed(m) => Some(m),
+            Self::Closed => None,
+            Self::Refused(message) => message.as_deref(),
+            Self::Wrong(message) | Self::Failed(message) => Some(message),
         }
     }
 

@@ -13,7 +13,9 @@ const CHANNELS: u16 = Speaker::ALL.len() as u16;
 /// Bytes of a sample on all channels.
 const ROW: u64 = 4 * CHANNELS as u64;
 /// KSDATAFORMAT_SUBTYPE_IEEE_FLOAT.
-const FLOAT: [u8; 16] = [3, 0, 0, 0, 0, 0, 0x10, 0, 0x80, 0, 0, 0xaa, 0, 0x38, 0x9b, 0x71];
+const FLOAT: [u8; 16] = [
+    3, 0, 0, 0, 0, 0, 0x10, 0, 0x80, 0, 0, 0xaa, 0, 0x38, 0x9b, 0x71,
+];
 /// Samples are written in pieces of about this many bytes.
 const PIECE: usize = 1 << 16;
 
@@ -56,7 +58,13 @@ impl Wave {
 
     fn begin(to: To, rate: u32, rf64: bool) -> io::Result<Self> {
         let (rows, held) = (0, head(rate, 0, Sizes::Open));
-        let mut wave = Self { to, rate, rf64, rows, held };
+        let mut wave = Self {
+            to,
+            rate,
+            rf64,
+            rows,
+            held,
+        };
         wave.spill()?;
         Ok(wave)
     }
@@ -69,7 +77,11 @@ impl Wave {
             }
         }
         self.rows += sound.ready() as u64;
-        if self.held.len() >= PIECE { self.spill() } else { Ok(()) }
+        if self.held.len() >= PIECE {
+            self.spill()
+        } else {
+            Ok(())
+        }
     }
 
     fn spill(&mut self) -> io::Result<()> {
@@ -83,11 +95,11 @@ impl Wave {
     }
 
     /// Writes what is held and the sizes.
-    pub fn close(mut self) -> io::Result<()> {
+    pub fn close(&mut self) -> io::Result<()> {
         self.spill()?;
-        match self.to {
-            To::Pipe(mut pipe) => pipe.flush(),
-            To::File(ref mut file) => sizes(file, self.rate, self.rows, self.rf64),
+        match &mut self.to {
+            To::Pipe(pipe) => pipe.flush(),
+            To::File(file) => sizes(file, self.rate, self.rows, self.rf64),
         }
     }
 
@@ -107,7 +119,11 @@ impl Wave {
 fn sizes(file: &mut File, rate: u32, rows: u64, rf64: bool) -> io::Result<()> {
     let short = rows * ROW + HEAD as u64 - 8 <= u64::from(u32::MAX) && !rf64;
     file.seek(SeekFrom::Start(0))?;
-    file.write_all(&head(rate, rows, if short { Sizes::Short } else { Sizes::Long }))
+    file.write_all(&head(
+        rate,
+        rows,
+        if short { Sizes::Short } else { Sizes::Long },
+    ))
 }
 
 /// The first bytes of a file of so many rows.
@@ -115,9 +131,15 @@ fn head(rate: u32, rows: u64, sizes: Sizes) -> Vec<u8> {
     let data = rows * ROW;
     let riff = data + HEAD as u64 - 8;
     let long = sizes == Sizes::Long;
-    let size = |n: u64| if sizes == Sizes::Short { n as u32 } else { u32::MAX }.to_le_bytes();
+    let size = |n: u64| {
+        if sizes == Sizes::Short {
+            n as u32
+        } else {
+            u32::MAX
+        }
+        .to_le_bytes()
+    };
     let wide = |n: u64| if long { n } else { 0 }.to_le_bytes();
-    let block = ROW as u16;
     let mut h = Vec::with_capacity(HEAD);
     h.extend(if long { b"RF64" } else { b"RIFF" });
     h.extend(size(riff));
@@ -128,21 +150,28 @@ fn head(rate: u32, rows: u64, sizes: Sizes) -> Vec<u8> {
     h.extend(wide(data));
     h.extend(wide(rows));
     h.extend(0u32.to_le_bytes());
+    format(rate, &mut h);
+    h.extend(b"data");
+    h.extend(size(data));
+    h
+}
+
+/// The chunk that says what a sample is.
+fn format(rate: u32, h: &mut Vec<u8>) {
+    let (row, bits) = (ROW as u16, 32u16);
     h.extend(b"fmt ");
     h.extend(40u32.to_le_bytes());
     h.extend(0xfffeu16.to_le_bytes());
     h.extend(CHANNELS.to_le_bytes());
     h.extend(rate.to_le_bytes());
-    h.extend((rate * u32::from(block)).to_le_bytes());
-    h.extend(block.to_le_bytes());
-    h.extend(32u16.to_le_bytes());
+    h.extend((rate * u32::from(row)).to_le_bytes());
+    h.extend(row.to_le_bytes());
+    h.extend(bits.to_le_bytes());
+    // The extension: its length, the bits in use, the speakers, the kind of number.
     h.extend(22u16.to_le_bytes());
-    h.extend(32u16.to_le_bytes());
+    h.extend(bits.to_le_bytes());
     h.extend(WAVE_MASK.to_le_bytes());
     h.extend(FLOAT);
-    h.extend(b"data");
-    h.extend(size(data));
-    h
 }
 
 #[cfg(test)]
@@ -153,7 +182,8 @@ mod tests {
     const MOST: u64 = (u32::MAX as u64 + 8 - HEAD as u64) / ROW;
 
     fn written(rows: u64, rf64: bool) -> Vec<u8> {
-        let path = std::env::temp_dir().join(format!("voqlisna-{}-{rows}-{rf64}", std::process::id()));
+        let path =
+            std::env::temp_dir().join(format!("voqlisna-{}-{rows}-{rf64}", std::process::id()));
         let mut file = File::create(&path).unwrap();
         sizes(&mut file, 48_000, rows, rf64).unwrap();
         let bytes = std::fs::read(&path).unwrap();
@@ -167,7 +197,10 @@ mod tests {
         let h = written(MOST, false);
         assert_eq!(&h[..4], b"RIFF");
         assert_eq!(&h[12..16], b"JUNK");
-        assert_eq!(u64::from(u32::from_le_bytes(h[100..104].try_into().unwrap())), MOST * ROW);
+        assert_eq!(
+            u64::from(u32::from_le_bytes(h[100..104].try_into().unwrap())),
+            MOST * ROW
+        );
         assert_eq!(MOST / 48_000 / 60, 31);
     }
 

@@ -1,27 +1,27 @@
 // SPDX-License-Identifier: Apache-2.0
 //! `check`: every refusal with its cause. After one it goes on as `render` does, so that one fault is told once.
-use super::told::{blame, cause};
-use crate::arguments::Refused;
+use super::told;
+use crate::arguments::Policy;
 use crate::files::{self, Out};
-use crate::hall::{Counts, Hall, Listener, Lost};
+use crate::hall::{Counts, Hall, Listener, Refused};
 use crate::numbers::{counted, grouped};
 use crate::programme::{Limits, Reader};
 use crate::trouble::Trouble;
 use std::ffi::OsString;
-use voqlisna::Rendered;
+use voqlisna::{Blame, Rendered};
 
 pub fn check(from: &OsString) -> Result<(), Trouble> {
     let (input, length) = files::open(from)?;
     let mut programme = Reader::new(input, Limits::TOOL, length);
     let (out, by) = (Out::standard(), Vec::new());
     let mut report = Report { out, by };
-    let (counts, broken) = Hall::new()?.run(&mut programme, Refused::Conceal, &mut report)?;
+    let (counts, broken) = Hall::new()?.run(&mut programme, Policy::Conceal, &mut report)?;
     let Report { mut out, by } = report;
     out.line(&summary(&counts, &by))?;
     out.close()?;
     match broken {
         Some(broken) => Err(broken.trouble(&files::name_in(from))),
-        None if counts.refused() > 0 => Err(Trouble::Refused),
+        None if counts.refused() > 0 => Err(Trouble::Refused(None)),
         None => Ok(()),
     }
 }
@@ -29,7 +29,7 @@ pub fn check(from: &OsString) -> Result<(), Trouble> {
 struct Report {
     out: Out,
     /// Refused frames by whose fault it is.
-    by: Vec<(&'static str, u64)>,
+    by: Vec<(Blame, u64)>,
 }
 
 impl Listener for Report {
@@ -37,39 +37,37 @@ impl Listener for Report {
         Ok(())
     }
 
-    fn refused(&mut self, lost: &Lost<'_>) -> Result<(), Trouble> {
-        let who = blame(lost.refusal);
+    fn refused(&mut self, what: &Refused<'_>) -> Result<(), Trouble> {
+        let who = what.refusal.blame();
         match self.by.iter_mut().find(|b| b.0 == who) {
             Some(b) => b.1 += 1,
             None => self.by.push((who, 1)),
         }
-        self.out.line(&line(lost))
+        self.out.line(&told::line(what))
     }
 }
 
-/// "frame 33 at 0.171 s: refused 5 (programme): .."
-pub fn line(lost: &Lost<'_>) -> String {
-    format!(
-        "frame {} at {:.3} s: refused {} ({}): {}",
-        grouped(lost.number),
-        lost.at,
-        lost.refusal.number(),
-        blame(lost.refusal),
-        cause(lost)
-    )
-}
-
 /// "101 frames, 31 refused: 19 programme, 4 decoder, 8 stream"
-fn summary(counts: &Counts, by: &[(&str, u64)]) -> String {
+fn summary(counts: &Counts, by: &[(Blame, u64)]) -> String {
     let mut text = counted(counts.frames, "frame");
     if by.is_empty() {
         text += ", none refused";
     } else {
-        let each: Vec<String> = by.iter().map(|(w, n)| format!("{} {w}", grouped(*n))).collect();
-        text += &format!(", {} refused: {}", grouped(counts.refused()), each.join(", "));
+        let each: Vec<String> = by
+            .iter()
+            .map(|(w, n)| format!("{} {w}", grouped(*n)))
+            .collect();
+        text += &format!(
+            ", {} refused: {}",
+            grouped(counts.refused()),
+            each.join(", ")
+        );
     }
     if counts.longest > usize::from(Limits::HALLRENDER.samples) {
-        text += &format!("; up to {} samples a frame (hallrender takes 256)", grouped(counts.longest as u64));
+        text += &format!(
+            "; up to {} samples a frame (hallrender takes 256)",
+            grouped(counts.longest as u64)
+        );
     }
     text
 }

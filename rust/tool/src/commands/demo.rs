@@ -1,9 +1,9 @@
 // SPDX-License-Identifier: Apache-2.0
 //! `demo`: the show into a WAVE file.
 use super::record::Recorder;
-use super::told::{blame, cause};
-use crate::arguments::Refused;
-use crate::hall::{Hall, Lost};
+use super::told::cause;
+use crate::arguments::Policy;
+use crate::hall::{Hall, Refused};
 use crate::numbers::{counted, grouped};
 use crate::show::Show;
 use crate::trouble::Trouble;
@@ -11,13 +11,9 @@ use std::ffi::OsString;
 
 pub fn demo(to: &OsString, seconds: f64) -> Result<(), Trouble> {
     let mut recorder = Recorder::new(to, false, told);
-    let ran = Hall::new()?.run(&mut Show::new(seconds), Refused::Conceal, &mut recorder);
-    let (counts, ended) = match ran {
-        Ok((counts, _)) => (Some(counts), Ok(())),
-        Err(trouble) => (None, Err(trouble)),
-    };
-    recorder.close(ended)?;
-    let (Some(counts), Some(first)) = (counts, &recorder.first) else {
+    let ran = Hall::new()?.run(&mut Show::new(seconds), Policy::Conceal, &mut recorder);
+    let ((counts, _), _) = recorder.close(ran)?;
+    let Some(first) = &recorder.first else {
         return Ok(());
     };
     recorder.say(&format!(
@@ -30,11 +26,13 @@ pub fn demo(to: &OsString, seconds: f64) -> Result<(), Trouble> {
         return Ok(());
     }
     let to = to.to_string_lossy();
-    recorder.say(&format!("listen: play {to}   see: voqlisna plot levels -o levels.svg"))
+    recorder.say(&format!(
+        "listen: play {to}   see: voqlisna plot levels -o levels.svg"
+    ))
 }
 
 /// "10.000 s (8, decoder: channel 4, sample 17 is NaN)"
-fn told(lost: &Lost<'_>) -> String {
-    let (number, who) = (lost.refusal.number(), blame(lost.refusal));
-    format!("{:.3} s ({number}, {who}: {})", lost.at, cause(lost))
+fn told(what: &Refused<'_>) -> String {
+    let (number, who) = (what.refusal.number(), what.refusal.blame());
+    format!("{:.3} s ({number}, {who}: {})", what.at, cause(what))
 }

@@ -1,7 +1,7 @@
 // SPDX-License-Identifier: Apache-2.0
 //! Into a WAVE file: what `render` and `demo` share.
 use crate::files;
-use crate::hall::{Counts, Listener, Lost};
+use crate::hall::{Counts, Listener, Refused};
 use crate::numbers::{clock, decibels};
 use crate::trouble::Trouble;
 use crate::wave::Wave;
@@ -19,15 +19,15 @@ pub struct Recorder<'a> {
     rate: u32,
     rows: u64,
     peak: f32,
-    /// The first refused frame, as `told` has it.
+    /// The first refused frame, as `tell` has it.
     pub first: Option<String>,
-    tell: fn(&Lost<'_>) -> String,
+    tell: fn(&Refused<'_>) -> String,
     progress: Progress,
 }
 
 impl<'a> Recorder<'a> {
     /// `tell`: what is kept of the first refused frame.
-    pub fn new(to: &'a OsString, rf64: bool, tell: fn(&Lost<'_>) -> String) -> Self {
+    pub fn new(to: &'a OsString, rf64: bool, tell: fn(&Refused<'_>) -> String) -> Self {
         Self {
             to,
             rf64,
@@ -62,20 +62,18 @@ impl<'a> Recorder<'a> {
         self.rows as f64 / f64::from(self.rate.max(1))
     }
 
-    /// Closes the file, whatever ended the run; whether there is one.
-    pub fn close(&mut self, ran: Result<(), Trouble>) -> Result<bool, Trouble> {
+    /// Closes the file, whatever ended the run; what the run came to, and whether there is a file.
+    pub fn close<T>(&mut self, ran: Result<T, Trouble>) -> Result<(T, bool), Trouble> {
         self.progress.clear();
         let name = files::name_out(self.to);
         match (self.wave.take(), ran) {
-            (None, ran) => ran.map(|()| false),
-            (Some(wave), Err(Trouble::Failed(message))) => Err(Trouble::Failed(match wave.rescue() {
-                Some(seconds) => format!("{message}; {seconds:.1} s were written and closed"),
-                None => message,
-            })),
-            (Some(wave), ran) => {
-                wave.close().map_err(|e| Trouble::io(&name, &e))?;
-                ran.map(|()| true)
-            }
+            (None, ran) => Ok((ran?, false)),
+            (Some(wave), Err(Trouble::Failed(message))) => Err(rescued(wave, message)),
+            (Some(mut wave), ran) => match wave.close().map_err(|e| Trouble::io(&name, &e)) {
+                Err(Trouble::Failed(message)) => Err(rescued(wave, message)),
+                Err(trouble) => Err(trouble),
+                Ok(()) => Ok((ran?, true)),
+            },
         }
     }
 
@@ -104,6 +102,14 @@ impl<'a> Recorder<'a> {
     }
 }
 
+/// After a failed write: what is there is made a whole file, where that can be done.
+fn rescued(wave: Wave, message: String) -> Trouble {
+    Trouble::Failed(match wave.rescue() {
+        Some(seconds) => format!("{message}; {seconds:.1} s were written and closed"),
+        None => message,
+    })
+}
+
 impl Listener for Recorder<'_> {
     fn sound(&mut self, rate: u32, sound: &Rendered<'_>) -> Result<(), Trouble> {
         if self.wave.is_some() && rate != self.rate {
@@ -115,7 +121,8 @@ impl Listener for Recorder<'_> {
             )));
         }
         let name = files::name_out(self.to);
-        self.write(rate, sound).map_err(|e| Trouble::io(&name, &e))?;
+        self.write(rate, sound)
+            .map_err(|e| Trouble::io(&name, &e))?;
         self.rows += sound.ready() as u64;
         for (_, channel) in sound.channels() {
             self.peak = channel.iter().fold(self.peak, |p, x| p.max(x.abs()));
@@ -123,9 +130,9 @@ impl Listener for Recorder<'_> {
         Ok(())
     }
 
-    fn refused(&mut self, lost: &Lost<'_>) -> Result<(), Trouble> {
+    fn refused(&mut self, what: &Refused<'_>) -> Result<(), Trouble> {
         if self.first.is_none() {
-            self.first = Some((self.tell)(lost));
+            self.first = Some((self.tell)(what));
         }
         Ok(())
     }
@@ -151,7 +158,11 @@ impl Progress {
     fn new() -> Self {
         let began = Instant::now();
         let next = io::stderr().is_terminal().then(|| began + EVERY);
-        Self { began, next, shown: false }
+        Self {
+            began,
+            next,
+            shown: false,
+        }
     }
 
     fn is_due(&self) -> bool {

@@ -1,8 +1,8 @@
 // SPDX-License-Identifier: Apache-2.0
 //! `render`: a programme into a WAVE file.
-use super::check::line;
 use super::record::Recorder;
-use crate::arguments::{Refused, Render};
+use super::told;
+use crate::arguments::{Policy, Render};
 use crate::files;
 use crate::hall::{Counts, Hall};
 use crate::numbers::{counted, grouped};
@@ -14,28 +14,21 @@ pub fn render(given: &Render) -> Result<(), Trouble> {
     let (name, to) = (files::name_in(&given.from), &given.to);
     let (input, length) = files::open(&given.from)?;
     let mut programme = Reader::new(input, Limits::TOOL, length);
-    let mut recorder = Recorder::new(to, given.rf64, line);
-    let ran = Hall::new()?.run(&mut programme, given.refused, &mut recorder);
-    let (ran, ended) = match ran {
-        Ok(ran) => (Some(ran), Ok(())),
-        Err(trouble) => (None, Err(trouble)),
-    };
-    let written = recorder.close(ended)?;
-    let Some((counts, broken)) = ran else {
-        return Ok(());
-    };
+    let mut recorder = Recorder::new(to, given.rf64, told::line);
+    let ran = Hall::new()?.run(&mut programme, given.policy, &mut recorder);
+    let ((counts, broken), written) = recorder.close(ran)?;
     if written {
         recorder.say(&format!("{}; {}", recorder.summary(), refusals(&counts)))?;
     }
-    if let (Refused::Stop, Some(first)) = (given.refused, &recorder.first) {
-        return Err(Trouble::Nothing(format!("{name}: {first}")));
+    if let (Policy::Stop, Some(first)) = (given.policy, &recorder.first) {
+        return Err(Trouble::Refused(Some(format!("{name}: {first}"))));
     }
     match broken {
         Some(broken) => Err(broken.trouble(&name)),
-        None if !written => Err(Trouble::Nothing(format!(
+        None if !written => Err(Trouble::Refused(Some(format!(
             "{name}: no frame was accepted, so there is nothing to write"
-        ))),
-        None if counts.lost > 0 => Err(Trouble::Refused),
+        )))),
+        None if counts.lost > 0 => Err(Trouble::Refused(None)),
         None => Ok(()),
     }
 }
@@ -45,7 +38,11 @@ fn refusals(counts: &Counts) -> String {
     if counts.refused() == 0 {
         return format!("{}, none refused", counted(counts.frames, "frame"));
     }
-    let each: Vec<String> = counts.refused.iter().map(|(k, n)| format!("{k}: {}", grouped(*n))).collect();
+    let each: Vec<String> = counts
+        .refused
+        .iter()
+        .map(|(k, n)| format!("{k}: {}", grouped(*n)))
+        .collect();
     format!(
         "{} of {} refused ({}), {} concealed, {} lost",
         grouped(counts.refused()),

@@ -1,42 +1,37 @@
 // SPDX-License-Identifier: Apache-2.0
 //! A refused frame, for people.
-use crate::hall::Lost;
+use crate::hall::Refused;
 use crate::numbers::grouped;
-use voqlisna::{Blame, Cause, Refusal, Stride, explain};
+use voqlisna::{Arguments, Refusal, Speaker, Stride, sys};
 
-/// Whose fault it is.
-pub fn blame(refusal: Refusal) -> &'static str {
-    match refusal.blame() {
-        Blame::Host => "host",
-        Blame::Programme => "programme",
-        Blame::Decoder => "decoder",
-        Blame::Stream => "stream",
-    }
+/// "frame 33 at 0.171 s: refused 5 (programme): .."
+pub fn line(what: &Refused<'_>) -> String {
+    let (number, refusal) = (grouped(what.number), what.refusal);
+    let (at, k, who) = (what.at, refusal.number(), refusal.blame());
+    format!(
+        "frame {number} at {at:.3} s: refused {k} ({who}): {}",
+        cause(what)
+    )
 }
 
 /// What is behind the refusal: the record, the sample, the argument; else what the refusal says.
-pub fn cause(lost: &Lost<'_>) -> String {
-    let Ok(frame) = lost.frame.frame(lost.beds) else {
-        return argument(lost);
+pub fn cause(what: &Refused<'_>) -> String {
+    let (frame, stride) = (what.frame, Stride::MAX.samples());
+    let arguments = Arguments {
+        state_length: sys::hall_state_size(),
+        out_length: 4 * Speaker::ALL.len() * stride,
+        pcm: &frame.pcm,
+        metadata: &frame.metadata,
+        codes: &frame.codes,
+        samples: frame.samples as u32,
+        objects: frame.objects as u32,
+        stride: stride as u32,
     };
-    match explain(&frame, Stride::MAX, lost.refusal) {
-        Some(Cause::Record(fault)) => fault.to_string(),
-        Some(Cause::Sample { channel, sample, value }) => {
-            format!("channel {channel}, sample {sample} is {value}")
+    match arguments.explain(what.refusal) {
+        Some(cause) => cause.to_string(),
+        None if what.refusal == Refusal::Rate => {
+            format!("{}; it is {}", what.refusal, grouped(frame.rate.into()))
         }
-        _ => lost.refusal.to_string(),
-    }
-}
-
-/// What a header says that no frame can be.
-fn argument(lost: &Lost<'_>) -> String {
-    let frame = lost.frame;
-    match frame.codes.iter().find(|c| **c > 17) {
-        Some(code) => format!("bed code {code}, and the last is 17"),
-        None if lost.refusal == Refusal::Rate => format!(
-            "a rate of {} Hz, and rates from 8,000 to 192,000 are taken",
-            grouped(frame.rate.into())
-        ),
-        None => format!("{} samples and no channel", grouped(frame.samples as u64)),
+        None => what.refusal.to_string(),
     }
 }

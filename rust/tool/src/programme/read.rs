@@ -15,9 +15,15 @@ pub struct Limits {
 
 impl Limits {
     /// "it takes up to 256 samples, 18 beds, 16 objects and 1,200 metadata records a frame"
-    pub const HALLRENDER: Self = Self { samples: 256, records: 1_200 };
+    pub const HALLRENDER: Self = Self {
+        samples: 256,
+        records: 1_200,
+    };
     /// What a push takes; metadata is judged by it.
-    pub const TOOL: Self = Self { samples: 1_536, records: u16::MAX };
+    pub const TOOL: Self = Self {
+        samples: 1_536,
+        records: u16::MAX,
+    };
 }
 
 /// Why a programme cannot be read on.
@@ -32,7 +38,9 @@ pub enum Broken {
 impl Broken {
     pub fn trouble(&self, name: &str) -> Trouble {
         match self {
-            Self::Record { at, why } => Trouble::Wrong(format!("{name}: byte {}: {why}", grouped(*at))),
+            Self::Record { at, why } => {
+                Trouble::Wrong(format!("{name}: byte {}: {why}", grouped(*at)))
+            }
             Self::Read(e) => Trouble::Failed(format!("{name}: {}", sentence(e))),
         }
     }
@@ -73,7 +81,10 @@ impl<R: Read> Reader<R> {
             let n = NINE.min(header.pcm_bytes() - NINE * k);
             if !is_pcm(record, n) {
                 let at = at + (behind + LENGTH * k) as u64;
-                let why = format!("bad record: not a record of PCM (6) of this frame; its kind is {}", record[0]);
+                let why = format!(
+                    "bad record: not a record of PCM (6) of this frame; its kind is {}",
+                    record[0]
+                );
                 return Err(Broken::Record { at, why });
             }
             frame.pcm.extend_from_slice(&record[4..4 + n]);
@@ -120,8 +131,14 @@ impl<R: Read> Programme for Reader<R> {
             return Ok(None);
         }
         let Ok(record) = Record::try_from(bytes) else {
-            let why = format!("the file ends inside a record ({} of 40 bytes)", bytes.len());
-            return Err(Broken::Record { at: self.window.at(), why });
+            let why = format!(
+                "the file ends inside a record ({} of 40 bytes)",
+                bytes.len()
+            );
+            return Err(Broken::Record {
+                at: self.window.at(),
+                why,
+            });
         };
         match record[0] {
             5 => self.frame(&record, frame).map(Some),
@@ -137,7 +154,8 @@ impl<R: Read> Programme for Reader<R> {
     }
 
     fn part(&self) -> Option<f64> {
-        self.length.map(|n| self.window.at() as f64 / n.max(1) as f64)
+        self.length
+            .map(|n| self.window.at() as f64 / n.max(1) as f64)
     }
 }
 

@@ -92,7 +92,9 @@ impl Show {
         let objects = [first.next(), second.next(), self.song.next(time)];
         let left_over = (self.length - at) as f64 / RATE;
         let level = smooth(time / 0.5) * smooth(left_over / CHORD.min(self.seconds() / 4.0));
-        let all = [left, right, stroke, bass, side_left, side_right, objects[0], objects[1], objects[2]];
+        let all = [
+            left, right, stroke, bass, side_left, side_right, objects[0], objects[1], objects[2],
+        ];
         all.map(|x| level * x)
     }
 
@@ -105,7 +107,12 @@ impl Show {
         let time = (self.at + UPDATE * FRAME) as f64 / RATE;
         let fixed = BEDS.len();
         writer
-            .update(Update { at: 0, objects: all, fixed: fixed as u8, beds: &BEDS })?
+            .update(Update {
+                at: 0,
+                objects: all,
+                fixed: fixed as u8,
+                beds: &BEDS,
+            })?
             .element(&[Block { offset: 0, ramp }], |o, _| {
                 let object = match o.checked_sub(fixed) {
                     None => Object::KEEP,
@@ -128,7 +135,10 @@ impl Programme for Show {
         frame.codes = BEDS.map(Bed::code).to_vec();
         frame.metadata.clear();
         if number % UPDATE == 0 {
-            let why = |e: BuildError| Broken::Record { at: 0, why: e.to_string() };
+            let why = |e: BuildError| Broken::Record {
+                at: 0,
+                why: e.to_string(),
+            };
             self.metadata(&mut frame.metadata).map_err(why)?;
         }
         frame.pcm.resize(4 * CHANNELS * samples, 0);

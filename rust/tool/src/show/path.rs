@@ -20,10 +20,18 @@ pub fn place(object: usize, time: f64, length: f64) -> Room {
             (near.0, 0.5 - 0.42 * swing, 1.0 - swing * swing)
         }
     };
-    Room { x: x as f32, y: y as f32, z: z as f32 }
+    Room {
+        x: x as f32,
+        y: y as f32,
+        z: z as f32,
+    }
 }
 
 /// On a circle about the middle, `turns` from the screen on, clockwise as seen from above.
 fn around(turns: f64, radius: f64, height: f64) -> (f64, f64, f64) {
-    (0.5 + radius * sine(turns), 0.5 - radius * cosine(turns), height)
+    (
+        0.5 + radius * sine(turns),
+        0.5 - radius * cosine(turns),
+        height,
+    )
 }

@@ -11,14 +11,38 @@ pub const CHORD: f64 = 2.5;
 pub const STEP: f64 = CHORD / 8.0;
 
 const CHORDS: [Chord; 8] = [
-    Chord { bass: 33, keys: [57, 60, 64, 67] },
-    Chord { bass: 29, keys: [57, 60, 64, 65] },
-    Chord { bass: 36, keys: [55, 60, 62, 64] },
-    Chord { bass: 31, keys: [55, 59, 62, 64] },
-    Chord { bass: 33, keys: [57, 60, 64, 67] },
-    Chord { bass: 29, keys: [57, 60, 64, 65] },
-    Chord { bass: 38, keys: [57, 60, 62, 65] },
-    Chord { bass: 36, keys: [55, 60, 64, 67] },
+    Chord {
+        bass: 33,
+        keys: [57, 60, 64, 67],
+    },
+    Chord {
+        bass: 29,
+        keys: [57, 60, 64, 65],
+    },
+    Chord {
+        bass: 36,
+        keys: [55, 60, 62, 64],
+    },
+    Chord {
+        bass: 31,
+        keys: [55, 59, 62, 64],
+    },
+    Chord {
+        bass: 33,
+        keys: [57, 60, 64, 67],
+    },
+    Chord {
+        bass: 29,
+        keys: [57, 60, 64, 65],
+    },
+    Chord {
+        bass: 38,
+        keys: [57, 60, 62, 65],
+    },
+    Chord {
+        bass: 36,
+        keys: [55, 60, 64, 67],
+    },
 ];
 
 pub fn chord(number: usize) -> &'static Chord {

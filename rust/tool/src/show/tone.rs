@@ -1,5 +1,5 @@
 // SPDX-License-Identifier: Apache-2.0
-//! Tones from sums and products alone, so that every machine makes the same bits.
+//! Tones from sums, products, quotients and square roots alone, so that every machine makes the same bits.
 
 pub const RATE: f64 = 48_000.0;
 
@@ -7,7 +7,13 @@ pub const RATE: f64 = 48_000.0;
 pub fn sine(turns: f64) -> f64 {
     // Between two quarters of a turn the sine goes up, from -1 to 1; the other half mirrors it.
     let t = turns - turns.floor();
-    let t = if t < 0.25 { t } else if t < 0.75 { 0.5 - t } else { t - 1.0 };
+    let t = if t < 0.25 {
+        t
+    } else if t < 0.75 {
+        0.5 - t
+    } else {
+        t - 1.0
+    };
     let x = t * std::f64::consts::TAU;
     let square = x * x;
     let mut term = x;
@@ -66,12 +72,12 @@ impl Phasor {
     }
 }
 
-/// The factor that, a second long, leaves `left`: its root of order 48,000, by halving and Newton's square root.
+/// The factor that, sample after sample, leaves `left` after a second: its root of order 48,000.
 fn per_sample(left: f64) -> f64 {
     if left >= 1.0 {
         return 1.0;
     }
-    // 48,000 = 2^7 x 375: the root of order 2^7, then 1 - d with d from the first terms of the series of the logarithm.
+    // 48,000 = 2^7 x 375: seven square roots; the logarithm's series gives the 375th root as e^-x, and x is small.
     let mut root = left;
     for _ in 0..7 {
         root = root.sqrt();

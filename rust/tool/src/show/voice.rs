@@ -102,9 +102,11 @@ impl Plucks {
     }
 
     pub fn strike(&mut self, key: u8, level: f64) {
-        const PARTS: [(f64, f64, f64); 3] = [(1.0, 0.20, 0.08), (2.0, 0.07, 0.01), (3.01, 0.03, 0.001)];
+        const PARTS: [(f64, f64, f64); 3] =
+            [(1.0, 0.20, 0.08), (2.0, 0.07, 0.01), (3.01, 0.03, 0.001)];
         self.last = (self.last + 1) % self.tones.len();
-        self.tones[self.last] = PARTS.map(|(part, high, left)| Phasor::new(part * hertz(key), level * high, left));
+        self.tones[self.last] =
+            PARTS.map(|(part, high, left)| Phasor::new(part * hertz(key), level * high, left));
     }
 
     pub fn next(&mut self) -> f64 {

@@ -37,7 +37,10 @@ pub fn show(r: &Record) -> String {
 /// A frame's header, without the number of its metadata records.
 pub fn frame(h: &Header) -> String {
     let beds = listed(h.codes());
-    format!("frame {} samples {}{beds} objects {}", h.rate, h.samples, h.objects)
+    format!(
+        "frame {} samples {}{beds} objects {}",
+        h.rate, h.samples, h.objects
+    )
 }
 
 fn update(r: &Record) -> String {

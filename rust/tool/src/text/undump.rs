@@ -12,7 +12,9 @@ pub fn undump(from: impl Read, name: &str, out: &mut Out) -> Result<(), Trouble>
     let mut last = 0;
     for (k, line) in BufReader::new(from).lines().enumerate() {
         let line = line.map_err(|e| match e.kind() {
-            std::io::ErrorKind::InvalidData => Trouble::Wrong(format!("{name}:{}: not text", k + 1)),
+            std::io::ErrorKind::InvalidData => {
+                Trouble::Wrong(format!("{name}:{}: not text", k + 1))
+            }
             _ => Trouble::io(name, &e),
         })?;
         let line = line.split('#').next().unwrap_or("").trim();
@@ -81,15 +83,27 @@ fn one(line: &str, frame: &mut Option<Open>, out: &mut Out) -> Result<(), Fault>
 }
 
 /// A line that belongs to no frame before it.
-fn alone(name: &str, rest: &str, line: &str, frame: &mut Option<Open>, out: &mut Out) -> Result<(), Fault> {
+fn alone(
+    name: &str,
+    rest: &str,
+    line: &str,
+    frame: &mut Option<Open>,
+    out: &mut Out,
+) -> Result<(), Fault> {
     match name {
         "frame" => {
             let (header, told) = record::read_header(line)?;
             if told {
-                return Err("records are counted, and told only behind bad".to_owned().into());
+                return Err("records are counted, and told only behind bad"
+                    .to_owned()
+                    .into());
             }
             let (metadata, pcm) = (Vec::new(), Vec::new());
-            *frame = Some(Open { header, metadata, pcm });
+            *frame = Some(Open {
+                header,
+                metadata,
+                pcm,
+            });
         }
         "bad" => out.put(&record::read(rest)?)?,
         "cut" => {
@@ -108,28 +122,45 @@ fn read_words(text: &str, pcm: &mut Vec<u8>) -> Result<(), String> {
         let (word, times) = match (token.strip_prefix('x'), last) {
             (Some(n), Some(word)) => (word, n.parse::<u16>().ok().and_then(|n| n.checked_sub(1))),
             (Some(_), None) => return Err(format!("{token} has no word before it")),
-            (None, _) => (word::read_word(token).ok_or_else(|| format!("{token} is not a word of 8 digits"))?, Some(1)),
+            (None, _) => (
+                word::read_word(token)
+                    .ok_or_else(|| format!("{token} is not a word of 8 digits"))?,
+                Some(1),
+            ),
         };
         let times = times.ok_or_else(|| format!("{token} is not a number of repeats"))?;
         for _ in 0..times {
             pcm.extend_from_slice(&word.to_le_bytes());
         }
-        last = if token.starts_with('x') { None } else { Some(word) };
+        last = if token.starts_with('x') {
+            None
+        } else {
+            Some(word)
+        };
     }
     Ok(())
 }
 
 /// Writes the frame whose lines have come.
 fn finish(frame: &mut Option<Open>, out: &mut Out) -> Result<(), Fault> {
-    let Some(Open { mut header, metadata, pcm }) = frame.take() else {
+    let Some(Open {
+        mut header,
+        metadata,
+        pcm,
+    }) = frame.take()
+    else {
         return Ok(());
     };
     let records = metadata.len() / LENGTH;
-    header.records = u16::try_from(records)
-        .map_err(|_| format!("the frame before has {records} metadata records, and 65,535 can be told"))?;
+    header.records = u16::try_from(records).map_err(|_| {
+        format!("the frame before has {records} metadata records, and 65,535 can be told")
+    })?;
     if pcm.len() != header.pcm_bytes() {
         let (got, needed) = (pcm.len() / 4, header.pcm_bytes() / 4);
-        return Err(format!("the frame before has {got} words of PCM, and its header asks for {needed}").into());
+        return Err(format!(
+            "the frame before has {got} words of PCM, and its header asks for {needed}"
+        )
+        .into());
     }
     out.put(&header.write())?;
     out.put(&metadata)?;

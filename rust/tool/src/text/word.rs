@@ -63,7 +63,11 @@ pub fn read_bytes(text: &str) -> Option<Vec<u8>> {
     }
     (0..text.len() / 2)
         .map(|k| &text[2 * k..2 * k + 2])
-        .map(|two| u8::from_str_radix(two, 16).ok().filter(|_| !two.starts_with('+')))
+        .map(|two| {
+            u8::from_str_radix(two, 16)
+                .ok()
+                .filter(|_| !two.starts_with('+'))
+        })
         .collect()
 }
 
