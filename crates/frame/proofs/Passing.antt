@@ -20,7 +20,7 @@ use Rattle.rules.specs.Leaves.{Source, Bed}
 use Rattle.rules.specs.Mix.{sampleAt, samplesAt, Moment, heard}
 use Rattle.rules.specs.Samples.{Frame, Renderer, moment, flushed, gainAfter}
 use Rattle.timed.specs.State.{Timed}
-use Rattle.claim.specs.Hall.{Sent, hall}
+use Rattle.theorem.specs.Instance.{Sent, hall}
 use Rattle.store.specs.declared.renderer.Renderer714.{Renderer714}
 use Rattle.store.specs.Layout.{assembled, infosOf, placesOf}
 use Rattle.store.specs.Steps.{settledBy}

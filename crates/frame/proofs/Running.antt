@@ -31,11 +31,11 @@ use Rattle.store.specs.declared.renderer.Renderer714.{Renderer714}
 use Rattle.store.specs.Steps.{openedBy}
 use Rattle.store.specs.Layout.{size, infosOf, decode}
 use Rattle.store.specs.Ranges.{smallValid, headsValid, valid}
-use Rattle.claim.specs.Hall.{hall, block, sentAt, sentOf}
-use Rattle.claim.proofs.Checked.{each-all}
-use Rattle.claim.proofs.Applied.{codes-long}
-use Rattle.claim.proofs.Shapes.{shape-apply, shape-slot}
-use Rattle.claim.proofs.Theorem.{facts}
+use Rattle.theorem.specs.Instance.{hall, block, sentAt, sentOf}
+use Rattle.theorem.proofs.Checked.{each-all}
+use Rattle.theorem.proofs.Applied.{codes-long}
+use Rattle.theorem.proofs.Shapes.{shape-apply, shape-slot}
+use Rattle.theorem.proofs.Demand3.{facts}
 use Rattle.frame.specs.declared.Rendering.{Rendering}
 use Rattle.frame.specs.Held.{held, smallBytes, Leads}
 use Rattle.frame.specs.Chunk.{chunk}

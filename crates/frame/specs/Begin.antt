@@ -15,7 +15,7 @@ use Rattle.rules.specs.Samples.{Renderer, updated}
 use Rattle.store.specs.declared.renderer.Renderer714.{Renderer714}
 use Rattle.store.specs.Layout.{size}
 use Rattle.store.specs.Steps.{withState, inNewSlot}
-use Rattle.claim.specs.Hall.{hall, sentOf}
+use Rattle.theorem.specs.Instance.{hall, sentOf}
 use Rattle.frame.specs.Held.{held}
 
 -- with another timed state, and in a new slot where `new`

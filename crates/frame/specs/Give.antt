@@ -5,7 +5,7 @@ use mathlib.Core.List.{List}
 use lib.ListN.{length}
 use Rattle.rules.specs.Samples.{After, flushed}
 use Rattle.rules.specs.Block.{written}
-use Rattle.claim.specs.Hall.{hall}
+use Rattle.theorem.specs.Instance.{hall}
 use Rattle.store.specs.Layout.{size}
 use Rattle.frame.specs.declared.Rendering.{Rendering}
 use Rattle.frame.specs.Held.{held}

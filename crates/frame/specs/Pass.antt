@@ -10,7 +10,7 @@ use Rattle.timed.specs.State.{Timed}
 use Rattle.rules.specs.Parts.{laid}
 use Rattle.rules.specs.Mix.{Moment}
 use Rattle.rules.specs.Samples.{Frame, Renderer, moment, settled}
-use Rattle.claim.specs.Hall.{Sent, hall}
+use Rattle.theorem.specs.Instance.{Sent, hall}
 use Rattle.store.specs.declared.renderer.Renderer714.{Renderer714}
 use Rattle.store.specs.Layout.{size, infosOf, placesOf}
 use Rattle.render.specs.Sources.{Framed}

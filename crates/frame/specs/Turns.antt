@@ -15,7 +15,7 @@ use Rattle.rules.specs.Block.{written}
 use Rattle.store.specs.Fields.{smallOf}
 use Rattle.store.specs.Layout.{decode}
 use Rattle.store.specs.Ranges.{valid}
-use Rattle.claim.specs.Hall.{hall}
+use Rattle.theorem.specs.Instance.{hall}
 use Rattle.frame.specs.declared.Rendering.{Rendering}
 use Rattle.frame.specs.Held.{IsNext}
 

@@ -11,7 +11,7 @@ ghost use Rattle.updates.specs.Whole.{WholeUpdate, WholeUpdates};
 ghost use Rattle.updates.specs.Said.{updateOf};
 ghost use Rattle.rules.specs.Samples.{appliedAt, updated, slotted};
 ghost use Rattle.store.specs.Layout.{size};
-ghost use Rattle.claim.specs.Hall.{hall, sentOf};
+ghost use Rattle.theorem.specs.Instance.{hall, sentOf};
 ghost use Rattle.frame.specs.Held.{held, Leads};
 ghost use Rattle.frame.specs.Begin.{restated, CanStart, CanBegin};
 use crate::Rendering;

@@ -8,7 +8,7 @@ ghost use mathlib.Core.List.{List};
 ghost use Prim.Native.Nat.{ℕ, _+_, _≤_};
 ghost use lib.ListN.{length};
 ghost use Rattle.formats.specs.Areas.{rowPlaces, placeCount};
-ghost use Rattle.claim.specs.Hall.{Sent};
+ghost use Rattle.theorem.specs.Instance.{Sent};
 ghost use Rattle.render.specs.Sources.{Framed, bedsOf, sourcesOf};
 ghost use Rattle.render.specs.Run.{momentOf, Passed};
 ghost use Rattle.store.specs.Layout.{size};

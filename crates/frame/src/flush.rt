@@ -3,7 +3,7 @@
 
 // The samples that wait, through the limiter into the output: a whole block of a frame, or the remainder.
 ghost use mathlib.Core.Path.{_≡_};
-ghost use Rattle.claim.specs.Hall.{hall};
+ghost use Rattle.theorem.specs.Instance.{hall};
 ghost use Rattle.rules.specs.Samples.{flushed};
 ghost use Rattle.frame.specs.Held.{held};
 ghost use Rattle.frame.specs.Give.{CanGive, Gave, IsDrained};

@@ -9,7 +9,7 @@ ghost use Prim.Native.Nat.{_-_, _<_, _≤_};
 ghost use Rattle.rules.specs.Samples.{pushed};
 ghost use Rattle.rules.specs.Calls.{frameOf};
 ghost use Rattle.store.specs.Layout.{decode};
-ghost use Rattle.claim.specs.Hall.{hall};
+ghost use Rattle.theorem.specs.Instance.{hall};
 ghost use Rattle.frame.specs.Begin.{Rests};
 ghost use Rattle.refusals.specs.Found.{argsWith};
 ghost use Rattle.frame.specs.Turns.{lesser, runLength, Accepted, IsRendered};

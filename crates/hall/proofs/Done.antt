@@ -25,10 +25,10 @@ use Rattle.store.specs.declared.renderer.Renderer714.{Renderer714}
 use Rattle.store.specs.Fields.{smallWords, smallOf}
 use Rattle.store.specs.Layout.{decode}
 use Rattle.store.specs.Ranges.{valid}
-use Rattle.claim.specs.Hall.{hall, block}
-use Rattle.claim.proofs.Sound.{Within}
-use Rattle.claim.proofs.Blocks.{decoded-of}
-use Rattle.claim.proofs.Theorem.{pushed-within, flushed-within}
+use Rattle.theorem.specs.Instance.{hall, block}
+use Rattle.theorem.proofs.Sound.{Within}
+use Rattle.theorem.proofs.Blocks.{decoded-of}
+use Rattle.theorem.proofs.Demand3.{pushed-within, flushed-within}
 use Rattle.frame.specs.Held.{held, IsHeld}
 use Rattle.hall.specs.declared.answer.Answer.{Answer}
 use Rattle.hall.specs.Answers.{Left, readyOf}

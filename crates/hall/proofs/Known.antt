@@ -19,9 +19,9 @@ use Rattle.store.specs.Ranges.{valid, smallValid, headsValid}
 use Rattle.store.proofs.Back.{small-long}
 use Rattle.store.proofs.Rows.{rows-of}
 use Rattle.store.proofs.Whole.{small-full, saved-encode}
-use Rattle.claim.specs.Hall.{hall}
-use Rattle.claim.proofs.Sound.{Within}
-use Rattle.claim.proofs.Blocks.{ranged, decoded-of}
+use Rattle.theorem.specs.Instance.{hall}
+use Rattle.theorem.proofs.Sound.{Within}
+use Rattle.theorem.proofs.Blocks.{ranged, decoded-of}
 use Rattle.refusals.proofs.Loaded.{loaded}
 use Rattle.frame.specs.Held.{held, IsHeld}
 

@@ -13,7 +13,7 @@ use Rattle.rules.specs.Block.{Outcome, outOf, strideOf, written, left, takes, m
 use Rattle.rules.proofs.Unused.{numberOf, never-seven}
 use Rattle.store.specs.Layout.{size, decode, encode, freshRenderer}
 use Rattle.store.specs.Ranges.{valid}
-use Rattle.claim.specs.Hall.{hall, block}
+use Rattle.theorem.specs.Instance.{hall, block}
 use Rattle.hall.specs.declared.answer.Answer.{Answer}
 use Rattle.hall.specs.Answers.{codeOf, codeOfFound, Left}
 

@@ -15,7 +15,7 @@ use Rattle.store.specs.declared.renderer.Renderer714.{Renderer714}
 use Rattle.store.specs.Fields.{smallOf}
 use Rattle.store.specs.Layout.{decode}
 use Rattle.store.specs.Ranges.{valid}
-use Rattle.claim.specs.Hall.{hall}
+use Rattle.theorem.specs.Instance.{hall}
 use Rattle.hall.specs.declared.answer.Answer.{Answer}
 
 -- "`ready N`": so many samples given out on each channel

@@ -2,7 +2,7 @@
 ghost use mathlib.Core.Path.{_≡_};
 ghost use Rattle.rules.specs.Calls.{push, flush, reset};
 ghost use Rattle.rules.specs.Block.{made};
-ghost use Rattle.claim.specs.Hall.{hall, block};
+ghost use Rattle.theorem.specs.Instance.{hall, block};
 ghost use Rattle.store.specs.Layout.{size};
 ghost use Rattle.hall.specs.Answers.{Left, codeOf, version};
 ghost use Rattle.rules.specs.Refusals.{argsOf};

@@ -1,7 +1,7 @@
 // An accepted push and a flush with samples waiting, on the state block in place.
 ghost use Rattle.rules.specs.Calls.{push, flush};
 ghost use Rattle.rules.specs.Block.{made};
-ghost use Rattle.claim.specs.Hall.{hall, block};
+ghost use Rattle.theorem.specs.Instance.{hall, block};
 ghost use Rattle.hall.specs.Answers.{Waiting, Cleared, Left};
 ghost use Rattle.refusals.specs.Found.{argsWith};
 use crate::answer;

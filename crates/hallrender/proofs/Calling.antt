@@ -12,7 +12,7 @@ use Rattle.rules.specs.Refusals.{argsOf}
 use Rattle.rules.specs.Calls as rules
 use Rattle.rules.specs.Calls.{push, flush, reset}
 use Rattle.rules.specs.Block.{made, finalOn}
-use Rattle.claim.specs.Hall.{hall, block}
+use Rattle.theorem.specs.Instance.{hall, block}
 use Rattle.hall.specs.Answers.{Left, codeOf}
 use Rattle.hall.specs.declared.answer.Answer.{Answer}
 use Rattle.hallrender.specs.Framing.{bedCount, isFrame, isPlain, isBody, metadataBytes, pcmBytes, pcmOf, pcmRecords, recordBytes, recordCount, arePcm, heldIn, Unpacked}

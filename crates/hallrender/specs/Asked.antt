@@ -10,7 +10,7 @@ use Rattle.rules.specs.Refusals.{Args, argsOf}
 use Rattle.rules.specs.Samples.{fresh}
 use Rattle.rules.specs.Calls.{Call, push, flush, reset}
 use Rattle.rules.specs.Block.{made, finalOn}
-use Rattle.claim.specs.Hall.{hall, block}
+use Rattle.theorem.specs.Instance.{hall, block}
 use Rattle.hallrender.specs.Framing.{bedCount, isFrame, isPlain, isBody, metadataBytes, pcmBytes, pcmOf}
 use Rattle.hallrender.specs.Text.{textOf, Told}
 

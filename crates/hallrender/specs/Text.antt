@@ -31,7 +31,7 @@ unfoldable pub linesOf : List ℕ → ℕ → List ℕ
 linesOf out zero = []
 linesOf out (suc n) = linesOf out n ++ lineOf out n
 
--- "`ready N` and N lines"; at stride 256 a call of a run has no more than 256 (`fits` of `Rattle.rules.specs.Claim`'s `GivenOut`)
+-- "`ready N` and N lines"; at stride 256 a call of a run has no more than 256 (`fits` of `Rattle.rules.specs.Demand3`'s `GivenOut`)
 abbrev pub readyText : ℕ → List ℕ → List ℕ
 readyText n out = (ascii "ready " ++ (decimal n ++ ascii "\n")) ++ linesOf out (min n 256)
 

@@ -16,8 +16,8 @@ use Rattle.records.proofs.Each.{each-length, each-at}
 use Rattle.rules.specs.Refusals.{Found, clear, _then_, Announced, countsAt, shapeAt}
 use Rattle.updates.specs.Said.{updateOf}
 use Rattle.updates.specs.Applied.{codesGiven}
-use Rattle.claim.specs.Hall as claim
-use Rattle.claim.proofs.Shapes.{each-same, codes-are}
+use Rattle.theorem.specs.Instance as theorem
+use Rattle.theorem.proofs.Shapes.{each-same, codes-are}
 use Rattle.refusals.specs.Found.{foundOf}
 use Rattle.refusals.specs.declared.Refusal.{Refusal}
 use Rattle.refusals.specs.declared.Refusal.the-variants.{Clear}
@@ -44,7 +44,7 @@ abbrev pub told : List ℕ → ℕ → Announced
 told m i = record { offset = offset m (updateAt m i); shape = saidShape m (updateAt m i) }
 
 pub told-each : (m : List ℕ) → toldOf m ≡ each (told m) (count m)
-told-each m = map-each (λ (u : claim.Sent). record { offset = claim.hall .offset u; shape = claim.hall .sent u }) (claim.sentAt m) (count m)
+told-each m = map-each (λ (u : theorem.Sent). record { offset = theorem.hall .offset u; shape = theorem.hall .sent u }) (theorem.sentAt m) (count m)
 
 told-length : (m : List ℕ) → length (toldOf m) ≡ count m
 told-length m = ap (length {A = Announced}) (told-each m) ∙ each-length (told m) (count m)

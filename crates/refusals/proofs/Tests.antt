@@ -14,7 +14,7 @@ use Rattle.records.specs.Ranges.{inRange}
 use Rattle.mixing.specs.Samples.{allPass}
 use Rattle.rules.specs.Samples.{State}
 use Rattle.rules.specs.Refusals.{Args, Found, clear, stop, unless, _then_, every, room, sized, listed, early}
-use Rattle.claim.specs.Hall.{hall}
+use Rattle.theorem.specs.Instance.{hall}
 
 -- a test that the code makes and that fails, or does not
 pub failed : {b r : Bool} → r ≡ b → not r ≡ true → b ≡ false

@@ -15,7 +15,7 @@ use Rattle.records.specs.declared.layout.Layout.{Layout}
 use Rattle.records.proofs.Times.{next-within, next-above, next-least}
 use Rattle.rules.specs.Leaves.{Shape}
 use Rattle.rules.specs.Refusals.{Found, clear, _then_, Announced, countsAt, shapeAt, mixes, walk}
-use Rattle.claim.proofs.Checked.{each-all}
+use Rattle.theorem.proofs.Checked.{each-all}
 use Rattle.refusals.specs.Found.{foundOf}
 use Rattle.refusals.specs.declared.Refusal.{Refusal}
 use Rattle.refusals.specs.declared.present.Present.{Present}

@@ -10,7 +10,7 @@ use Rattle.rules.specs.Calls.{found}
 use Rattle.store.specs.declared.renderer.Renderer714.{Renderer714}
 use Rattle.store.specs.Fields.{smallOf}
 use Rattle.store.specs.Layout.{decode}
-use Rattle.claim.specs.Hall.{hall}
+use Rattle.theorem.specs.Instance.{hall}
 use Rattle.refusals.specs.declared.Numbers.{Numbers}
 use Rattle.refusals.specs.declared.Refusal.{Refusal}
 use Rattle.refusals.specs.declared.Refusal.the-variants.{Clear, Lent, Sizes, Rate, StreamEnd, Records, Ranges, Samples}

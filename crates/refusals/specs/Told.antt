@@ -11,14 +11,14 @@ use Rattle.timed.specs.declared.state.MetadataRendererState.{MetadataRendererSt
 use Rattle.rules.specs.Leaves.{Shape}
 use Rattle.rules.specs.Refusals.{Found, clear, stop, Announced, unless, countsAt, shapeAt}
 use Rattle.rules.specs.Calls.{announced}
-use Rattle.claim.specs.Hall as claim
+use Rattle.theorem.specs.Instance as theorem
 use Rattle.refusals.specs.Found.{foundOf}
 use Rattle.refusals.specs.declared.Refusal.{Refusal}
 use Rattle.refusals.specs.declared.present.Present.{Present}
 
 -- the updates in the order sent, each with its offset and its shape
 abbrev pub toldOf : List ℕ → List Announced
-toldOf m = announced claim.hall (claim.sentOf m)
+toldOf m = announced theorem.hall (theorem.sentOf m)
 
 -- the shape of the update at record u
 abbrev pub saidShape : List ℕ → ℕ → Shape

@@ -12,7 +12,7 @@ ghost use Rattle.records.specs.Answers.{IsLayout};
 ghost use Rattle.updates.specs.Whole.{WholeUpdates};
 ghost use Rattle.rules.specs.Refusals.{_then_, unless, walk, later};
 ghost use Rattle.refusals.specs.Found.{foundOf};
-ghost use Rattle.claim.specs.Hall.{shapeOf};
+ghost use Rattle.theorem.specs.Instance.{shapeOf};
 ghost use Rattle.refusals.specs.Told.{toldOf, presentShape};
 use crate::Numbers;
 use crate::Refusal;

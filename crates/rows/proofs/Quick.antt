@@ -21,7 +21,7 @@ use Rattle.rules.specs.Samples.{Frame, State, After, opened, updated, slotted, 
 use Rattle.rules.specs.Refusals.{Args, Found, clear, stop}
 use Rattle.rules.specs.Calls.{Call, push, flush, reset, Answer, refused, rendered, nothing, cleared, Result, frameOf, found, step}
 use Rattle.rules.specs.Block.{written, outOf, strideOf}
-use Rattle.claim.specs.Hall.{hall, Sent}
+use Rattle.theorem.specs.Instance.{hall, Sent}
 use Rattle.rows.specs.Rows.{Said, refusal, ready, none, renewed, samplesOn, Row, startingAt, calls}
 use Rattle.rows.proofs.Opened.{everything}
 

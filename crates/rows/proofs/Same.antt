@@ -29,7 +29,7 @@ use Rattle.rules.specs.Calls.{Call, push, flush, reset, Answer, refused, render
 use Rattle.rules.specs.Block.{written, outOf, strideOf, left, told}
 use Rattle.rules.proofs.Written.{written-reads}
 use Rattle.rules.proofs.Lists.{length-map}
-use Rattle.claim.specs.Hall.{hall, block, Sent}
+use Rattle.theorem.specs.Instance.{hall, block, Sent}
 use Rattle.rows.specs.Rows.{ready, wordsOn, samplesOn, said, allSaid, Row, startingAt, calls, seen}
 use Rattle.rows.proofs.Quick.{firsts, memo, withPlaces, settled, both, Run, samples, plain, Feed, feeds, fedFrom, bedFeeds, allTerms, objectFeeds, mixer}
 use Rattle.rows.proofs.Quick.{scaled, mixed, passing, sentFor, begins, mixes, quick, small, level, line, lines, wordsOf, reading, read}

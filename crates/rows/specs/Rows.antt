@@ -7,7 +7,7 @@ use Rattle.words.specs.Words.{word}
 use Rattle.rules.specs.Samples.{State, fresh}
 use Rattle.rules.specs.Calls.{Call, Answer, refused, rendered, nothing, cleared}
 use Rattle.rules.specs.Block.{Seen, strideOf, told}
-use Rattle.claim.specs.Hall.{hall, block}
+use Rattle.theorem.specs.Instance.{hall, block}
 
 -- ---- what is seen of a call
 

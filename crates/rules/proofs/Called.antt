@@ -17,7 +17,7 @@ use Rattle.rules.specs.Samples.{State, fresh, pushed, flushed}
 use Rattle.rules.specs.Refusals.{Args, Found, clear, stop, room}
 use Rattle.rules.specs.Calls.{Call, push, flush, reset, refused, rendered, nothing, cleared, given, frameOf, found, Result, asked, drained, step}
 use Rattle.rules.specs.Block.{Layout, Outcome, left, outOf, strideOf}
-use Rattle.rules.specs.Claim.{ready, GivenOut, Lent}
+use Rattle.rules.specs.Demand3.{ready, GivenOut, Lent}
 use Rattle.rules.proofs.Facts.{Facts}
 use Rattle.rules.proofs.Judged.{is-passed, is-roomy, samples-fit}
 use Rattle.rules.proofs.Kept.{Steady, Good, Rest, fresh-rest}

@@ -13,7 +13,7 @@ use Rattle.lowpass.proofs.Calm.{Calm}
 use Rattle.rules.specs.Leaves.{Leaves}
 use Rattle.rules.specs.Samples.{State, idle}
 use Rattle.rules.specs.Block.{Layout}
-use Rattle.rules.specs.Claim.{nine, Clean}
+use Rattle.rules.specs.Demand3.{nine, Clean}
 use Rattle.rules.proofs.Lists.{all-map}
 use Rattle.rules.proofs.Facts.{Facts}
 use Rattle.rules.proofs.Sums.{Most}

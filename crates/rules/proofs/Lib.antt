@@ -29,4 +29,4 @@ pub mod Clean
 pub mod Called
 pub mod Flushes
 pub mod Keeps
-pub mod Theorem
+pub mod Demand3

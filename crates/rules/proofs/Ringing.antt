@@ -27,7 +27,7 @@ use Rattle.rules.specs.Calls.{Call, push, flush, reset, frameOf, found, 
 use Rattle.rules.specs.Sounds.{silent, before, momentAt}
 use Rattle.rules.specs.Ringing.{fedSince, Rings, CallRings}
 use Rattle.rules.specs.Block.{Layout}
-use Rattle.rules.specs.Claim.{Lent}
+use Rattle.rules.specs.Demand3.{Lent}
 use Rattle.rules.proofs.Lists.{all-append, length-map}
 use Rattle.rules.proofs.Facts.{Facts}
 use Rattle.rules.proofs.Kept.{Admitted, Rest}

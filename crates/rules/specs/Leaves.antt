@@ -1,4 +1,4 @@
--- What the timed state and the metadata give to the rules: the interface of the crates `timed` and `records`, of which `claim` gives the one instance. Assumes nothing.
+-- What the timed state and the metadata give to the rules: the interface of the crates `timed` and `records`, of which `theorem` gives the one instance. Assumes nothing.
 use Prim.Native.Nat.{ℕ}
 use mathlib.Core.Bool.{Bool}
 use mathlib.Core.List.{List}

@@ -11,4 +11,4 @@ pub mod Order
 pub mod Promises
 pub mod Ringing
 pub mod Block
-pub mod Claim
+pub mod Demand3

@@ -11,7 +11,7 @@ use Rattle.rules.proofs.Judged.{is-early, is-sized}
 use Rattle.refusals.specs.Found.{foundOf, argsWith}
 use Rattle.store.specs.Layout.{assembled, decode}
 use Rattle.updates.proofs.Passed.{passes-all}
-use Rattle.claim.specs.Hall.{hall}
+use Rattle.theorem.specs.Instance.{hall}
 use Rattle.refusals.proofs.Cleared.{not-clear}
 use Rattle.refusals.proofs.First.{first-stops, then-second}
 use Rattle.refusals.proofs.Loaded.{loaded}

@@ -4,7 +4,7 @@ use mathlib.Core.Path.{_≡_, refl, sym, _∙_}
 use native.Mathlib.Omega.{arith}
 use denote.Ref.{now}
 use Rattle.rules.specs.Samples.{updated}
-use Rattle.claim.specs.Hall.{hall, sentOf}
+use Rattle.theorem.specs.Instance.{hall, sentOf}
 use Rattle.frame.specs.Held.{held}
 use Rattle.frame.proofs.Begins.{Standing, standing, goes-on, ends, from-first}
 use Rattle.frame.proofs.Rendering.apply_sent.Statement.{statement}

@@ -5,7 +5,7 @@ use mathlib.Core.List.{List}
 use native.Mathlib.Omega.{arith}
 use borrow.Author.Needs.{needs}
 use Rattle.rules.specs.Samples.{flushed}
-use Rattle.claim.specs.Hall.{hall}
+use Rattle.theorem.specs.Instance.{hall}
 use Rattle.frame.specs.Held.{held}
 use Rattle.frame.specs.Out.{behind}
 use Rattle.frame.proofs.Given.{behind-written}

@@ -6,7 +6,7 @@ use Prim.Native.Nat.{ℕ}
 use mathlib.Core.List.{List}
 use native.Mathlib.Omega.{arith}
 use Rattle.rules.specs.Samples.{Frame}
-use Rattle.claim.specs.Hall.{Sent}
+use Rattle.theorem.specs.Instance.{Sent}
 use Rattle.frame.specs.Held.{held}
 use Rattle.frame.specs.Pass.{frameWith, settledAt}
 use Rattle.frame.proofs.Passing.{Full, mixed, same-heard, held-settled}

@@ -10,7 +10,7 @@ use denote.Ref.{now}
 use Rattle.rules.specs.Refusals.{Args, argsOf}
 use Rattle.rules.specs.Calls.{frameOf}
 use Rattle.rules.specs.Samples.{updated, slotted}
-use Rattle.claim.specs.Hall.{sentOf, hall}
+use Rattle.theorem.specs.Instance.{sentOf, hall}
 use Rattle.refusals.specs.Found.{argsWith}
 use Rattle.store.specs.declared.renderer.Renderer714.{Renderer714}
 use Rattle.frame.specs.Held.{held, Leads}

@@ -2,7 +2,7 @@
 use mathlib.Core.Path.{sym, ap, _∙_}
 use borrow.Author.Tests.{not-true, not-false}
 use denote.Ref.{now}
-use Rattle.claim.specs.Hall.{shapeOf}
+use Rattle.theorem.specs.Instance.{shapeOf}
 use Rattle.refusals.specs.Told.{presentShape}
 use Rattle.refusals.specs.declared.present.Present.{Present}
 use Rattle.refusals.proofs.Parts.{start-stops, counts-stops, zero-stops, objects-stop, walk-is}

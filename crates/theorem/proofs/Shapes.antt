@@ -13,10 +13,10 @@ use Rattle.updates.specs.Applied.{codesGiven, applied}
 use Rattle.updates.proofs.Elements.{turned-at}
 use Rattle.rules.specs.Leaves.{Bed}
 use Rattle.rules.proofs.Facts.{Mixable}
-use Rattle.claim.specs.Hall.{Sent, bedOf, sourceOf, hall}
-use Rattle.claim.proofs.Sound.{Sound}
-use Rattle.claim.proofs.Checked.{Checked, each-all, whole}
-use Rattle.claim.proofs.SlotShape as slots
+use Rattle.theorem.specs.Instance.{Sent, bedOf, sourceOf, hall}
+use Rattle.theorem.proofs.Sound.{Sound}
+use Rattle.theorem.proofs.Checked.{Checked, each-all, whole}
+use Rattle.theorem.proofs.SlotShape as slots
 
 -- ---- what is heard
 

@@ -14,7 +14,7 @@ use Rattle.rules.specs.Calls.{Call, push, flush, reset, found, asked, dr
 use Rattle.rules.specs.Promises.{CallHolds, AllHold}
 use Rattle.rules.specs.Ringing.{fedSince, AllRing}
 use Rattle.rules.specs.Block.{Layout, outOf, strideOf, left, finalOn, Seen, asSeen, seenOn, told}
-use Rattle.rules.specs.Claim.{GivenOut, AllClean, Lent, AllLent, AllGivenOut, Demand3, EveryList}
+use Rattle.rules.specs.Demand3.{GivenOut, AllClean, Lent, AllLent, AllGivenOut, Demand3, EveryList}
 use Rattle.rules.proofs.Facts.{Facts, InRanges}
 use Rattle.rules.proofs.Kept.{Rest, fresh-rest}
 use Rattle.rules.proofs.Ranged.{fresh-ranged}

@@ -16,9 +16,9 @@ use Rattle.timed.specs.declared.state.ElementRendererState.{ElementRendererStat
 use Rattle.timed.proofs.Kept as timed′
 use Rattle.store.specs.Layout.{still, noBlocks, blank}
 use Rattle.store.proofs.Fresh.{fresh-ranged}
-use Rattle.claim.proofs.Sound.{SourceSound, InfosSound, Sound, Within}
-use Rattle.claim.proofs.Checked.{SoundSaid}
-use Rattle.claim.proofs.Applied.{table-sound}
+use Rattle.theorem.proofs.Sound.{SourceSound, InfosSound, Sound, Within}
+use Rattle.theorem.proofs.Checked.{SoundSaid}
+use Rattle.theorem.proofs.Applied.{table-sound}
 
 same-at : (n i : ℕ) → _≡_ {A = ℕ} (getD (replicate n 0) i 0) 0
 same-at zero i = refl

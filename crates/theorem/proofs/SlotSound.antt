@@ -19,11 +19,11 @@ use Rattle.panning.specs.Table.{between, 8·0, Position}
 use Rattle.timed.specs.Infos.{maybeAt, gainAt, sizeAt}
 use Rattle.timed.specs.State.{Timed, slotAt}
 use Rattle.timed.specs.declared.state.DynamicSourceState.{DynamicSourceState}
-use Rattle.claim.proofs.Sound.{UpTo, SourceSound, InfosSound, Sound}
-use Rattle.claim.proofs.SlotShape.{shape-slot}
-use Rattle.claim.proofs.SlotInfos.{Like, slot-like}
-use Rattle.claim.proofs.SlotObjects.{Holds, SourceHas, InfosHave, like-has}
-use Rattle.claim.proofs.SlotState.{StateHas, slot-has}
+use Rattle.theorem.proofs.Sound.{UpTo, SourceSound, InfosSound, Sound}
+use Rattle.theorem.proofs.SlotShape.{shape-slot}
+use Rattle.theorem.proofs.SlotInfos.{Like, slot-like}
+use Rattle.theorem.proofs.SlotObjects.{Holds, SourceHas, InfosHave, like-has}
+use Rattle.theorem.proofs.SlotState.{StateHas, slot-has}
 
 abbrev Upto : Float → Float → Type 0
 Upto most x = T (between 0·0 most x)

@@ -23,12 +23,12 @@ use Rattle.rules.specs.Calls.{Call, push, flush, given, rendered, frameOf, foun
 use Rattle.rules.specs.Accepted.{Acceptable}
 use Rattle.rules.specs.Sounds.{limitedBlocks, unlimited, whole}
 use Rattle.rules.specs.Promises.{CallHolds, AllHold, AtSample, PushHolds, FlushHolds}
-use Rattle.rules.specs.Claim.{Lent, AllLent}
+use Rattle.rules.specs.Demand3.{Lent, AllLent}
 use Rattle.rules.proofs.Accepted.{accepts}
-use Rattle.claim.specs.Hall.{hall, block}
-use Rattle.claim.proofs.Blank.{zero-bytes}
-use Rattle.claim.proofs.Theorem.{demand3}
-use Rattle.claim.proofs.Heard.{bed, object, Hears, heard-of, heard-of-object}
+use Rattle.theorem.specs.Instance.{hall, block}
+use Rattle.theorem.proofs.Blank.{zero-bytes}
+use Rattle.theorem.proofs.Demand3.{demand3}
+use Rattle.theorem.proofs.Heard.{bed, object, Hears, heard-of, heard-of-object}
 
 -- ---- the last call of a list, from demand 3
 

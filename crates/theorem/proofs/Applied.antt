@@ -36,10 +36,10 @@ use Rattle.store.specs.Ranges.{headValid, headsValid}
 use Rattle.store.specs.Ranged.{Single, Singles, SourceSingles, TrackSingles, InfosRanged}
 use Rattle.store.proofs.Tables.{and-in}
 use lib.Ieee.Fits.{and-l, and-r}
-use Rattle.claim.specs.Hall.{Sent}
-use Rattle.claim.proofs.Sound.{SourceSound, InfosSound, Sound, Within}
-use Rattle.claim.proofs.Infos.{Said, Table, Fit, objects-kept}
-use Rattle.claim.proofs.Checked.{Checked, SoundSaid, RangedSaid, whole, codes, info-ranged, info-sound}
+use Rattle.theorem.specs.Instance.{Sent}
+use Rattle.theorem.proofs.Sound.{SourceSound, InfosSound, Sound, Within}
+use Rattle.theorem.proofs.Infos.{Said, Table, Fit, objects-kept}
+use Rattle.theorem.proofs.Checked.{Checked, SoundSaid, RangedSaid, whole, codes, info-ranged, info-sound}
 
 -- ---- the infos, in the forms of `Sound` and of `Within`
 

@@ -11,7 +11,7 @@ pub mod Applied
 pub mod Shapes
 pub mod Blank
 pub mod Blocks
-pub mod Theorem
+pub mod Demand3
 pub mod Heard
 pub mod Players
 pub mod Marked

@@ -24,7 +24,7 @@ use Rattle.timed.specs.declared.objects.Moving.{Moving}
 use Rattle.timed.specs.declared.slot.Timing.{Timing}
 use Rattle.timed.specs.declared.slot.Reach.{Reach}
 use Rattle.timed.proofs.Keeps.{times-keeps, cond-keeps}
-use Rattle.claim.proofs.SlotShape.{slotOn}
+use Rattle.theorem.proofs.SlotShape.{slotOn}
 
 -- js has is's words before each position
 pub record Like (is js : List ℕ) : Type 0 where

@@ -22,7 +22,7 @@ use Rattle.timed.specs.declared.state.Track.{Track}
 use Rattle.timed.specs.declared.state.DynamicSourceState.{DynamicSourceState}
 use Rattle.timed.specs.declared.objects.Moving.{Moving}
 use Rattle.timed.proofs.Keeps.{times-in, cond-keeps, set-each}
-use Rattle.claim.proofs.SlotInfos.{Like, like-head, moved-like}
+use Rattle.theorem.proofs.SlotInfos.{Like, like-head, moved-like}
 
 -- absent, or with P
 abbrev pub Holds : (Float → Type 0) → Maybe → Type 0

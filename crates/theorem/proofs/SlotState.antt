@@ -19,9 +19,9 @@ use Rattle.timed.specs.declared.slot.Slot.{Slot}
 use Rattle.timed.specs.declared.slot.Timing.{Timing}
 use Rattle.timed.specs.declared.slot.Reach.{Reach}
 use Rattle.timed.proofs.Keeps.{times-keeps, cond-keeps, set-each}
-use Rattle.claim.proofs.SlotShape.{slotOn}
-use Rattle.claim.proofs.SlotInfos.{applied-like}
-use Rattle.claim.proofs.SlotObjects.{SourceHas, InfosHave, MovingHas, like-has, moved-all-has, ramped-all-has, bed-gains-have}
+use Rattle.theorem.proofs.SlotShape.{slotOn}
+use Rattle.theorem.proofs.SlotInfos.{applied-like}
+use Rattle.theorem.proofs.SlotObjects.{SourceHas, InfosHave, MovingHas, like-has, moved-all-has, ramped-all-has, bed-gains-have}
 
 record SlotHas (G Z : Float → Type 0) (s : Slot) : Type 0 where
   gains : (i : ℕ) → i < 18 → G (getD (s .gains) i nan)

@@ -22,11 +22,11 @@ use Rattle.timed.proofs.Kept.{slot-within}
 use Rattle.store.specs.Ranges.{leastFlags, headsValid}
 use Rattle.store.specs.Ranged.{Single, Singles, SourceSingles, TrackSingles, ElementRanged, StateRanged, InfosRanged}
 use Rattle.store.proofs.Whole.{all-at}
-use Rattle.claim.proofs.Sound.{Within}
-use Rattle.claim.proofs.SlotShape.{Shaped, shape-slot}
-use Rattle.claim.proofs.SlotInfos.{Like, like-head, slot-like}
-use Rattle.claim.proofs.SlotObjects.{Holds, InfosHave}
-use Rattle.claim.proofs.SlotState.{StateHas, slot-has}
+use Rattle.theorem.proofs.Sound.{Within}
+use Rattle.theorem.proofs.SlotShape.{Shaped, shape-slot}
+use Rattle.theorem.proofs.SlotInfos.{Like, like-head, slot-like}
+use Rattle.theorem.proofs.SlotObjects.{Holds, InfosHave}
+use Rattle.theorem.proofs.SlotState.{StateHas, slot-has}
 
 -- ---- floats
 

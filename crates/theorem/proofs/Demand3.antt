@@ -1,7 +1,7 @@
 -- Document 01, demand 3, closed: for every list of calls, on the real timed state, metadata and state block. Assumes nothing.
 use mathlib.Core.Path.{refl}
 use Rattle.words.specs.Words.{Bytes}
-use Rattle.rules.specs.Claim.{EveryList, Keeps}
+use Rattle.rules.specs.Demand3.{EveryList, Keeps}
 use Rattle.rules.proofs.Facts.{Facts}
 use Rattle.rules.specs.Refusals.{Args}
 use Rattle.rules.specs.Samples.{State, pushed, flushed}
@@ -10,16 +10,16 @@ use Rattle.rules.specs.Calls.{frameOf}
 use Rattle.rules.proofs.Judged.{Passed}
 use Rattle.rules.proofs.Ranged.{pushed-ranged, flushed-ranged}
 use Rattle.rules.proofs.Keeps as rules
-use Rattle.rules.proofs.Theorem.{every-list}
-use Rattle.claim.specs.Hall.{hall, block}
-use Rattle.claim.proofs.Sound.{Sound, Within}
-use Rattle.claim.proofs.Checked.{Checked, checked}
-use Rattle.claim.proofs.Applied.{sound-apply, within-apply}
-use Rattle.claim.proofs.Shapes.{mixable, shape-apply, shape-slot, shape-objects, shape-beds}
-use Rattle.claim.proofs.SlotSound.{sound-slot}
-use Rattle.claim.proofs.SlotWithin.{within-slot}
-use Rattle.claim.proofs.Blank.{sound-blank, within-blank, within-later}
-use Rattle.claim.proofs.Blocks.{size-of, valid-of, back-of, decoded-of}
+use Rattle.rules.proofs.Demand3.{every-list}
+use Rattle.theorem.specs.Instance.{hall, block}
+use Rattle.theorem.proofs.Sound.{Sound, Within}
+use Rattle.theorem.proofs.Checked.{Checked, checked}
+use Rattle.theorem.proofs.Applied.{sound-apply, within-apply}
+use Rattle.theorem.proofs.Shapes.{mixable, shape-apply, shape-slot, shape-objects, shape-beds}
+use Rattle.theorem.proofs.SlotSound.{sound-slot}
+use Rattle.theorem.proofs.SlotWithin.{within-slot}
+use Rattle.theorem.proofs.Blank.{sound-blank, within-blank, within-later}
+use Rattle.theorem.proofs.Blocks.{size-of, valid-of, back-of, decoded-of}
 
 -- what the rules take from the crates `timed`, `updates`, `records` and `store`
 unfoldable pub facts : Facts hall block

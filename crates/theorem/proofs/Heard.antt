@@ -41,10 +41,10 @@ use Rattle.rules.specs.Samples.{fresh, pushed, flushed}
 use Rattle.rules.specs.Refusals.{Args, clear}
 use Rattle.rules.specs.Calls.{Call, push, flush, reset, nothing, found}
 use Rattle.rules.specs.Block.{written, made, Seen, seenOn, told}
-use Rattle.rules.specs.Claim.{AllLent}
-use Rattle.claim.specs.Hall.{hall, block}
-use Rattle.claim.proofs.Blank.{zero-bytes}
-use Rattle.claim.proofs.Theorem.{demand3}
+use Rattle.rules.specs.Demand3.{AllLent}
+use Rattle.theorem.specs.Instance.{hall, block}
+use Rattle.theorem.proofs.Blank.{zero-bytes}
+use Rattle.theorem.proofs.Demand3.{demand3}
 
 -- ---- the calls
 

@@ -1,4 +1,4 @@
--- Demand 3: one claim about a whole list of calls, from a block that reset has filled. Assumes nothing.
+-- Demand 3: one theorem about a whole list of calls, from a block that reset has filled. Assumes nothing.
 use Prim.Native.Nat.{ℕ, _+_, _*_, _≤_, _<_}
 use mathlib.Core.Path.{_≡_}
 use mathlib.Core.Bool.{true, false}

@@ -20,8 +20,8 @@ use Rattle.store.specs.Ranged.{PlacesRanged, BlockRanged}
 use Rattle.store.proofs.Whole as whole
 use Rattle.store.proofs.Valid as valid′
 use Rattle.store.proofs.Decoded as decoded′
-use Rattle.claim.specs.Hall.{hall}
-use Rattle.claim.proofs.Sound.{Within}
+use Rattle.theorem.specs.Instance.{hall}
+use Rattle.theorem.proofs.Sound.{Within}
 
 t-or : (a b : Bool) → (a ≡ true) ⊎ (b ≡ true) → T (a || b)
 t-or a b (inl e) = subst (λ (x : Bool). T (x || b)) (sym e) tt

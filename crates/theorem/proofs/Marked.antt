@@ -21,7 +21,7 @@ use Rattle.panning.specs.Speakers.{hall714}
 use Rattle.limiter.specs.Limiter.{scaled, lowered, blockPeak}
 use Rattle.rules.specs.Parts.{1·0, Places, floats}
 use Rattle.store.specs.Layout.{blank}
-use Rattle.claim.specs.Marked.{Tells, peakOf, Limits, cases}
+use Rattle.theorem.specs.Marked.{Tells, peakOf, Limits, cases}
 
 -- one sample, on channel 0
 abbrev alone : ℕ → Places

@@ -1,2 +1,0 @@
-pub mod Hall
-pub mod Marked

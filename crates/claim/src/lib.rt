@@ -1,2 +1,0 @@
-// The rules' interface filled with the real timed state, metadata and state block; demand 3 for every list of calls (proofs/Theorem); document 01's cases marked P (specs/Marked).
-// There is no code.

@@ -1,0 +1,2 @@
+pub mod Instance
+pub mod Marked
