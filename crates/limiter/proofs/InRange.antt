@@ -1,20 +1,21 @@
--- The limiter keeps its samples in [-1, 1] and its gain in (0, 1]. Assumes nothing.
+-- The limiter keeps its samples in [-1, 1] and its gain in (0, 1]; its meters are in range, and no sample is larger than they say. Assumes nothing.
 use mathlib.Core.Path.{_≡_, refl, sym}
 use mathlib.Core.Bool.{Bool, true, false}
 use mathlib.Core.List.{List, [], _∷_}
 use Prim.Native.Nat.{ℕ, _-_, _≤_, _<_}
 use native.Mathlib.Nat.{le-trans, le-of-eq, lt-irrefl}
 use native.Mathlib.Omega.{arith}
-use lib.Ieee.{Float, nan, inf, fin}
+use lib.Ieee.{Float, nan, inf, fin, binary32, mul}
 use Rattle.ieee.specs.Units.{Top, F32, mag, P, N, Gain, Unitary}
 use Rattle.ieee.specs.Bounds.{All}
 use Rattle.ieee.proofs.Value.{shape}
 use Rattle.ieee.proofs.Constants.{top-pos}
 use Rattle.limiter.specs.Limiter.{0·0, blockPeak, scaled, scaledBlock, lowered}
-use Rattle.limiter.specs.Range.{LimitedInRange}
+use Rattle.limiter.specs.Meters.{blockMeters}
+use Rattle.limiter.specs.Range.{Metered, LimitedInRange}
 use Rattle.limiter.proofs.Levels.{Level, Fit, rank}
 use Rattle.limiter.proofs.Peaks.{Under, zero-level, zero-under, block-peak}
-use Rattle.limiter.proofs.Lowered.{Keeps, lowered-keeps, kept-within}
+use Rattle.limiter.proofs.Lowered.{lowered-keeps, kept-within, kept-under}
 use Rattle.limiter.proofs.Growth.{decay-is, grown-gain}
 
 -- ---- the peak of finite samples is finite, and no sample is larger
@@ -51,18 +52,16 @@ channels-under : (cs : List (List Float)) → All (All F32) cs → All (Under (T
 channels-under [] f = tt
 channels-under (c ∷ cs) f = (all-under c (f .0), channels-under cs (f .1))
 
--- ---- the samples
-tame-channel : (p h : Float) (c : List Float) → Keeps p h → P p ≡ rank p → All F32 c → Under (rank p) c → All Unitary (scaled h c)
-tame-channel p h [] k e f u = tt
-tame-channel p h (x ∷ c) k e f u = (
-  kept-within p h x k (f .0) (le-trans (le-of-eq (sym (finite-rank x (f .0)))) (le-trans (u .0) (le-of-eq (sym e)))),
-  tame-channel p h c k e (f .1) (u .1),
-)
+-- ---- the samples: what holds of every finite x of size at most p, times h, holds of the whole block
+module _ (Q : Float → Type 0) (p h : Float) (q : (x : Float) → F32 x → mag x ≤ P p → Q (mul binary32 x h)) (e : P p ≡ rank p) where
+  every-sample : (c : List Float) → All F32 c → Under (rank p) c → All Q (scaled h c)
+  every-sample [] f u = tt
+  every-sample (x ∷ c) f u = (q x (f .0) (le-trans (le-of-eq (sym (finite-rank x (f .0)))) (le-trans (u .0) (le-of-eq (sym e)))), every-sample c (f .1) (u .1))
 
-tame-block : (p h : Float) (cs : List (List Float)) → Keeps p h → P p ≡ rank p → All (All F32) cs → All (Under (rank p)) cs → All (All Unitary) (scaledBlock h cs)
-unfolding scaledBlock
-tame-block p h [] k e f u = tt
-tame-block p h (c ∷ cs) k e f u = (tame-channel p h c k e (f .0) (u .0), tame-block p h cs k e (f .1) (u .1))
+  every-channel : (cs : List (List Float)) → All (All F32) cs → All (Under (rank p)) cs → All (All Q) (scaledBlock h cs)
+  unfolding scaledBlock
+  every-channel [] f u = tt
+  every-channel (c ∷ cs) f u = (every-sample c (f .0) (u .0), every-channel cs (f .1) (u .1))
 
 -- ---- the theorem
 pub limiter-in-range : (g : Float) (n rate : ℕ) (cs : List (List Float)) → Gain g → All (All F32) cs → n ≤ rate → 0 < rate → rate < 16777216 → LimitedInRange g n rate cs
@@ -72,7 +71,13 @@ limiter-in-range g n rate cs k f a b c =
     let under : rank p < Top = below (q .least (Top - 1) (zero-under (Top - 1)) (channels-under cs f)) top-pos in
     let z = level-finite p (q .level) under in
     let h = lowered-keeps p g (z .0) (z .1) k in
-    record { samples = tame-block p (lowered p g) cs h (z .2) f (q .each); scaling = h .gain; next = grown-gain n rate (decay-is n rate a b c) (lowered p g) (h .gain) }
+    record {
+      samples = every-channel Unitary p (lowered p g) (λ x. kept-within p (lowered p g) x h) (z .2) cs f (q .each);
+      scaling = h .gain;
+      next = grown-gain n rate (decay-is n rate a b c) (lowered p g) (h .gain);
+      meters = record { peak = z .0; plus = z .1; gain = h .gain };
+      metered = every-channel (Metered (blockMeters g cs)) p (lowered p g) (λ x. kept-under p (lowered p g) x (z .0) (z .1) h) (z .2) cs f (q .each);
+    }
   where
     below : {r t : ℕ} → r ≤ t - 1 → 0 < t → r < t
     below h l = omega arith

@@ -6,4 +6,5 @@ pub mod Lowered
 pub mod Growth
 pub mod Return
 pub mod InRange
+pub mod CallMeters
 pub mod Theorems

@@ -22,9 +22,10 @@ top-is : 2097152 * Top ≡ One * One
 unfolding Top One
 top-is = refl
 
--- a sample of size at most p, times a gain g with p * g at most 1 when rounded
-gained : (x g : Float) (p : ℕ) → F32 x → F32 g → N g ≡ 0 → mag x ≤ p → rnd (p * P g) One ≤ One → Unitary (mul binary32 x g)
-gained x g p f k n l h =
+-- a sample of size at most p, times a gain g, is at most p * g, both rounded
+product-under : (x g : Float) (p : ℕ) → F32 x → F32 g → N g ≡ 0 → mag x ≤ p → rnd (p * P g) One < Top
+    → F32 (mul binary32 x g) × (P (mul binary32 x g) ≤ rnd (p * P g) One) × (N (mul binary32 x g) ≤ rnd (p * P g) One)
+product-under x g p f k n l h =
     let A = P x * P g + N x * N g in
     let B = P x * N g + N x * P g in
     let m = mag-is x in
@@ -32,10 +33,37 @@ gained x g p f k n l h =
     let z2 : P x * N g ≡ 0 = ap (λ (v : ℕ). P x * v) n ∙ mul-zero (P x) in
     let a : P x * P g ≤ p * P g = mul-le-mul-right (P g) (omega arith) in
     let b : N x * P g ≤ p * P g = mul-le-mul-right (P g) (omega arith) in
-    let i : rnd (A - B) One ≤ One = le-trans (rnd-mono (A - B) One (p * P g) One one-pos one-pos (mul-le-mul-right One (omega arith))) h in
-    let j : rnd (B - A) One ≤ One = le-trans (rnd-mono (B - A) One (p * P g) One one-pos one-pos (mul-le-mul-right One (omega arith))) h in
-    let r = mul-rounds x g f k (record { high = lt-of-le-of-lt i one-less; deep = lt-of-le-of-lt j one-less }) in
-    record { f32 = r .f32; high = le-trans (le-of-eq (r .up)) i; deep = le-trans (le-of-eq (r .down)) j }
+    let i : rnd (A - B) One ≤ rnd (p * P g) One = rnd-mono (A - B) One (p * P g) One one-pos one-pos (mul-le-mul-right One (omega arith)) in
+    let j : rnd (B - A) One ≤ rnd (p * P g) One = rnd-mono (B - A) One (p * P g) One one-pos one-pos (mul-le-mul-right One (omega arith)) in
+    let r = mul-rounds x g f k (record { high = lt-of-le-of-lt i h; deep = lt-of-le-of-lt j h }) in
+    (r .f32, le-trans (le-of-eq (r .up)) i, le-trans (le-of-eq (r .down)) j)
+
+-- with p * g at most 1 when rounded
+gained : (x g : Float) (p : ℕ) → F32 x → F32 g → N g ≡ 0 → mag x ≤ p → rnd (p * P g) One ≤ One → Unitary (mul binary32 x g)
+gained x g p f k n l h =
+    let u = product-under x g p f k n l (lt-of-le-of-lt h one-less) in
+    record { f32 = u .0; high = le-trans (u .1) h; deep = le-trans (u .2) h }
+
+-- of p and g from 0 on, the product is that of the values, rounded
+pub record Product (p g : Float) : Type 0 where
+  pub f32 : F32 (mul binary32 p g)
+  pub is : P (mul binary32 p g) ≡ rnd (P p * P g) One
+  pub plus : N (mul binary32 p g) ≡ 0
+
+product-is : (p g : Float) → F32 p → N p ≡ 0 → F32 g → N g ≡ 0 → rnd (P p * P g) One < Top → Product p g
+product-is p g f n k z h =
+    let y : P p * N g ≡ 0 = ap (λ (v : ℕ). P p * v) z ∙ mul-zero (P p) in
+    let x : N p * P g ≡ 0 = ap (λ (v : ℕ). v * P g) n ∙ zero-mul (P g) in
+    let w : N p * N g ≡ 0 = ap (λ (v : ℕ). v * N g) n ∙ zero-mul (N g) in
+    let A = P p * P g + N p * N g in
+    let B = P p * N g + N p * P g in
+    let AB : A - B ≡ P p * P g = omega arith in
+    let BA : B - A ≡ 0 = omega arith in
+    let r = mul-rounds p g f k (record {
+      high = subst (λ (v : ℕ). rnd v One < Top) (sym AB) h;
+      deep = subst (λ (v : ℕ). rnd v One < Top) (sym BA) (omega (arith, rnd-zero One one-pos, one-less));
+    }) in
+    record { f32 = r .f32; is = r .up ∙ ap (λ (v : ℕ). rnd v One) AB; plus = not-negative one-pos r (omega arith) }
 
 -- ---- p * g above 1: then p is above 1, so 0.9 / p is in (0, 1]; and p * (0.9 / p) is 0.9 within an error far below 0.1
 peak-above : (p g : Float) → F32 p → N p ≡ 0 → Gain g → T (lt 1·0 (mul binary32 p g)) → One < P p
@@ -96,27 +124,6 @@ same-keeps p g f n k h = go (ltb w Top) (ltb→lt w Top) (nltb→le w Top)
     z : Float
     z = mul binary32 p g
 
-    A : ℕ
-    A = P p * P g + N p * N g
-
-    B : ℕ
-    B = P p * N g + N p * P g
-
-    B0 : B ≡ 0
-    B0 =
-        let y : P p * N g ≡ 0 = ap (λ (v : ℕ). P p * v) (k .plus) ∙ mul-zero (P p) in
-        let x : N p * P g ≡ 0 = ap (λ (v : ℕ). v * P g) n ∙ zero-mul (P g) in
-        omega arith
-
-    AB : A - B ≡ P p * P g
-    AB =
-        let b = B0 in
-        let x : N p * N g ≡ 0 = ap (λ (v : ℕ). v * N g) n ∙ zero-mul (N g) in
-        omega arith
-
-    BA : B - A ≡ 0
-    BA = let b = B0 in omega arith
-
     some : (v : ℕ) → v ≡ P p → Top ≤ w → 0 < P p
     some zero e t = absurd (not-le-of-lt (lt-of-le-of-lt
         (le-of-eq (ap (λ (u : ℕ). rnd (u * P g) One) (sym e) ∙ ap (λ (u : ℕ). rnd u One) (zero-mul (P g)) ∙ rnd-zero One one-pos)) (lt-of-le-of-lt zero-le one-less)) t)
@@ -124,14 +131,11 @@ same-keeps p g f n k h = go (ltb w Top) (ltb→lt w Top) (nltb→le w Top)
 
     go : (b : Bool) → (T b → w < Top) → (T (not b) → Top ≤ w) → w ≤ One
     go true l q =
-        let r = mul-rounds p g f (k .f32) (record {
-          high = subst (λ (v : ℕ). rnd v One < Top) (sym AB) (l tt);
-          deep = subst (λ (v : ℕ). rnd v One < Top) (sym BA) (omega (arith, rnd-zero One one-pos, one-less));
-        }) in
+        let r = product-is p g f n (k .f32) (k .plus) (l tt) in
         let i = nlt→ 1·0 z one-f32 (r .f32) h in
         let o = one-P in
-        let zn : N z ≡ 0 = not-negative one-pos r (le-trans (le-of-eq B0) zero-le) in
-        le-trans (le-of-eq (ap (λ (v : ℕ). rnd v One) (sym AB) ∙ sym (r .up))) (omega arith)
+        let zn = r .plus in
+        le-trans (le-of-eq (sym (r .is))) (omega arith)
     go false l q =
         let m : mag p * mag g ≡ P p * P g = ap (λ (v : ℕ). v * mag g) (mag-is p ∙ ap (λ (v : ℕ). P p + v) n ∙ add-zero (P p))
         ∙ ap (λ (v : ℕ). P p * v) (mag-is g ∙ ap (λ (v : ℕ). P g + v) (k .plus) ∙ add-zero (P g)) in
@@ -150,3 +154,21 @@ lowered-keeps p g f n k = go (lt 1·0 (mul binary32 p g)) (ninth-keeps p g f n k
 
 pub kept-within : (p h x : Float) → Keeps p h → F32 x → mag x ≤ P p → Unitary (mul binary32 x h)
 kept-within p h x k f l = gained x h (P p) f (k .gain .f32) (k .gain .plus) l (k .within)
+
+-- ---- the size of a sample given out is at most the peak times the gain, rounded
+size-most : (z : Float) (n : ℕ) → P z ≤ n → N z ≤ n → mag z ≤ n
+size-most z n = go (sign z)
+  where
+    go : (s : Bool) → cond s 0 (mag z) ≤ n → cond s (mag z) 0 ≤ n → mag z ≤ n
+    go true h l = l
+    go false h l = h
+
+pub kept-under : (p h x : Float) → F32 p → N p ≡ 0 → Keeps p h → F32 x → mag x ≤ P p → mag (mul binary32 x h) ≤ mag (mul binary32 p h)
+kept-under p h x f n k g l =
+    let less = lt-of-le-of-lt (k .within) one-less in
+    let u = product-under x h (P p) g (k .gain .f32) (k .gain .plus) l less in
+    let r = product-is p h f n (k .gain .f32) (k .gain .plus) less in
+    let m = mag-is (mul binary32 p h) in
+    let e = r .is in
+    let z = r .plus in
+    size-most (mul binary32 x h) (mag (mul binary32 p h)) (le-trans (u .1) (omega arith)) (le-trans (u .2) (omega arith))

@@ -1,4 +1,5 @@
 pub mod Limiter
 pub mod Level
+pub mod Meters
 pub mod Range
 pub mod Places

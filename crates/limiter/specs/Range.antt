@@ -1,17 +1,30 @@
--- What is shown of the limiter: the samples that it gives out and its gain stay in range. Assumes nothing.
+-- What is shown of the limiter: the samples that it gives out, its gain and its meters stay in range. Assumes nothing.
 use Prim.Native.Nat.{ℕ, zero, suc, _≤_}
 use mathlib.Core.Path.{_≡_}
 use mathlib.Core.List.{List}
-use lib.Ieee.{Float}
-use Rattle.ieee.specs.Units.{One, F32, P, N, Gain, Unitary}
+use lib.Ieee.{Float, binary32, mul}
+use Rattle.ieee.specs.Units.{One, F32, mag, P, N, Gain, Unitary}
 use Rattle.ieee.specs.Bounds.{All}
 use Rattle.limiter.specs.Limiter.{scaledBlock, blockGain, grown}
+use Rattle.limiter.specs.Meters.{Meters, blockMeters}
+
+-- finite and at least 0; above 0 and at most 1
+pub record MetersInRange (m : Meters) : Type 0 where
+  pub peak : F32 (m .peak)
+  pub plus : N (m .peak) ≡ 0
+  pub gain : Gain (m .gain)
+
+-- at most the block's peak × gain (rounded) in size
+abbrev pub Metered : Meters → Float → Type 0
+Metered m x = mag x ≤ mag (mul binary32 (m .peak) (m .gain))
 
 -- from the gain g, a block of channels of n samples: each sample given out is finite and from -1 to 1, and the next gain is above 0 and at most 1
 pub record LimitedInRange (g : Float) (n rate : ℕ) (cs : List (List Float)) : Type 0 where
   pub samples : All (All Unitary) (scaledBlock (blockGain g cs) cs)
   pub scaling : Gain (blockGain g cs)
   pub next : Gain (grown n rate (blockGain g cs))
+  pub meters : MetersInRange (blockMeters g cs)
+  pub metered : All (All (Metered (blockMeters g cs))) (scaledBlock (blockGain g cs) cs)
 
 -- a gain from 0 to 1, both ends with it: what growth asks
 pub record Fraction (g : Float) : Type 0 where

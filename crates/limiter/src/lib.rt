@@ -2,6 +2,7 @@
 // Translated from libstarmine_ad render.rs; changed.
 
 // The output limiter: the peak of a block, the gain that it leaves, scaling, and the gain's growth.
+pub mod meters;
 pub mod places;
 
 ghost use mathlib.Core.Path.{_≡_};
