@@ -34,13 +34,14 @@ module _ (L : Leaves) where
 
   -- one part and then the other
   abbrev pub both : After L → After L → After L
-  both a d = record { next = d .next; given = joined (a .given) (d .given); moments = a .moments ++ d .moments }
+  both a d = record { next = d .next; given = joined (a .given) (d .given); meters = a .meters ++ d .meters; moments = a .moments ++ d .moments }
 
   both-assoc : (a b c : After L) → both a (both b c) ≡ both (both a b) c
   both-assoc a b c =
       let g : (k : ℕ) → a .given k ++ (b .given k ++ c .given k) ≡ (a .given k ++ b .given k) ++ c .given k = λ k. sym (append-assoc (a .given k) (b .given k) (c .given k)) in
+      let l = sym (append-assoc (a .meters) (b .meters) (c .meters)) in
       let m = sym (append-assoc (a .moments) (b .moments) (c .moments)) in
-      λ i. record { next = c .next; given = λ k. g k i; moments = m i }
+      λ i. record { next = c .next; given = λ k. g k i; meters = l i; moments = m i }
 
   pub framed-then : (f : Frame (L .Update)) (n m t : ℕ) (r : State L) → framed L f (n + m) t r ≡ both (framed L f n t r) (framed L f m (t + n) (framed L f n t r .next))
   framed-then f zero m t r = ap (λ (k : ℕ). framed L f k t r) (zero-add m) ∙ ap (λ (k : ℕ). framed L f m k r) (let e : t ≡ t + 0 = omega arith in e)
@@ -68,7 +69,7 @@ module _ (L : Leaves) where
 
   -- what its first sample leaves
   abbrev opening : Bool → Frame (L .Update) → ℕ → State L → After L
-  opening run f t r = record { next = middle run f t r; given = none; moments = moment L f t (r .meta) ∷ [] }
+  opening run f t r = record { next = middle run f t r; given = none; meters = []; moments = moment L f t (r .meta) ∷ [] }
 
   module _ (f : Frame (L .Update)) (t : ℕ) (r : State L) (room : r .pending .count + 1 < 64) where
     middle-is : (run : Bool) → started L (r .meta) ≡ run → (run ≡ true → r .clock .phase + 1 < 64) → passed L (moment L f t (r .meta)) r ≡ opening run f t r
@@ -131,7 +132,7 @@ module _ (L : Leaves) where
   single : (f : Frame (L .Update)) (t : ℕ) (r : State L) → follow f zero t r ≡ chunk L f 1 t r
   unfolding chunk
   single f t r =
-      (λ i. record { next = passed L (m t) r .next; given = λ c. append-nil (passed L (m t) r .given c) i; moments = m t ∷ [] })
+      (λ i. record { next = passed L (m t) r .next; given = λ c. append-nil (passed L (m t) r .given c) i; meters = append-nil (passed L (m t) r .meters) i; moments = m t ∷ [] })
       ∙ (λ i. closing L (settled L 1 (next (r .filter) (fed (m t))) (λ c. sym (append-nil (row (m t) (r .filter) c)) i) r) (m t ∷ []))
     where
       m : ℕ → Moment

@@ -10,10 +10,12 @@ use lib.Seq.{take-all}
 use lib.Ieee.{Float, binary32, ofBits, toBits}
 use Rattle.words.specs.Words.{word, floatAt, withFloat, wordsAt, withWords}
 use Rattle.limiter.specs.Limiter.{blockGain, scaled, scaledBlock, grown}
-use Rattle.limiter.specs.declared.Limiter.{Limiter}
+use Rattle.limiter.specs.Meters.{blockMeters, meets, meetsAll}
+use Rattle.limiter.specs.declared.meters.Meters.{Meters}
+use Rattle.limiter.specs.declared.Limited.{Limited}
 use Rattle.limiter.specs.Places.{floatsAt, withFloats, channelsAt, withChannels, Given}
 use Rattle.rules.specs.Parts.{Channels, none, twelve, floats}
-use Rattle.rules.specs.Samples.{limited, gainAfter, flushed}
+use Rattle.rules.specs.Samples.{limited, metered, gainAfter, flushed}
 use Rattle.rules.specs.Block.{writtenFrom, written}
 use Rattle.store.specs.declared.renderer.Renderer714.{Renderer714}
 use Rattle.store.specs.Layout.{size, placesOf}
@@ -76,9 +78,12 @@ module _ (f : Channels) (s : List ℕ) (n : ℕ) (e : (c : ℕ) → c < 12 → f
   channels-twelve : channelsAt 12 n s 0 ≡ twelve f
   channels-twelve = channels-listed f s n e 12 0 (omega arith) ∙ listed-twelve f
 
-  module _ (stride ready : ℕ) {g h : Float} {rate : ℕ} {out out' : List ℕ} (given : Given g n rate s (4 * stride) (4 * ready) out h out') where
-    pub gain-after : h ≡ gainAfter n rate g f
+  module _ (stride ready : ℕ) {g : Float} {rate : ℕ} {out : List ℕ} {l : Limited} {out' : List ℕ} (given : Given g n rate s (4 * stride) (4 * ready) out l out') where
+    pub gain-after : l .limiter .gain ≡ gainAfter n rate g f
     gain-after = given .gain ∙ ap (λ (cs : List (List Float)). grown n rate (blockGain g cs)) channels-twelve
+
+    pub meters-of : l .meters ∷ [] ≡ metered g f
+    meters-of = ap (λ (m : Meters). m ∷ []) (given .meters ∙ ap (blockMeters g) channels-twelve)
 
     pub given-behind : out' ≡ behind ready (limited g f) stride out
     unfolding behind
@@ -107,11 +112,12 @@ waiting-at n b h l c m =
     ∙ (let q = lt-ltb c 12 m in rw q refl)
 
 -- what `give` leaves
-pub gave : (w : Rendering) (b out : List ℕ) (stride : ℕ) {l : Limiter} {r : Rendering} {out' : List ℕ} → length b ≡ size → w .renderer .pending ≤ 64 → r .renderer ≡ emptiedBy (w .renderer) l
-    → r .ready ≡ w .ready + w .renderer .pending
-    → Given (w .renderer .limiter .gain) (w .renderer .pending) (w .renderer .rate) (take (length b - 23888) (drop 23888 b)) (4 * stride) (4 * w .ready) out (l .gain) out' → Gave w b stride out r out'
+pub gave : (w : Rendering) (b out : List ℕ) (stride : ℕ) {l : Limited} {r : Rendering} {out' : List ℕ} → length b ≡ size → w .renderer .pending ≤ 64
+    → r .renderer ≡ emptiedBy (w .renderer) (l .limiter) → r .ready ≡ w .ready + w .renderer .pending → r .meters ≡ meets (w .meters) (l .meters)
+    → Given (w .renderer .limiter .gain) (w .renderer .pending) (w .renderer .rate) (take (length b - 23888) (drop 23888 b)) (4 * stride) (4 * w .ready) out l out'
+    → Gave w b stride out r out'
 unfolding flushed waiting
-gave w b out stride l m p n given =
+gave w b out stride l m p n o given =
     let s = w .renderer in
     let e = waiting-at (s .pending) b m l in
     let f = waiting (s .pending) b in
@@ -120,6 +126,7 @@ gave w b out stride l m p n given =
       next = ap (λ (r : Renderer714). held r b) (p ∙ ap (λ (g : Float). emptiedBy s (record { gain = g })) (gain-after f part (s .pending) e stride (w .ready) given));
       given = given-behind f part (s .pending) e stride (w .ready) given;
       ready = n;
+      meters = o ∙ ap (meetsAll (w .meters)) (meters-of f part (s .pending) e stride (w .ready) given);
     }
 
 -- ---- nothing behind others, and behind nothing

@@ -9,6 +9,9 @@ use lib.Dec.{eqb, lit<}
 use lib.ListN.{length, length-append}
 use borrow.Author.Tests.{eqb-true, eqb-false}
 use Rattle.ieee.specs.Bounds.{All}
+use Rattle.limiter.specs.Meters.{unmet, meetsAll}
+use Rattle.limiter.specs.declared.meters.Meters.{Meters}
+use Rattle.limiter.proofs.Theorems.{meets-append}
 use Rattle.rules.specs.Leaves.{Leaves, Shape}
 use Rattle.rules.specs.Samples.{Pending, State, After, updated, slotted, framed, opened, pushed}
 use Rattle.rules.specs.Refusals.{Args, listed, shapeAt}
@@ -61,12 +64,13 @@ module _ (L : Leaves) (B : Layout L) (F : Facts L B) where
     abbrev rest : ℕ → State L → After L
     rest t r = framed L (frameOf L a) (a .samples - t) t r
 
-    -- before sample t: with the renderer r, `ready` samples of each channel in the output, the rest of the frame is the rest of the push
-    pub record Going (t : ℕ) (r : State L) (ready : ℕ) (out : List ℕ) : Type 0 where
+    -- before sample t: with the renderer r, `ready` samples of each channel in the output and the meters `level` of their blocks, the rest of the frame is the rest of the push
+    pub record Going (t : ℕ) (r : State L) (ready : ℕ) (level : Meters) (out : List ℕ) : Type 0 where
       pub here : t ≤ a .samples
       pub next : rest t r .next ≡ pushed L (frameOf L a) r₀ .next
       pub given : behind ready (rest t r .given) (a .stride) out ≡ written (pushed L (frameOf L a) r₀ .given) (a .stride) (a .out)
       pub count : ready + length (rest t r .given 0) ≡ length (pushed L (frameOf L a) r₀ .given 0)
+      pub meters : meetsAll level (rest t r .meters) ≡ meetsAll unmet (pushed L (frameOf L a) r₀ .meters)
       pub long : length out ≡ length (a .out)
       pub ranged : R L B F r
       pub listed : listed (r .rate) ≡ true
@@ -87,7 +91,7 @@ module _ (L : Leaves) (B : Layout L) (F : Facts L B) where
       pub pending : met t r .pending .count ≡ r .pending .count
       pub fits : Fit (L .shape (met t r .meta))
 
-    module _ (S : Shaped) (p : Passed L r₀ a) (k : All (F .Checked) us) (t : ℕ) (r : State L) (ready : ℕ) (out : List ℕ) (g : Going t r ready out) (more : t < a .samples) where
+    module _ (S : Shaped) (p : Passed L r₀ a) (k : All (F .Checked) us) (t : ℕ) (r : State L) (ready : ℕ) (level : Meters) (out : List ℕ) (g : Going t r ready level out) (more : t < a .samples) where
       pub begun : Begun t r
       begun =
           let u = updated-ranged L B F t us r k (g .ranged) in
@@ -149,7 +153,7 @@ module _ (L : Leaves) (B : Layout L) (F : Facts L B) where
             matches-on (announced L us) (a .objects) (a .codes) (t + suc n) (announced L us) (L .shape (C .next .meta)) (j .then-all (t + suc n) l)
             (subst (λ (x : L .Meta). Fit (L .shape x)) (sym (chunk-passes L (frameOf L a) (suc n) t (met t r) .meta)) (begun .fits))
 
-        gone : Going (t + suc n) (C .next) (ready + 64 * counted .blocks) (behind ready (C .given) (a .stride) out)
+        gone : Going (t + suc n) (C .next) (ready + 64 * counted .blocks) (meetsAll level (C .meters)) (behind ready (C .given) (a .stride) out)
         gone =
             let c = chunk-passes L (frameOf L a) (suc n) t (met t r) in
             let b = begun in
@@ -159,6 +163,7 @@ module _ (L : Leaves) (B : Layout L) (F : Facts L B) where
               given = behind-joined (C .given) (D .given) ready (64 * counted .blocks) (a .stride) (counted .length) room out
                   ∙ ap (λ (x : After L). behind ready (x .given) (a .stride) out) (sym parts) ∙ g .given;
               count = numbers-count (64 * counted .blocks) (length (D .given 0)) (length (rest t r .given 0)) (g .count) count-more;
+              meters = sym (meets-append level (C .meters) (D .meters)) ∙ ap (λ (x : After L). meetsAll level (x .meters)) (sym parts) ∙ g .meters;
               long = length-behind ready (C .given) (a .stride) out ∙ g .long;
               ranged = chunk-ranged;
               listed = ap listed (c .rate) ∙ b .listed;
@@ -180,15 +185,15 @@ module _ (L : Leaves) (B : Layout L) (F : Facts L B) where
             numbers-whole : (b : ℕ) → ready % 64 ≡ 0 → (ready + 64 * b) % 64 ≡ 0
             numbers-whole b e = omega arith
 
-        pub step : Going (t + suc n) (C .next) (cond (eqb (C .next .pending .count) 0) (ready + 64) ready) (behind ready (C .given) (a .stride) out)
+        pub step : Going (t + suc n) (C .next) (cond (eqb (C .next .pending .count) 0) (ready + 64) ready) (meetsAll level (C .meters)) (behind ready (C .given) (a .stride) out)
         step =
             let h = q .room in
             let e = begun .pending in
-            subst (λ (i : ℕ). Going (t + suc n) (C .next) i (behind ready (C .given) (a .stride) out))
+            subst (λ (i : ℕ). Going (t + suc n) (C .next) i (meetsAll level (C .meters)) (behind ready (C .given) (a .stride) out))
             (sym (ready-is (eqb (C .next .pending .count) 0) ready (r .pending .count) n (counted .blocks) (C .next .pending .count) refl (counted .all) (omega arith))) gone
 
     -- ---- before the first sample, and after the last
-    pub starts : R L B F r₀ → Passed L r₀ a → Going 0 (opened L (a .rate) r₀) 0 (a .out)
+    pub starts : R L B F r₀ → Passed L r₀ a → Going 0 (opened L (a .rate) r₀) 0 unmet (a .out)
     unfolding pushed
     starts g p =
         let o = opened-ranged L B F (a .rate) r₀ (p .early .listed) g in
@@ -198,6 +203,7 @@ module _ (L : Leaves) (B : Layout L) (F : Facts L B) where
           next = ap (λ (x : After L). x .next) all;
           given = behind-nothing (rest 0 (opened L (a .rate) r₀) .given) (a .stride) (a .out) ∙ ap (λ (x : After L). written (x .given) (a .stride) (a .out)) all;
           count = zero-add (length (rest 0 (opened L (a .rate) r₀) .given 0)) ∙ ap (λ (x : After L). length (x .given 0)) all;
+          meters = ap (λ (x : After L). meetsAll unmet (x .meters)) all;
           long = refl;
           ranged = o .0;
           listed = o .1;
@@ -210,12 +216,14 @@ module _ (L : Leaves) (B : Layout L) (F : Facts L B) where
         all : rest 0 (opened L (a .rate) r₀) ≡ framed L (frameOf L a) (a .samples) 0 (opened L (a .rate) r₀)
         all = ap (λ (i : ℕ). framed L (frameOf L a) i 0 (opened L (a .rate) r₀)) (let e : a .samples - 0 ≡ a .samples = omega arith in e)
 
-    pub ends : (t : ℕ) (r : State L) (ready : ℕ) (out : List ℕ) → Going t r ready out → a .samples ≤ t
+    pub ends : (t : ℕ) (r : State L) (ready : ℕ) (level : Meters) (out : List ℕ) → Going t r ready level out → a .samples ≤ t
         → (r ≡ pushed L (frameOf L a) r₀ .next) × (out ≡ written (pushed L (frameOf L a) r₀ .given) (a .stride) (a .out)) × (ready ≡ length (pushed L (frameOf L a) r₀ .given 0))
-    ends t r ready out g h = (
+        × (level ≡ meetsAll unmet (pushed L (frameOf L a) r₀ .meters))
+    ends t r ready level out g h = (
       sym (ap (λ (x : After L). x .next) none-left) ∙ g .next,
       sym (behind-none ready (a .stride) out) ∙ ap (λ (x : After L). behind ready (x .given) (a .stride) out) (sym none-left) ∙ g .given,
       let c = ap (λ (x : After L). length (x .given 0)) none-left in (let e : ready ≡ ready + length (rest t r .given 0) = omega arith in e) ∙ g .count,
+      sym (ap (λ (x : After L). meetsAll level (x .meters)) none-left) ∙ g .meters,
     )
       where
         none-left : rest t r ≡ framed L (frameOf L a) 0 t r

@@ -15,10 +15,11 @@ use Rattle.lowpass.specs.declared.BiquadLowpassState.{BiquadLowpassState}
 use Rattle.timed.specs.Objects.{noSource}
 use Rattle.timed.specs.declared.state.MetadataRendererState.{MetadataRendererState}
 use Rattle.records.specs.Runs.{each}
+use Rattle.limiter.specs.Meters.{meetsAll}
 use Rattle.rules.specs.Parts.{Channels, Places, none, floats, laid}
 use Rattle.rules.specs.Leaves.{Source, Bed}
 use Rattle.rules.specs.Mix.{sampleAt, samplesAt, Moment, heard}
-use Rattle.rules.specs.Samples.{Frame, Renderer, moment, flushed, gainAfter}
+use Rattle.rules.specs.Samples.{Frame, Renderer, moment, metered, flushed, gainAfter}
 use Rattle.timed.specs.State.{Timed}
 use Rattle.theorem.specs.Instance.{Sent, hall}
 use Rattle.store.specs.declared.renderer.Renderer714.{Renderer714}
@@ -108,6 +109,10 @@ module _ (f : Frame Sent) (t k : ℕ) (s : Renderer714) (b : List ℕ) where
   unfolding chunk
   chunk-none e = rw e refl
 
+  chunk-unmet : leb 64 (s .pending + k) ≡ false → chunk hall f k t (held s b) .meters ≡ []
+  unfolding chunk
+  chunk-unmet e = rw e refl
+
   -- a whole block is `flushed`
   places-short : (c : ℕ) (q : Bool) → ltb c 12 ≡ q → length (cond q (wordsAt b (23888 + 256 * c) 64) []) ≤ 64
   places-short c true e = rw (words-long b (23888 + 256 * c) 64) (omega arith)
@@ -139,6 +144,10 @@ module _ (f : Frame Sent) (t k : ℕ) (s : Renderer714) (b : List ℕ) where
     chunk-given : chunk hall f k t (held s b) .given ≡ flushed hall settled .given
     unfolding chunk flushed
     chunk-given = rw (e, rows-whole) refl
+
+    chunk-meters : chunk hall f k t (held s b) .meters ≡ flushed hall settled .meters
+    unfolding chunk flushed
+    chunk-meters = rw e (ap (metered (s .limiter .gain)) (sym rows-whole))
 
   -- ---- what the code leaves
 
@@ -207,6 +216,7 @@ module _ (f : Frame Sent) {w v : Rendering} {b b' pcm out codes : List ℕ} {obj
         next = record { holds = record { is = is-settled ∙ sym (chunk-waits f t k s b o); long = e .next .holds .long }; small = e .next .small };
         given = sym (none-behind (w .ready) stride out) ∙ ap (λ (g : Channels). behind (w .ready) g stride out) (sym (chunk-none f t k s b o));
         ready = e .ready ∙ stays-ready (w .ready) (v .renderer .pending) (omega arith);
+        meters = e .meters ∙ ap (meetsAll (w .meters)) (sym (chunk-unmet f t k s b o));
       }
 
   pub passes-given : {r : Rendering} {out' : List ℕ} → v .renderer .pending ≡ 64 → Gave v b' stride out r out' → Passes f t k stride w b out r b' out'
@@ -220,4 +230,5 @@ module _ (f : Frame Sent) {w v : Rendering} {b b' pcm out codes : List ℕ} {obj
         given = g .given
             ∙ (λ i. behind (y i) (flushed hall (is-settled i) .given) stride out) ∙ ap (λ (g : Channels). behind (w .ready) g stride out) (sym (chunk-given f t k s b o));
         ready = c ∙ adds-ready (w .ready) (ap (λ (x : Renderer Timed). x .pending .count) (g .next));
+        meters = g .meters ∙ (λ i. meetsAll (e .meters i) (flushed hall (is-settled i) .meters)) ∙ ap (meetsAll (w .meters)) (sym (chunk-meters f t k s b o));
       }

@@ -21,8 +21,10 @@ use Rattle.updates.specs.Whole.{WholeUpdates}
 use Rattle.updates.specs.Applied.{applied}
 use Rattle.updates.proofs.Passed.{passes-all}
 use Rattle.mixing.proofs.Passes.{pass-plain}
+use Rattle.limiter.specs.Meters.{unmet, meetsAll}
+use Rattle.limiter.specs.declared.meters.Meters.{Meters}
 use Rattle.rules.specs.Leaves.{started}
-use Rattle.rules.specs.Samples.{State, updated, slotted, pushed}
+use Rattle.rules.specs.Samples.{State, After, updated, slotted, pushed}
 use Rattle.rules.specs.Refusals.{Args, listed}
 use Rattle.rules.specs.Calls.{frameOf}
 use Rattle.rules.proofs.Judged.{Passed, is-passed, and-true, is-roomy, is-listed, rate-high, is-sized, samples-fit}
@@ -103,15 +105,16 @@ is-rate b a l k = is-listed (a .rate) (k .passed .early .listed)
 pub record Running (b : List ℕ) (a : Args) (t : ℕ) (w : Rendering) (state out : List ℕ) : Type 0 where
   pub long : length state ≡ size
   pub small : smallBytes state ≡ smallBytes b
-  pub going : Going hall block facts (decode b) a t (held (w .renderer) state) (w .ready) out
+  pub going : Going hall block facts (decode b) a t (held (w .renderer) state) (w .ready) (w .meters) out
 
-pub opens : (w v : Rendering) (b : List ℕ) (a : Args) (l : Layout) → Accepted w b l a → Taken b a l → v ≡ record { renderer = openedBy (w .renderer) (a .rate); ready = 0 } → Running b a 0 v b (a .out)
+pub opens : (w v : Rendering) (b : List ℕ) (a : Args) (l : Layout) → Accepted w b l a → Taken b a l → v ≡ record { renderer = openedBy (w .renderer) (a .rate); ready = 0; meters = unmet } → Running b a 0 v b (a .out)
 unfolding decode
 opens w v b a l h k e =
     record {
       long = k .long;
       small = refl;
-      going = subst (λ (v : Rendering). Going hall block facts (decode b) a 0 (held (v .renderer) b) (v .ready) (a .out)) (sym (e ∙ ap (λ (s : Renderer714). record { renderer = openedBy s (a .rate); ready = 0 }) (h .small)))
+      going = subst (λ (v : Rendering). Going hall block facts (decode b) a 0 (held (v .renderer) b) (v .ready) (v .meters) (a .out))
+          (sym (e ∙ ap (λ (s : Renderer714). record { renderer = openedBy s (a .rate); ready = 0; meters = unmet }) (h .small)))
           (starts hall block facts (decode b) a (k .ranged) (k .passed));
     }
 
@@ -121,7 +124,7 @@ module _ (b : List ℕ) (a : Args) (l : Layout) (k : Taken b a l) (t : ℕ) (w :
   met = slotted hall (updated hall t (sentOf (a .meta)) (held (w .renderer) state))
 
   here : Begun hall block facts (decode b) a t (held (w .renderer) state)
-  here = begun hall block facts (decode b) a shapes (k .passed) (k .checked) t (held (w .renderer) state) (w .ready) out (h .going) more
+  here = begun hall block facts (decode b) a shapes (k .passed) (k .checked) t (held (w .renderer) state) (w .ready) (w .meters) out (h .going) more
 
   -- the updates at t, and the slot
   pub can-begin : (at : ℕ) → at ≡ decode b .clock .position + t → CanBegin (w .renderer) state (a .meta) l t at
@@ -225,13 +228,18 @@ module _ (b : List ℕ) (a : Args) (l : Layout) (k : Taken b a l) (t : ℕ) (w :
             go (suc i) q p =
                 let f = frameOf hall a in
                 let fit = turn-fits in
-                let d = step hall block facts (decode b) a shapes (k .passed) (k .checked) t (held (w .renderer) state) (w .ready) out (h .going) more (k .ranged .pending) i (omega arith) (turn-of i q) in
-                let G : State hall → ℕ → List ℕ → Type 0 = Going hall block facts (decode b) a (t + suc i) in
-                let d₁ = subst (λ (x : State hall). G (chunk hall f (suc i) t x .next) (readyAfter (w .ready) (chunk hall f (suc i) t x .next .pending .count)) (behind (w .ready) (chunk hall f (suc i) t x .given) (a .stride) out)) (sym (e .next .holds .is)) d in
-                let d₂ = subst (λ (x : State hall). G x (readyAfter (w .ready) (x .pending .count)) (behind (w .ready) (chunk hall f (suc i) t (held s′ state′) .given) (a .stride) out)) (sym (p .next .holds .is)) d₁ in
-                let d₃ = subst (λ (x : ℕ). G (held (r .renderer) c) (readyAfter x (r .renderer .pending)) (behind x (chunk hall f (suc i) t (held s′ state′) .given) (a .stride) out)) (sym (e .ready)) d₂ in
-                let d₄ = subst (λ (x : ℕ). G (held (r .renderer) c) x (behind (w′ .ready) (chunk hall f (suc i) t (held s′ state′) .given) (a .stride) out)) (sym (p .ready)) d₃ in
-                record { long = p .next .holds .long; small = p .next .small ∙ e .next .small ∙ h .small; going = subst (G (held (r .renderer) c) (r .ready)) (sym (p .given)) d₄ }
+                let d = step hall block facts (decode b) a shapes (k .passed) (k .checked) t (held (w .renderer) state) (w .ready) (w .meters) out (h .going) more (k .ranged .pending) i (omega arith) (turn-of i q) in
+                let G : State hall → ℕ → Meters → List ℕ → Type 0 = Going hall block facts (decode b) a (t + suc i) in
+                let C : State hall → After hall = chunk hall f (suc i) t in
+                let o₁ : ℕ → State hall → List ℕ = λ n x. behind n (C x .given) (a .stride) out in
+                let d₁ = subst (λ (x : State hall). G (C x .next) (readyAfter (w .ready) (C x .next .pending .count)) (meetsAll (w .meters) (C x .meters)) (o₁ (w .ready) x)) (sym (e .next .holds .is)) d in
+                let y = held s′ state′ in
+                let d₂ = subst (λ (x : State hall). G x (readyAfter (w .ready) (x .pending .count)) (meetsAll (w .meters) (C y .meters)) (o₁ (w .ready) y)) (sym (p .next .holds .is)) d₁ in
+                let d₃ = subst (λ (x : ℕ). G (held (r .renderer) c) (readyAfter x (r .renderer .pending)) (meetsAll (w .meters) (C y .meters)) (o₁ x y)) (sym (e .ready)) d₂ in
+                let d₄ = subst (λ (x : ℕ). G (held (r .renderer) c) x (meetsAll (w .meters) (C y .meters)) (o₁ (w′ .ready) y)) (sym (p .ready)) d₃ in
+                let m : meetsAll (w .meters) (C y .meters) ≡ r .meters = sym (p .meters ∙ ap (λ (x : Meters). meetsAll x (C y .meters)) (e .meters)) in
+                let d₅ = subst (λ (x : Meters). G (held (r .renderer) c) (r .ready) x (o₁ (w′ .ready) y)) m d₄ in
+                record { long = p .next .holds .long; small = p .next .small ∙ e .next .small ∙ h .small; going = subst (G (held (r .renderer) c) (r .ready) (r .meters)) (sym (p .given)) d₅ }
 
 -- a turn under way: the updates and the slot at t left w′ and state′, and n samples follow
 pub record Turning (b : List ℕ) (a : Args) (l : Layout) (t : ℕ) (w : Rendering) (state out : List ℕ) (end : ℕ) (w′ : Rendering) (state′ : List ℕ) (n : ℕ) : Type 0 where
@@ -267,5 +275,5 @@ module _ {b : List ℕ} {a : Args} {l : Layout} {t : ℕ} {w : Rendering} {state
 -- ---- after the last sample
 pub rendered : (b : List ℕ) (a : Args) (t : ℕ) (w : Rendering) (state out : List ℕ) → Running b a t w state out → a .samples ≤ t → IsRendered (pushed hall (frameOf hall a) (decode b)) (a .stride) b (a .out) w state out
 rendered b a t w state out h last =
-    let e = ends hall block facts (decode b) a t (held (w .renderer) state) (w .ready) out (h .going) last in
-    record { next = record { holds = record { is = e .0; long = h .long }; small = h .small }; given = e .1; ready = e .2 }
+    let e = ends hall block facts (decode b) a t (held (w .renderer) state) (w .ready) (w .meters) out (h .going) last in
+    record { next = record { holds = record { is = e .0; long = h .long }; small = h .small }; given = e .1; ready = e .2; meters = e .3 }

@@ -3,6 +3,7 @@ use Prim.Native.Nat.{ℕ, _+_, _*_, _≤_}
 use mathlib.Core.Path.{_≡_}
 use mathlib.Core.List.{List}
 use lib.ListN.{length}
+use Rattle.limiter.specs.Meters.{unmet, meetsAll}
 use Rattle.rules.specs.Samples.{After, flushed}
 use Rattle.rules.specs.Block.{written}
 use Rattle.theorem.specs.Instance.{hall}
@@ -25,9 +26,11 @@ pub record Gave (w : Rendering) (state : List ℕ) (stride : ℕ) (out : List �
   pub next : held (r .renderer) state ≡ flushed hall (held (w .renderer) state) .next
   pub given : out' ≡ behind (w .ready) (flushed hall (held (w .renderer) state) .given) stride out
   pub ready : r .ready ≡ w .ready + w .renderer .pending
+  pub meters : r .meters ≡ meetsAll (w .meters) (flushed hall (held (w .renderer) state) .meters)
 
 -- a flush of n pending samples: d is what the rules say that it leaves and gives out
 pub record IsDrained (d : After hall) (n stride : ℕ) (state out : List ℕ) (r : Rendering) (out' : List ℕ) : Type 0 where
   pub next : held (r .renderer) state ≡ d .next
   pub given : out' ≡ written (d .given) stride out
   pub ready : r .ready ≡ n
+  pub meters : r .meters ≡ meetsAll unmet (d .meters)

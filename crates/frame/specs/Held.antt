@@ -27,7 +27,8 @@ pub record IsNext (r : Renderer Timed) (b₀ : List ℕ) (s : Renderer714) (b : 
   pub holds : IsHeld r s b
   pub small : smallBytes b ≡ smallBytes b₀
 
--- the rendering w and the block b₀ became w′ and b, which hold r; as many samples are in the output
+-- the rendering w and the block b₀ became w′ and b, which hold r; as many samples are in the output, with the same meters
 pub record Leads (r : Renderer Timed) (w : Rendering) (b₀ : List ℕ) (w′ : Rendering) (b : List ℕ) : Type 0 where
   pub next : IsNext r b₀ (w′ .renderer) b
   pub ready : w′ .ready ≡ w .ready
+  pub meters : w′ .meters ≡ w .meters

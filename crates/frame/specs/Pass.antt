@@ -7,6 +7,7 @@ use lib.Dec.{eqb}
 use lib.ListN.{length, take, drop}
 use lib.Ieee.{Float}
 use Rattle.timed.specs.State.{Timed}
+use Rattle.limiter.specs.Meters.{meetsAll}
 use Rattle.rules.specs.Parts.{laid}
 use Rattle.rules.specs.Mix.{Moment}
 use Rattle.rules.specs.Samples.{Frame, Renderer, moment, settled}
@@ -56,8 +57,9 @@ module _ (f : Frame Sent) (t k : ℕ) (s : Renderer714) (b : List ℕ) where
   abbrev pub settledAt : Renderer Timed
   settledAt = settled hall k (filterAfter momentHere (s .filter) t k) (λ c. rowRun momentHere (s .filter) c t k) (held s b)
 
--- the rules' chunk: what is held after it, what is given out behind the samples that are ready, and how many are ready then
+-- the rules' chunk: what is held after it, what is given out behind the samples that are ready, how many are ready then, and with which meters
 pub record Passes (f : Frame Sent) (t k stride : ℕ) (w : Rendering) (state out : List ℕ) (r : Rendering) (state' out' : List ℕ) : Type 0 where
   pub next : IsNext (chunk hall f k t (held (w .renderer) state) .next) state (r .renderer) state'
   pub given : out' ≡ behind (w .ready) (chunk hall f k t (held (w .renderer) state) .given) stride out
   pub ready : r .ready ≡ readyAfter (w .ready) (r .renderer .pending)
+  pub meters : r .meters ≡ meetsAll (w .meters) (chunk hall f k t (held (w .renderer) state) .meters)

@@ -8,6 +8,7 @@ use lib.ListN.{length}
 use Rattle.words.specs.Words.{wordsAt}
 use Rattle.records.specs.Answers.{IsLayout}
 use Rattle.records.specs.declared.layout.Layout.{Layout}
+use Rattle.limiter.specs.Meters.{unmet, meetsAll}
 use Rattle.rules.specs.Refusals.{Args, clear}
 use Rattle.rules.specs.Samples.{After}
 use Rattle.rules.specs.Calls.{found}
@@ -43,3 +44,4 @@ pub record IsRendered (p : After hall) (stride : ℕ) (b₀ o : List ℕ) (r : R
   pub next : IsNext (p .next) b₀ (r .renderer) b
   pub given : o′ ≡ written (p .given) stride o
   pub ready : r .ready ≡ length (p .given 0)
+  pub meters : r .meters ≡ meetsAll unmet (p .meters)

@@ -36,7 +36,7 @@ fn starts_slot(started: bool, t: FrameOffset) -> bool
 impl Rendering {
     // With another timed state, and in a new slot where `new`.
     fn restate(mut self, state: MetadataRendererState, new: bool) -> Rendering
-        ensures { λ r. ⌜ r ≡ record { renderer = restated new (self .renderer) state; ready = self .ready } ⌝ }
+        ensures { λ r. ⌜ r ≡ record { renderer = restated new (self .renderer) state; ready = self .ready; meters = self .meters } ⌝ }
     {
         let next = self.renderer.with_state(state);
         self.renderer = next;

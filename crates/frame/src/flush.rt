@@ -4,6 +4,7 @@
 // The samples that wait, through the limiter into the output: a whole block of a frame, or the remainder.
 ghost use mathlib.Core.Path.{_≡_};
 ghost use Rattle.theorem.specs.Instance.{hall};
+ghost use Rattle.limiter.specs.Meters.{unmet};
 ghost use Rattle.rules.specs.Samples.{flushed};
 ghost use Rattle.frame.specs.Held.{held};
 ghost use Rattle.frame.specs.Give.{CanGive, Gave, IsDrained};
@@ -26,15 +27,17 @@ impl Rendering {
             4 * stride,
             4 * self.ready,
         );
-        let next = self.renderer.empty(after);
+        let next = self.renderer.empty(after.limiter);
         self.renderer = next;
         self.ready = self.ready + pending;
+        let meters = self.meters.meet(after.meters);
+        self.meters = meters;
         self
     }
 
     // Flush: the remainder as one shorter block.
     pub fn drain(self, state: &[u8], out: &mut [u8], stride: usize) -> Rendering
-        requires { ⌜ CanGive self (now state) (now out) stride × (self .ready ≡ 0) ⌝ }
+        requires { ⌜ CanGive self (now state) (now out) stride × (self .ready ≡ 0) × (self .meters ≡ unmet) ⌝ }
         ensures { λ r. ⌜ IsDrained (flushed hall (held (self .renderer) (now (state .entry)))) (self .renderer .pending) stride (now (state .entry)) (now (out .entry)) r (now (out .exit)) ⌝ }
     {
         self.give(state, out, stride)

@@ -1,5 +1,7 @@
 // A frame that no refusal turned away, in runs of at most 64 samples; and flush.
 ghost use mathlib.Core.Path.{_≡_};
+ghost use Rattle.limiter.specs.Meters.{unmet};
+use limiter::meters::Meters;
 use store::renderer::Renderer714;
 
 mod begin;
@@ -7,17 +9,23 @@ mod chunk;
 mod flush;
 mod push;
 
-// A renderer at work: its value, and how many samples of each channel are in the output. Infos and the samples that wait stay in the lent block.
+// A renderer at work: its value, how many samples of each channel are in the output, and what the limiter met in them. Infos and the samples that wait stay in the
+// lent block.
 pub struct Rendering {
     pub renderer: Renderer714,
     pub ready: usize,
+    pub meters: Meters,
 }
 
 impl Rendering {
     // Nothing is in the output yet.
     pub fn of(renderer: Renderer714) -> Rendering
-        ensures { λ r. ⌜ r ≡ record { renderer = renderer; ready = 0 } ⌝ }
+        ensures { λ r. ⌜ r ≡ record { renderer = renderer; ready = 0; meters = unmet } ⌝ }
     {
-        Rendering { renderer, ready: 0 }
+        Rendering {
+            renderer,
+            ready: 0,
+            meters: Meters::unmet(),
+        }
     }
 }

@@ -8,7 +8,7 @@ use lib.ListN.{length}
 use Rattle.rules.specs.Refusals.{Args, Found, clear, stop, room}
 use Rattle.rules.specs.Samples.{pushed, flushed}
 use Rattle.rules.specs.Calls as rules
-use Rattle.rules.specs.Calls.{Call, push, flush, reset, refused, rendered, nothing, cleared, Result, frameOf, found, asked, drained, step}
+use Rattle.rules.specs.Calls.{Call, push, flush, reset, refused, rendered, nothing, cleared, Result, frameOf, found, answered, asked, drained, step}
 use Rattle.rules.specs.Block.{Outcome, outOf, strideOf, written, left, takes, made}
 use Rattle.rules.proofs.Unused.{numberOf, never-seven}
 use Rattle.store.specs.Layout.{size, decode, encode, freshRenderer}
@@ -46,7 +46,7 @@ refused-push a b r (stop k x y) v e n h = leaves-as (stopped a b k x y v (sym e)
 
 pub accepted : (a : Args) (b : List ℕ) → valid b ≡ true → found hall (decode b) a ≡ clear → made hall block (push a) b ≡
     record {
-      answer = rendered (pushed hall (frameOf hall a) (decode b) .given);
+      answer = answered hall (pushed hall (frameOf hall a) (decode b));
       state = encode (pushed hall (frameOf hall a) (decode b) .next);
       out = written (pushed hall (frameOf hall a) (decode b) .given) (a .stride) (a .out);
     }
@@ -66,7 +66,7 @@ module _ (out : List ℕ) (stride : ℕ) (b : List ℕ) (v : valid b ≡ true) w
 
   pub flushes : room stride (length out) ≡ true → eqb (decode b .pending .count) 0 ≡ false → made hall block (flush out stride) b ≡
       record {
-        answer = rendered (flushed hall (decode b) .given);
+        answer = answered hall (flushed hall (decode b));
         state = encode (flushed hall (decode b) .next);
         out = written (flushed hall (decode b) .given) stride out;
       }
@@ -81,7 +81,7 @@ resets b e = taken reset b _ e refl
 
 number-told : (x : rules.Answer) → codeOf x .number ≡ numberOf x
 number-told (refused n a b) = refl
-number-told (rendered given) = refl
+number-told (rendered given m) = refl
 number-told nothing = refl
 number-told cleared = refl
 

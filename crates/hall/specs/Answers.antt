@@ -4,6 +4,8 @@ use mathlib.Core.Path.{_≡_}
 use mathlib.Core.Bool.{true}
 use mathlib.Core.List.{List}
 use lib.ListN.{length}
+use Rattle.limiter.specs.Limiter.{0·0, 1·0}
+use Rattle.limiter.specs.declared.meters.Meters.{Meters}
 use Rattle.rules.specs.Refusals.{Args, Found, clear, stop, room}
 use Rattle.rules.specs.Calls as rules
 use Rattle.rules.specs.Calls.{refused, rendered, nothing, cleared, found}
@@ -18,20 +20,24 @@ use Rattle.store.specs.Ranges.{valid}
 use Rattle.theorem.specs.Instance.{hall}
 use Rattle.hall.specs.declared.answer.Answer.{Answer}
 
--- "`ready N`": so many samples given out on each channel
-abbrev pub readyOf : ℕ → Answer
-readyOf n = record { kind = 0; number = 0; first = 0; second = 0; ready = n }
+-- "`ready N`": so many samples given out on each channel; R-2: "the greatest peak and the least gain of the call"
+abbrev pub readyOf : ℕ → Meters → Answer
+readyOf n m = record { kind = 0; number = 0; first = 0; second = 0; ready = n; peak = m .peak; gain = m .gain }
+
+-- an answer that gives nothing out: its meters "are 0 and 1"
+abbrev pub bare : ℕ → ℕ → ℕ → ℕ → Answer
+bare kind n a b = record { kind = kind; number = n; first = a; second = b; ready = 0; peak = 0·0; gain = 1·0 }
 
 -- "A refusal gives its number and two counts"
 abbrev pub codeOf : rules.Answer → Answer
-codeOf (rendered given) = readyOf (length (given 0))
-codeOf (refused n a b) = record { kind = 1; number = n; first = a; second = b; ready = 0 }
-codeOf nothing = record { kind = 2; number = 0; first = 0; second = 0; ready = 0 }
-codeOf cleared = record { kind = 3; number = 0; first = 0; second = 0; ready = 0 }
+codeOf (rendered given m) = readyOf (length (given 0)) m
+codeOf (refused n a b) = bare 1 n a b
+codeOf nothing = bare 2 0 0 0
+codeOf cleared = bare 3 0 0 0
 
 -- the interface's number: it steps with every change of the block's layout or of a signature
 abbrev pub version : ℕ
-version = 1
+version = 2
 
 -- what stopped a push, as an answer; nothing stops with 0
 abbrev pub codeOfFound : Found → Answer

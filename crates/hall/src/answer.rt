@@ -2,10 +2,12 @@
 ghost use mathlib.Core.Path.{_≡_};
 ghost use Rattle.rules.specs.Calls.{refused, nothing, cleared};
 ghost use Rattle.refusals.specs.Found.{foundOf};
-ghost use Rattle.hall.specs.Answers.{readyOf, codeOf, codeOfFound};
+ghost use Rattle.hall.specs.Answers.{readyOf, bare, codeOf, codeOfFound};
+use limiter::meters::Meters;
 use refusals::Refusal;
 
-// kind 0: rendered, with `ready` samples a channel; 1: refused, with document 01's number and two counts; 2: a flush with nothing pending; 3: reset.
+// kind 0: rendered, with `ready` samples a channel; 1: refused, with document 01's number and two counts; 2: a flush with nothing pending; 3: reset. `peak` and `gain` are
+// the meters of what was given out, 0 and 1 where nothing was.
 #[repr(C)]
 pub struct Answer {
     pub kind: u32,
@@ -13,18 +15,29 @@ pub struct Answer {
     pub first: u32,
     pub second: u32,
     pub ready: usize,
+    pub peak: f32,
+    pub gain: f32,
+}
+
+// An answer that gives nothing out.
+fn bare(kind: u32, number: u32, first: u32, second: u32) -> Answer
+    ensures { λ r. ⌜ r ≡ bare kind number first second ⌝ }
+{
+    Answer {
+        kind,
+        number,
+        first,
+        second,
+        ready: 0,
+        peak: 0.0,
+        gain: 1.0,
+    }
 }
 
 fn stopped(number: u32, first: u32, second: u32) -> Answer
     ensures { λ r. ⌜ r ≡ codeOf (refused number first second) ⌝ }
 {
-    Answer {
-        kind: 1,
-        number,
-        first,
-        second,
-        ready: 0,
-    }
+    bare(1, number, first, second)
 }
 
 pub fn refusal(found: Refusal) -> Answer
@@ -48,9 +61,9 @@ pub fn refusal(found: Refusal) -> Answer
     }
 }
 
-// So many samples on each channel.
-pub fn ready(samples: usize) -> Answer
-    ensures { λ r. ⌜ r ≡ readyOf samples ⌝ }
+// So many samples on each channel, from blocks with these meters.
+pub fn ready(samples: usize, meters: Meters) -> Answer
+    ensures { λ r. ⌜ r ≡ readyOf samples meters ⌝ }
 {
     Answer {
         kind: 0,
@@ -58,29 +71,19 @@ pub fn ready(samples: usize) -> Answer
         first: 0,
         second: 0,
         ready: samples,
+        peak: meters.peak,
+        gain: meters.gain,
     }
 }
 
 pub fn none() -> Answer
     ensures { λ r. ⌜ r ≡ codeOf nothing ⌝ }
 {
-    Answer {
-        kind: 2,
-        number: 0,
-        first: 0,
-        second: 0,
-        ready: 0,
-    }
+    bare(2, 0, 0, 0)
 }
 
 pub fn fresh() -> Answer
     ensures { λ r. ⌜ r ≡ codeOf cleared ⌝ }
 {
-    Answer {
-        kind: 3,
-        number: 0,
-        first: 0,
-        second: 0,
-        ready: 0,
-    }
+    bare(3, 0, 0, 0)
 }

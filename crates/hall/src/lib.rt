@@ -14,7 +14,7 @@ use refusals::Refusal;
 pub mod answer;
 mod work;
 
-const VERSION: u32 = 1;
+const VERSION: u32 = 2;
 
 // Renders a frame: beds (one code each), then objects, `samples` of each channel in `pcm`. What is ready goes to `out`, channel c from place c x `stride` on.
 #[no_mangle]

@@ -29,7 +29,7 @@ pub fn render(
     let done = work.render(state, pcm, meta, out, codes, l, n);
     let next = done.renderer;
     store::write::save(state, next);
-    answer::ready(done.ready)
+    answer::ready(done.ready, done.meters.shown())
 }
 
 // A flush with samples waiting.
@@ -38,8 +38,8 @@ pub fn drain(s: Renderer714, state: &mut [u8], out: &mut [u8], stride: u32) -> A
     ensures { λ r. ⌜ Left (made hall block (flush (now (out .entry)) stride) (now (state .entry))) r (now (state .exit)) (now (out .exit)) ⌝ }
 {
     let work = Rendering::of(s);
-    let done = work.drain(state, out, stride as usize);
-    let next = done.renderer;
+    let last = work.drain(state, out, stride as usize);
+    let next = last.renderer;
     store::write::save(state, next);
-    answer::ready(done.ready)
+    answer::ready(last.ready, last.meters.shown())
 }

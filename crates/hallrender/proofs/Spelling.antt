@@ -98,7 +98,7 @@ said {before} {s} {text} {n} h p =
 
 pub code-text : (a : rules.Answer) (out : List ℕ) → textOfCode (codeOf a) out ≡ textOf a out
 unfolding textOfCode
-code-text (rendered given) out = refl
+code-text (rendered given m) out = refl
 code-text (refused n a b) out = refl
 code-text nothing out = refl
 code-text cleared out = refl

@@ -41,7 +41,7 @@ refusedText k a b = ascii "refused " ++ (decimal k ++ (ascii " " ++ (decimal a +
 
 -- what is printed of an answer of the rules, where the call left `out`
 abbrev pub textOf : rules.Answer → List ℕ → List ℕ
-textOf (rendered given) out = readyText (length (given 0)) out
+textOf (rendered given m) out = readyText (length (given 0)) out
 textOf (refused n a b) out = refusedText n a b
 textOf nothing out = ascii "none\n"
 textOf cleared out = ascii "reset\n"

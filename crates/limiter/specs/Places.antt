@@ -8,6 +8,8 @@ use lib.Ieee.{Float}
 use Rattle.formats.specs.Areas.{rowCount, rowPlaces, rowBytes, placesBytes}
 pub use Rattle.words.specs.Words.{floatsAt, withFloats}
 use Rattle.limiter.specs.Limiter.{blockGain, scaledBlock, grown}
+use Rattle.limiter.specs.Meters.{blockMeters}
+use Rattle.limiter.specs.declared.Limited.{Limited}
 
 -- ---- as floats: a row of places for each channel, of which the first n are used
 
@@ -42,7 +44,8 @@ pub record Room (places : List ℕ) (n rate : ℕ) (out : List ℕ) (step to : �
   pub channel : to + 4 * n ≤ step
   pub output : rowCount * step ≤ length out
 
--- what it gives, for a block of n samples at a rate: from the gain g, the places and the output to the gain h and the output
-pub record Given (g : Float) (n rate : ℕ) (places : List ℕ) (step at : ℕ) (out : List ℕ) (h : Float) (out' : List ℕ) : Type 0 where
-  pub gain : h ≡ grown n rate (blockGain g (channelsAt rowCount n places 0))
+-- what it gives, for a block of n samples at a rate: from the gain g, the places and the output to the limiter after the block, the block's meters and the output
+pub record Given (g : Float) (n rate : ℕ) (places : List ℕ) (step at : ℕ) (out : List ℕ) (r : Limited) (out' : List ℕ) : Type 0 where
+  pub gain : r .limiter .gain ≡ grown n rate (blockGain g (channelsAt rowCount n places 0))
+  pub meters : r .meters ≡ blockMeters g (channelsAt rowCount n places 0)
   pub samples : out' ≡ withChannels (scaledBlock (blockGain g (channelsAt rowCount n places 0)) (channelsAt rowCount n places 0)) step at out

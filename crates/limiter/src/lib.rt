@@ -15,9 +15,16 @@ ghost use Rattle.limiter.specs.Limiter.{0·0, 1·0, peakFrom, peak, lowe
 ghost use Rattle.limiter.specs.Limiter.{blockPeak};
 ghost use Rattle.limiter.specs.Places.{channels, Room, Given};
 use formats::areas;
+use meters::Meters;
 
 pub struct Limiter {
     pub gain: f32,
+}
+
+// The limiter after a block, and what it met there.
+pub struct Limited {
+    pub limiter: Limiter,
+    pub meters: Meters,
 }
 
 // The maximum of a level and the size of a sample: a maximum instruction, since a level is no NaN.
@@ -97,6 +104,16 @@ impl Limiter {
         self
     }
 
+    // What is shown of a block of this peak that this limiter scales.
+    pub fn meters(self, peak: f32) -> Meters
+        ensures { λ r. ⌜ (r .peak ≡ peak) × (r .gain ≡ self .gain) ⌝ }
+    {
+        Meters {
+            peak,
+            gain: self.gain,
+        }
+    }
+
     // The limiter after a block of this length.
     pub fn grow(self, samples: u32, rate: u32) -> Self
         requires { ⌜ (samples ≤ 16777216) × (rate ≤ 16777216) ⌝ }
@@ -119,14 +136,19 @@ impl Limiter {
         out: &mut [u8],
         step: usize,
         to: usize,
-    ) -> Self
+    ) -> Limited
         requires { ⌜ Room (now places) samples rate (now out) step to ⌝ }
-        ensures { λ r. ⌜ Given (self .gain) samples rate (now (places .entry)) step to (now (out .entry)) (r .gain) (now (out .exit)) ⌝ }
+        ensures { λ r. ⌜ Given (self .gain) samples rate (now (places .entry)) step to (now (out .entry)) r (now (out .exit)) ⌝ }
     {
         let mut block = [0.0f32; areas::PLACE_COUNT];
         places::load_block(places, samples, &mut block);
-        let scaling = self.lower(block_peak(&block, samples));
+        let peak = block_peak(&block, samples);
+        let scaling = self.lower(peak);
         places::store_block(&block, samples, scaling.gain, out, step, to);
-        scaling.grow(samples as u32, rate)
+        let next = scaling.grow(samples as u32, rate);
+        Limited {
+            limiter: next,
+            meters: scaling.meters(peak),
+        }
     }
 }

@@ -10,6 +10,9 @@ use lib.Ieee.{Float, fin}
 use Rattle.angles.specs.declared.Turn.{Turn}
 use Rattle.angles.specs.declared.filter.Coefficients.{Coefficients}
 use Rattle.clock.specs.Start.{frameStart}
+use Rattle.limiter.specs.Meters.{blockMeters}
+use Rattle.limiter.specs.Places.{channelsAt}
+use Rattle.limiter.specs.declared.Limited.{Limited}
 use Rattle.fields.specs.declared.block.Block.{Block}
 use Rattle.fields.specs.declared.object.Info.{Info}
 use Rattle.fields.specs.declared.update.Header.{Header}
@@ -26,6 +29,10 @@ hasRecord m r = ltb r (length m / 40)
 abbrev pub hasRoom : List ℕ → ℕ → ℕ → List ℕ → ℕ → ℕ → Bool
 hasRoom places n rate out step to =
     eqb (length places) 3072 && leb n 64 && leb rate 16777216 && leb (12 * step) (length out) && leb (to + 4 * n) step
+
+-- the limiter with the next gain h, and the meters of the block of n samples that met g, which the probe does not answer
+abbrev pub withGain : Float → Float → ℕ → List ℕ → Limited
+withGain h g n places = record { limiter = record { gain = h }; meters = blockMeters g (channelsAt 12 n places 0) }
 
 -- ---- zeros
 

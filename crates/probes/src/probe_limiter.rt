@@ -6,7 +6,7 @@ ghost use lib.Dec.{eqb};
 ghost use lib.ListN.{length};
 ghost use Rattle.limiter.specs.Limiter.{peak, scaled};
 ghost use Rattle.limiter.specs.Places.{withFloats, Given};
-ghost use Rattle.probes.specs.Taken.{hasRoom};
+ghost use Rattle.probes.specs.Taken.{hasRoom, withGain};
 
 #[no_mangle]
 pub extern "C" fn probe_max_abs_slice(samples: &[f32]) -> f32
@@ -38,7 +38,7 @@ pub extern "C" fn probe_apply_output_limiter_block(
     step: usize,
     to: usize,
 ) -> f32
-    ensures { λ r. ⌜ cond (hasRoom (now (places .entry)) samples rate (now (out .entry)) step to) (Given gain samples rate (now (places .entry)) step to (now (out .entry)) r (now (out .exit))) ((r ≡ gain) × (now (out .exit) ≡ now (out .entry))) ⌝ }
+    ensures { λ r. ⌜ cond (hasRoom (now (places .entry)) samples rate (now (out .entry)) step to) (Given gain samples rate (now (places .entry)) step to (now (out .entry)) (withGain r gain samples (now (places .entry))) (now (out .exit))) ((r ≡ gain) × (now (out .exit) ≡ now (out .entry))) ⌝ }
 {
     if places.len() != 3072 {
         return gain;
@@ -58,6 +58,6 @@ pub extern "C" fn probe_apply_output_limiter_block(
     if 4 * samples > step - to {
         return gain;
     }
-    let next = Limiter { gain }.apply_output_limiter_block(places, samples, rate, out, step, to);
-    next.gain
+    let done = Limiter { gain }.apply_output_limiter_block(places, samples, rate, out, step, to);
+    done.limiter.gain
 }

@@ -19,7 +19,7 @@ use Rattle.rules.specs.Mix.{addsOf, objectTerms, sampleAt, Moment}
 use Rattle.rules.specs.Samples as rules
 use Rattle.rules.specs.Samples.{Frame, State, After, opened, updated, slotted, sampled, moment, closing}
 use Rattle.rules.specs.Refusals.{Args, Found, clear, stop}
-use Rattle.rules.specs.Calls.{Call, push, flush, reset, Answer, refused, rendered, nothing, cleared, Result, frameOf, found, step}
+use Rattle.rules.specs.Calls.{Call, push, flush, reset, Answer, refused, rendered, nothing, cleared, Result, frameOf, found, answered, step}
 use Rattle.rules.specs.Block.{written, outOf, strideOf}
 use Rattle.theorem.specs.Instance.{hall, Sent}
 use Rattle.rows.specs.Rows.{Said, refusal, ready, none, renewed, samplesOn, Row, startingAt, calls}
@@ -47,7 +47,7 @@ settled r = withPlaces (memo 12 [] (r .pending .places)) r
 
 -- one part and then the other
 abbrev pub both : After hall → After hall → After hall
-both a d = record { next = d .next; given = joined (a .given) (d .given); moments = a .moments ++ d .moments }
+both a d = record { next = d .next; given = joined (a .given) (d .given); meters = a .meters ++ d .meters; moments = a .moments ++ d .moments }
 
 abbrev pub Run : Type 0
 Run = Frame Sent → State hall → After hall
@@ -55,7 +55,7 @@ Run = Frame Sent → State hall → After hall
 -- the rules' `framed` and `pushed`
 unfoldable pub samples : Frame Sent → ℕ → ℕ → State hall → After hall
 unfolding settled
-samples f zero t r = record { next = r; given = silent; moments = [] }
+samples f zero t r = record { next = r; given = silent; meters = []; moments = [] }
 samples f (suc n) t r = let a = sampled hall f t r in both a (samples f n (suc t) (settled (a .next)))
 
 unfoldable pub plain : Run
@@ -130,7 +130,7 @@ begins f t r = sentFor t (f .updates) || (started hall (r .meta) && eqb (r .cloc
 -- the rules' `framed` and `pushed`; k is the mixer of r
 unfoldable pub mixes : Frame Sent → ℕ → ℕ → State hall → (ℕ → List Feed) → After hall
 unfolding settled mixer mixed passing begins
-mixes f zero t r k = record { next = r; given = silent; moments = [] }
+mixes f zero t r k = record { next = r; given = silent; meters = []; moments = [] }
 mixes f (suc n) t r k =
     let s = slotted hall (updated hall t (f .updates) r) in
     let l : ℕ → List Feed = elim (begins f t r) [ true ↦ mixer f (s .meta) | false ↦ k ] in
@@ -184,7 +184,7 @@ read g stride out = let h = memo 12 [] g in reading h (memo 12 [] (wordsOf h)) s
 
 unfoldable pub asked : Run → Found → Args → State hall → Result hall
 asked run (stop n a b) args r = record { answer = refused n a b; next = r; moments = [] }
-asked run clear args r = let d = run (frameOf hall args) r in record { answer = rendered (d .given); next = d .next; moments = d .moments }
+asked run clear args r = let d = run (frameOf hall args) r in record { answer = answered hall d; next = d .next; moments = d .moments }
 
 unfoldable pub stepped : Run → State hall → Call → Result hall
 unfolding asked
@@ -195,7 +195,7 @@ stepped run r reset = step hall r reset
 unfoldable pub saidOf : Answer → ℕ → List ℕ → Said
 unfolding read
 saidOf (refused n a b) stride out = refusal n a b
-saidOf (rendered g) stride out = ready (read g stride out)
+saidOf (rendered g m) stride out = ready (read g stride out)
 saidOf nothing stride out = none
 saidOf cleared stride out = renewed
 

@@ -247,7 +247,7 @@ said-is : (x : Answer) (s : State hall) (stride : ℕ) (out b : List ℕ)
     → saidOf x stride out ≡ said (left hall block x s out stride b .answer) stride (left hall block x s out stride b .out)
 unfolding saidOf
 said-is (refused n a b) s stride out b′ = refl
-said-is (rendered g) s stride out b = ap ready (read-is g stride out)
+said-is (rendered g m) s stride out b = ap ready (read-is g stride out)
 said-is nothing s stride out b = refl
 said-is cleared s stride out b = refl
 
@@ -255,7 +255,7 @@ module _ (run : Run) (is : (f : Frame Sent) (r : State hall) → run f r ≡ pus
   asked-is : (x : Found) (a : Args) (r : State hall) → asked run x a r ≡ rules.asked hall x a r
   unfolding asked
   asked-is (stop n x y) a r = refl
-  asked-is clear a r = ap (λ (d : After hall). record { answer = rendered (d .given); next = d .next; moments = d .moments }) (is (frameOf hall a) r)
+  asked-is clear a r = ap (λ (d : After hall). record { answer = rules.answered hall d; next = d .next; moments = d .moments }) (is (frameOf hall a) r)
 
   stepped-is : (r : State hall) (c : Call) → stepped run r c ≡ step hall r c
   unfolding stepped

@@ -34,7 +34,7 @@ samplesOn (suc n) i stride out = wordsOn 12 0 stride i out ∷ samplesOn n (suc 
 -- from an answer, the call's stride, and the output after the call
 abbrev pub said : Answer → ℕ → List ℕ → Said
 said (refused n a b) stride out = refusal n a b
-said (rendered g) stride out = ready (samplesOn (length (g 0)) 0 stride out)
+said (rendered g m) stride out = ready (samplesOn (length (g 0)) 0 stride out)
 said nothing stride out = none
 said cleared stride out = renewed
 

@@ -16,7 +16,7 @@ use Rattle.rules.proofs.Facts.{Facts, InRanges}
 -- what an answer says of the renderer after it
 abbrev Means : (L : Leaves) → Answer → State L → State L → Type 0
 Means L (refused k x y) s r = s ≡ r
-Means L (rendered v) s r = Unit {0}
+Means L (rendered v m) s r = Unit {0}
 Means L nothing s r = s ≡ r
 Means L cleared s r = s ≡ fresh L
 
@@ -39,7 +39,7 @@ module _ (L : Leaves) (B : Layout L) where
   -- ---- a refused call leaves the block as it was, byte for byte
   left-stays : (a : Answer) (s : State L) (out : List ℕ) (n : ℕ) (b : List ℕ) → T (isRefused (left L B a s out n b .answer)) → left L B a s out n b .state ≡ b
   left-stays (refused k x y) s out n b h = refl
-  left-stays (rendered g) s out n b h = absurd h
+  left-stays (rendered g m) s out n b h = absurd h
   left-stays nothing s out n b h = absurd h
   left-stays cleared s out n b h = absurd h
 
@@ -106,7 +106,7 @@ module _ (L : Leaves) (B : Layout L) where
 
     left-state : (a : Answer) (s r : State L) (out : List ℕ) (n : ℕ) → Means L a s r → left L B a s out n (B .encode r) .state ≡ B .encode s
     left-state (refused k x y) s r out n m = ap (B .encode) (sym m)
-    left-state (rendered v) s r out n m = refl
+    left-state (rendered v x) s r out n m = refl
     left-state nothing s r out n m = ap (B .encode) (sym m)
     left-state cleared s r out n m = ap (B .encode) (sym m)
 
@@ -116,6 +116,6 @@ module _ (L : Leaves) (B : Layout L) where
 
     pub same-seen : (a : Answer) (s : State L) (out : List ℕ) (n : ℕ) (b : List ℕ) → asSeen L B (left L B a s out n b) ≡ asSeen L B (left L B a s out n [])
     same-seen (refused k x y) s out n b = refl
-    same-seen (rendered v) s out n b = refl
+    same-seen (rendered v m) s out n b = refl
     same-seen nothing s out n b = refl
     same-seen cleared s out n b = refl

@@ -11,9 +11,11 @@ use lib.Seq.{take-append-le, drop-append-le}
 use lib.Ieee.{Float, binary32, fits, ofBits, toBits}
 use lib.Ieee.Bits.{ofBits-toBits}
 use Rattle.limiter.specs.Limiter.{scaled, blockGain, grown}
+use Rattle.limiter.specs.Meters.{blockMeters}
+use Rattle.limiter.specs.declared.meters.Meters.{Meters}
 use Rattle.rules.specs.Parts.{Channels, twelve}
-use Rattle.rules.specs.Samples.{limited, gainAfter}
-use Rattle.rules.specs.Sounds.{nthBlock, gainBefore, limitedBlocks}
+use Rattle.rules.specs.Samples.{limited, metered, gainAfter}
+use Rattle.rules.specs.Sounds.{nthBlock, gainBefore, limitedBlocks, blocksMetered}
 
 -- ---- the limiter looks at the twelve channels
 abbrev pub Same : Channels → Channels → Type 0
@@ -29,6 +31,9 @@ same-limited e h c l = λ i. scaled (blockGain (e i) (same-twelve h i)) (h c l i
 
 pub same-gain : {f g : Channels} {x y : Float} (n : ℕ) {p q : ℕ} → p ≡ q → x ≡ y → Same f g → gainAfter n p x f ≡ gainAfter n q y g
 same-gain n r e h = λ i. grown n (r i) (blockGain (e i) (same-twelve h i))
+
+pub same-metered : {f g : Channels} {x y : Float} → x ≡ y → Same f g → metered x f ≡ metered y g
+same-metered e h = λ i. blockMeters (e i) (same-twelve h i) ∷ []
 
 -- ---- samples g behind those of f change none of the n blocks that f has
 module _ (f g : Channels) where
@@ -51,6 +56,12 @@ module _ (f g : Channels) where
     blocks-behind (suc n) long c l =
         let fewer : (c : ℕ) → c < 12 → 64 * n ≤ length (f c) = λ c l. let w = long c l in omega arith in
         ap₂ (λ (u v : List Float). u ++ v) (blocks-behind n fewer c l) (same-limited (gain-behind n fewer) (block-behind n long) c l)
+
+    pub metered-behind : (n : ℕ) → ((c : ℕ) → c < 12 → 64 * n ≤ length (f c)) → blocksMetered rate x f n ≡ blocksMetered rate x behind n
+    metered-behind zero long = refl
+    metered-behind (suc n) long =
+        let fewer : (c : ℕ) → c < 12 → 64 * n ≤ length (f c) = λ c l. let w = long c l in omega arith in
+        ap₂ (λ (u v : List Meters). u ++ v) (metered-behind n fewer) (same-metered (gain-behind n fewer) (block-behind n long))
 
 -- ---- a sample behind the p that wait
 pub laid-behind : (p : ℕ) (ws : List ℕ) (x : Float) → p < length ws → T (fits binary32 x)

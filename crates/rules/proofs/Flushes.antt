@@ -25,6 +25,7 @@ module _ (L : Leaves) (B : Layout L) (F : Facts L B) (r : State L) (rest : Rest 
       record {
         none = λ h. (refl, refl);
         gives = λ h. absurd (omega arith);
+        within = λ h. absurd (omega arith);
         ready = λ h. absurd (omega arith);
         gain = λ h. absurd (omega arith);
         untouched = λ h. absurd (omega arith);
@@ -34,6 +35,7 @@ module _ (L : Leaves) (B : Layout L) (F : Facts L B) (r : State L) (rest : Rest 
       record {
         none = λ h. absurd (n h);
         gives = λ h. unfold flushed in refl;
+        within = λ h. unfold flushed in flushed-fine L B F r (waiting-good L B F r rest e) .within;
         ready = λ h. flushed-fine L B F r (waiting-good L B F r rest e) .length;
         gain = λ h. unfold flushed in refl;
         untouched = λ h. unfold flushed in record { pending = refl; rate = refl; clock = refl; filter = refl; meta = refl; places = refl };

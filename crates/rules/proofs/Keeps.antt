@@ -35,7 +35,7 @@ module _ (L : Leaves) (B : Layout L) (F : Facts L B) where
   -- ---- a block that was taken
   left-valid : (a : Answer) (s : State L) (out : List ℕ) (n : ℕ) (b : List ℕ) → B .valid b ≡ true → InRanges F s → B .valid (left L B a s out n b .state) ≡ true
   left-valid (refused k x y) s out n b v g = v
-  left-valid (rendered w) s out n b v g = F .valid s g
+  left-valid (rendered w m) s out n b v g = F .valid s g
   left-valid nothing s out n b v g = v
   left-valid cleared s out n b v g = F .valid (fresh L) (fresh-ranged L B F)
 

@@ -4,6 +4,7 @@ use mathlib.Core.Logic.{_⊎_, inl, inr}
 use mathlib.Core.Bool.{Bool, true, false, cond, _&&_}
 use mathlib.Core.List.{List, [], _∷_}
 use Prim.Native.Nat.{ℕ, suc, _+_, _*_, _≤_, _<_}
+use native.Mathlib.Nat.{le-of-eq, not-suc-le-zero}
 use native.Mathlib.Omega.{arith}
 use borrow.Author.Tests.{leb-true, eq-eqb}
 use lib.Dec.{eqb, leb, ltb, lit≤, lit<}
@@ -12,21 +13,25 @@ use lib.Ieee.{Float, binary32, toBits, ofBits}
 use lib.Ieee.Bits.{ofBits-toBits}
 use Rattle.ieee.specs.Units.{One, F32, Gain, Unitary}
 use Rattle.ieee.specs.Bounds.{Bounded, All}
-use Rattle.ieee.proofs.Value.{one-pos}
-use Rattle.ieee.proofs.Constants.{one-f32, one-P, zero-f32}
+use Rattle.ieee.proofs.Constants.{zero-f32}
 use Rattle.lowpass.specs.Lowpass.{output, next, new}
 use Rattle.lowpass.proofs.Calm.{Calm, calm-next, output-bounded}
 use Rattle.lowpass.proofs.Rates.{calm-listed}
 use Rattle.angles.specs.Angle.{Listed}
-use Rattle.rules.specs.Parts.{1·0, none, Places, floats, laid, zeros}
+use Rattle.limiter.specs.Range.{MetersInRange}
+use Rattle.limiter.specs.declared.meters.Meters.{Meters}
+use Rattle.limiter.proofs.Theorems.{one-gain}
+use Rattle.rules.specs.Parts.{none, Places, floats, laid, zeros}
 use Rattle.rules.specs.Leaves.{Leaves, started}
 use Rattle.rules.specs.Mix.{sampleAt, Moment, heard, fed}
-use Rattle.rules.specs.Samples.{Frame, State, fresh, limited, row, appliedAt, updated, slotted, moment, After, passed, opened}
+use Rattle.rules.specs.Samples.{Frame, State, fresh, limited, metered, row, appliedAt, updated, slotted, moment, After, passed, opened}
+use Rattle.rules.specs.Sounds.{AllMetered}
 use Rattle.rules.specs.Block.{Layout}
 use Rattle.rules.proofs.Lists.{either, all-laid, length-laid, all-same, all-map, length-map, zeros-long, few-left}
 use Rattle.rules.proofs.Facts.{Mixable, Facts}
 use Rattle.rules.proofs.Sums.{Most, most-range, Hearable, heard-bounded}
-use Rattle.rules.proofs.Limited.{limited-tame, gain-kept, length-limited}
+use Rattle.rules.proofs.Limited.{limited-tame, limited-metered, meters-kept, gain-kept, length-limited}
+use Rattle.rules.proofs.Metered.{one-metered}
 
 -- ---- words that hold finite samples
 abbrev pub Finite : ℕ → Type 0
@@ -38,9 +43,6 @@ stored x f = subst F32 (sym (ofBits-toBits binary32 x (f .fit))) f
 zero-finite : Finite 0
 unfolding ofBits
 zero-finite = zero-f32
-
-pub one-gain : Gain 1·0
-one-gain = record { f32 = one-f32; plus = refl; some = subst (λ (n : ℕ). 0 < n) (sym one-P) one-pos; most = omega (arith, one-P) }
 
 zeros-finite : (c : ℕ) → All Finite (zeros c)
 zeros-finite c = either (All Finite) (ltb c 12) (all-same Finite 64 0 zero-finite) tt
@@ -143,6 +145,9 @@ module _ (L : Leaves) (B : Layout L) (F : Facts L B) where
     pub next : Good (a .next)
     pub given : (c : ℕ) → c < 12 → All Unitary (a .given c)
     pub blocks : ℕ
+    pub count : length (a .meters) ≡ blocks
+    pub meters : All MetersInRange (a .meters)
+    pub within : AllMetered (a .meters) (a .given)
     pub length : (c : ℕ) → c < 12 → length (a .given c) ≡ 64 * blocks
     pub all : 64 * blocks + a .next .pending .count ≡ p + n
 
@@ -181,6 +186,9 @@ module _ (L : Leaves) (B : Layout L) (F : Facts L B) where
           };
         }
 
+    abbrev meters : List Meters
+    meters = metered (r .limiter .gain) (floats places)
+
     pub passed-fine : Fine (r .pending .count) 1 (passed L m r)
     passed-fine = go (leb 64 (r .pending .count + 1)) refl
       where
@@ -195,6 +203,11 @@ module _ (L : Leaves) (B : Layout L) (F : Facts L B) where
               blocks = 1;
               length = λ c l. ap (λ (b : Bool). length (cond b (limited (r .limiter .gain) (floats places)) none c)) e ∙ length-limited (r .limiter .gain) (floats places) c ∙ floats-long c l;
               all = ap (λ (b : Bool). 64 * 1 + cond b 0 (r .pending .count + 1)) e ∙ (omega arith);
+              count = ap (λ (b : Bool). length (cond b meters [])) e;
+              meters = subst (λ (b : Bool). All MetersInRange (cond b meters [])) (sym e) (meters-kept (floats places) floats-finite 64 (r .rate) (g .rate) (lit≤ tt) (r .limiter .gain) (g .steady .gain));
+              within = subst (λ (b : Bool). AllMetered (cond b meters []) (cond b (limited (r .limiter .gain) (floats places)) none)) (sym e)
+                  (one-metered (r .limiter .gain) (floats places) (λ c l. le-of-eq (length-limited (r .limiter .gain) (floats places) c ∙ floats-long c l))
+                  (limited-metered (floats places) floats-finite 64 (r .rate) (g .rate) (lit≤ tt) (r .limiter .gain) (g .steady .gain)));
             }
         go false e =
             record {
@@ -203,4 +216,7 @@ module _ (L : Leaves) (B : Layout L) (F : Facts L B) where
               blocks = 0;
               length = λ c l. ap (λ (b : Bool). length (cond b (limited (r .limiter .gain) (floats places)) none c)) e;
               all = ap (λ (b : Bool). 64 * 0 + cond b 0 (r .pending .count + 1)) e ∙ (omega arith);
+              count = ap (λ (b : Bool). length (cond b meters [])) e;
+              meters = subst (λ (b : Bool). All MetersInRange (cond b meters [])) (sym e) tt;
+              within = subst (λ (b : Bool). AllMetered (cond b meters []) (cond b (limited (r .limiter .gain) (floats places)) none)) (sym e) (λ c i l h. absurd (not-suc-le-zero h));
             }

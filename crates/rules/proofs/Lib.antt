@@ -4,6 +4,7 @@ pub mod Terms
 pub mod Sums
 pub mod Judged
 pub mod Limited
+pub mod Metered
 pub mod Blockwise
 pub mod Clock
 pub mod Kept

@@ -1,4 +1,4 @@
--- The limiter on the twelve channels: what it gives out is from -1 to 1, and its gain stays above 0 and at most 1. Assumes nothing.
+-- The limiter on the twelve channels: what it gives out is from -1 to 1 and no larger than its meters say, and its gain stays above 0 and at most 1. Assumes nothing.
 use mathlib.Core.Path.{_≡_}
 use Prim.Native.Nat.{ℕ, _≤_, _<_, zero-le}
 use native.Mathlib.Nat.{le-trans, lt-of-lt-of-le}
@@ -14,11 +14,12 @@ use Rattle.ieee.proofs.Ops.{neg-f32, neg-P, neg-N}
 use Rattle.ieee.proofs.Compare.{→le}
 use Rattle.beds.proofs.Range.{between}
 use Rattle.limiter.specs.Limiter.{scaled, scaledBlock, blockGain}
-use Rattle.limiter.specs.Range.{LimitedInRange}
+use Rattle.limiter.specs.Meters.{blockMeters}
+use Rattle.limiter.specs.Range.{Metered, MetersInRange, LimitedInRange}
 use Rattle.limiter.proofs.Theorems.{limiter-in-range, length-scaled}
 use Rattle.angles.specs.Angle.{Listed}
 use Rattle.rules.specs.Parts.{1·0, Tame, Channels, twelve}
-use Rattle.rules.specs.Samples.{limited, gainAfter}
+use Rattle.rules.specs.Samples.{limited, metered, gainAfter}
 use Rattle.rules.proofs.Judged.{rate-low, rate-high}
 
 -- the two ways of saying it
@@ -41,6 +42,13 @@ module _ (f : Channels) (h : (c : ℕ) → All F32 (f c)) where
     pub limited-tame : (c : ℕ) → c < 12 → All units.Unitary (limited g f c)
     unfolding scaledBlock
     limited-tame c q = between (λ c. All units.Unitary (scaled (blockGain g (twelve f)) (f c))) 0 12 (block .samples) c zero-le (omega arith)
+
+    pub limited-metered : (c : ℕ) → c < 12 → All (Metered (blockMeters g (twelve f))) (limited g f c)
+    unfolding scaledBlock
+    limited-metered c q = between (λ c. All (Metered (blockMeters g (twelve f))) (scaled (blockGain g (twelve f)) (f c))) 0 12 (block .metered) c zero-le (omega arith)
+
+    pub meters-kept : All MetersInRange (metered g f)
+    meters-kept = (block .meters, tt)
 
     pub gain-kept : Gain (gainAfter n rate g f)
     gain-kept = block .next

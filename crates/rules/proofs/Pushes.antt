@@ -161,6 +161,8 @@ module _ (L : Leaves) (B : Layout L) (F : Facts L B) (r : State L) (a : Args) (b
         rate = i .rate;
         gives = i .given;
         gain = i .gain;
+        meters = i .meters;
+        within = fine .within;
         rest = i .waits;
         moments = count;
         samples = at-sample hush;

@@ -13,13 +13,14 @@ use lib.Ieee.{Float, binary32, fits, toBits, ofBits}
 use Rattle.lowpass.specs.Lowpass.{output, next}
 use Rattle.lowpass.proofs.Calm.{output-bounded}
 use Rattle.lowpass.specs.declared.BiquadLowpassState.{BiquadLowpassState}
+use Rattle.limiter.specs.declared.meters.Meters.{Meters}
 use Rattle.rules.specs.Parts.{Channels, none, floats, laid}
 use Rattle.rules.specs.Leaves.{Leaves}
 use Rattle.rules.specs.Mix.{Moment, heard, fed}
-use Rattle.rules.specs.Samples.{Frame, State, limited, gainAfter, row, updated, slotted, After, passed, sampled, framed, opened, waiting, pushed}
+use Rattle.rules.specs.Samples.{Frame, State, limited, metered, gainAfter, row, updated, slotted, After, passed, sampled, framed, opened, waiting, pushed}
 use Rattle.rules.specs.Refusals.{Args}
 use Rattle.rules.specs.Calls.{frameOf}
-use Rattle.rules.specs.Sounds.{nthBlock, gainBefore, limitedBlocks, before, met, momentAt, soundAt, sounds}
+use Rattle.rules.specs.Sounds.{nthBlock, gainBefore, limitedBlocks, blocksMetered, before, met, momentAt, soundAt, sounds}
 use Rattle.rules.specs.Block.{Layout}
 use Rattle.rules.proofs.Lists.{length-map, either}
 use Rattle.rules.proofs.Facts.{Facts}
@@ -27,8 +28,8 @@ use Rattle.rules.proofs.Sums.{most-range, Hearable, heard-bounded}
 use Rattle.rules.proofs.Clock.{untouched}
 use Rattle.rules.proofs.Kept.{Good, Admitted, before-good, moment-hearable}
 use Rattle.rules.proofs.Frames.{framed-fine}
-use Rattle.rules.proofs.Moments.{momentOf, next-at, given-at, moment-at}
-use Rattle.rules.proofs.Blockwise.{Same, same-limited, same-gain, behind, gain-behind, blocks-behind, laid-behind}
+use Rattle.rules.proofs.Moments.{momentOf, next-at, given-at, meters-at, moment-at}
+use Rattle.rules.proofs.Blockwise.{Same, same-limited, same-gain, same-metered, behind, gain-behind, blocks-behind, metered-behind, laid-behind}
 
 -- ---- a row is one sample
 abbrev sound : Moment → BiquadLowpassState → ℕ → Float
@@ -102,6 +103,9 @@ module _ (L : Leaves) where
     given-is : (t c : ℕ) → t < a .samples → framed L f (suc t) 0 start .given c ≡ framed L f t 0 start .given c ++ more t .given c
     given-is t c h = given-at L f start t c ∙ ap (λ (x : After L). framed L f t 0 start .given c ++ x .given c) (sampled-is t h)
 
+    meters-are : (t : ℕ) → t < a .samples → framed L f (suc t) 0 start .meters ≡ framed L f t 0 start .meters ++ more t .meters
+    meters-are t h = meters-at L f start t ∙ ap (λ (x : After L). framed L f t 0 start .meters ++ x .meters) (sampled-is t h)
+
     -- ---- the sample that is laid
     sound-fits : (t c : ℕ) → t < a .samples → T (fits binary32 (soundAt L r a c t))
     sound-fits t c h =
@@ -137,6 +141,7 @@ module _ (L : Leaves) where
       pub long : (c : ℕ) → c < 12 → length (met-by t c) ≡ r .pending .count + t
       pub gain : s t .limiter .gain ≡ gainBefore (a .rate) (r .limiter .gain) (met-by t) (blocks t)
       pub given : Same (framed L f t 0 start .given) (limitedBlocks (a .rate) (r .limiter .gain) (met-by t) (blocks t))
+      pub meters : framed L f t 0 start .meters ≡ blocksMetered (a .rate) (r .limiter .gain) (met-by t) (blocks t)
       pub waits : Same (waiting L (s t)) (λ c. drop (64 * blocks t) (met-by t c))
 
     module _ (t : ℕ) (h : t < a .samples) (i : Line t) where
@@ -169,6 +174,12 @@ module _ (L : Leaves) where
       given-stays c l =
           i .given c l ∙ blocks-behind (met-by t) one (a .rate) (r .limiter .gain) (blocks t) enough c l ∙ ap (λ (x : Channels). limitedBlocks (a .rate) (r .limiter .gain) x (blocks t) c) grows
 
+      meters-stay : framed L f t 0 start .meters ≡ blocksMetered (a .rate) (r .limiter .gain) (met-by (suc t)) (blocks t)
+      meters-stay =
+          i .meters
+          ∙ metered-behind (met-by t) one (a .rate) (r .limiter .gain) (blocks t) enough
+          ∙ ap (λ (x : Channels). blocksMetered (a .rate) (r .limiter .gain) x (blocks t)) grows
+
       -- the samples from the last whole block on
       open-block : Same (λ c. take (p + 1) (floats (more t .next .pending .places) c)) (λ c. drop (64 * blocks t) (met-by (suc t) c))
       open-block c l =
@@ -182,6 +193,9 @@ module _ (L : Leaves) where
 
       given-by : (b : Bool) → leb 64 (p + 1) ≡ b → (c : ℕ) → framed L f (suc t) 0 start .given c ≡ framed L f t 0 start .given c ++ cond b (limited (s t .limiter .gain) block) none c
       given-by b e c = given-is t c h ∙ ap (λ (b : Bool). framed L f t 0 start .given c ++ cond b (limited (s t .limiter .gain) block) none c) e
+
+      meters-by : (b : Bool) → leb 64 (p + 1) ≡ b → framed L f (suc t) 0 start .meters ≡ framed L f t 0 start .meters ++ cond b (metered (s t .limiter .gain) block) []
+      meters-by b e = meters-are t h ∙ ap (λ (b : Bool). framed L f t 0 start .meters ++ cond b (metered (s t .limiter .gain) block) []) e
 
       waiting-by : (b : Bool) → leb 64 (p + 1) ≡ b → (c : ℕ) → waiting L (s (suc t)) c ≡ take (cond b 0 (p + 1)) (block c)
       waiting-by b e c = ap (λ (x : State L). waiting L x c) (next-is t h) ∙ ap (λ (b : Bool). take (cond b 0 (p + 1)) (block c)) e
@@ -207,6 +221,7 @@ module _ (L : Leaves) where
             long = long-next;
             gain = gain-by false e ∙ gain-stays ∙ ap (gainBefore (a .rate) (r .limiter .gain) (met-by (suc t))) same;
             given = λ c l. given-by false e c ∙ append-nil (framed L f t 0 start .given c) ∙ given-stays c l ∙ ap (λ (k : ℕ). limitedBlocks (a .rate) (r .limiter .gain) (met-by (suc t)) k c) same;
+            meters = meters-by false e ∙ append-nil (framed L f t 0 start .meters) ∙ meters-stay ∙ ap (blocksMetered (a .rate) (r .limiter .gain) (met-by (suc t))) same;
             waits = λ c l. waiting-by false e c ∙ open-block c l ∙ ap (λ (k : ℕ). drop (64 * k) (met-by (suc t) c)) same;
           }
 
@@ -233,6 +248,10 @@ module _ (L : Leaves) where
                 given-by true e c
                 ∙ ap₂ (λ (u v : List Float). u ++ v) (given-stays c l) (same-limited gain-stays (is-block v) c l)
                 ∙ ap (λ (k : ℕ). limitedBlocks (a .rate) (r .limiter .gain) (met-by (suc t)) k c) one-more;
+            meters =
+                meters-by true e
+                ∙ ap₂ (λ (u v : List Meters). u ++ v) meters-stay (same-metered gain-stays (is-block v))
+                ∙ ap (blocksMetered (a .rate) (r .limiter .gain) (met-by (suc t))) one-more;
             waits = λ c l. let z = long-next c l in waiting-by true e c ∙ sym (drop-of-length-le (met-by (suc t) c) {i = 64 * blocks (suc t)} (omega arith));
           }
 
@@ -248,6 +267,7 @@ module _ (L : Leaves) where
           long = λ c l. let e = long-at 0 c zero-le l in length-append (waiting L r c) [] ∙ (omega (arith, length-take-le (r .pending .count) (floats (r .pending .places) c) (le-trans (le-of-lt few) (le-of-eq (sym (length-map (ofBits binary32) (r .pending .places c) ∙ e))))));
           gain = ap (gainBefore (a .rate) (r .limiter .gain) (met-by 0)) (sym none-yet);
           given = λ c l. ap (λ (k : ℕ). limitedBlocks (a .rate) (r .limiter .gain) (met-by 0) k c) (sym none-yet);
+          meters = ap (blocksMetered (a .rate) (r .limiter .gain) (met-by 0)) (sym none-yet);
           waits = λ c l. sym (append-nil (waiting L r c)) ∙ ap (λ (k : ℕ). drop (64 * k) (met-by 0 c)) (sym none-yet);
         }
 

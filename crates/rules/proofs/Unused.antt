@@ -94,7 +94,7 @@ module _ (L : Leaves) where
 -- the number of a refusal, 0 of any other answer
 abbrev pub numberOf : Answer → ℕ
 numberOf (refused n a b) = n
-numberOf (rendered rs) = 0
+numberOf (rendered rs m) = 0
 numberOf nothing = 0
 numberOf cleared = 0
 
@@ -115,7 +115,7 @@ module _ (L : Leaves) (B : Layout L) where
 
   as-answered : (x : Answer) (s : State L) (out : List ℕ) (stride : ℕ) (b : List ℕ) → left L B x s out stride b .answer ≡ x
   as-answered (refused n x y) s out stride b = refl
-  as-answered (rendered rs) s out stride b = refl
+  as-answered (rendered rs m) s out stride b = refl
   as-answered nothing s out stride b = refl
   as-answered cleared s out stride b = refl
 

@@ -46,7 +46,7 @@ module _ (L : Leaves) (B : Layout L) where
   -- only an answer with samples, and a reset, change the block
   abbrev pub left : Answer → State L → List ℕ → ℕ → List ℕ → Outcome
   left (refused n x y) s out stride b = record { answer = refused n x y; state = b; out = out }
-  left (rendered g) s out stride b = record { answer = rendered g; state = B .encode s; out = written g stride out }
+  left (rendered g m) s out stride b = record { answer = rendered g m; state = B .encode s; out = written g stride out }
   left nothing s out stride b = record { answer = nothing; state = b; out = out }
   left cleared s out stride b = record { answer = cleared; state = B .encode (fresh L); out = out }
 

@@ -4,10 +4,12 @@ use mathlib.Core.Bool.{Bool, true, false, cond}
 use mathlib.Core.List.{List, [], _∷_, map}
 use lib.Dec.{eqb}
 use lib.ListN.{length}
+use Rattle.limiter.specs.Meters.{callMeters, idleMeters}
+use Rattle.limiter.specs.declared.meters.Meters.{Meters}
 use Rattle.rules.specs.Parts.{Channels, none}
 use Rattle.rules.specs.Leaves.{Leaves}
 use Rattle.rules.specs.Mix.{Moment}
-use Rattle.rules.specs.Samples.{Frame, State, fresh, pushed, flushed}
+use Rattle.rules.specs.Samples.{Frame, State, fresh, After, pushed, flushed}
 use Rattle.rules.specs.Refusals.{Args, Found, clear, stop, _then_, room, early, Announced, later}
 
 -- A call, with all that the host lends besides the state block. Later requests add their calls here.
@@ -20,8 +22,8 @@ pub data Call : Type 0 where
 pub data Answer : Type 0 where
   -- number and two counts
   refused : ℕ → ℕ → ℕ → Answer
-  -- the ready samples
-  rendered : Channels → Answer
+  -- the ready samples, and the meters of their blocks
+  rendered : Channels → Meters → Answer
   -- a flush with nothing pending
   nothing : Answer
   -- a reset
@@ -29,16 +31,23 @@ pub data Answer : Type 0 where
 
 abbrev pub isRefused : Answer → Bool
 isRefused (refused n a b) = true
-isRefused (rendered rs) = false
+isRefused (rendered rs m) = false
 isRefused nothing = false
 isRefused cleared = false
 
 -- "Given out are the ready samples that accepted pushes and flushes write."
 abbrev pub given : Answer → Channels
 given (refused n a b) = none
-given (rendered rs) = rs
+given (rendered rs m) = rs
 given nothing = none
 given cleared = none
+
+-- R-2: "with no block ready, they are 0 and 1": so too of every other answer
+abbrev pub metersOf : Answer → Meters
+metersOf (refused n a b) = idleMeters
+metersOf (rendered rs m) = m
+metersOf nothing = idleMeters
+metersOf cleared = idleMeters
 
 module _ (L : Leaves) where
   abbrev pub frameOf : Args → Frame (L .Update)
@@ -59,15 +68,19 @@ module _ (L : Leaves) where
     pub next : State L
     pub moments : List Moment
 
+  -- R-2: "Push and flush hand on the greatest peak and the least gain of the call."
+  abbrev pub answered : After L → Answer
+  answered d = rendered (d .given) (callMeters (d .meters))
+
   abbrev pub asked : Found → Args → State L → Result
   asked (stop n a b) args r = record { answer = refused n a b; next = r; moments = [] }
-  asked clear args r = let d = pushed L (frameOf args) r in record { answer = rendered (d .given); next = d .next; moments = d .moments }
+  asked clear args r = let d = pushed L (frameOf args) r in record { answer = answered d; next = d .next; moments = d .moments }
 
   -- "Flush checks 1 first, and with nothing pending says none"
   abbrev pub drained : Bool → Bool → State L → Result
   drained false idle r = record { answer = refused 1 0 0; next = r; moments = [] }
   drained true true r = record { answer = nothing; next = r; moments = [] }
-  drained true false r = let d = flushed L r in record { answer = rendered (d .given); next = d .next; moments = [] }
+  drained true false r = let d = flushed L r in record { answer = answered d; next = d .next; moments = [] }
 
   abbrev pub step : State L → Call → Result
   step r (push a) = asked (found r a) a r

@@ -8,11 +8,12 @@ use lib.Ieee.{Float, binary32, toBits}
 use Rattle.words.specs.Words.{Bytes, word, floatAt}
 use Rattle.ieee.specs.Units.{F32, Gain}
 use Rattle.ieee.specs.Bounds.{All}
+use Rattle.limiter.specs.Range.{MetersInRange}
 use Rattle.lowpass.specs.declared.BiquadLowpassState.{BiquadLowpassState}
 use Rattle.rules.specs.Parts.{0·0, Tame, floats}
 use Rattle.rules.specs.Leaves.{Leaves}
 use Rattle.rules.specs.Samples.{State, fresh}
-use Rattle.rules.specs.Calls.{Call, push, flush, reset, Answer, refused, rendered, nothing, cleared, isRefused, given, step, run, final, kept, accepted}
+use Rattle.rules.specs.Calls.{Call, push, flush, reset, Answer, refused, rendered, nothing, cleared, isRefused, given, metersOf, step, run, final, kept, accepted}
 use Rattle.rules.specs.Promises.{AllHold}
 use Rattle.rules.specs.Ringing.{AllRing}
 use Rattle.rules.specs.Block.{Layout, Outcome, strideOf, outOf, made, runOn, finalOn, keptOn, acceptedOn, seenOn, told}
@@ -20,7 +21,7 @@ use Rattle.rules.specs.Block.{Layout, Outcome, strideOf, outOf, made, ru
 -- how many samples an answer gives out on each channel
 abbrev pub ready : Answer → ℕ
 ready (refused n a b) = 0
-ready (rendered g) = length (g 0)
+ready (rendered g m) = length (g 0)
 ready nothing = 0
 ready cleared = 0
 
@@ -35,6 +36,8 @@ pub record GivenOut (stride : ℕ) (lent : List ℕ) (o : Outcome) : Type 0 wher
   pub past : (i : ℕ) → 48 * stride ≤ i → getD (o .out) i 0 ≡ getD lent i 0
   -- "all samples given out are finite and from -1 to 1", read from the output's bytes
   pub tame : (c i : ℕ) → c < 12 → i < ready (o .answer) → Tame (floatAt (o .out) (4 * (c * stride + i)))
+  -- R-2: the peak is finite and at least 0, the gain above 0 and at most 1
+  pub meters : MetersInRange (metersOf (o .answer))
 
 -- the nine numbers of the low-pass: its coefficients and its memory
 abbrev pub nine : BiquadLowpassState → List Float

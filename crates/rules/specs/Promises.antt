@@ -10,6 +10,7 @@ use Rattle.words.specs.Words.{Bytes}
 use Rattle.ieee.specs.Bounds.{All}
 use Rattle.mixing.specs.Samples.{allPass}
 use Rattle.lowpass.specs.Lowpass.{next}
+use Rattle.limiter.specs.Meters.{callMeters}
 use Rattle.beds.specs.declared.Found.the-variants.{At}
 use Rattle.beds.specs.Matching.{matching}
 use Rattle.panning.specs.Facts.{squares, AddsUp, Each}
@@ -18,11 +19,11 @@ use Rattle.panning.specs.Table.{between, 8·0}
 use Rattle.rules.specs.Parts.{0·0}
 use Rattle.rules.specs.Leaves.{Leaves, Source, Bed, started}
 use Rattle.rules.specs.Mix.{objectTerms, objectAdds, sampleAt, samplesAt, fed}
-use Rattle.rules.specs.Samples.{State, fresh, limited, gainAfter, slotted, pushed, waiting}
+use Rattle.rules.specs.Samples.{State, fresh, limited, metered, gainAfter, slotted, pushed, waiting}
 use Rattle.rules.specs.Refusals.{Args, clear, stop, room}
-use Rattle.rules.specs.Calls.{Call, push, flush, reset, refused, rendered, nothing, cleared, given, frameOf, found, Result, step}
+use Rattle.rules.specs.Calls.{Call, push, flush, reset, refused, rendered, nothing, cleared, given, frameOf, found, answered, Result, step}
 use Rattle.rules.specs.Order.{atOffset}
-use Rattle.rules.specs.Sounds.{gainBefore, limitedBlocks, appliedAll, before, met, momentAt, soundAt, unlimited, whole}
+use Rattle.rules.specs.Sounds.{gainBefore, limitedBlocks, blocksMetered, AllMetered, appliedAll, before, met, momentAt, soundAt, unlimited, whole}
 
 -- ---- an object
 
@@ -100,7 +101,7 @@ module _ (L : Leaves) where
   -- ---- a push that is not
   pub record PushHolds (r : State L) (a : Args) : Type 0 where
     -- it answers with what it gives out
-    pub answer : step L r (push a) .answer ≡ rendered (pushed L (frameOf L a) r .given)
+    pub answer : step L r (push a) .answer ≡ answered L (pushed L (frameOf L a) r)
     pub next : step L r (push a) .next ≡ pushed L (frameOf L a) r .next
     -- whole blocks are ready on each channel and the remainder waits; the stream has moved by the push's samples, at the push's rate
     pub ready : (c : ℕ) → c < 12 → length (pushed L (frameOf L a) r .given c) ≡ 64 * whole L r a
@@ -110,6 +111,9 @@ module _ (L : Leaves) where
     -- every block is limited by the gain that it meets, and what waits is what no whole block took
     pub gives : (c : ℕ) → c < 12 → pushed L (frameOf L a) r .given c ≡ limitedBlocks (a .rate) (r .limiter .gain) (unlimited L r a) (whole L r a) c
     pub gain : pushed L (frameOf L a) r .next .limiter .gain ≡ gainBefore (a .rate) (r .limiter .gain) (unlimited L r a) (whole L r a)
+    -- R-2: a block's meters are its peak and the gain that it was scaled by; no sample is larger than those of its own block say
+    pub meters : pushed L (frameOf L a) r .meters ≡ blocksMetered (a .rate) (r .limiter .gain) (unlimited L r a) (whole L r a)
+    pub within : AllMetered (pushed L (frameOf L a) r .meters) (pushed L (frameOf L a) r .given)
     pub rest : (c : ℕ) → c < 12 → waiting L (pushed L (frameOf L a) r .next) c ≡ drop (64 * whole L r a) (unlimited L r a c)
     -- a moment for each sample
     pub moments : length (pushed L (frameOf L a) r .moments) ≡ a .samples
@@ -135,7 +139,8 @@ module _ (L : Leaves) where
   -- "with nothing pending says none"; "Flush treats the remainder as one shorter block": as many samples as were pending on each channel, and nothing is pending after
   pub record FlushHolds (r : State L) (x : Result L) : Type 0 where
     pub none : r .pending .count ≡ 0 → (x .answer ≡ nothing) × (x .next ≡ r)
-    pub gives : 0 < r .pending .count → x .answer ≡ rendered (limited (r .limiter .gain) (waiting L r))
+    pub gives : 0 < r .pending .count → x .answer ≡ rendered (limited (r .limiter .gain) (waiting L r)) (callMeters (metered (r .limiter .gain) (waiting L r)))
+    pub within : 0 < r .pending .count → AllMetered (metered (r .limiter .gain) (waiting L r)) (limited (r .limiter .gain) (waiting L r))
     pub ready : 0 < r .pending .count → (c : ℕ) → c < 12 → length (given (x .answer) c) ≡ r .pending .count
     pub gain : 0 < r .pending .count → x .next .limiter .gain ≡ gainAfter (r .pending .count) (r .rate) (r .limiter .gain) (waiting L r)
     pub untouched : 0 < r .pending .count → Drained r (x .next)

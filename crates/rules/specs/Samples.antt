@@ -8,6 +8,8 @@ use lib.Ieee.{Float}
 use Rattle.lowpass.specs.Lowpass.{output, next, new}
 use Rattle.lowpass.specs.declared.BiquadLowpassState.{BiquadLowpassState}
 use Rattle.limiter.specs.Limiter.{blockGain, scaled, grown}
+use Rattle.limiter.specs.Meters.{blockMeters}
+use Rattle.limiter.specs.declared.meters.Meters.{Meters}
 use Rattle.limiter.specs.declared.Limiter.{Limiter}
 use Rattle.rules.specs.Parts.{0·0, 1·0, Channels, none, joined, twelve, Places, floats, laid, zeros}
 use Rattle.rules.specs.Leaves.{Leaves, started}
@@ -72,6 +74,10 @@ idle = record { a1 = 0·0; a2 = 0·0; b0 = 0·0; b1 = 0·0; b2 = 0·0; x1 = 0·0
 
 abbrev pub limited : Float → Channels → Channels
 limited g f c = scaled (blockGain g (twelve f)) (f c)
+
+-- R-2: "The block's answer gains its peak before scaling and the gain that was used."
+abbrev pub metered : Float → Channels → List Meters
+metered g f = blockMeters g (twelve f) ∷ []
 
 abbrev pub gainAfter : ℕ → ℕ → Float → Channels → Float
 gainAfter n rate g f = grown n rate (blockGain g (twelve f))
@@ -139,10 +145,11 @@ module _ (L : Leaves) where
         own = samplesAt (f .pcm) (f .samples) (f .objects) (length (f .codes)) t;
       }
 
-  -- what a call leaves and gives out, with the moments of its samples
+  -- what a call leaves and gives out, with the meters of the blocks given out and the moments of its samples
   pub record After : Type 0 where
     pub next : State
     pub given : Channels
+    pub meters : List Meters
     pub moments : List Moment
 
   -- n samples of each channel more: the low-pass after them, and the samples, which wait; the clock goes on from the first update
@@ -165,6 +172,7 @@ module _ (L : Leaves) where
           pending = emptied whole (r .pending);
         };
         given = cond whole (limited (r .limiter .gain) block) none;
+        meters = cond whole (metered (r .limiter .gain) block) [];
         moments = ms;
       }
 
@@ -179,11 +187,11 @@ module _ (L : Leaves) where
 
   -- the samples from t on, of which n are left
   abbrev pub framed : Frame (L .Update) → ℕ → ℕ → State → After
-  framed f zero t r = record { next = r; given = none; moments = [] }
+  framed f zero t r = record { next = r; given = none; meters = []; moments = [] }
   framed f (suc n) t r =
       let a = sampled f t r in
       let d = framed f n (suc t) (a .next) in
-      record { next = d .next; given = joined (a .given) (d .given); moments = a .moments ++ d .moments }
+      record { next = d .next; given = joined (a .given) (d .given); meters = a .meters ++ d .meters; moments = a .moments ++ d .moments }
 
   -- the first accepted frame sets the rate and the low-pass
   abbrev pub opened : ℕ → State → State
@@ -218,5 +226,6 @@ module _ (L : Leaves) where
           pending = emptied true (r .pending);
         };
         given = limited (r .limiter .gain) (waiting r);
+        meters = metered (r .limiter .gain) (waiting r);
         moments = [];
       }

@@ -1,15 +1,18 @@
 -- A push told by its samples: what sample t finds, what each channel sounds like, what the limiter meets and gives out, block by block. Assumes nothing.
-use Prim.Native.Nat.{ℕ, zero, suc, _+_, _*_, _/_}
+use Prim.Native.Nat.{ℕ, zero, suc, _+_, _*_, _/_, _<_}
 use mathlib.Core.Bool.{cond}
 use mathlib.Core.List.{List, [], _∷_, _++_}
 use lib.Dec.{eqb}
-use lib.ListN.{take, drop, getD}
+use lib.ListN.{length, take, drop, getD}
 use lib.Ieee.{Float}
 use Rattle.lowpass.specs.Lowpass.{output}
+use Rattle.limiter.specs.Meters.{idleMeters}
+use Rattle.limiter.specs.declared.meters.Meters.{Meters}
+use Rattle.limiter.specs.Range.{Metered}
 use Rattle.rules.specs.Parts.{0·0, Channels, none, joined}
 use Rattle.rules.specs.Leaves.{Leaves}
 use Rattle.rules.specs.Mix.{Moment, heard, fed}
-use Rattle.rules.specs.Samples.{State, limited, gainAfter, appliedAt, updated, slotted, framed, opened, pushed, waiting}
+use Rattle.rules.specs.Samples.{State, limited, metered, gainAfter, appliedAt, updated, slotted, framed, opened, pushed, waiting}
 use Rattle.rules.specs.Refusals.{Args}
 use Rattle.rules.specs.Calls.{frameOf}
 
@@ -29,6 +32,15 @@ module _ (rate : ℕ) (g : Float) (f : Channels) where
   abbrev pub limitedBlocks : ℕ → Channels
   limitedBlocks zero = none
   limitedBlocks (suc n) = joined (limitedBlocks n) (limited (gainBefore n) (nthBlock f n))
+
+  -- their meters, each block's peak and the gain that it was scaled by
+  abbrev pub blocksMetered : ℕ → List Meters
+  blocksMetered zero = []
+  blocksMetered (suc n) = blocksMetered n ++ metered (gainBefore n) (nthBlock f n)
+
+-- R-2: sample i is one of block i / 64, and in size at most that block's peak × gain (rounded)
+abbrev pub AllMetered : List Meters → Channels → Type 0
+AllMetered ms g = (c i : ℕ) → c < 12 → i < length (g c) → Metered (getD ms (i / 64) idleMeters) (getD (g c) i 0·0)
 
 -- ---- a push on the renderer r
 

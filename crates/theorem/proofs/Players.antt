@@ -19,7 +19,7 @@ use Rattle.store.specs.Layout.{blank}
 use Rattle.words.specs.Words.{number}
 use Rattle.rules.specs.Samples.{State, fresh, pushed}
 use Rattle.rules.specs.Refusals.{Args, clear, room}
-use Rattle.rules.specs.Calls.{Call, push, flush, given, rendered, frameOf, found, step, final}
+use Rattle.rules.specs.Calls.{Call, push, flush, given, answered, frameOf, found, step, final}
 use Rattle.rules.specs.Accepted.{Acceptable}
 use Rattle.rules.specs.Sounds.{limitedBlocks, unlimited, whole}
 use Rattle.rules.specs.Promises.{CallHolds, AllHold, AtSample, PushHolds, FlushHolds}
@@ -57,7 +57,7 @@ not-silent = (heard-of, heard-of-object)
 
 -- "one that refuses all frames": a push that no reason of document 01 speaks against is rendered
 pub not-all-refused : (cs : List Call) → AllLent cs → (a : Args) → Lent (push a) → Acceptable hall (after cs) a
-    → step hall (after cs) (push a) .answer ≡ rendered (pushed hall (frameOf hall a) (after cs) .given)
+    → step hall (after cs) (push a) .answer ≡ answered hall (pushed hall (frameOf hall a) (after cs))
 not-all-refused cs h a l k = pushed-holds cs h a l (accepts hall (after cs) a k) .answer
 
 -- such a push: the bed of `not-silent`, on a new renderer

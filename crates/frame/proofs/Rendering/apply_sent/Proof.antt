@@ -11,7 +11,7 @@ use Rattle.frame.proofs.Rendering.apply_sent.Statement.{statement}
 use Rattle.frame.proofs.Rendering.apply_sent.Tie as tie
 
 abbrev Inv-loop : tie.InvT-loop
-Inv-loop state₀ meta l t at first count next₀ i₀ state next i = Standing meta l (t .0) (at .0) (updated hall (t .0) (sentOf meta) (held (next₀ .renderer) state₀)) state₀ i (next .renderer) state × (next .ready ≡ next₀ .ready)
+Inv-loop state₀ meta l t at first count next₀ i₀ state next i = Standing meta l (t .0) (at .0) (updated hall (t .0) (sentOf meta) (held (next₀ .renderer) state₀)) state₀ i (next .renderer) state × (next .ready ≡ next₀ .ready) × (next .meters ≡ next₀ .meters)
 
 abbrev μ-loop : tie.MeasureT-loop
 μ-loop state₀ meta l t at first count next₀ i₀ state next i = count - i
@@ -25,6 +25,7 @@ loop-holds c =
     let p = c .before .before .before .before .pre in (
       standing (now (s .meta)) (s .l) (s .t .0) (s .at .0) (updated hall (s .t .0) (sentOf (now (s .meta))) (held (s .self .renderer) (now (s .state)))) (now (s .state)) (p .2) 0 (c .sent-at .result) (s .self .renderer) (now (s .state)) (c .sent-at .ensures) (p .0) refl (p .1)
           (from-first (now (s .meta)) (s .l) (p .2) (s .t .0) (held (s .self .renderer) (now (s .state)))),
+      refl,
       refl,
     )
 
@@ -54,6 +55,7 @@ loop-again c =
       goes-on (now (s .meta)) (s .l) (s .t .0) (s .at .0) (updated hall (s .t .0) (sentOf (now (s .meta))) (held (s .self .renderer) (now (s .state)))) (now (s .state)) (c .before .before .before .before .before .before .before .before .before .before .before .pre .2) (l .i) (c .sent-at2 .result) (l .next .renderer) (u .result .renderer) (l .state) (u .last .1 .0)
           (omega (arith, c .before .before .before .before .before .loop-test)) (l .inv .0) (u .ensures .next) (c .sent-at2 .ensures),
       u .ensures .ready ∙ l .inv .1,
+      u .ensures .meters ∙ l .inv .2,
     )
 
 same-length : tie.Need-same-length Inv-loop μ-loop
@@ -66,6 +68,7 @@ returns c =
     record {
       next = ends (now (s .meta)) (s .l) (s .t .0) (s .at .0) (updated hall (s .t .0) (sentOf (now (s .meta))) (held (s .self .renderer) (now (s .state)))) (now (s .state)) (c .before .before .before .before .before .before .pre .2) (l .i) (l .next .renderer) (l .state) (omega (arith, c .loop-test)) (l .inv .0);
       ready = l .inv .1;
+      meters = l .inv .2;
     }
 
 pub apply-sent-spec : {M : Type 1} → statement M

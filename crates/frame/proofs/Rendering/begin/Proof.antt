@@ -14,7 +14,7 @@ returns : tie.Need-returns
 returns c =
     let a = c .before .before .before .before .before .before .apply-sent .ensures in
     let b = c .before .before .start-slot .ensures in
-    record { next = slotted-after (a .next) (b .next); ready = b .ready ∙ a .ready }
+    record { next = slotted-after (a .next) (b .next); ready = b .ready ∙ a .ready; meters = b .meters ∙ a .meters }
 
 pub begin-spec : {M : Type 1} → statement M
 begin-spec =

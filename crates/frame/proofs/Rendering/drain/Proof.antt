@@ -4,6 +4,8 @@ use mathlib.Core.Path.{ap, _∙_}
 use mathlib.Core.List.{List}
 use native.Mathlib.Omega.{arith}
 use borrow.Author.Needs.{needs}
+use Rattle.limiter.specs.Meters.{meetsAll}
+use Rattle.limiter.specs.declared.meters.Meters.{Meters}
 use Rattle.rules.specs.Samples.{flushed}
 use Rattle.theorem.specs.Instance.{hall}
 use Rattle.frame.specs.Held.{held}
@@ -22,6 +24,7 @@ returns c =
       next = g .next;
       given = g .given ∙ ap (λ (k : ℕ). behind k all (a .stride) (a .out .now)) z ∙ behind-written all (a .stride) (a .out .now);
       ready = g .ready ∙ (omega (arith, z));
+      meters = g .meters ∙ ap (λ (m : Meters). meetsAll m (flushed hall (held (a .self .renderer) (a .state .now)) .meters)) (c .before .before .before .before .before .before .pre .2);
     }
 
 pub drain-spec : {M : Type 1} → statement M

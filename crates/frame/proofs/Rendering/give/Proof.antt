@@ -11,9 +11,10 @@ add-ready c = let p = c .before .before .before .before .before .before .before 
 
 returns : tie.Need-returns
 returns c =
-    let s = c .before .before .before .before .before .before .before .before .before .before .before .before in
+    let s = c .before .before .before .before .before .before .before .before .before .before .before .before .before in
     let a = s .args in
-    gave (a .self) (a .state .now) (a .out .now) (a .stride) (s .pre .block) (s .pre .pending) (c .before .empty .ensures) refl (c .before .before .before .before .apply-output-limiter-block .ensures)
+    gave (a .self) (a .state .now) (a .out .now) (a .stride) (s .pre .block) (s .pre .pending) (c .before .before .empty .ensures) refl (c .meet .ensures)
+    (c .before .before .before .before .before .apply-output-limiter-block .ensures)
 
 pub give-spec : {M : Type 1} → statement M
 give-spec =
@@ -22,5 +23,6 @@ give-spec =
     (λ c. search needs) (λ c. search needs) (λ c. search needs) (λ c. search needs) (λ c. search needs) (λ c. search needs)
     (λ c κs. search needs) (λ c κs. search needs)
     add-ready
+    (λ c κs. search needs)
     (λ c. search needs)
     returns)

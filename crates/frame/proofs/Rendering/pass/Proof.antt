@@ -47,7 +47,7 @@ settles c rate us =
 returns : tie.Need-returns
 returns c =
     let l = c .before .before .before .lay .ensures in
-    λ rate us. record { next = record { holds = record { is = settles c rate us; long = l .long }; small = l .small }; ready = refl }
+    λ rate us. record { next = record { holds = record { is = settles c rate us; long = l .long }; small = l .small }; ready = refl; meters = refl }
 
 mix-requires : tie.Need-mix-requires
 mix-requires c κs = let p = c .before .before .before .before .before .before .before .pre in (rw (c .index .ensures) (p .framed), search needs, p .inputs, p .beds, p .few)

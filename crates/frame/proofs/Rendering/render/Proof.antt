@@ -7,6 +7,7 @@ use native.Mathlib.Nat.{le-of-lt}
 use borrow.Author.Needs.{needs}
 use borrow.Author.Tests.{ltb-true, ltb-false}
 use denote.Ref.{now}
+use Rattle.limiter.specs.Meters.{unmet}
 use Rattle.rules.specs.Refusals.{Args, argsOf}
 use Rattle.rules.specs.Calls.{frameOf}
 use Rattle.rules.specs.Samples.{updated, slotted}
@@ -48,7 +49,7 @@ loop-holds : tie.Need-loop-holds Inv-loop μ-loop
 loop-holds c =
     let a = c .before .before in
     let s = a .before .before .before .before .before .before .before .before .before in
-    (opens (s .args .self) (c .of .result) (now (s .args .state)) (args a) (s .args .l) (s .pre) (taken a) (c .of .ensures ∙ ap (λ (r : Renderer714). record { renderer = r; ready = 0 }) (c .before .«open» .ensures)), refl)
+    (opens (s .args .self) (c .of .result) (now (s .args .state)) (args a) (s .args .l) (s .pre) (taken a) (c .of .ensures ∙ ap (λ (r : Renderer714). record { renderer = r; ready = 0; meters = unmet }) (c .before .«open» .ensures)), refl)
 
 -- ---- a turn
 
@@ -78,7 +79,7 @@ begun c =
     let x = c .before .before .before .before .before .loop in
     ⊎-elim (λ w. rw (w .5, w .6) (w .2 .ensures))
     (λ w. rw (w .1, w .2)
-    (record { next = rests (now (s .meta)) (s .l) (taken a .layout) (x .t .0) (x .work .renderer) (x .state) (x .inv .0 .long) (rw (w .0 .left) at (c .before .begins .ensures)); ready = refl }))
+    (record { next = rests (now (s .meta)) (s .l) (taken a .layout) (x .t .0) (x .work .renderer) (x .state) (x .inv .0 .long) (rw (w .0 .left) at (c .before .begins .ensures)); ready = refl; meters = refl }))
     (c .if2 .came)
 
 next-offset-requires : tie.Need-next-offset-requires Inv-loop μ-loop

@@ -12,7 +12,7 @@ use Rattle.frame.proofs.Rendering.start_slot.Tie as tie
 returns : tie.Need-returns
 returns c =
     let s = c .before .before .before .before .args in
-    record { next = slot-rests (s .self .renderer) (now (s .state)) (c .before .before .before .before .pre .0) (rw (not-true (s .self .renderer .state .initialized) (c .if1 .taken))); ready = refl }
+    record { next = slot-rests (s .self .renderer) (now (s .state)) (c .before .before .before .before .pre .0) (rw (not-true (s .self .renderer .state .initialized) (c .if1 .taken))); ready = refl; meters = refl }
 
 returns-2 : tie.Need-returns-2
 returns-2 c =
@@ -21,6 +21,7 @@ returns-2 c =
       next = slot-rests (s .self .renderer) (now (s .state)) (c .before .before .before .before .before .before .before .pre .0)
           (rw (not-false (s .self .renderer .state .initialized) (c .before .before .before .if1 .left), ne-eqb (s .self .renderer .clock .phase) 0 (λ z. omega (arith, c .if2 .taken))));
       ready = refl;
+      meters = refl;
     }
 
 returns-3 : tie.Need-returns-3
@@ -32,6 +33,7 @@ returns-3 c =
       next = slot-starts (s .self .renderer) (now (s .state)) (u .result) (u .last .1 .0) (r .result .renderer) (c .before .before .before .before .before .before .before .before .before .before .before .before .before .pre .0) (search needs) (not-false (s .self .renderer .state .initialized) (c .before .before .before .before .before .before .before .before .before .if1 .left))
           (omega (arith, c .before .before .before .before .before .before .if2 .left)) (u .ensures) (ap (λ (w : Rendering). w .renderer) (r .ensures));
       ready = ap (λ (w : Rendering). w .ready) (r .ensures);
+      meters = ap (λ (w : Rendering). w .meters) (r .ensures);
     }
 
 pub start-slot-spec : {M : Type 1} → statement M

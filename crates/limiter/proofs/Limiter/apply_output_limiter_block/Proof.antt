@@ -12,7 +12,7 @@ use Rattle.limiter.proofs.Limiter.apply_output_limiter_block.Tie as tie
 
 returns : tie.Need-returns
 returns c =
-    let b = c .before .before .before in
+    let b = c .before .before .before .before in
     let start = b .before .before .before .before .before .before .before .before .before .before .before in
     let a = start .args in
     let low = b .before .before .before .lower in
@@ -25,7 +25,8 @@ returns c =
     let e : channels 12 n (load .last .1 .1 .0) ≡ cs = ap (channels 12 n) (load .ensures) ∙ channels-laid 12 n cs _ (ls .0) (ls .1) (start .pre .samples) (lit≤ tt) in
     let f : low .result .gain ≡ blockGain (a .self .gain) cs = low .ensures ∙ ap (λ (p : Float). lowered p (a .self .gain)) (top .ensures ∙ ap (blockPeak 0·0) e) in
     record {
-      gain = c .grow .ensures ∙ ap (grown n (a .rate)) f;
+      gain = c .before .grow .ensures ∙ ap (grown n (a .rate)) f;
+      meters = λ i. record { peak = (c .meters .ensures .0 ∙ top .ensures ∙ ap (blockPeak 0·0) e) i; gain = (c .meters .ensures .1 ∙ f) i };
       samples = b .store-block .ensures ∙ ap (λ (ds : List (List Float)). withChannels (scaledBlock (low .result .gain) ds) (a .step) (a .to) (a .out .now)) e
           ∙ ap (λ (g : Float). withChannels (scaledBlock g cs) (a .step) (a .to) (a .out .now)) f;
     }
@@ -41,6 +42,6 @@ apply-output-limiter-block-spec =
     (λ c. search needs)
     (λ c κs. search needs)
     (λ c. search needs)
-    (λ c κs. search needs)
+    (λ c κs. search needs) (λ c κs. search needs)
     (λ c. search needs)
     returns)

@@ -42,7 +42,9 @@ returns-7 c =
     let a = c .before .before .before .before .before .before .before .before .before .before .before .before .args in
     let h : 12 * a .step ≤ length (a .out .now) = omega arith in
     let k : a .to + 4 * a .samples ≤ a .step = omega arith in
-    simp (eq-eqb _ _ (c .before .before .before .before .before .before .before .before .before .if1 .left), le-leb _ _ (c .before .before .before .before .before .before .before .before .if2 .left), le-leb _ _ (c .before .before .before .before .before .before .before .if3 .left), le-leb _ _ h, le-leb _ _ k) (c .before .before .apply-output-limiter-block .ensures)
+    let e = c .before .before .apply-output-limiter-block .ensures in
+    simp (eq-eqb _ _ (c .before .before .before .before .before .before .before .before .before .if1 .left), le-leb _ _ (c .before .before .before .before .before .before .before .before .if2 .left), le-leb _ _ (c .before .before .before .before .before .before .before .if3 .left), le-leb _ _ h, le-leb _ _ k)
+    (record { gain = e .gain; meters = refl; samples = e .samples })
 
 pub probe-apply-output-limiter-block-spec : {M : Type 1} → statement M
 probe-apply-output-limiter-block-spec =
