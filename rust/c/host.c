@@ -1,27 +1,32 @@
 /* SPDX-License-Identifier: Apache-2.0 */
-/* A host in C: one bed and one object that moves, frames of 480 samples, one broken, a flush. It prints what it hears:
-   each answer, and each ready sample of the twelve channels as the eight digits of its bits. */
+/* A host in C: one bed and one object that moves, frames of 480 samples, one too loud, one broken, a flush. It prints
+   what it hears: each answer, and peak, gain and each ready sample of the twelve channels as the eight digits of their
+   bits. */
 #include "voqlisna.h"
 #include "voqlisna_records.h"
 #include <stdio.h>
 #include <stdlib.h>
 
-enum { SAMPLES = 480, STRIDE = 512, FRAMES = 8, BROKEN = 5, RATE = 48000 };
+enum { SAMPLES = 480, STRIDE = 512, FRAMES = 8, LOUD = 3, BROKEN = 5, RATE = 48000 };
 
 /* Float modes, without the flags of bits 0 to 5. This thread flushes to zero and rounds up. */
 enum { USUAL = 0x1f80, AUDIO = 0xdf80, CONTROL = 0xffc0 };
 
+static uint32_t bits(const void *x) {
+  uint32_t word;
+  memcpy(&word, x, 4);
+  return word;
+}
+
 static void print(const char *call, hall_answer answer, const uint8_t *out) {
   size_t i, c;
   printf("%s %u %u %u %u %zu", call, answer.kind, answer.number, answer.first, answer.second, answer.ready);
+  printf(" %08x %08x", bits(&answer.peak), bits(&answer.gain));
   if (answer.kind == HALL_REFUSED) printf(" %s", hall_refusal_text(answer.number));
   printf("\n");
   for (i = 0; i < answer.ready; i++)
-    for (c = 0; c < HALL_CHANNELS; c++) {
-      uint32_t word;
-      memcpy(&word, out + 4 * (c * STRIDE + i), 4);
-      printf("%08x%c", word, c + 1 < HALL_CHANNELS ? ' ' : '\n');
-    }
+    for (c = 0; c < HALL_CHANNELS; c++)
+      printf("%08x%c", bits(out + 4 * (c * STRIDE + i)), c + 1 < HALL_CHANNELS ? ' ' : '\n');
 }
 
 /* One update: the bed stays, the object goes to (x, 0.25, 0.5) within the frame. Gives the records' length. */
@@ -43,12 +48,13 @@ static size_t move(uint8_t *meta, float x) {
   return (size_t)(end - meta);
 }
 
-/* A ramp on each channel, a NaN in the broken frame. */
+/* A ramp on each channel, the object's eight times as loud in one frame, a NaN in the broken one. */
 static void sound(float *pcm, int frame) {
+  const float level = frame == LOUD ? 8.0f : 1.0f;
   int i;
   for (i = 0; i < SAMPLES; i++) {
     pcm[i] = (float)((frame * SAMPLES + i) % 100) / 64.0f;
-    pcm[SAMPLES + i] = (float)((frame * SAMPLES + i) % 37) / 32.0f - 0.5f;
+    pcm[SAMPLES + i] = level * ((float)((frame * SAMPLES + i) % 37) / 32.0f - 0.5f);
   }
   if (frame == BROKEN) memset(pcm + 7, 0xff, 4);
 }

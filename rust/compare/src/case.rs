@@ -2,7 +2,7 @@
 //! One call with all its arguments, whatever they are, and what must come of it.
 
 use crate::calls::Step;
-use crate::entry::{Answer, BLOCK};
+use crate::entry::{Answer, BLOCK, same_answer};
 use crate::host::{fresh, only_ready_is_written};
 use crate::model::{Model, Outcome, judged, rightly_lent};
 use crate::{block, ranges};
@@ -61,12 +61,16 @@ impl Case {
     /// renderer in the block.
     pub fn check(&self, seen: &Seen, name: &str) -> Outcome {
         let (outcome, model) = self.expected();
-        assert_eq!(seen.answer, outcome.answer(), "{name}");
+        let (found, expected) = (seen.answer, outcome.answer());
+        assert!(
+            same_answer(found, expected),
+            "{name}: {found:?}, not {expected:?}"
+        );
         let stride = self.stride as usize;
         let written = only_ready_is_written(&seen.out, &self.out, &outcome, stride);
         assert!(written, "{name}: {outcome:?}: the output");
         match &outcome {
-            Outcome::Ready(_) => assert!(ranges::hold(&seen.state), "{name}: the ranges"),
+            Outcome::Ready(..) => assert!(ranges::hold(&seen.state), "{name}: the ranges"),
             Outcome::Reset => assert!(seen.state == fresh(), "{name}: a new renderer"),
             _ => assert!(seen.state == self.state, "{name}: {outcome:?}: the block"),
         }

@@ -5,6 +5,12 @@ use voqlisna_sys::{hall_flush, hall_push, hall_reset};
 
 pub use voqlisna_sys::Answer;
 
+/// Equal word for word: the two zeros differ.
+pub fn same_answer(a: Answer, b: Answer) -> bool {
+    let meters = |x: Answer| [x.peak, x.gain].map(f32::to_bits);
+    a == b && meters(a) == meters(b)
+}
+
 /// Bytes of a state block.
 pub const BLOCK: usize = voqlisna_sys::STATE_SIZE;
 

@@ -124,7 +124,7 @@ pub fn played(stream: &[u8]) -> String {
 
 fn print(text: &mut String, outcome: &Outcome) {
     match outcome {
-        Outcome::Ready(channels) => {
+        Outcome::Ready(channels, _) => {
             let ready = channels[0].len();
             writeln!(text, "ready {ready}").unwrap();
             for i in 0..ready {

@@ -18,7 +18,7 @@
 
 /// The version of the interface that these declarations are of; [`hall_version`] answers the
 /// library's.
-pub const VERSION: u32 = 1;
+pub const VERSION: u32 = 2;
 
 /// Bytes of a state block of this version, for blocks that are not on a heap; [`hall_state_size`]
 /// answers the library's.
@@ -26,7 +26,7 @@ pub const STATE_SIZE: usize = 26_960;
 
 /// What [`hall_push`], [`hall_flush`] and [`hall_reset`] answer.
 #[repr(C)]
-#[derive(Clone, Copy, Debug, PartialEq, Eq)]
+#[derive(Clone, Copy, Debug, PartialEq)]
 pub struct Answer {
     /// 0 rendered, 1 refused, 2 nothing pending, 3 done.
     pub kind: u32,
@@ -38,9 +38,15 @@ pub struct Answer {
     pub second: u32,
     /// Samples written on each channel.
     pub ready: usize,
+    /// The greatest peak that the limiter met, before scaling, in the blocks that a push or flush
+    /// gave out; 0 where there is none.
+    pub peak: f32,
+    /// The least gain by which it scaled one of these blocks, NaNs passed over; 1 where there is
+    /// none.
+    pub gain: f32,
 }
 
-const _: () = assert!(size_of::<Answer>() == 24 && size_of::<usize>() == 8);
+const _: () = assert!(size_of::<Answer>() == 32 && size_of::<usize>() == 8);
 
 unsafe extern "C" {
     /// Bytes of a state block.

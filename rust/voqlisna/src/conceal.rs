@@ -7,6 +7,7 @@ use crate::shape::{BEDS, CHANNELS};
 use crate::{
     Bed, Frame, Metadata, Output, Pcm, Rate, Refusal, Rendered, Renderer, ShapeError, Stride,
 };
+use voqlisna_sys::Answer;
 
 /// Remembers the channels of the last frame that was taken, and has silence at hand.
 ///
@@ -64,7 +65,7 @@ pub enum Way {
 /// What came of a frame.
 #[derive(Clone, Copy, Debug)]
 pub struct Outcome<'o> {
-    /// What is ready.
+    /// What is ready, with the peak and gain of the push that was taken.
     pub rendered: Rendered<'o>,
     /// By which way.
     pub way: Way,
@@ -160,32 +161,32 @@ impl<B: Bytes> Renderer<B> {
         out: &'o mut Output<M>,
         concealer: &mut Concealer<S>,
     ) -> Result<Outcome<'o>, Refusal> {
-        let (ready, way, refusal) = match self.ready(frame, out) {
-            Ok(ready) => (ready, Way::Whole, None),
+        let (answer, way, refusal) = match self.answer(frame, out) {
+            Ok(answer) => (answer, Way::Whole, None),
             Err(refusal) => {
-                let (ready, way) = self
+                let (answer, way) = self
                     .conceal(frame, refusal, out, concealer)
                     .ok_or(refusal)?;
-                (ready, way, Some(refusal))
+                (answer, way, Some(refusal))
             }
         };
         if way != Way::Silence {
             concealer.remember(frame);
         }
         Ok(Outcome {
-            rendered: out.rendered(ready),
+            rendered: out.rendered(answer),
             way,
             refusal,
         })
     }
 
-    /// A push of which only the number of ready samples is kept, so that the output is free again.
-    fn ready<M: Floats>(
+    /// A push of which only the answer is kept, so that the output is free again.
+    fn answer<M: Floats>(
         &mut self,
         frame: &Frame<'_>,
         out: &mut Output<M>,
-    ) -> Result<usize, Refusal> {
-        self.push(frame, out).map(|rendered| rendered.ready())
+    ) -> Result<Answer, Refusal> {
+        self.push(frame, out).map(|rendered| rendered.answer())
     }
 
     /// The second and the third try.
@@ -195,7 +196,7 @@ impl<B: Bytes> Renderer<B> {
         refusal: Refusal,
         out: &mut Output<M>,
         concealer: &Concealer<S>,
-    ) -> Option<(usize, Way)> {
+    ) -> Option<(Answer, Way)> {
         let second = match refusal.number() {
             5 | 6 | 11 | 13 | 14 => {
                 let with_metadata = !frame.metadata().is_empty();
@@ -212,7 +213,7 @@ impl<B: Bytes> Renderer<B> {
         [second, third]
             .into_iter()
             .flatten()
-            .find_map(|(frame, way)| self.ready(&frame, out).ok().map(|ready| (ready, way)))
+            .find_map(|(frame, way)| self.answer(&frame, out).ok().map(|answer| (answer, way)))
     }
 }
 

@@ -4,6 +4,7 @@
 use crate::memory::{Floats, OwnFloats};
 use crate::shape::SAMPLES;
 use crate::{Rendered, ShapeError, Speaker};
+use voqlisna_sys::Answer;
 
 /// Places of a channel in the output, and so the most samples of a frame: a multiple of 64 from 64
 /// to 1,536.
@@ -102,8 +103,8 @@ impl<M: Floats> Output<M> {
         self.memory.lend()
     }
 
-    pub(crate) fn rendered(&self, ready: usize) -> Rendered<'_> {
-        Rendered::new(self.memory.get(), self.stride, ready)
+    pub(crate) fn rendered(&self, answer: Answer) -> Rendered<'_> {
+        Rendered::new(self.memory.get(), self.stride, answer)
     }
 }
 

@@ -142,7 +142,7 @@ impl<B: Bytes> Renderer<B> {
 fn read<M: Floats>(answer: Answer, out: &Output<M>) -> Result<Rendered<'_>, Refusal> {
     match Refusal::from_answer(answer) {
         Some(refusal) => Err(refusal),
-        None => Ok(out.rendered(answer.ready)),
+        None => Ok(out.rendered(answer)),
     }
 }
 

@@ -4,21 +4,23 @@
 
 mod judged;
 mod met;
+mod meters;
 
-use crate::block;
 use crate::calls::{Call, Step};
 use crate::entry::Answer;
+use crate::{all_same, block, same};
 use oracle::frame::Frame;
 use oracle::state::State;
 use oracle::{Oracle, Pushed, amended};
 
 pub use judged::{judged, rightly_lent};
 pub use met::{Met, lifts, met};
+pub use meters::{Limited, Meters};
 
 #[derive(Clone, Debug, PartialEq)]
 pub enum Outcome {
-    /// The ready samples of the twelve channels.
-    Ready(Vec<Vec<f32>>),
+    /// The ready samples of the twelve channels, and what the limiter met.
+    Ready(Vec<Vec<f32>>, Meters),
     /// The number and the two counts.
     Refused([u32; 3]),
     Nothing,
@@ -28,11 +30,15 @@ pub enum Outcome {
 impl Outcome {
     /// What the entries answer.
     pub fn answer(&self) -> Answer {
-        let (kind, [number, first, second], ready) = match self {
-            Outcome::Ready(channels) => (0, [0; 3], channels[0].len()),
-            Outcome::Refused(refusal) => (1, *refusal, 0),
-            Outcome::Nothing => (2, [0; 3], 0),
-            Outcome::Reset => (3, [0; 3], 0),
+        let (kind, [number, first, second]) = match self {
+            Outcome::Ready(..) => (0, [0; 3]),
+            Outcome::Refused(refusal) => (1, *refusal),
+            Outcome::Nothing => (2, [0; 3]),
+            Outcome::Reset => (3, [0; 3]),
+        };
+        let (ready, meters) = match self {
+            Outcome::Ready(channels, meters) => (channels[0].len(), *meters),
+            _ => (0, Meters::NONE),
         };
         Answer {
             kind,
@@ -40,6 +46,8 @@ impl Outcome {
             first,
             second,
             ready,
+            peak: meters.peak,
+            gain: meters.gain,
         }
     }
 }
@@ -143,7 +151,13 @@ impl Model {
             self.amended = None;
         }
         match pushed {
-            Pushed::Ready(ready) => Outcome::Ready(ready),
+            Pushed::Ready(ready) => {
+                let mixed = match &self.amended {
+                    Some(_) => amended::Oracle::in_state(state).mixed(frame),
+                    None => Oracle::in_state(state).mixed(frame),
+                };
+                self.metered(state, frame.rate, mixed, ready)
+            }
             Pushed::Refused(refusal) => Outcome::Refused([
                 refusal.number.into(),
                 refusal.counts[0] as u32,
@@ -163,11 +177,37 @@ impl Model {
     }
 
     pub fn flush(&mut self) -> Outcome {
+        let state = self.state();
         let flushed = match &mut self.amended {
             Some(amended) => amended.flush(),
             None => self.rust.flush(),
         };
-        flushed.map_or(Outcome::Nothing, Outcome::Ready)
+        let Some(ready) = flushed else {
+            return Outcome::Nothing;
+        };
+        let none = vec![Vec::new(); ready.len()];
+        self.metered(&state, state.sample_rate.unwrap(), none, ready)
+    }
+
+    /// What the oracle gave, with what its limiter met: behind the samples that waited in `state`
+    /// stand the call's own. The reading must make the oracle's samples and gain of them.
+    fn metered(
+        &self,
+        state: &State,
+        rate: u32,
+        own: Vec<Vec<f32>>,
+        ready: Vec<Vec<f32>>,
+    ) -> Outcome {
+        let pairs = state.limiter_pending.iter().zip(&own).zip(&ready);
+        let given = pairs.map(|((pending, own), ready)| {
+            let met = [&pending[..], own].concat();
+            met[..ready.len()].to_vec()
+        });
+        let limited = Limited::of(given.collect(), state.limiter_gain, rate);
+        let samples = limited.channels.iter().zip(&ready);
+        assert!(samples.into_iter().all(|(a, b)| all_same(a, b)));
+        assert!(same(limited.next, self.state().limiter_gain));
+        Outcome::Ready(ready, limited.meters)
     }
 
     pub fn reset(&mut self) -> Outcome {

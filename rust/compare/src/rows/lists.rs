@@ -222,7 +222,7 @@ pub fn order_matters() -> bool {
     let heard = |samples| {
         let mut model = Model::new();
         model.push(&(&centre(samples)).into(), 64);
-        let Outcome::Ready(channels) = model.flush() else {
+        let Outcome::Ready(channels, _) = model.flush() else {
             panic!("a sample waits")
         };
         channels[2][0]

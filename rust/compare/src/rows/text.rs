@@ -185,7 +185,7 @@ fn object_text(object: &Object) -> String {
 
 fn outcome_text(outcome: &Outcome) -> String {
     match outcome {
-        Outcome::Ready(channels) => {
+        Outcome::Ready(channels, _) => {
             let sample = |i: usize| array::from_fn(|c| channels[c][i].to_bits());
             let samples: Vec<[u32; 12]> = (0..channels[0].len()).map(sample).collect();
             let quiet = |sample: &[u32; 12]| sample == &[0; 12];

@@ -128,8 +128,8 @@ impl<'a> Run<'a> {
         let outcome = self.host.step(&mut self.model, &step, name);
         self.count(&outcome);
         match (&step, &outcome) {
-            (Step::Push(call), Outcome::Ready(_)) => self.pushed(call),
-            (Step::Flush, Outcome::Ready(_)) => {
+            (Step::Push(call), Outcome::Ready(..)) => self.pushed(call),
+            (Step::Flush, Outcome::Ready(..)) => {
                 let gain = self.model.state().limiter_gain;
                 self.reached.one(What::Flush);
                 self.reached.add(What::Limited, (gain < 1.0).into());
@@ -203,7 +203,7 @@ impl<'a> Run<'a> {
         self.reached.one(What::Call);
         match outcome {
             Outcome::Refused([number, ..]) => self.reached.one(What::Refusal(*number)),
-            Outcome::Ready(_) => seen::samples(self.reached, outcome),
+            Outcome::Ready(..) => seen::samples(self.reached, outcome),
             Outcome::Nothing => self.reached.one(What::Nothing),
             Outcome::Reset => self.reached.one(What::Reset),
         }

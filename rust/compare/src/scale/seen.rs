@@ -85,7 +85,7 @@ fn elements(reached: &mut Reached, before: &Metadata, updates: &[&Update]) {
 
 /// The samples that a push or a flush gives.
 pub fn samples(reached: &mut Reached, outcome: &Outcome) {
-    if let Outcome::Ready(channels) = outcome {
+    if let Outcome::Ready(channels, _) = outcome {
         let all: usize = channels.iter().map(Vec::len).sum();
         reached.add(What::Sample, all as u64);
     }

@@ -220,7 +220,7 @@ fn blocks_in_range_go_on_as_in_the_rust() {
                 let frame = frames.next_frame();
                 let before = model.state().metadata;
                 let outcome = host.push(&mut model, &Call::from(&frame), name);
-                if let Outcome::Ready(channels) = &outcome {
+                if let Outcome::Ready(channels, _) = &outcome {
                     tally.count(&before, &frame, channels);
                 }
             }

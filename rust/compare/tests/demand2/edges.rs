@@ -187,7 +187,7 @@ fn a_block_at_offset_0() {
     let found = floats(&host.out[4 * 2 * 128..][..4 * 128]);
     assert_eq!(found, expected);
     if !cfg!(no_sources) {
-        let Outcome::Ready(channels) = Model::new().push(&call, 128) else {
+        let Outcome::Ready(channels, _) = Model::new().push(&call, 128) else {
             panic!("refused");
         };
         assert_eq!(channels[2], expected);

@@ -72,7 +72,7 @@ impl Run {
         if let Some(mut rust) = self.rust.take() {
             rust.store_debug_rows(frame.samples / 64 + 1);
             let same = match (rust.push(&frame), &outcome) {
-                (Pushed::Ready(a), Outcome::Ready(b)) => all_same(&a.concat(), &b.concat()),
+                (Pushed::Ready(a), Outcome::Ready(b, _)) => all_same(&a.concat(), &b.concat()),
                 (Pushed::Refused(refusal), Outcome::Refused([number, ..])) => {
                     u32::from(refusal.number) == *number
                 }
@@ -83,7 +83,7 @@ impl Run {
             self.rust = same.then_some(rust);
         }
         self.unlike |= self.rust.is_none();
-        if matches!(outcome, Outcome::Ready(_)) {
+        if matches!(outcome, Outcome::Ready(..)) {
             self.count(&before.metadata, &frame, lifts, tally);
         }
     }

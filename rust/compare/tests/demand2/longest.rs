@@ -14,7 +14,7 @@ fn the_longest_metadata() {
         let mut call = Call::from(&largest_frame(seed));
         assert_eq!(call.meta.len(), 40 * 8_496);
         let outcome = host.push(&mut model, &call, "the most");
-        assert!(matches!(outcome, Outcome::Ready(_)), "{outcome:?}");
+        assert!(matches!(outcome, Outcome::Ready(..)), "{outcome:?}");
         let differs = block::difference(&host.state, &model.state());
         assert_eq!(differs, None);
         call.meta.extend([1; 1]);

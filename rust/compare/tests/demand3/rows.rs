@@ -2,7 +2,7 @@
 
 use compare::entry::{self, Answer, BLOCK};
 use compare::floats;
-use compare::model::Outcome;
+use compare::model::{Meters, Outcome};
 use compare::rows::{self, Row, Turn};
 use std::fs;
 use std::path::Path;
@@ -30,6 +30,11 @@ fn lent(turn: &Turn, state: &mut [u8], out: &mut [u8]) -> Answer {
     }
 }
 
+fn meters(answer: Answer) -> Meters {
+    let Answer { peak, gain, .. } = answer;
+    Meters { peak, gain }
+}
+
 /// What the entries have the host see of each call.
 fn outcomes(row: &Row) -> Vec<Outcome> {
     let mut state = vec![0; BLOCK];
@@ -40,7 +45,7 @@ fn outcomes(row: &Row) -> Vec<Outcome> {
         let answer = lent(turn, &mut state, &mut out);
         let channel = |c: usize| floats(&out[4 * c * turn.stride() as usize..][..4 * answer.ready]);
         match answer.kind {
-            0 => Outcome::Ready((0..12).map(channel).collect()),
+            0 => Outcome::Ready((0..12).map(channel).collect(), meters(answer)),
             1 => Outcome::Refused([answer.number, answer.first, answer.second]),
             2 => Outcome::Nothing,
             _ => Outcome::Reset,

@@ -2,6 +2,7 @@
 //! The C header and a host in C, compiled, linked and run: its words are those of the same frames
 //! through the crate.
 
+use crate::raw;
 use crate::tools::{is_installed, library_folder, output};
 use std::fmt::Write;
 use std::path::{Path, PathBuf};
@@ -11,6 +12,7 @@ use voqlisna::*;
 
 const SAMPLES: usize = 480;
 const FRAMES: usize = 8;
+const LOUD: usize = 3;
 const BROKEN: usize = 5;
 
 fn source() -> PathBuf {
@@ -49,8 +51,15 @@ fn print(text: &mut String, call: &str, answer: Answer, rendered: Option<Rendere
         first,
         second,
         ready,
+        peak,
+        gain,
     } = answer;
-    write!(text, "{call} {kind} {number} {first} {second} {ready}").unwrap();
+    let meters = format!("{:08x} {:08x}", peak.to_bits(), gain.to_bits());
+    write!(
+        text,
+        "{call} {kind} {number} {first} {second} {ready} {meters}"
+    )
+    .unwrap();
     if let Some(refusal) = Refusal::from_answer(answer) {
         write!(text, " {}", refusal.to_string().replace('±', "+-")).unwrap();
     }
@@ -62,27 +71,31 @@ fn print(text: &mut String, call: &str, answer: Answer, rendered: Option<Rendere
     }
 }
 
-fn answer(kind: u32, ready: usize) -> Answer {
+fn answer(kind: u32) -> Answer {
+    Answer { kind, ..raw::DONE }
+}
+
+fn ready(rendered: &Rendered<'_>) -> Answer {
     Answer {
-        kind,
-        number: 0,
-        first: 0,
-        second: 0,
-        ready,
+        ready: rendered.ready(),
+        peak: rendered.peak(),
+        gain: rendered.gain(),
+        ..answer(0)
     }
 }
 
 fn refused(number: u32) -> Answer {
     Answer {
         number,
-        ..answer(1, 0)
+        ..answer(1)
     }
 }
 
 fn sound(frame: usize) -> Vec<f32> {
     let count = |i| frame * SAMPLES + i;
+    let level = if frame == LOUD { 8.0 } else { 1.0 };
     let bed = (0..SAMPLES).map(|i| (count(i) % 100) as f32 / 64.0);
-    let object = (0..SAMPLES).map(|i| (count(i) % 37) as f32 / 32.0 - 0.5);
+    let object = (0..SAMPLES).map(|i| level * ((count(i) % 37) as f32 / 32.0 - 0.5));
     let mut pcm: Vec<f32> = bed.chain(object).collect();
     if frame == BROKEN {
         pcm[7] = f32::from_bits(u32::MAX);
@@ -122,7 +135,7 @@ fn expected() -> String {
         Renderer::new().unwrap(),
         Output::new(Stride::new(512).unwrap()),
     );
-    print(&mut text, "reset", answer(3, 0), None);
+    print(&mut text, "reset", answer(3), None);
     for k in 0..FRAMES {
         let pcm = sound(k);
         let metadata = match k % 2 {
@@ -132,23 +145,20 @@ fn expected() -> String {
         let pcm = Pcm::packed(&pcm, 2).unwrap();
         let frame = Frame::new(Rate::HZ_48000, &[Bed::Bass], pcm, metadata).unwrap();
         match renderer.push(&frame, &mut out) {
-            Ok(rendered) => print(
-                &mut text,
-                "push",
-                answer(0, rendered.ready()),
-                Some(rendered),
-            ),
+            Ok(rendered) => {
+                // Limited in the loud frame, and on the way back after it.
+                assert_eq!(
+                    (rendered.peak() > 1.0, rendered.gain() < 1.0),
+                    (k == LOUD, k >= LOUD)
+                );
+                print(&mut text, "push", ready(&rendered), Some(rendered));
+            }
             Err(refusal) => print(&mut text, "push", refused(refusal.number()), None),
         }
     }
     let rendered = renderer.flush(&mut out).unwrap();
-    print(
-        &mut text,
-        "flush",
-        answer(0, rendered.ready()),
-        Some(rendered),
-    );
-    print(&mut text, "flush", answer(2, 0), None);
+    print(&mut text, "flush", ready(&rendered), Some(rendered));
+    print(&mut text, "flush", answer(2), None);
     text
 }
 
@@ -158,11 +168,7 @@ fn says_the_same(lines: &str) {
     assert_eq!(lines.lines().count(), 16);
     for (number, line) in (0..).zip(lines.lines()) {
         let said = line.strip_prefix(&format!("{number}: ")).unwrap();
-        let refusal = Refusal::from_answer(Answer {
-            number,
-            ..answer(1, 0)
-        })
-        .unwrap();
+        let refusal = Refusal::from_answer(refused(number)).unwrap();
         match number {
             0 | 7 | 15 => assert_eq!(said, "an unknown refusal"),
             9 | 11 | 13 | 14 => assert!(said.contains(' ')),

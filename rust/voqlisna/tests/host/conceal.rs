@@ -12,6 +12,12 @@ struct Stream {
     out: Output,
     concealer: Concealer,
     update: Vec<u8>,
+    /// Peak and gain of the last frame.
+    meters: Option<(f32, f32)>,
+}
+
+fn meters(rendered: &Rendered<'_>) -> Option<(f32, f32)> {
+    Some((rendered.peak(), rendered.gain()))
 }
 
 /// Two channels, a bed and an object, at rest.
@@ -49,6 +55,7 @@ impl Stream {
             out,
             concealer,
             update: update(2, &BEDS),
+            meters: None,
         }
     }
 
@@ -80,6 +87,7 @@ impl Stream {
         let outcome = self
             .renderer
             .push_or_conceal(&frame, &mut self.out, &mut self.concealer);
+        self.meters = outcome.as_ref().ok().and_then(|o| meters(&o.rendered));
         let said = outcome
             .map(|o| (o.way, o.refusal.map(Refusal::number)))
             .map_err(Refusal::number);
@@ -188,7 +196,7 @@ fn some_are_refused_for_good() {
 #[test]
 fn concealed_sound_is_what_the_way_says() {
     let mut s = Stream::started();
-    let good = [0.25; 2 * SAMPLES];
+    let good = [2.0; 2 * SAMPLES];
     let (mut twin, mut out) = (
         Renderer::restore(s.renderer.save(&mut vec![0; Snapshot::size()]).unwrap()).unwrap(),
         Output::new(Stride::MAX),
@@ -201,22 +209,24 @@ fn concealed_sound_is_what_the_way_says() {
         Metadata::NONE,
     )
     .unwrap();
-    twin.push(&plain, &mut out).unwrap();
+    let heard = meters(&twin.push(&plain, &mut out).unwrap());
     assert!(
-        twin.block() == s.renderer.block(),
+        twin.block() == s.renderer.block() && heard == s.meters,
         "the sound without metadata"
     );
+    assert!(heard.is_some_and(|(peak, gain)| peak >= 2.0 && gain == 0.9 / peak));
     let mut nan = good;
     nan[0] = f32::NAN;
     let update = s.update.clone();
     s.push(&nan, 2, &update).unwrap();
     let pcm = Pcm::packed(&[0.0; 2 * SAMPLES], 2).unwrap();
     let moved = Frame::new(Rate::HZ_48000, &BEDS, pcm, Metadata::from_records(&update)).unwrap();
-    twin.push(&moved, &mut out).unwrap();
+    let heard = meters(&twin.push(&moved, &mut out).unwrap());
     assert!(
-        twin.block() == s.renderer.block(),
+        twin.block() == s.renderer.block() && heard == s.meters,
         "silence with its metadata"
     );
+    assert!(heard.is_some_and(|(peak, gain)| peak == 0.0 && gain < 1.0));
 }
 
 #[test]

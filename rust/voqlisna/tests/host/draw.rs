@@ -1,6 +1,7 @@
 // SPDX-License-Identifier: Apache-2.0
 //! Drawn inputs: from a seed, so that a case's number repeats it.
 
+use crate::raw;
 use voqlisna::*;
 
 pub struct Draw(u64);
@@ -61,7 +62,7 @@ impl Draw {
             number,
             first,
             second,
-            ready: 0,
+            ..raw::DONE
         })
         .unwrap()
     }

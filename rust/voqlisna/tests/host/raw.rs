@@ -69,9 +69,20 @@ pub fn reset(state: &mut [u8]) -> Answer {
     unsafe { hall_reset(state.as_mut_ptr(), state.len()) }
 }
 
+/// What reset answers.
+pub const DONE: Answer = Answer {
+    kind: 3,
+    number: 0,
+    first: 0,
+    second: 0,
+    ready: 0,
+    peak: 0.0,
+    gain: 1.0,
+};
+
 /// A new block.
 pub fn fresh() -> Vec<u8> {
     let mut state = vec![0xa5; sys::hall_state_size()];
-    assert_eq!(reset(&mut state).kind, 3);
+    assert_eq!(reset(&mut state), DONE);
     state
 }

@@ -19,17 +19,19 @@ struct Pair {
 }
 
 /// As the entry would say it.
-fn told(result: Result<usize, Refusal>) -> Answer {
-    let (kind, number, (first, second), ready) = match result {
-        Ok(ready) => (0, 0, (0, 0), ready),
-        Err(refusal) => (1, refusal.number(), refusal.counts(), 0),
+fn told(result: Result<&Rendered<'_>, &Refusal>) -> Answer {
+    let (kind, number, (first, second)) = match result {
+        Ok(_) => (0, 0, (0, 0)),
+        Err(refusal) => (1, refusal.number(), refusal.counts()),
     };
     Answer {
         kind,
         number,
         first,
         second,
-        ready,
+        ready: result.map_or(0, Rendered::ready),
+        peak: result.map_or(0.0, Rendered::peak),
+        gain: result.map_or(1.0, Rendered::gain),
     }
 }
 
@@ -48,12 +50,7 @@ impl Pair {
     fn push(&mut self, frame: &Frame<'_>) -> Answer {
         let mut out = Output::over(&mut self.out[..], self.stride).unwrap();
         let rendered = self.renderer.push(frame, &mut out);
-        let safe = told(
-            rendered
-                .as_ref()
-                .map(Rendered::ready)
-                .map_err(|refusal| *refusal),
-        );
+        let safe = told(rendered.as_ref());
         rendered.iter().for_each(reads_all_alike);
         let entry = raw::push(
             &mut self.block,
@@ -70,16 +67,20 @@ impl Pair {
         let rendered = self.renderer.flush(&mut out);
         rendered.iter().for_each(reads_all_alike);
         let entry = raw::flush(&mut self.block, &mut self.raw, self.stride.samples() as u32);
-        match rendered {
-            Some(rendered) => assert_eq!(told(Ok(rendered.ready())), entry),
-            None => assert_eq!(entry.kind, 2),
-        }
+        let nothing = Answer {
+            kind: 2,
+            ..raw::DONE
+        };
+        let safe = rendered.map_or(nothing, |rendered| told(Ok(&rendered)));
+        assert_eq!(safe, entry);
         entry
     }
 
     fn reset(&mut self) -> Answer {
         self.renderer.reset();
-        raw::reset(&mut self.block)
+        let entry = raw::reset(&mut self.block);
+        assert_eq!(entry, raw::DONE);
+        entry
     }
 
     fn same(&self) -> bool {
@@ -134,7 +135,7 @@ fn drawn(draw: &mut Draw, scene: &Scene, stride: Stride) -> Owned {
 
 #[test]
 fn the_crate_answers_as_the_entries_do() {
-    let (mut met, mut ready) = ([0; 16], 0);
+    let (mut met, mut ready, mut limited) = ([0; 16], 0, 0);
     for case in 0..RUNS {
         let mut draw = Draw::new(1, case);
         let (scene, stride) = (
@@ -151,10 +152,11 @@ fn the_crate_answers_as_the_entries_do() {
             assert!(pair.same(), "run {case}, call {call}: {answer:?}");
             met[answer.number as usize] += 1;
             ready += answer.ready;
+            limited += u32::from(answer.peak > 1.0 && answer.gain < 1.0);
         }
     }
-    println!("answers by refusal {met:?}, {ready} samples ready");
-    assert!(ready > 1_000_000);
+    println!("answers by refusal {met:?}, {ready} samples ready, {limited} calls limited");
+    assert!(ready > 1_000_000 && limited > 100);
     for number in [0, 2, 5, 6, 8, 9, 10, 11, 12, 13, 14] {
         assert!(met[number] > 0, "{number} was not met: {met:?}");
     }

@@ -1,6 +1,7 @@
 // SPDX-License-Identifier: Apache-2.0
 //! Numbers, blame and sentences of refusals, and names, bits and places of speakers.
 
+use crate::raw;
 use voqlisna::sys::Answer;
 use voqlisna::*;
 
@@ -10,7 +11,7 @@ fn refusal(number: u32) -> Refusal {
         number,
         first: 7,
         second: 8,
-        ready: 0,
+        ..raw::DONE
     })
     .unwrap()
 }
@@ -37,10 +38,8 @@ fn a_refusal_keeps_its_number_and_counts() {
         assert_eq!(
             Refusal::from_answer(Answer {
                 kind,
-                number: 0,
-                first: 0,
-                second: 0,
-                ready: 5
+                ready: 5,
+                ..raw::DONE
             }),
             None
         );

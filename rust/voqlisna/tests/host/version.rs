@@ -59,6 +59,24 @@ fn numbers_of_the_header_are_those_of_the_crates() {
     assert!(HEADER.contains(&names), "the order of channels");
 }
 
+/// The header asserts the same of C's struct, which host.c compiles.
+#[test]
+fn an_answer_has_32_bytes() {
+    use std::mem::{align_of, offset_of, size_of};
+    use sys::Answer;
+    let words = [
+        offset_of!(Answer, kind),
+        offset_of!(Answer, number),
+        offset_of!(Answer, first),
+        offset_of!(Answer, second),
+        offset_of!(Answer, ready),
+        offset_of!(Answer, peak),
+        offset_of!(Answer, gain),
+    ];
+    assert_eq!(words, [0, 4, 8, 12, 16, 24, 28]);
+    assert_eq!((size_of::<Answer>(), align_of::<Answer>()), (32, 8));
+}
+
 #[test]
 fn a_renderer_may_be_shared_and_sent() {
     const fn shared<T: Send + Sync>() {}

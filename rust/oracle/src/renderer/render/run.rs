@@ -5,8 +5,8 @@
 use super::super::render_input::RenderInputFrame;
 #[cfg(not(no_sources))]
 use super::{
-    MetadataRendererState, Render714Error, Render714Frame, Render714TimeslotDebug, Renderer714,
-    convert, read,
+    MetadataRendererState, RENDER_714_CHANNELS, Render714Error, Render714Frame,
+    Render714TimeslotDebug, Renderer714, convert, read, render_input_from_frame,
 };
 use crate::answer::{Pushed, Slot};
 #[cfg(not(no_sources))]
@@ -74,6 +74,19 @@ impl Oracle {
         pub fn push_alone(&mut self, input: &Input) -> Option<usize> {
             let output = self.renderer.push_frame(&input.frame).ok()?;
             Some(output.samples_per_channel())
+        }
+
+        /// The twelve channels of a frame that is accepted, as they come to the limiter. The renderer
+        /// stays as it is.
+        pub fn mixed(&self, frame: &Frame) -> Vec<Vec<f32>> {
+            let input = convert::input_frame(frame);
+            let (mut beds, mut objects) = (Vec::new(), Vec::new());
+            let input = render_input_from_frame(&input, &mut beds, &mut objects);
+            let mut channels = vec![Vec::new(); RENDER_714_CHANNELS];
+            let mut renderer = self.renderer.clone();
+            let mixed = renderer.push_frame_parts_impl(&input, &mut channels, &mut Vec::new());
+            assert!(mixed.is_ok(), "a frame that is refused");
+            channels
         }
 
         /// The pending samples of the twelve channels, or none.
