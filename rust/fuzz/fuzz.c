@@ -1,7 +1,7 @@
 /* SPDX-License-Identifier: Apache-2.0 */
 /* The entries under a coverage-guided fuzzer. The input is a list of calls on one state block, each a head of 32 bytes and its
    metadata (README.md). Aborts at: a refused call that changed a byte; an answer that cannot be; a ready count that does not follow
-   from the pending one; a sample out of range; a byte written behind the ready samples or behind the block; a block out of range after
+   from the pending one; a peak or gain that cannot be; a sample out of range; a byte written behind the ready samples or behind the block; a block out of range after
    an accepted call; beside the model, anything that differs from it. */
 #include "made.h"
 #include "mend.h"
@@ -98,6 +98,9 @@ static void damage(const uint8_t *head, size_t size) {
 
 static void check_answer(const made *m) {
   hall_answer a = m->answer;
+  if (!(a.peak >= 0.0f) || a.gain != a.gain) fail("a peak or gain that cannot be");
+  if (!a.ready && (a.peak != 0.0f || a.gain != 1.0f)) fail("a peak or gain of no block");
+  if (!damaged && !(__builtin_isfinite(a.peak) && a.gain > 0.0f && a.gain <= 1.0f)) fail("a peak or gain out of range");
   if (a.kind > 3 || (a.kind != HALL_REFUSED && (a.number || a.first || a.second))) fail("an answer that cannot be");
   if (a.kind != HALL_REFUSED) return;
   if (a.number < 1 || a.number > 14 || a.number == 7 || a.ready) fail("a refusal that cannot be");
@@ -163,6 +166,10 @@ static void check(const made *m, size_t size) {
   if (refused_by_1(size)) fail("an accepted call left a block out of range");
 }
 
+static void print(hall_answer a) {
+  printf("%u %u %u %u %zu %a %a\n", a.kind, a.number, a.first, a.second, a.ready, (double)a.peak, (double)a.gain);
+}
+
 static void run(const uint8_t *p, size_t n) {
   size_t size = hall_state_size();
   uint32_t last = 0;
@@ -180,7 +187,7 @@ static void run(const uint8_t *p, size_t n) {
     if (count > RECORDS) count = RECORDS;
     memcpy(records, p, 40 * count), p += 40 * count;
     made m = call(head, count, size);
-    if (printing) printf("%u %u %u %u %zu\n", m.answer.kind, m.answer.number, m.answer.first, m.answer.second, m.answer.ready);
+    if (printing) print(m.answer);
     tell(m.answer, m.stride, last), last = m.answer.number;
     beside(&m);
     check(&m, size);

@@ -170,6 +170,7 @@ impl<'a> Run<'a> {
         damage::block(&mut self.inputs, &mut case.state);
         let outcome = case.check(&case.called(), &format!("{name}, a damaged block"));
         self.count(&outcome);
+        seen::nan_gain(self.reached, &case.state, &outcome);
         self.reached.one(if ranges::hold(&case.state) {
             What::BlockInside
         } else {

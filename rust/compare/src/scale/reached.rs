@@ -41,6 +41,14 @@ pub enum What {
     Dropped,
     /// An accepted push or flush that leaves a limiter gain below 1.
     Limited,
+    /// One that answers a peak above 1, an infinite one; a gain below 1 and above 0, above 1, not
+    /// above 0; and one that gives samples of a block whose gain is NaN.
+    Loud,
+    Infinite,
+    Down,
+    Up,
+    Low,
+    NanGain,
     /// A flush that gives samples, and one that has none to give.
     Flush,
     Nothing,

@@ -2,7 +2,8 @@
 //! What is reached by a call that is accepted, from the renderer before it and after it.
 
 use super::reached::{Reached, What};
-use crate::model::{Outcome, met};
+use crate::floats;
+use crate::model::{Meters, Outcome, met};
 use oracle::frame::{DEPTHS, Frame, Object, Update};
 use oracle::state::{Element, Metadata, State};
 
@@ -83,11 +84,25 @@ fn elements(reached: &mut Reached, before: &Metadata, updates: &[&Update]) {
     }
 }
 
-/// The samples that a push or a flush gives.
+/// The samples that a push or a flush gives, and its meters.
 pub fn samples(reached: &mut Reached, outcome: &Outcome) {
-    if let Outcome::Ready(channels, _) = outcome {
+    if let Outcome::Ready(channels, Meters { peak, gain }) = outcome {
         let all: usize = channels.iter().map(Vec::len).sum();
         reached.add(What::Sample, all as u64);
+        reached.add(What::Loud, (*peak > 1.0).into());
+        reached.add(What::Infinite, peak.is_infinite().into());
+        reached.add(What::Down, (*gain < 1.0 && *gain > 0.0).into());
+        reached.add(What::Up, (*gain > 1.0).into());
+        reached.add(What::Low, (*gain <= 0.0).into());
+    }
+}
+
+/// A call that gives samples of a block whose limiter gain is NaN.
+pub fn nan_gain(reached: &mut Reached, block: &[u8], outcome: &Outcome) {
+    if let Outcome::Ready(channels, _) = outcome {
+        let gain = floats(&block[24..28])[0];
+        let passed = gain.is_nan() && !channels[0].is_empty();
+        reached.add(What::NanGain, passed.into());
     }
 }
 

@@ -7,7 +7,7 @@ use super::What::{self, *};
 type Line = (&'static str, Vec<(String, What)>);
 
 /// What has a name.
-const NAMED: [(&str, &[(&str, What)]); 13] = [
+const NAMED: [(&str, &[(&str, What)]); 14] = [
     (
         "compared",
         &[
@@ -59,6 +59,17 @@ const NAMED: [(&str, &[(&str, What)]); 13] = [
         ],
     ),
     ("limiter", &[("calls that leave a gain below 1", Limited)]),
+    (
+        "answered peaks and gains",
+        &[
+            ("peak above 1", Loud),
+            ("infinite", Infinite),
+            ("gain below 1", Down),
+            ("above 1", Up),
+            ("0 or less", Low),
+            ("a NaN passed over", NanGain),
+        ],
+    ),
     ("flushes", &[("with samples", Flush), ("without", Nothing)]),
     ("resets", &[("all", Reset)]),
     (

@@ -3,7 +3,7 @@
 
 use compare::calls::{Call, Step, spoil, spoil_record};
 use compare::case::{Case, Seen};
-use compare::entry::BLOCK;
+use compare::entry::{Answer, BLOCK};
 use compare::host::{fresh, used_block};
 use compare::{Frames, Generator, block, ranges, seeds};
 use std::collections::BTreeMap;
@@ -139,6 +139,15 @@ fn check_rendered(case: &Case, ready: usize, state: &[u8], out: &[u8]) {
     assert_eq!(written, None, "a byte beside the ready samples");
 }
 
+/// a peak is +0 or more, a gain no NaN; "with no block ready, they are 0 and 1".
+fn check_meters(answer: Answer) {
+    let Answer { peak, gain, .. } = answer;
+    let is_level = peak >= 0.0 && peak.is_sign_positive();
+    assert!(is_level && !gain.is_nan(), "{answer:?}");
+    let idle = [peak, gain].map(f32::to_bits) == [0.0, 1.0].map(f32::to_bits);
+    assert!(idle || answer.ready > 0, "{answer:?}");
+}
+
 /// Every call is answered: 1 to 8 where document 01 says so, each other number only where none of
 /// these holds, 7 never; what is not to be written stays. Every other answer arises.
 #[test]
@@ -152,6 +161,7 @@ fn any_bytes() {
             assert_eq!(answer.number, number, "{answer:?}");
         }
         assert_eq!(answer.kind, kind(&case, answer.number), "{answer:?}");
+        check_meters(answer);
         match answer.kind {
             0 => check_rendered(&case, answer.ready, &state, &out),
             3 => assert!(state == fresh() && out == case.out, "{answer:?}"),

@@ -76,14 +76,13 @@ impl Oracle {
             Some(output.samples_per_channel())
         }
 
-        /// The twelve channels of a frame that is accepted, as they come to the limiter. The renderer
-        /// stays as it is.
-        pub fn mixed(&self, frame: &Frame) -> Vec<Vec<f32>> {
+        /// The twelve channels of a frame that is accepted, as they come to the limiter.
+        pub fn mixed(self, frame: &Frame) -> Vec<Vec<f32>> {
             let input = convert::input_frame(frame);
             let (mut beds, mut objects) = (Vec::new(), Vec::new());
             let input = render_input_from_frame(&input, &mut beds, &mut objects);
             let mut channels = vec![Vec::new(); RENDER_714_CHANNELS];
-            let mut renderer = self.renderer.clone();
+            let mut renderer = self.renderer;
             let mixed = renderer.push_frame_parts_impl(&input, &mut channels, &mut Vec::new());
             assert!(mixed.is_ok(), "a frame that is refused");
             channels
