@@ -19,17 +19,34 @@ pub enum Picture {
     Levels,
 }
 
+/// Where the limiter's meters go.
+#[derive(Clone)]
+pub enum Meters {
+    None,
+    /// To the terminal, and a line at the end.
+    Shown,
+    /// There, and in columns to a file.
+    Written(OsString),
+}
+
 pub struct Render {
     pub from: OsString,
     pub to: OsString,
     pub policy: Policy,
     pub rf64: bool,
+    pub meters: Meters,
+}
+
+pub struct Demo {
+    pub to: OsString,
+    pub seconds: f64,
+    pub meters: Meters,
 }
 
 pub enum Command {
     Help,
     Version,
-    Demo { to: OsString, seconds: f64 },
+    Demo(Demo),
     Render(Render),
     Check { from: OsString },
     Dump { from: OsString },
@@ -62,8 +79,8 @@ fn parse(mut parser: Parser) -> Result<Command, Trouble> {
         Some(other) => return Err(unknown(&other, &["help", "version"])),
     };
     let known: &[&str] = match name.as_str() {
-        "demo" => &["o", "s"],
-        "render" => &["o", "conceal", "stop", "rf64"],
+        "demo" => &["o", "s", "meters"],
+        "render" => &["o", "conceal", "stop", "rf64", "meters"],
         "undump" | "map" | "plot" => &["o"],
         _ => &[],
     };
@@ -100,6 +117,8 @@ struct Given {
     values: Vec<OsString>,
     to: Option<OsString>,
     seconds: Option<OsString>,
+    /// The option, and its file where it names one.
+    meters: Option<Option<OsString>>,
     conceal: bool,
     stop: bool,
     rf64: bool,
@@ -120,6 +139,9 @@ impl Given {
                 Long("conceal") if known.contains(&"conceal") => given.conceal = true,
                 Long("stop") if known.contains(&"stop") => given.stop = true,
                 Long("rf64") if known.contains(&"rf64") => given.rf64 = true,
+                Long("meters") if known.contains(&"meters") => {
+                    given.meters = Some(parser.optional_value());
+                }
                 Short('h') | Long("help") => given.help = true,
                 Value(value) => given.values.push(value),
                 other => return Err(unknown(&other, known)),
@@ -153,6 +175,21 @@ impl Given {
         })
     }
 
+    /// `to`: where the samples go.
+    fn meters(&self, to: &OsString) -> Result<Meters, Trouble> {
+        match &self.meters {
+            None => Ok(Meters::None),
+            Some(None) => Ok(Meters::Shown),
+            Some(Some(file)) if file.is_empty() => {
+                Err(Trouble::Wrong("--meters= needs a file behind it".into()))
+            }
+            Some(Some(file)) if file == to => Err(Trouble::Wrong(
+                "-o and --meters: samples and meters cannot go to one file".into(),
+            )),
+            Some(Some(file)) => Ok(Meters::Written(file.clone())),
+        }
+    }
+
     fn demo(self) -> Result<Command, Trouble> {
         let given = self.none()?;
         let seconds = match &given.seconds {
@@ -170,8 +207,13 @@ impl Given {
                     ))
                 })?,
         };
-        let to = given.to.unwrap_or_else(|| "show.wav".into());
-        Ok(Command::Demo { to, seconds })
+        let to = given.to.clone().unwrap_or_else(|| "show.wav".into());
+        let meters = given.meters(&to)?;
+        Ok(Command::Demo(Demo {
+            to,
+            seconds,
+            meters,
+        }))
     }
 
     fn render(self) -> Result<Command, Trouble> {
@@ -188,6 +230,7 @@ impl Given {
         }
         Ok(Command::Render(Render {
             from: self.only("IN")?,
+            meters: self.meters(&to)?,
             to,
             policy: if self.stop {
                 Policy::Stop
@@ -298,10 +341,14 @@ mod tests {
         }
     }
 
-    const TAKEN: [&str; 21] = [
+    const TAKEN: [&str; 25] = [
         "demo",
         "demo -o x -s 0.5",
         "demo -s20",
+        "demo --meters",
+        "render a -o b --meters",
+        "render a --meters=c -o b",
+        "render a -o b --meters=-",
         "render a -o b",
         "render a -o b --conceal",
         "render - -o - --stop",
@@ -323,14 +370,27 @@ mod tests {
     ];
 
     /// Lines, and what is said of them.
-    const NOT: [(&str, &str); 16] = [
+    const NOT: [(&str, &str); 20] = [
         ("rendr a", "unknown command rendr; did you mean render?"),
         ("sing", "unknown command sing"),
         (
             "render a -o b --rf46",
             "unknown option --rf46; did you mean --rf64?",
         ),
-        ("render a -o b --meters", "unknown option --meters"),
+        (
+            "render a -o b --meter",
+            "unknown option --meter; did you mean --meters?",
+        ),
+        ("check a --meters", "unknown option --meters"),
+        ("render a -o b --meters c", "unexpected argument c"),
+        (
+            "render a -o b --meters=",
+            "--meters= needs a file behind it",
+        ),
+        (
+            "render a -o - --meters=-",
+            "-o and --meters: samples and meters cannot go to one file",
+        ),
         ("check a --stop", "unknown option --stop"),
         (
             "render a",

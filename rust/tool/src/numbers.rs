@@ -14,12 +14,17 @@ pub fn grouped(n: u64) -> String {
     text
 }
 
-/// A level relative to full scale: "-0.9 dB", or "silent".
-pub fn decibels(level: f32) -> String {
-    if level == 0.0 {
+/// A size relative to full scale, in dB.
+pub fn level(size: f64) -> f64 {
+    20.0 * size.log10()
+}
+
+/// The same for people: "-0.9 dB", or "silent".
+pub fn decibels(size: f32) -> String {
+    if size == 0.0 {
         "silent".to_owned()
     } else {
-        format!("{:.1} dB", 20.0 * f64::from(level).log10())
+        format!("{:.1} dB", level(size.into()))
     }
 }
 

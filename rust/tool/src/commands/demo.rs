@@ -2,16 +2,17 @@
 //! `demo`: the show into a WAVE file.
 use super::record::Recorder;
 use super::told::cause;
-use crate::arguments::Policy;
+use crate::arguments::{Demo, Policy};
 use crate::hall::{Hall, Refused};
 use crate::numbers::{counted, grouped};
 use crate::show::Show;
 use crate::trouble::Trouble;
-use std::ffi::OsString;
 
-pub fn demo(to: &OsString, seconds: f64) -> Result<(), Trouble> {
-    let mut recorder = Recorder::new(to, false, told);
-    let ran = Hall::new()?.run(&mut Show::new(seconds), Policy::Conceal, &mut recorder);
+pub fn demo(given: &Demo) -> Result<(), Trouble> {
+    let to = &given.to;
+    let mut recorder = Recorder::new(to, false, &given.meters, told)?;
+    let mut show = Show::new(given.seconds);
+    let ran = Hall::new()?.run(&mut show, Policy::Conceal, &mut recorder);
     let ((counts, _), _) = recorder.close(ran)?;
     let Some(first) = &recorder.first else {
         return Ok(());
@@ -22,6 +23,7 @@ pub fn demo(to: &OsString, seconds: f64) -> Result<(), Trouble> {
         grouped(counts.refused()),
         counted(counts.frames, "frame")
     ))?;
+    recorder.say_meters()?;
     if to == "-" {
         return Ok(());
     }

@@ -3,6 +3,7 @@
 mod check;
 mod demo;
 mod hex;
+mod meters;
 mod record;
 mod render;
 mod told;
@@ -19,7 +20,7 @@ pub fn run(command: Command) -> Result<(), Trouble> {
     match command {
         Command::Help => say(include_str!("../help.txt")),
         Command::Version => say(&version()),
-        Command::Demo { to, seconds } => demo::demo(&to, seconds),
+        Command::Demo(demo) => demo::demo(&demo),
         Command::Render(render) => render::render(&render),
         Command::Check { from } => check::check(&from),
         Command::Dump { from } => dump(&from),

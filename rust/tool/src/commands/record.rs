@@ -1,5 +1,7 @@
 // SPDX-License-Identifier: Apache-2.0
 //! Into a WAVE file: what `render` and `demo` share.
+use super::meters::Meters;
+use crate::arguments;
 use crate::files;
 use crate::hall::{Counts, Listener, Refused};
 use crate::numbers::{clock, decibels};
@@ -19,6 +21,9 @@ pub struct Recorder<'a> {
     rate: u32,
     rows: u64,
     peak: f32,
+    meters: Option<Meters>,
+    /// Standard output has samples or columns.
+    taken: bool,
     /// The first refused frame, as `tell` has it.
     pub first: Option<String>,
     tell: fn(&Refused<'_>) -> String,
@@ -27,8 +32,21 @@ pub struct Recorder<'a> {
 
 impl<'a> Recorder<'a> {
     /// `tell`: what is kept of the first refused frame.
-    pub fn new(to: &'a OsString, rf64: bool, tell: fn(&Refused<'_>) -> String) -> Self {
-        Self {
+    pub fn new(
+        to: &'a OsString,
+        rf64: bool,
+        meters: &arguments::Meters,
+        tell: fn(&Refused<'_>) -> String,
+    ) -> Result<Self, Trouble> {
+        let (shown, file) = match meters {
+            arguments::Meters::None => (false, None),
+            arguments::Meters::Shown => (true, None),
+            arguments::Meters::Written(file) => (true, Some(file)),
+        };
+        let meters = shown.then(|| Meters::new(file)).transpose()?;
+        Ok(Self {
+            taken: to == "-" || file.is_some_and(|file| file == "-"),
+            meters,
             to,
             rf64,
             wave: None,
@@ -38,7 +56,7 @@ impl<'a> Recorder<'a> {
             first: None,
             tell,
             progress: Progress::new(),
-        }
+        })
     }
 
     fn begin(&mut self, rate: u32) -> io::Result<()> {
@@ -90,9 +108,19 @@ impl<'a> Recorder<'a> {
         )
     }
 
-    /// Says it on standard output, or on standard error where the samples go there.
+    /// What the limiter met, where it was asked for; behind it nothing more is metered.
+    pub fn say_meters(&mut self) -> Result<(), Trouble> {
+        let Some(meters) = self.meters.take() else {
+            return Ok(());
+        };
+        let text = meters.summary();
+        meters.close()?;
+        self.say(&text)
+    }
+
+    /// Says it on standard output, or on standard error where samples or columns go there.
     pub fn say(&self, text: &str) -> Result<(), Trouble> {
-        if self.to == "-" {
+        if self.taken {
             let _ = writeln!(io::stderr(), "{text}");
             return Ok(());
         }
@@ -123,6 +151,10 @@ impl Listener for Recorder<'_> {
         let name = files::name_out(self.to);
         self.write(rate, sound)
             .map_err(|e| Trouble::io(&name, &e))?;
+        let at = self.seconds();
+        if let Some(meters) = &mut self.meters {
+            meters.add(at, rate, sound)?;
+        }
         self.rows += sound.ready() as u64;
         for (_, channel) in sound.channels() {
             self.peak = channel.iter().fold(self.peak, |p, x| p.max(x.abs()));
@@ -139,8 +171,12 @@ impl Listener for Recorder<'_> {
 
     fn step(&mut self, part: Option<f64>, counts: &Counts) {
         if self.progress.is_due() {
-            let (seconds, peak) = (self.seconds(), self.peak);
-            self.progress.show(seconds, part, peak, counts);
+            let seconds = self.seconds();
+            let text = match &mut self.meters {
+                Some(meters) => meters.bars(),
+                None => self.progress.told(seconds, self.peak, counts),
+            };
+            self.progress.show(seconds, part, &text);
         }
     }
 }
@@ -169,17 +205,17 @@ impl Progress {
         self.next.is_some_and(|next| Instant::now() >= next)
     }
 
-    /// "0:31.2, 26 %, 190 x real time, peak -3.1 dB, 2 concealed, 0 lost"
-    fn show(&mut self, seconds: f64, part: Option<f64>, peak: f32, counts: &Counts) {
-        let part = part.map_or(String::new(), |p| format!(", {:.0} %", 100.0 * p));
+    /// "190 x real time, peak -3.1 dB, 2 concealed, 0 lost"
+    fn told(&self, seconds: f64, peak: f32, counts: &Counts) -> String {
         let times = seconds / self.began.elapsed().as_secs_f64();
-        let (concealed, lost) = (counts.concealed, counts.lost);
-        let _ = write!(
-            io::stderr(),
-            "\r\x1b[K{}{part}, {times:.0} x real time, peak {}, {concealed} concealed, {lost} lost",
-            clock(seconds),
-            decibels(peak)
-        );
+        let (peak, concealed, lost) = (decibels(peak), counts.concealed, counts.lost);
+        format!("{times:.0} x real time, peak {peak}, {concealed} concealed, {lost} lost")
+    }
+
+    /// Behind the time and the part that is read: "0:31.2, 26 %, .."
+    fn show(&mut self, seconds: f64, part: Option<f64>, text: &str) {
+        let part = part.map_or(String::new(), |p| format!(", {:.0} %", 100.0 * p));
+        let _ = write!(io::stderr(), "\r\x1b[K{}{part}, {text}", clock(seconds));
         self.shown = true;
         self.next = Some(Instant::now() + EVERY);
     }

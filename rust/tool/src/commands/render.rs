@@ -2,7 +2,7 @@
 //! `render`: a programme into a WAVE file.
 use super::record::Recorder;
 use super::told;
-use crate::arguments::{Policy, Render};
+use crate::arguments::{Meters, Policy, Render};
 use crate::files;
 use crate::hall::{Counts, Hall};
 use crate::numbers::{counted, grouped};
@@ -11,14 +11,18 @@ use crate::trouble::Trouble;
 
 pub fn render(given: &Render) -> Result<(), Trouble> {
     files::apart(&given.from, &given.to)?;
+    if let Meters::Written(file) = &given.meters {
+        files::apart(&given.from, file)?;
+    }
     let (name, to) = (files::name_in(&given.from), &given.to);
     let (input, length) = files::open(&given.from)?;
     let mut programme = Reader::new(input, Limits::TOOL, length);
-    let mut recorder = Recorder::new(to, given.rf64, told::line);
+    let mut recorder = Recorder::new(to, given.rf64, &given.meters, told::line)?;
     let ran = Hall::new()?.run(&mut programme, given.policy, &mut recorder);
     let ((counts, broken), written) = recorder.close(ran)?;
     if written {
         recorder.say(&format!("{}; {}", recorder.summary(), refusals(&counts)))?;
+        recorder.say_meters()?;
     }
     if let (Policy::Stop, Some(first)) = (given.policy, &recorder.first) {
         return Err(Trouble::Refused(Some(format!("{name}: {first}"))));
