@@ -4,6 +4,7 @@ mod arguments;
 mod commands;
 mod files;
 mod hall;
+mod met;
 mod numbers;
 mod pictures;
 mod programme;

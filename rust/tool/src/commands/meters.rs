@@ -1,6 +1,7 @@
 // SPDX-License-Identifier: Apache-2.0
 //! `--meters`: what the limiter met, call after call; bars for the terminal, columns for a file, a line for the end.
 use crate::files::Out;
+use crate::met::Met;
 use crate::numbers::level;
 use crate::trouble::Trouble;
 use std::ffi::OsString;
@@ -13,32 +14,6 @@ const CELL: f64 = 3.0;
 const BELOW: usize = 16;
 const ABOVE: usize = 4;
 const DOWN: usize = 8;
-
-/// A call's greatest peak and least gain, or those of several calls.
-#[derive(Clone, Copy)]
-struct Met {
-    peak: f32,
-    gain: f32,
-}
-
-const NOTHING: Met = Met {
-    peak: 0.0,
-    gain: 1.0,
-};
-
-impl Met {
-    fn with(self, other: Self) -> Self {
-        Self {
-            peak: self.peak.max(other.peak),
-            gain: self.gain.min(other.gain),
-        }
-    }
-
-    /// In dB, 0 where nothing is turned down.
-    fn reduction(self) -> f64 {
-        level(1.0 / f64::from(self.gain))
-    }
-}
 
 pub struct Meters {
     columns: Option<Out>,
@@ -60,10 +35,10 @@ impl Meters {
         }
         Ok(Self {
             columns,
-            all: NOTHING,
+            all: Met::NOTHING,
             at: 0.0,
             down: 0.0,
-            since: NOTHING,
+            since: Met::NOTHING,
         })
     }
 
@@ -72,12 +47,11 @@ impl Meters {
         if sound.ready() == 0 {
             return Ok(());
         }
-        let (peak, gain) = (sound.peak(), sound.gain());
-        let met = Met { peak, gain };
-        if peak > self.all.peak {
+        let met = Met::of(sound);
+        if met.peak > self.all.peak {
             self.at = at;
         }
-        if gain < 1.0 {
+        if met.gain < 1.0 {
             self.down += sound.ready() as f64 / f64::from(rate);
         }
         self.all = self.all.with(met);
@@ -90,7 +64,7 @@ impl Meters {
 
     /// The bars since they were last asked for: "peak [==============  |    ] -6.0 dB, down [        ] 0.0 dB"
     pub fn bars(&mut self) -> String {
-        let met = std::mem::replace(&mut self.since, NOTHING);
+        let met = std::mem::replace(&mut self.since, Met::NOTHING);
         bars(met)
     }
 

@@ -3,6 +3,7 @@
 //! answers.
 use crate::arguments::Policy;
 use crate::hall::{Hall, Listener, Refused};
+use crate::met::Met;
 use crate::numbers::level;
 use crate::show::Show;
 use crate::svg::{Align, Area, Axis, BLUE, Frame, GOLD, GREY, RED, Scale, Svg, dashed};
@@ -126,12 +127,6 @@ fn limiter(svg: &mut Svg, met: &[Met]) {
     svg.coloured((left + 175.0, top), Align::Start, GOLD, "its gain");
 }
 
-/// The greatest peak and the least gain that calls answered.
-struct Met {
-    peak: f32,
-    gain: f32,
-}
-
 /// The peak of each channel, and what the limiter met, part after part.
 #[derive(Default)]
 struct Peaks {
@@ -153,9 +148,9 @@ impl Peaks {
             .iter()
             .copied()
             .fold(0f32, f32::max);
-        let least = self.met.iter().map(|m| m.gain).fold(1.0, f32::min);
-        let (peak, at) = self.loudest;
-        let [most, peak, gain] = [most, peak, least].map(|x| level(x.into()));
+        let Met { peak, gain } = self.met.iter().copied().fold(Met::NOTHING, Met::with);
+        let [most, peak, gain] = [most, peak, gain].map(|x| level(x.into()));
+        let at = self.loudest.1;
         [
             format!(
                 "Peaks of {} ms of each output channel, from {LEAST:.0} to 0 dB; the greatest is {most:.2} dB.",
@@ -171,13 +166,13 @@ impl Peaks {
 impl Listener for Peaks {
     fn sound(&mut self, _: u32, sound: &Rendered<'_>) -> Result<(), Trouble> {
         let channels = Speaker::ALL.map(|s| sound.channel(s));
-        let (peak, gain) = (sound.peak(), sound.gain());
-        if peak > self.loudest.0 {
-            self.loudest = (peak, self.samples as f64 / 48_000.0);
+        let met = Met::of(sound);
+        if met.peak > self.loudest.0 {
+            self.loudest = (met.peak, self.samples as f64 / 48_000.0);
         }
         match self.met.get_mut(self.samples / PART) {
-            Some(met) => (met.peak, met.gain) = (met.peak.max(peak), met.gain.min(gain)),
-            None => self.met.push(Met { peak, gain }),
+            Some(part) => *part = part.with(met),
+            None => self.met.push(met),
         }
         for i in 0..sound.ready() {
             if self.samples % PART == 0 {
