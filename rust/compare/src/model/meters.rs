@@ -11,7 +11,7 @@ pub struct Meters {
 
 /// A block that was given out: "its peak before scaling and the gain that was used".
 #[derive(Clone, Copy, Debug)]
-struct Met {
+struct Block {
     peak: f32,
     gain: f32,
 }
@@ -25,9 +25,12 @@ impl Meters {
 
     /// No peak is NaN, and the order of sizes is that of their bits. "A NaN from a handed-in block
     /// is passed over"; of equal gains (the two zeros) the first is the least.
-    fn of(blocks: &[Met]) -> Self {
-        let peak = blocks.iter().map(|met| met.peak.to_bits()).max();
-        let gains = blocks.iter().map(|met| met.gain).filter(|x| !x.is_nan());
+    fn of(blocks: &[Block]) -> Self {
+        let peak = blocks.iter().map(|block| block.peak.to_bits()).max();
+        let gains = blocks
+            .iter()
+            .map(|block| block.gain)
+            .filter(|x| !x.is_nan());
         let least = gains.min_by(|a, b| a.partial_cmp(b).unwrap());
         Meters {
             peak: peak.map_or(Self::NONE.peak, f32::from_bits),
@@ -57,7 +60,7 @@ impl Limited {
             }
             let grown = gain + block.len() as f32 / rate as f32;
             next = if grown > 1.0 { 1.0 } else { grown };
-            blocks.push(Met { peak, gain });
+            blocks.push(Block { peak, gain });
         }
         Limited {
             meters: Meters::of(&blocks),
