@@ -20,6 +20,7 @@
 //! let rendered = renderer.push(&frame, &mut out)?;
 //! assert_eq!(rendered.ready(), 448); // whole blocks of 64; 32 samples wait
 //! assert_eq!(rendered.channel(Speaker::SurroundLeft).len(), 448);
+//! assert!(rendered.peak() < 1.0 && rendered.gain() == 1.0); // what the limiter met, and did
 //! # Ok::<(), Box<dyn std::error::Error>>(())
 //! ```
 //!
