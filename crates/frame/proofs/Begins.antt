@@ -25,7 +25,7 @@ use Rattle.rules.specs.Ranges.{Ranged}
 use Rattle.store.specs.declared.renderer.Renderer714.{Renderer714}
 use Rattle.store.specs.Layout.{size, assembled, infosOf, placesOf}
 use Rattle.theorem.specs.Instance.{Sent, hall, sentAt, sentOf}
-use Rattle.theorem.proofs.Sound.{Within}
+use Rattle.theorem.proofs.Theorems.{Within}
 use Rattle.frame.specs.Held.{held, smallBytes, IsHeld, IsNext}
 use Rattle.store.specs.Steps.{withState}
 use Rattle.frame.specs.Begin.{restated, CanStart, Rests}

@@ -13,9 +13,7 @@ use Rattle.rules.specs.Parts.{Channels, Places, none, floats, laid}
 use Rattle.rules.specs.Leaves.{Leaves}
 use Rattle.rules.specs.Mix.{Moment, fed}
 use Rattle.rules.specs.Samples.{Pending, Frame, State, After, limited, row, moment, updated, slotted, settled, closing, sampled, framed}
-use Rattle.rules.proofs.Lists.{length-map, length-laid}
-use Rattle.rules.proofs.Limited.{length-limited}
-use Rattle.rules.proofs.Clock.{untouched}
+use Rattle.rules.proofs.Theorems.{length-map, length-laid, length-limited, untouched}
 
 -- 64 places on each channel
 abbrev pub Long : Places → Type 0

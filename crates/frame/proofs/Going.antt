@@ -17,11 +17,7 @@ use Rattle.rules.specs.Samples.{Pending, State, After, updated, slotted, framed
 use Rattle.rules.specs.Refusals.{Args, listed, shapeAt}
 use Rattle.rules.specs.Calls.{announced, frameOf}
 use Rattle.rules.specs.Block.{Layout, written}
-use Rattle.rules.proofs.Facts.{Facts}
-use Rattle.rules.proofs.Judged.{Passed, is-roomy, samples-fit}
-use Rattle.rules.proofs.Clock.{untouched}
-use Rattle.rules.proofs.Ranged.{R, updated-ranged, slotted-ranged, framed-ranged, opened-ranged}
-use Rattle.rules.proofs.Shapes.{Matches, matches-on, judged, updated-shape, slotted-shape}
+use Rattle.rules.proofs.Theorems.{Facts, Passed, is-roomy, samples-fit, untouched, R, updated-ranged, slotted-ranged, framed-ranged, opened-ranged, Matches, matches-on, judged, updated-shape, slotted-shape}
 use Rattle.frame.specs.Chunk.{chunk}
 use Rattle.frame.specs.Out.{behind}
 use Rattle.frame.proofs.Chunks.{both, Turn, chunk-passes, chunk-whole, turn}

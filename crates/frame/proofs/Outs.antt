@@ -11,7 +11,7 @@ use Rattle.words.specs.Words.{withNumber, withWord, withWords}
 use Rattle.words.proofs.Runs.{run-length-kept}
 use Rattle.rules.specs.Parts.{Channels, none, joined}
 use Rattle.rules.specs.Block.{writtenFrom, written}
-use Rattle.rules.proofs.Lists.{length-map}
+use Rattle.rules.proofs.Theorems.{length-map}
 use Rattle.frame.specs.Out.{behindFrom, behind}
 
 -- ---- stores into ranges that do not meet, in either order

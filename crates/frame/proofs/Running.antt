@@ -27,17 +27,13 @@ use Rattle.rules.specs.Leaves.{started}
 use Rattle.rules.specs.Samples.{State, After, updated, slotted, pushed}
 use Rattle.rules.specs.Refusals.{Args, listed}
 use Rattle.rules.specs.Calls.{frameOf}
-use Rattle.rules.proofs.Judged.{Passed, is-passed, and-true, is-roomy, is-listed, rate-high, is-sized, samples-fit}
-use Rattle.rules.proofs.Ranged.{R}
+use Rattle.rules.proofs.Theorems.{Passed, is-passed, and-true, is-roomy, is-listed, rate-high, is-sized, samples-fit, R}
 use Rattle.store.specs.declared.renderer.Renderer714.{Renderer714}
 use Rattle.store.specs.Steps.{openedBy}
 use Rattle.store.specs.Layout.{size, infosOf, decode}
 use Rattle.store.specs.Ranges.{smallValid, headsValid, valid}
 use Rattle.theorem.specs.Instance.{hall, block, sentAt, sentOf}
-use Rattle.theorem.proofs.Checked.{each-all}
-use Rattle.theorem.proofs.Applied.{codes-long}
-use Rattle.theorem.proofs.Shapes.{shape-apply, shape-slot}
-use Rattle.theorem.proofs.Demand3.{facts}
+use Rattle.theorem.proofs.Theorems.{each-all, codes-long, shape-apply, shape-slot, facts}
 use Rattle.frame.specs.declared.Rendering.{Rendering}
 use Rattle.frame.specs.Held.{held, smallBytes, Leads}
 use Rattle.frame.specs.Chunk.{chunk}

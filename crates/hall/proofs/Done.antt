@@ -21,16 +21,13 @@ use Rattle.rules.specs.Samples.{Renderer, pushed, flushed}
 use Rattle.rules.specs.Ranges.{Ranged}
 use Rattle.rules.specs.Calls.{push, flush, frameOf, found}
 use Rattle.rules.specs.Block.{written, made}
-use Rattle.rules.proofs.Judged.{is-passed, is-listed, rate-high, is-roomy}
-use Rattle.rules.proofs.Limited.{length-limited}
+use Rattle.rules.proofs.Theorems.{is-passed, is-listed, rate-high, is-roomy, length-limited}
 use Rattle.store.specs.declared.renderer.Renderer714.{Renderer714}
 use Rattle.store.specs.Fields.{smallWords, smallOf}
 use Rattle.store.specs.Layout.{decode}
 use Rattle.store.specs.Ranges.{valid}
 use Rattle.theorem.specs.Instance.{hall, block}
-use Rattle.theorem.proofs.Sound.{Within}
-use Rattle.theorem.proofs.Blocks.{decoded-of}
-use Rattle.theorem.proofs.Demand3.{pushed-within, flushed-within}
+use Rattle.theorem.proofs.Theorems.{Within, decoded-of, pushed-within, flushed-within}
 use Rattle.frame.specs.Held.{held, IsHeld}
 use Rattle.hall.specs.declared.answer.Answer.{Answer}
 use Rattle.hall.specs.Answers.{Left, readyOf}

@@ -11,7 +11,7 @@ use Rattle.words.specs.Words.{Bytes, wordsAt, withWords}
 use Rattle.timed.specs.State.{Timed}
 use Rattle.rules.specs.Samples.{Renderer}
 use Rattle.rules.specs.Ranges.{Ranged}
-use Rattle.rules.proofs.Judged.{and-true}
+use Rattle.rules.proofs.Theorems.{and-true}
 use Rattle.store.specs.declared.renderer.Renderer714.{Renderer714}
 use Rattle.store.specs.Fields.{smallWords, smallOf}
 use Rattle.store.specs.Layout.{size, small, placeRows, infosOf, decode, encode}
@@ -20,8 +20,7 @@ use Rattle.store.proofs.Back.{small-long}
 use Rattle.store.proofs.Rows.{rows-of}
 use Rattle.store.proofs.Whole.{small-full, saved-encode}
 use Rattle.theorem.specs.Instance.{hall}
-use Rattle.theorem.proofs.Sound.{Within}
-use Rattle.theorem.proofs.Blocks.{ranged, decoded-of}
+use Rattle.theorem.proofs.Theorems.{Within, ranged, decoded-of}
 use Rattle.refusals.proofs.Loaded.{loaded}
 use Rattle.frame.specs.Held.{held, IsHeld}
 

@@ -2,7 +2,7 @@
 use mathlib.Core.Path.{_≡_, refl, sym, _∙_}
 use mathlib.Core.List.{List, [], _∷_, map}
 use Rattle.ieee.specs.Bounds.{All}
-use Rattle.rules.proofs.Lists.{all-append}
+use Rattle.rules.proofs.Theorems.{all-append}
 use Rattle.rows.specs.Rows.{Said, Row, Holds, says, seen}
 use Rattle.rows.specs.Notation.{concat}
 use Rattle.rows.specs.Lists.{refusals, outputs, block-rows, bed-rows, object-rows, updates, slots, groups, rows}

@@ -31,3 +31,4 @@ pub mod Called
 pub mod Flushes
 pub mod Keeps
 pub mod Demand3
+pub mod Theorems

@@ -2,15 +2,12 @@
 use mathlib.Core.Path.{refl}
 use Rattle.words.specs.Words.{Bytes}
 use Rattle.rules.specs.Demand3.{EveryList, Keeps}
-use Rattle.rules.proofs.Facts.{Facts}
+use Rattle.rules.proofs.Theorems.{Facts, Passed, pushed-ranged, flushed-ranged, every-list}
 use Rattle.rules.specs.Refusals.{Args}
 use Rattle.rules.specs.Samples.{State, pushed, flushed}
 use Rattle.rules.specs.Ranges.{Ranged}
 use Rattle.rules.specs.Calls.{frameOf}
-use Rattle.rules.proofs.Judged.{Passed}
-use Rattle.rules.proofs.Ranged.{pushed-ranged, flushed-ranged}
 use Rattle.rules.proofs.Keeps as rules
-use Rattle.rules.proofs.Demand3.{every-list}
 use Rattle.theorem.specs.Instance.{hall, block}
 use Rattle.theorem.proofs.Sound.{Sound, Within}
 use Rattle.theorem.proofs.Checked.{Checked, checked}

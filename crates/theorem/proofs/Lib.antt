@@ -15,3 +15,4 @@ pub mod Demand3
 pub mod Heard
 pub mod Players
 pub mod Marked
+pub mod Theorems

@@ -24,7 +24,7 @@ use Rattle.rules.specs.Accepted.{Acceptable}
 use Rattle.rules.specs.Sounds.{limitedBlocks, unlimited, whole}
 use Rattle.rules.specs.Promises.{CallHolds, AllHold, AtSample, PushHolds, FlushHolds}
 use Rattle.rules.specs.Demand3.{Lent, AllLent}
-use Rattle.rules.proofs.Accepted.{accepts}
+use Rattle.rules.proofs.Theorems.{accepts}
 use Rattle.theorem.specs.Instance.{hall, block}
 use Rattle.theorem.proofs.Blank.{zero-bytes}
 use Rattle.theorem.proofs.Demand3.{demand3}

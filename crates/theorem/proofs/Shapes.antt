@@ -12,7 +12,7 @@ use Rattle.updates.specs.Said.{Update}
 use Rattle.updates.specs.Applied.{codesGiven, applied}
 use Rattle.updates.proofs.Elements.{turned-at}
 use Rattle.rules.specs.Leaves.{Bed}
-use Rattle.rules.proofs.Facts.{Mixable}
+use Rattle.rules.proofs.Theorems.{Mixable}
 use Rattle.theorem.specs.Instance.{Sent, bedOf, sourceOf, hall}
 use Rattle.theorem.proofs.Sound.{Sound}
 use Rattle.theorem.proofs.Checked.{Checked, each-all, whole}
