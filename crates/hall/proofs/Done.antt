@@ -41,7 +41,8 @@ use Rattle.hall.proofs.Known.{valid-long, loaded-pending, loaded-ranged
 module _ (a : Args) (b : List ℕ) (bytes : Bytes b) (meta : Bytes (a .meta)) (v : valid b ≡ true) (e : found hall (decode b) a ≡ clear) where
   pub rendered-left : (s : Renderer714) (ready : ℕ) (m : Meters) (c : List ℕ) → Bytes c → IsHeld (pushed hall (frameOf hall a) (decode b) .next) s c
       → ready ≡ length (pushed hall (frameOf hall a) (decode b) .given 0) → m ≡ callMeters (pushed hall (frameOf hall a) (decode b) .meters)
-      → (r : Answer) (state out : List ℕ) → r ≡ readyOf ready m → state ≡ withWords c 0 (smallWords s) → out ≡ written (pushed hall (frameOf hall a) (decode b) .given) (a .stride) (a .out)
+      → (r : Answer) (state out : List ℕ) → r ≡ readyOf ready m → state ≡ withWords c 0 (smallWords s)
+      → out ≡ written (pushed hall (frameOf hall a) (decode b) .given) (a .stride) (a .out)
       → Left (made hall block (push a) b) r state out
   rendered-left s ready m c k h n l r state out i j o =
       let g = pushed-within (decode b) a meta (is-passed hall (decode b) a e) (decoded-of b bytes v) in
@@ -58,16 +59,25 @@ flushed-long : (r : Renderer Timed) → Ranged hall Within r → length (flushed
 unfolding flushed
 flushed-long r g =
     length-limited (r .limiter .gain) (λ c. take (r .pending .count) (floats (r .pending .places) c)) 0
-    ∙ length-take-le (r .pending .count) (floats (r .pending .places) 0) (let l = g .long 0 (omega arith) in let p = g .pending in let m = length-map (r .pending .places 0) (ofBits binary32) in omega arith)
+    ∙ length-take-le (r .pending .count) (floats (r .pending .places) 0) (let l = g .long 0 (omega arith) in let p = g .pending in
+    let m = length-map (r .pending .places 0) (ofBits binary32) in omega arith)
 
-module _ (b : List ℕ) (s : Renderer714) (e : s ≡ smallOf (wordsAt b 0 340)) (bytes : Bytes b) (v : valid b ≡ true) (out : List ℕ) (stride : ℕ) (k : room stride (length out) ≡ true) where
+module _ (b : List ℕ) (s : Renderer714) (e : s ≡ smallOf (wordsAt b 0 340)) (bytes : Bytes b) (v : valid b ≡ true) (out : List ℕ) (stride : ℕ)
+    (k : room stride (length out) ≡ true) where
   pub can-give : CanGive (record { renderer = s; ready = 0; meters = unmet }) b out stride
   can-give =
       let g = loaded-ranged b s e bytes v in
       let q = is-roomy stride (length out) k in
       let p = g .pending in
       let w = q .some in
-      record { block = valid-long b v; pending = le-of-lt (g .pending); rate = rate-small (s .rate) (g .rate); room = omega arith; short = let m = q .most in omega arith; output = q .long }
+      record {
+        block = valid-long b v;
+        pending = le-of-lt (g .pending);
+        rate = rate-small (s .rate) (g .rate);
+        room = omega arith;
+        short = let m = q .most in omega arith;
+        output = q .long;
+      }
 
   pub flushed-left : 0 < s .pending → (t : Renderer714) (m : Meters) → held t b ≡ flushed hall (held s b) .next → m ≡ callMeters (flushed hall (held s b) .meters)
       → (r : Answer) (state to : List ℕ) → r ≡ readyOf (s .pending) m → state ≡ withWords b 0 (smallWords t)

@@ -35,7 +35,8 @@ leaves-as {r = r} {state = state} {out = out} e h = subst (λ (x : Outcome). Lef
 
 -- ---- push
 
-pub stopped : (a : Args) (b : List ℕ) (n x y : ℕ) → valid b ≡ true → found hall (decode b) a ≡ stop n x y → made hall block (push a) b ≡ record { answer = refused n x y; state = b; out = a .out }
+pub stopped : (a : Args) (b : List ℕ) (n x y : ℕ) → valid b ≡ true → found hall (decode b) a ≡ stop n x y
+    → made hall block (push a) b ≡ record { answer = refused n x y; state = b; out = a .out }
 stopped a b n x y v e = taken (push a) b _ v (ap (λ (f : Found). asked hall f a (decode b)) e)
 
 -- whatever stopped it
@@ -61,7 +62,8 @@ module _ (out : List ℕ) (stride : ℕ) (b : List ℕ) (v : valid b ≡ true) w
   pub no-room : room stride (length out) ≡ false → made hall block (flush out stride) b ≡ record { answer = refused 1 0 0; state = b; out = out }
   no-room e = taken (flush out stride) b _ v (ap (λ (t : Bool). by-tests t (eqb (decode b .pending .count) 0)) e)
 
-  pub nothing-waits : room stride (length out) ≡ true → eqb (decode b .pending .count) 0 ≡ true → made hall block (flush out stride) b ≡ record { answer = nothing; state = b; out = out }
+  pub nothing-waits : room stride (length out) ≡ true → eqb (decode b .pending .count) 0 ≡ true
+      → made hall block (flush out stride) b ≡ record { answer = nothing; state = b; out = out }
   nothing-waits e p = taken (flush out stride) b _ v (ap (λ (t : Bool). by-tests t (eqb (decode b .pending .count) 0)) e ∙ ap (by-tests true) p)
 
   pub flushes : room stride (length out) ≡ true → eqb (decode b .pending .count) 0 ≡ false → made hall block (flush out stride) b ≡

@@ -84,14 +84,16 @@ module _ (us : List Announced) (objects : ℕ) (codes : List ℕ) where
     later-clear n rate old s p q z f =
         both-clear (passed 9 old rate p)
         (both-clear (passed 10 0 0 q)
-        (both-clear (counts-clear 0 us all) (both-clear (passed 12 0 0 z) (both-clear (first-clear (shapeAt us objects codes 0 us s) (shape-ready 0 us s all f)) (walk-clear n 0 s f)))))
+        (both-clear (counts-clear 0 us all)
+        (both-clear (passed 12 0 0 z) (both-clear (first-clear (shapeAt us objects codes 0 us s) (shape-ready 0 us s all f)) (walk-clear n 0 s f)))))
 
 -- ---- a push
 module _ (L : Leaves) (r : State L) (a : Args) (k : Acceptable L r a) where
   abbrev sent : List Announced
   sent = announced L (L .updates (a .meta))
 
-  all-sent : (us : List (L .Update)) → All (λ (u : L .Update). Suits (a .objects) (a .codes) (L .sent u)) us → All (λ (u : Announced). Suits (a .objects) (a .codes) (u .shape)) (announced L us)
+  all-sent : (us : List (L .Update)) → All (λ (u : L .Update). Suits (a .objects) (a .codes) (L .sent u)) us
+      → All (λ (u : Announced). Suits (a .objects) (a .codes) (u .shape)) (announced L us)
   all-sent [] h = tt
   all-sent (u ∷ us) h = (h .0, all-sent us (h .1))
 

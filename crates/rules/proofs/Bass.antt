@@ -41,7 +41,8 @@ no-objects (s ∷ ss) [] h = refl
 no-objects (s ∷ ss) (x ∷ own) h = ap (λ (ks : List Float). scaledBy ks x ++ objectsOn 3 ss own) (object-no-bass s (h .0)) ∙ no-objects ss own (h .1)
 
 -- ---- beds read the rows below their number
-same-fed : (ks : List Float) (code : ℕ) (codes : List ℕ) (f : matched.Found) (x y : ℕ → Float) → Judged code codes f → ((i : ℕ) → i < length codes → x i ≡ y i) → fedBy ks f x ≡ fedBy ks f y
+same-fed : (ks : List Float) (code : ℕ) (codes : List ℕ) (f : matched.Found) (x y : ℕ → Float) → Judged code codes f → ((i : ℕ) → i < length codes → x i ≡ y i)
+    → fedBy ks f x ≡ fedBy ks f y
 same-fed ks code codes (At i) x y j h = ap (scaledBy ks) (h i (j .0))
 same-fed ks code codes Nothing x y j h = refl
 

@@ -61,10 +61,12 @@ module _ (L : Leaves) where
     pub begins : (t : ℕ) → (before t || at t (L .updates (a .meta))) ≡ begun L r a t
     begins zero = ap (λ (b : Bool). started L (r .meta) || b) (sym (first-at (L .updates (a .meta))))
     begins (suc t) =
-        or-assoc (started L (r .meta)) (upTo L t (L .updates (a .meta))) (at (suc t) (L .updates (a .meta))) ∙ ap (λ (b : Bool). started L (r .meta) || b) (sym (next-at t (L .updates (a .meta))))
+        or-assoc (started L (r .meta)) (upTo L t (L .updates (a .meta))) (at (suc t) (L .updates (a .meta)))
+        ∙ ap (λ (b : Bool). started L (r .meta) || b) (sym (next-at t (L .updates (a .meta))))
 
   module _ (B : Layout L) (F : Facts L B) where
-    pub updated-started : (t : ℕ) (us : List (L .Update)) (r : State L) → All (F .Checked) us → F .Sound (r .meta) → started L (updated L t us r .meta) ≡ (started L (r .meta) || at t us)
+    pub updated-started : (t : ℕ) (us : List (L .Update)) (r : State L) → All (F .Checked) us → F .Sound (r .meta)
+        → started L (updated L t us r .meta) ≡ (started L (r .meta) || at t us)
     updated-started t [] r k s = sym (or-false (started L (r .meta)))
     updated-started t (u ∷ us) r k s =
         updated-started t us (cond (eqb (L .offset u) t) (appliedAt L t u r) r) (k .1)

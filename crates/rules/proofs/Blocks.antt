@@ -1,4 +1,5 @@
--- On the block of a renderer a call is what the rules say of the renderer, and leaves the next renderer's block; refused calls count as never sent, to the byte. Assumes nothing beyond `Facts`.
+-- On the block of a renderer a call is what the rules say of the renderer, and leaves the next renderer's block; refused calls count as never sent, to the byte. Assumes nothing
+-- beyond `Facts`.
 use Prim.Native.Nat.{ℕ}
 use mathlib.Core.Path.{_≡_, refl, sym, ap, _∙_, subst}
 use mathlib.Core.Bool.{Bool, true, false, cond}

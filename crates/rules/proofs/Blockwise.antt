@@ -1,5 +1,5 @@
--- Blocks of 64 samples, one behind the other: what is known of the first n blocks depends on their samples alone, and a sample that is laid behind those that wait is read there. Assumes
--- nothing.
+-- Blocks of 64 samples, one behind the other: what is known of the first n blocks depends on their samples alone, and a sample that is laid behind those that wait is read there.
+-- Assumes nothing.
 use mathlib.Core.Path.{_≡_, refl, sym, ap, ap₂, _∙_}
 use mathlib.Core.List.{List, [], _∷_, _++_, map}
 use Prim.Native.Nat.{ℕ, zero, suc, _+_, _*_, _≤_, _<_}
@@ -23,7 +23,8 @@ Same f g = (c : ℕ) → c < 12 → f c ≡ g c
 
 same-twelve : {f g : Channels} → Same f g → twelve f ≡ twelve g
 same-twelve h =
-    λ i. h 0 (lit< tt) i ∷ h 1 (lit< tt) i ∷ h 2 (lit< tt) i ∷ h 3 (lit< tt) i ∷ h 4 (lit< tt) i ∷ h 5 (lit< tt) i ∷ h 6 (lit< tt) i ∷ h 7 (lit< tt) i ∷ h 8 (lit< tt) i ∷ h 9 (lit< tt) i ∷ h 10 (lit< tt) i
+    λ i. h 0 (lit< tt) i ∷ h 1 (lit< tt) i ∷ h 2 (lit< tt) i ∷ h 3 (lit< tt) i ∷ h 4 (lit< tt) i ∷ h 5 (lit< tt) i ∷ h 6 (lit< tt) i ∷ h 7 (lit< tt) i ∷ h 8 (lit< tt) i
+    ∷ h 9 (lit< tt) i ∷ h 10 (lit< tt) i
     ∷ h 11 (lit< tt) i ∷ []
 
 pub same-limited : {f g : Channels} {x y : Float} → x ≡ y → Same f g → (c : ℕ) → c < 12 → limited x f c ≡ limited y g c

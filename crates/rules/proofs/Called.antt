@@ -81,10 +81,12 @@ module _ (L : Leaves) (B : Layout L) (F : Facts L B) where
         let q = is-roomy (a .stride) (length (a .out)) (p .early .room) in
         let d = pushed-fine L B F r a (h .0) (h .1) p rest in
         let y = pushed L (frameOf L a) r in
-        let fit = blocks-fit (d .blocks) (y .next .pending .count) (r .pending .count) (a .samples) (a .stride) (d .all) (steady rest .few) (samples-fit a (p .early .sized)) (q .whole) in
+        let fit = blocks-fit (d .blocks) (y .next .pending .count) (r .pending .count) (a .samples) (a .stride) (d .all) (steady rest .few) (samples-fit a (p .early .sized))
+        (q .whole) in
         record {
           rest = inr (d .next);
-          range = λ b. given-out (y .given) (callMeters (y .meters)) (64 * d .blocks) (a .stride) (y .next) (a .out) b fit (q .long) (d .given) (d .length) (call-in-range (y .meters) (d .meters));
+          range = λ b. given-out (y .given) (callMeters (y .meters)) (64 * d .blocks) (a .stride) (y .next) (a .out) b fit (q .long) (d .given) (d .length)
+              (call-in-range (y .meters) (d .meters));
         }
 
     -- something waits, so there is a rate
@@ -105,7 +107,8 @@ module _ (L : Leaves) (B : Layout L) (F : Facts L B) where
         let y = flushed L r in
         record {
           rest = inr (d .next);
-          range = λ b. given-out (y .given) (callMeters (y .meters)) (r .pending .count) stride (y .next) out b (le-trans (le-of-lt (g .steady .few)) (w .some)) (w .long) (d .given) (d .length) (call-in-range (y .meters) (d .meters));
+          range = λ b. given-out (y .given) (callMeters (y .meters)) (r .pending .count) stride (y .next) out b (le-trans (le-of-lt (g .steady .few)) (w .some)) (w .long)
+              (d .given) (d .length) (call-in-range (y .meters) (d .meters));
         }
 
     pub called : (c : Call) → Lent c → Called c (step L r c)

@@ -35,7 +35,8 @@ module _ (L : Leaves) (B : Layout L) (F : Facts L B) (r : State L) where
 
   pub clean : {xs : List Float} → Rest L B F r → Fed L xs r → Clean L r
   clean (inr g) h = with-filter (g .steady) (calm-nine (r .filter) (g .calm))
-  clean (inl g) h = with-filter (g .steady) (elim (h .since) [ inl s ↦ subst (λ (f : BiquadLowpassState). All F32 (nine f)) (sym (s .2)) idle-nine | inr s ↦ absurd (never (s .0 .low)) ])
+  clean (inl g) h = with-filter (g .steady)
+      (elim (h .since) [ inl s ↦ subst (λ (f : BiquadLowpassState). All F32 (nine f)) (sym (s .2)) idle-nine | inr s ↦ absurd (never (s .0 .low)) ])
     where
       never : 8000 ≤ r .rate → ⊥
       never low = let z = g .rate in omega arith

@@ -1,4 +1,5 @@
--- What updates leave as it was; and the clock and the timed state do not depend on the samples: two renderers that agree on them do so after a sample of two frames with the same updates.
+-- What updates leave as it was; and the clock and the timed state do not depend on the samples: two renderers that agree on them do so after a sample of two frames with the same
+-- updates.
 -- Assumes nothing.
 use mathlib.Core.Path.{_≡_, refl, _∙_}
 use mathlib.Core.Bool.{cond, not, _&&_, _||_}
@@ -52,7 +53,8 @@ module _ (L : Leaves) where
   updated-alike : (t : ℕ) (us : List (L .Update)) (r s : State L) → Alike r s → Alike (updated L t us r) (updated L t us s)
   updated-alike t [] r s a = a
   updated-alike t (u ∷ us) r s a =
-      updated-alike t us (cond (eqb (L .offset u) t) (appliedAt L t u r) r) (cond (eqb (L .offset u) t) (appliedAt L t u s) s) (both Alike (eqb (L .offset u) t) (applied-alike t u r s a) a)
+      updated-alike t us (cond (eqb (L .offset u) t) (appliedAt L t u r) r) (cond (eqb (L .offset u) t) (appliedAt L t u s) s)
+      (both Alike (eqb (L .offset u) t) (applied-alike t u r s a) a)
 
   slotted-alike : (r s : State L) → Alike r s → Alike (slotted L r) (slotted L s)
   slotted-alike r s a =

@@ -30,7 +30,8 @@ module _ (L : Leaves) where
   forgotten r (c ∷ cs) = go (isRefused (step L r c .answer)) refl (forgotten (step L r c .next) cs)
     where
       go : (b : Bool) → isRefused (step L r c .answer) ≡ b → run L (step L r c .next) (kept L (step L r c .next) cs) ≡ accepted L (run L (step L r c .next) cs)
-          → run L r (cond b (kept L (step L r c .next) cs) (c ∷ kept L (step L r c .next) cs)) ≡ cond b (accepted L (run L (step L r c .next) cs)) (step L r c ∷ accepted L (run L (step L r c .next) cs))
+          → run L r (cond b (kept L (step L r c .next) cs) (c ∷ kept L (step L r c .next) cs))
+          ≡ cond b (accepted L (run L (step L r c .next) cs)) (step L r c ∷ accepted L (run L (step L r c .next) cs))
       go true e h = subst (λ (s : State L). run L s (kept L (step L r c .next) cs) ≡ accepted L (run L (step L r c .next) cs)) (stays r c (subst T (sym e) tt)) h
       go false e h = ap (λ (t : List (Result L)). step L r c ∷ t) h
 

@@ -47,7 +47,16 @@ module _ (L : Leaves) (B : Layout L) (F : Facts L B) where
         (passed-fine L B F (moment L f t (s .meta)) (moment-hearable L B F f k t h (s .meta) (i .steady .meta)) s i)
 
     pub framed-fine : (n t : ℕ) → t + n ≤ f .samples → (r : State L) → Good L B F r → Fine L B F (r .pending .count) n (framed L f n t r)
-    framed-fine zero t h r g = record { next = g; given = λ c l. tt; blocks = 0; length = λ c l. refl; all = omega arith; count = refl; meters = tt; within = λ c i l h. absurd (not-suc-le-zero h) }
+    framed-fine zero t h r g = record {
+      next = g;
+      given = λ c l. tt;
+      blocks = 0;
+      length = λ c l. refl;
+      all = omega arith;
+      count = refl;
+      meters = tt;
+      within = λ c i l h. absurd (not-suc-le-zero h);
+    }
     framed-fine (suc n) t h r g =
         let x = sampled L f t r in
         let a = sampled-fine t (omega arith) r g in
@@ -70,7 +79,8 @@ module _ (L : Leaves) (B : Layout L) (F : Facts L B) where
         total : (i j u v w : ℕ) → 64 * i + u ≡ w + 1 → 64 * j + v ≡ u + n → 64 * (i + j) + v ≡ w + suc n
         total i j u v w p q = omega arith
 
-  pub pushed-fine : (r : State L) (a : Args) → Bytes (a .pcm) → Bytes (a .meta) → Passed L r a → Rest L B F r → Fine L B F (r .pending .count) (a .samples) (pushed L (frameOf L a) r)
+  pub pushed-fine : (r : State L) (a : Args) → Bytes (a .pcm) → Bytes (a .meta) → Passed L r a → Rest L B F r
+      → Fine L B F (r .pending .count) (a .samples) (pushed L (frameOf L a) r)
   unfolding pushed
   pushed-fine r a b m p g =
       let k = admitted r a b m p in
@@ -89,7 +99,8 @@ module _ (L : Leaves) (B : Layout L) (F : Facts L B) where
   flushed-fine r g =
       let s = g .steady in
       let waiting : Channels = λ c. take (r .pending .count) (floats (r .pending .places) c) in
-      let w : (c : ℕ) → All F32 (waiting c) = λ c. all-take F32 (r .pending .count) (floats (r .pending .places) c) (all-map F32 (ofBits binary32) (r .pending .places c) (s .places c)) in
+      let w : (c : ℕ) → All F32 (waiting c) = λ c. all-take F32 (r .pending .count) (floats (r .pending .places) c)
+      (all-map F32 (ofBits binary32) (r .pending .places c) (s .places c)) in
       let few = le-of-lt (s .few) in
       let long : (c : ℕ) → c < 12 → length (limited (r .limiter .gain) waiting c) ≡ r .pending .count = λ c l.
       let e = length-map (ofBits binary32) (r .pending .places c) ∙ s .long c l in
@@ -98,7 +109,13 @@ module _ (L : Leaves) (B : Layout L) (F : Facts L B) where
         next = record {
           rate = g .rate;
           calm = g .calm;
-          steady = record { meta = s .meta; gain = gain-kept waiting w (r .pending .count) (r .rate) (g .rate) few (r .limiter .gain) (s .gain); places = s .places; long = s .long; few = lit< tt };
+          steady = record {
+            meta = s .meta;
+            gain = gain-kept waiting w (r .pending .count) (r .rate) (g .rate) few (r .limiter .gain) (s .gain);
+            places = s .places;
+            long = s .long;
+            few = lit< tt;
+          };
         };
         given = limited-tame waiting w (r .pending .count) (r .rate) (g .rate) few (r .limiter .gain) (s .gain);
         length = long;

@@ -135,6 +135,7 @@ sample-in pcm channels n b p i t h k =
     let m : suc i * n ≤ channels * n = mul-le-mul-right n h in
     subst (λ (at : ℕ). Bounded (16 * One) (floatAt pcm at)) (zero-add (4 * (i * n + t))) (sample-bounded pcm 0 (channels * n) p (i * n + t) (omega arith))
 
-pub samples-in : (pcm : List ℕ) (channels n : ℕ) → Bytes pcm → allPass pcm 0 (channels * n) ≡ true → (k i t : ℕ) → i + k ≤ channels → t < n → All (Bounded (16 * One)) (samplesAt pcm n k i t)
+pub samples-in : (pcm : List ℕ) (channels n : ℕ) → Bytes pcm → allPass pcm 0 (channels * n) ≡ true → (k i t : ℕ) → i + k ≤ channels → t < n
+    → All (Bounded (16 * One)) (samplesAt pcm n k i t)
 samples-in pcm channels n b p zero i t h l = tt
 samples-in pcm channels n b p (suc k) i t h l = (sample-in pcm channels n b p i t (omega arith) l, samples-in pcm channels n b p k (suc i) t (omega arith) l)

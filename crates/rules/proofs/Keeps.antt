@@ -52,8 +52,10 @@ module _ (L : Leaves) (B : Layout L) (F : Facts L B) where
       bad = record { answer = refused 1 0 0; state = b; out = outOf c }
 
       by : (c : Call) → Lent c → takes L B c b ≡ true → B .valid (left L B (step L (B .decode b) c .answer) (step L (B .decode b) c .next) (outOf c) (strideOf c) b .state) ≡ true
-      by (push a) h t = left-valid (step L (B .decode b) (push a) .answer) (step L (B .decode b) (push a) .next) (a .out) (a .stride) b t (step-ranged (B .decode b) (push a) h (F .decoded b bytes t))
-      by (flush out n) h t = left-valid (step L (B .decode b) (flush out n) .answer) (step L (B .decode b) (flush out n) .next) out n b t (step-ranged (B .decode b) (flush out n) h (F .decoded b bytes t))
+      by (push a) h t = left-valid (step L (B .decode b) (push a) .answer) (step L (B .decode b) (push a) .next) (a .out) (a .stride) b t
+          (step-ranged (B .decode b) (push a) h (F .decoded b bytes t))
+      by (flush out n) h t = left-valid (step L (B .decode b) (flush out n) .answer) (step L (B .decode b) (flush out n) .next) out n b t
+          (step-ranged (B .decode b) (flush out n) h (F .decoded b bytes t))
       by reset h t = F .valid (fresh L) (fresh-ranged L B F)
 
       go : (t : Bool) → takes L B c b ≡ t → isRefused (cond t good bad .answer) ≡ false → B .valid (cond t good bad .state) ≡ true

@@ -86,7 +86,11 @@ module _ (L : Leaves) (B : Layout L) (F : Facts L B) where
   applied-good : (t : ℕ) (u : L .Update) (r : State L) → F .Checked u → Good r → Good (appliedAt L t u r)
   applied-good t u r k g =
       let s = g .steady in
-      record { rate = g .rate; calm = g .calm; steady = record { meta = F .sound-apply (r .clock .position) u (r .meta) k (s .meta); gain = s .gain; places = s .places; long = s .long; few = s .few } }
+      record {
+        rate = g .rate;
+        calm = g .calm;
+        steady = record { meta = F .sound-apply (r .clock .position) u (r .meta) k (s .meta); gain = s .gain; places = s .places; long = s .long; few = s .few };
+      }
 
   pub updated-good : (t : ℕ) (us : List (L .Update)) (r : State L) → All (F .Checked) us → Good r → Good (updated L t us r)
   updated-good t [] r k g = g
@@ -154,7 +158,10 @@ module _ (L : Leaves) (B : Layout L) (F : Facts L B) where
   module _ (m : Moment) (h : Hearable m) (r : State L) (g : Good r) where
     row-finite : (c : ℕ) → All (λ (x : Float). Finite (toBits binary32 x)) (row m (r .filter) c)
     row-finite c =
-        either (All (λ (x : Float). Finite (toBits binary32 x))) (eqb c 3) (stored (output (r .filter) (fed m)) (output-bounded most-range (g .calm) (heard-bounded m h 3) .f32), tt)
+        either (All (λ (x : Float). Finite (toBits binary32 x))) (eqb c 3) (
+          stored (output (r .filter) (fed m)) (output-bounded most-range (g .calm) (heard-bounded m h 3) .f32),
+          tt,
+        )
         (stored (heard m c) (heard-bounded m h c .f32), tt)
 
     abbrev places : Places
@@ -179,7 +186,8 @@ module _ (L : Leaves) (B : Layout L) (F : Facts L B) where
           calm = calm-next most-range (g .calm) (heard-bounded m h 3);
           steady = record {
             meta = g .steady .meta;
-            gain = either Gain (leb 64 (r .pending .count + 1)) (gain-kept (floats places) floats-finite 64 (r .rate) (g .rate) (lit≤ tt) (r .limiter .gain) (g .steady .gain)) (g .steady .gain);
+            gain = either Gain (leb 64 (r .pending .count + 1)) (gain-kept (floats places) floats-finite 64 (r .rate) (g .rate) (lit≤ tt) (r .limiter .gain) (g .steady .gain))
+                (g .steady .gain);
             places = places-finite;
             long = places-long;
             few = few-left (r .pending .count) (leb 64 (r .pending .count + 1)) refl;
@@ -201,10 +209,12 @@ module _ (L : Leaves) (B : Layout L) (F : Facts L B) where
               given = λ c l. subst (λ (b : Bool). All Unitary (cond b (limited (r .limiter .gain) (floats places)) none c)) (sym e)
                   (limited-tame (floats places) floats-finite 64 (r .rate) (g .rate) (lit≤ tt) (r .limiter .gain) (g .steady .gain) c l);
               blocks = 1;
-              length = λ c l. ap (λ (b : Bool). length (cond b (limited (r .limiter .gain) (floats places)) none c)) e ∙ length-limited (r .limiter .gain) (floats places) c ∙ floats-long c l;
+              length = λ c l. ap (λ (b : Bool). length (cond b (limited (r .limiter .gain) (floats places)) none c)) e ∙ length-limited (r .limiter .gain) (floats places) c
+                  ∙ floats-long c l;
               all = ap (λ (b : Bool). 64 * 1 + cond b 0 (r .pending .count + 1)) e ∙ (omega arith);
               count = ap (λ (b : Bool). length (cond b meters [])) e;
-              meters = subst (λ (b : Bool). All MetersInRange (cond b meters [])) (sym e) (meters-kept (floats places) floats-finite 64 (r .rate) (g .rate) (lit≤ tt) (r .limiter .gain) (g .steady .gain));
+              meters = subst (λ (b : Bool). All MetersInRange (cond b meters [])) (sym e)
+                  (meters-kept (floats places) floats-finite 64 (r .rate) (g .rate) (lit≤ tt) (r .limiter .gain) (g .steady .gain));
               within = subst (λ (b : Bool). AllMetered (cond b meters []) (cond b (limited (r .limiter .gain) (floats places)) none)) (sym e)
                   (one-metered (r .limiter .gain) (floats places) (λ c l. le-of-eq (length-limited (r .limiter .gain) (floats places) c ∙ floats-long c l))
                   (limited-metered (floats places) floats-finite 64 (r .rate) (g .rate) (lit≤ tt) (r .limiter .gain) (g .steady .gain)));
@@ -218,5 +228,6 @@ module _ (L : Leaves) (B : Layout L) (F : Facts L B) where
               all = ap (λ (b : Bool). 64 * 0 + cond b 0 (r .pending .count + 1)) e ∙ (omega arith);
               count = ap (λ (b : Bool). length (cond b meters [])) e;
               meters = subst (λ (b : Bool). All MetersInRange (cond b meters [])) (sym e) tt;
-              within = subst (λ (b : Bool). AllMetered (cond b meters []) (cond b (limited (r .limiter .gain) (floats places)) none)) (sym e) (λ c i l h. absurd (not-suc-le-zero h));
+              within = subst (λ (b : Bool). AllMetered (cond b meters []) (cond b (limited (r .limiter .gain) (floats places)) none)) (sym e)
+                  (λ c i l h. absurd (not-suc-le-zero h));
             }

@@ -1,5 +1,5 @@
--- To take updates as time meets them, and at each sample in the order sent, is to take them in stable order of offset (`taken-stable`), and no other order is stable (`stable-only`). A frame applies
--- its updates so (`updated-in-order`), and refusals 9 to 14 see them so (`counts-in-order`, `shape-in-order`). Assumes nothing.
+-- To take updates as time meets them, and at each sample in the order sent, is to take them in stable order of offset (`taken-stable`), and no other order is stable
+-- (`stable-only`). A frame applies its updates so (`updated-in-order`), and refusals 9 to 14 see them so (`counts-in-order`, `shape-in-order`). Assumes nothing.
 use Prim.Native.Nat.{ℕ, zero, suc, _+_, _≤_, _<_, zero-le}
 use mathlib.Core.Path.{_≡_, refl, sym, ap, ap₂, _∙_, subst}
 use mathlib.Core.Logic.{⊎-elim}
@@ -60,7 +60,8 @@ module _ {A : Type 0} (offset : A → ℕ) where
   taken-all : (P : A → Type 0) (n t : ℕ) (us : List A) → ((u : A) → t ≤ offset u → offset u < t + n → P u) → All P (taken offset n t us)
   taken-all P zero t us h = tt
   taken-all P (suc n) t us h =
-      all-append P (atOffset offset t us) (taken offset n (suc t) us) (at-all P t us (λ u e. h u (omega arith) (omega arith))) (taken-all P n (suc t) us (λ u a b. h u (omega arith) (omega arith)))
+      all-append P (atOffset offset t us) (taken offset n (suc t) us) (at-all P t us (λ u e. h u (omega arith) (omega arith)))
+      (taken-all P n (suc t) us (λ u a b. h u (omega arith) (omega arith)))
 
   rises-both : (us vs : List A) → Rises offset us → Rises offset vs → All (λ (u : A). All (λ (v : A). offset u ≤ offset v) vs) us → Rises offset (us ++ vs)
   rises-both [] vs a b h = b
@@ -80,7 +81,8 @@ module _ {A : Type 0} (offset : A → ℕ) where
   taken-same zero t us s l h = absurd (omega arith)
   taken-same (suc n) t us s l h =
       at-both s (atOffset offset t us) (taken offset n (suc t) us)
-      ∙ ⊎-elim here (λ (g : t < s). ap₂ (λ (x y : List A). x ++ y) (at-none s (atOffset offset t us) (at-all _ t us (λ u q z. omega arith))) (taken-same n (suc t) us s g (omega arith))) (eq-or-lt-of-le l)
+      ∙ ⊎-elim here (λ (g : t < s). ap₂ (λ (x y : List A). x ++ y) (at-none s (atOffset offset t us) (at-all _ t us (λ u q z. omega arith)))
+      (taken-same n (suc t) us s g (omega arith))) (eq-or-lt-of-le l)
     where
       here : t ≡ s → atOffset offset s (atOffset offset t us) ++ atOffset offset s (taken offset n (suc t) us) ≡ atOffset offset s us
       here e =
@@ -133,7 +135,8 @@ pub updated-in-order : (L : Leaves) (t : ℕ) (us : List (L .Update)) (r : State
 updated-in-order L t [] r = refl
 updated-in-order L t (u ∷ us) r = updated-in-order L t us (cond (eqb (L .offset u) t) (appliedAt L t u r) r) ∙ go (eqb (L .offset u) t)
   where
-    go : (b : Bool) → appliedAll L t (atOffset (L .offset) t us) (cond b (appliedAt L t u r) r) ≡ appliedAll L t (cond b (u ∷ atOffset (L .offset) t us) (atOffset (L .offset) t us)) r
+    go : (b : Bool) → appliedAll L t (atOffset (L .offset) t us) (cond b (appliedAt L t u r) r)
+        ≡ appliedAll L t (cond b (u ∷ atOffset (L .offset) t us) (atOffset (L .offset) t us)) r
     go true = refl
     go false = refl
 

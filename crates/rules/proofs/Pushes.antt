@@ -127,7 +127,8 @@ module _ (L : Leaves) (B : Layout L) (F : Facts L B) (r : State L) (a : Args) (b
         let u = framed L g t 0 start .next in
         subst (λ (x : State L). Alike L x (framed L g (suc t) 0 start .next)) (sym (next-at L f start t))
         (subst (Alike L (sampled L f t s .next)) (sym (next-at L g start t))
-        (passed-alike L (momentOf L f t s) (momentOf L g t u) (slotted L (updated L t (f .updates) s)) (slotted L (updated L t (f .updates) u)) (met-alike L t (f .updates) s u (alike t))))
+        (passed-alike L (momentOf L f t s) (momentOf L g t u) (slotted L (updated L t (f .updates) s)) (slotted L (updated L t (f .updates) u))
+        (met-alike L t (f .updates) s u (alike t))))
 
     fed-same : (t : ℕ) → t < a .samples → fed (momentAt L r (withPcm qcm a) t) ≡ fed (momentAt L r a t)
     unfolding pushed

@@ -72,7 +72,8 @@ module _ (L : Leaves) where
 
     still-before : (t : ℕ) → t ≤ a .samples → begins.before L r a t ≡ false → Still (before L r a t .filter)
     still-before zero h e = opened-still e
-    still-before (suc t) h e = stays-still t h e (still-before t (le-of-lt h) (neither (begins.before L r a t) (begins.at L t (L .updates (a .meta))) (begins.begins L r a t ∙ e) .0))
+    still-before (suc t) h e =
+        stays-still t h e (still-before t (le-of-lt h) (neither (begins.before L r a t) (begins.at L t (L .updates (a .meta))) (begins.begins L r a t ∙ e) .0))
 
     pub quiet : (t : ℕ) → t < a .samples → begun L r a t ≡ false → (c : ℕ) → soundAt L r a c t ≡ 0·0
     quiet t h e c =

@@ -80,7 +80,8 @@ module _ (L : Leaves) (B : Layout L) (F : Facts L B) where
         start = g .start;
         gain = g .gain;
         filter = g .filter;
-        meta = either (F .Within (r .clock .position)) (started L (r .meta) && eqb (r .clock .phase) 0) (F .within-slot (r .clock .position) (r .clock .start) (r .meta) (omega arith) (g .position) (g .meta)) (g .meta);
+        meta = either (F .Within (r .clock .position)) (started L (r .meta) && eqb (r .clock .phase) 0)
+            (F .within-slot (r .clock .position) (r .clock .start) (r .meta) (omega arith) (g .position) (g .meta)) (g .meta);
         pending = g .pending;
         idle = g .idle;
         long = g .long;
@@ -98,7 +99,17 @@ module _ (L : Leaves) (B : Layout L) (F : Facts L B) where
         phase = s .0;
         start = s .1;
         gain = either Fits (leb 64 (r .pending .count + 1)) (grown-fits 64 (r .rate) _) (g .gain);
-        filter = record { a1 = g .filter .a1; a2 = g .filter .a2; b0 = g .filter .b0; b1 = g .filter .b1; b2 = g .filter .b2; x1 = heard-fits m 3; x2 = g .filter .x1; y1 = sub-fits binary32 _ _; y2 = g .filter .y1 };
+        filter = record {
+          a1 = g .filter .a1;
+          a2 = g .filter .a2;
+          b0 = g .filter .b0;
+          b1 = g .filter .b1;
+          b2 = g .filter .b2;
+          x1 = heard-fits m 3;
+          x2 = g .filter .x1;
+          y1 = sub-fits binary32 _ _;
+          y2 = g .filter .y1;
+        };
         meta = F .within-later (r .clock .position) (r .clock .position + 1) (r .meta) (omega arith) (g .meta);
         pending = few-left (r .pending .count) (leb 64 (r .pending .count + 1)) refl;
         idle = λ e. absurd (subst T (sym l ∙ ap listed e) tt);
@@ -108,7 +119,8 @@ module _ (L : Leaves) (B : Layout L) (F : Facts L B) where
       }
     where
       slot-kept : (run last : Bool) → leb 64 (r .clock .phase + 1) ≡ last
-          → (cond run (cond last 0 (r .clock .phase + 1)) (r .clock .phase) < 64) × (cond (run && last) (r .clock .start + 64) (r .clock .start) + cond run (cond last 0 (r .clock .phase + 1)) (r .clock .phase) ≤ r .clock .position + 1)
+          → (cond run (cond last 0 (r .clock .phase + 1)) (r .clock .phase) < 64) ×
+          (cond (run && last) (r .clock .start + 64) (r .clock .start) + cond run (cond last 0 (r .clock .phase + 1)) (r .clock .phase) ≤ r .clock .position + 1)
       slot-kept true true e = let p = g .phase in let s = g .start in let k = leb-true 64 (r .clock .phase + 1) e in (lit< tt, omega arith)
       slot-kept true false e = let s = g .start in (leb-false 64 (r .clock .phase + 1) e, omega arith)
       slot-kept false last e = let s = g .start in (g .phase, omega arith)

@@ -123,7 +123,8 @@ module _ (L : Leaves) where
     none-more : Fed xs r → Fed (xs ++ []) r
     none-more = subst (λ (ys : List Float). Fed ys r) (sym (append-nil xs))
 
-    asked-rings : (a : Args) → Lent (push a) → Rest L B F r → Fed xs r → (v : Found) → found L r a ≡ v → let fs = map fed (asked L v a r .moments) in (t : ℕ) → t < length fs → Rings L r a t (xs ++ take (suc t) fs)
+    asked-rings : (a : Args) → Lent (push a) → Rest L B F r → Fed xs r → (v : Found) → found L r a ≡ v → let fs = map fed (asked L v a r .moments) in (t : ℕ) → t < length fs
+        → Rings L r a t (xs ++ take (suc t) fs)
     asked-rings a h rest was (stop n x y) e t u = absurd (not-suc-le-zero u)
     asked-rings a h rest was clear e t u = rings a (h .0) (h .1) rest e was t u
 

@@ -1,5 +1,5 @@
--- Refusals 11, 13 and 14: at each sample of an accepted push the objects are as many as the push brings, and each bed has its input; before the first update there are none. Assumes
--- nothing beyond `Facts`.
+-- Refusals 11, 13 and 14: at each sample of an accepted push the objects are as many as the push brings, and each bed has its input; before the first update there are none.
+-- Assumes nothing beyond `Facts`.
 use mathlib.Core.Path.{_≡_, refl, sym, ap, _∙_, subst}
 use mathlib.Core.Logic.{_≢_}
 use mathlib.Core.Bool.{Bool, true, false, cond, not, _&&_, _||_}
@@ -124,7 +124,8 @@ module _ (L : Leaves) (B : Layout L) (F : Facts L B) where
     updated-shape all objects codes t [] r k s = refl
     updated-shape all objects codes t (u ∷ us) r k s =
         let x = either (λ (r : State L). P (r .meta)) (eqb (L .offset u) t) {x = appliedAt L t u r} {y = r} (keeps (r .clock .position) u (r .meta) (k .0) s) s in
-        updated-shape all objects codes t us (cond (eqb (L .offset u) t) (appliedAt L t u r) r) (k .1) x ∙ ap (shapeAt all objects codes t (announced L us)) (go (eqb (L .offset u) t))
+        updated-shape all objects codes t us (cond (eqb (L .offset u) t) (appliedAt L t u r) r) (k .1) x
+        ∙ ap (shapeAt all objects codes t (announced L us)) (go (eqb (L .offset u) t))
       where
         go : (b : Bool) → L .shape (cond b (appliedAt L t u r) r .meta) ≡ cond b (L .sent u) (L .shape (r .meta))
         go true = gives (r .clock .position) u (r .meta) (k .0) s

@@ -68,7 +68,8 @@ module _ (L : Leaves) where
         pending = u .pending i;
       }
 
-  module _ (B : Layout L) (F : Facts L B) (r : State L) (a : Args) (k : Admitted L B F (frameOf L a)) (good : Good L B F (opened L (a .rate) r)) (at-rate : opened L (a .rate) r .rate ≡ a .rate) where
+  module _ (B : Layout L) (F : Facts L B) (r : State L) (a : Args) (k : Admitted L B F (frameOf L a)) (good : Good L B F (opened L (a .rate) r))
+      (at-rate : opened L (a .rate) r .rate ≡ a .rate) where
     abbrev f : Frame (L .Update)
     f = frameOf L a
 
@@ -168,11 +169,13 @@ module _ (L : Leaves) where
 
       -- the blocks before it stay as they were
       gain-stays : s t .limiter .gain ≡ gainBefore (a .rate) (r .limiter .gain) (met-by (suc t)) (blocks t)
-      gain-stays = i .gain ∙ gain-behind (met-by t) one (a .rate) (r .limiter .gain) (blocks t) enough ∙ ap (λ (x : Channels). gainBefore (a .rate) (r .limiter .gain) x (blocks t)) grows
+      gain-stays = i .gain ∙ gain-behind (met-by t) one (a .rate) (r .limiter .gain) (blocks t) enough
+          ∙ ap (λ (x : Channels). gainBefore (a .rate) (r .limiter .gain) x (blocks t)) grows
 
       given-stays : Same (framed L f t 0 start .given) (limitedBlocks (a .rate) (r .limiter .gain) (met-by (suc t)) (blocks t))
       given-stays c l =
-          i .given c l ∙ blocks-behind (met-by t) one (a .rate) (r .limiter .gain) (blocks t) enough c l ∙ ap (λ (x : Channels). limitedBlocks (a .rate) (r .limiter .gain) x (blocks t) c) grows
+          i .given c l ∙ blocks-behind (met-by t) one (a .rate) (r .limiter .gain) (blocks t) enough c l
+          ∙ ap (λ (x : Channels). limitedBlocks (a .rate) (r .limiter .gain) x (blocks t) c) grows
 
       meters-stay : framed L f t 0 start .meters ≡ blocksMetered (a .rate) (r .limiter .gain) (met-by (suc t)) (blocks t)
       meters-stay =
@@ -191,7 +194,8 @@ module _ (L : Leaves) where
       gain-by : (b : Bool) → leb 64 (p + 1) ≡ b → s (suc t) .limiter .gain ≡ cond b (gainAfter 64 (s t .rate) (s t .limiter .gain) block) (s t .limiter .gain)
       gain-by b e = ap (λ (x : State L). x .limiter .gain) (next-is t h) ∙ ap (λ (b : Bool). cond b (gainAfter 64 (s t .rate) (s t .limiter .gain) block) (s t .limiter .gain)) e
 
-      given-by : (b : Bool) → leb 64 (p + 1) ≡ b → (c : ℕ) → framed L f (suc t) 0 start .given c ≡ framed L f t 0 start .given c ++ cond b (limited (s t .limiter .gain) block) none c
+      given-by : (b : Bool) → leb 64 (p + 1) ≡ b → (c : ℕ) → framed L f (suc t) 0 start .given c
+          ≡ framed L f t 0 start .given c ++ cond b (limited (s t .limiter .gain) block) none c
       given-by b e c = given-is t c h ∙ ap (λ (b : Bool). framed L f t 0 start .given c ++ cond b (limited (s t .limiter .gain) block) none c) e
 
       meters-by : (b : Bool) → leb 64 (p + 1) ≡ b → framed L f (suc t) 0 start .meters ≡ framed L f t 0 start .meters ++ cond b (metered (s t .limiter .gain) block) []
@@ -220,7 +224,8 @@ module _ (L : Leaves) where
             pending = pending-by false e ∙ (omega arith);
             long = long-next;
             gain = gain-by false e ∙ gain-stays ∙ ap (gainBefore (a .rate) (r .limiter .gain) (met-by (suc t))) same;
-            given = λ c l. given-by false e c ∙ append-nil (framed L f t 0 start .given c) ∙ given-stays c l ∙ ap (λ (k : ℕ). limitedBlocks (a .rate) (r .limiter .gain) (met-by (suc t)) k c) same;
+            given = λ c l. given-by false e c ∙ append-nil (framed L f t 0 start .given c) ∙ given-stays c l
+                ∙ ap (λ (k : ℕ). limitedBlocks (a .rate) (r .limiter .gain) (met-by (suc t)) k c) same;
             meters = meters-by false e ∙ append-nil (framed L f t 0 start .meters) ∙ meters-stay ∙ ap (blocksMetered (a .rate) (r .limiter .gain) (met-by (suc t))) same;
             waits = λ c l. waiting-by false e c ∙ open-block c l ∙ ap (λ (k : ℕ). drop (64 * k) (met-by (suc t) c)) same;
           }
@@ -228,7 +233,8 @@ module _ (L : Leaves) where
       -- the block is whole
       is-block : p ≡ 63 → Same block (nthBlock (met-by (suc t)) (blocks t))
       is-block e c l =
-          let n = length-map (ofBits binary32) (more t .next .pending .places c) ∙ ap length (places-are t c) ∙ length-set (s t .pending .places c) p (toBits binary32 (soundAt L r a c t)) ∙ long-at t c (le-of-lt h) l in
+          let n = length-map (ofBits binary32) (more t .next .pending .places c) ∙ ap length (places-are t c)
+          ∙ length-set (s t .pending .places c) p (toBits binary32 (soundAt L r a c t)) ∙ long-at t c (le-of-lt h) l in
           sym (take-all 64 (block c) (omega arith))
           ∙ sym (take-take 64 (p + 1) (block c) (omega arith)) ∙ ap (take 64) (open-block c l)
 
@@ -264,7 +270,12 @@ module _ (L : Leaves) where
           rate = at-rate;
           position = omega arith;
           pending = omega arith;
-          long = λ c l. let e = long-at 0 c zero-le l in length-append (waiting L r c) [] ∙ (omega (arith, length-take-le (r .pending .count) (floats (r .pending .places) c) (le-trans (le-of-lt few) (le-of-eq (sym (length-map (ofBits binary32) (r .pending .places c) ∙ e))))));
+          long = λ c l. let e = long-at 0 c zero-le l in length-append (waiting L r c) []
+              ∙ (omega (
+                arith,
+                length-take-le (r .pending .count) (floats (r .pending .places) c)
+                    (le-trans (le-of-lt few) (le-of-eq (sym (length-map (ofBits binary32) (r .pending .places c) ∙ e)))),
+              ));
           gain = ap (gainBefore (a .rate) (r .limiter .gain) (met-by 0)) (sym none-yet);
           given = λ c l. ap (λ (k : ℕ). limitedBlocks (a .rate) (r .limiter .gain) (met-by 0) k c) (sym none-yet);
           meters = ap (blocksMetered (a .rate) (r .limiter .gain) (met-by 0)) (sym none-yet);
@@ -290,7 +301,8 @@ module _ (L : Leaves) where
           let few = good-at t (le-of-lt h) .steady .few in
           let e = long-at t c (le-of-lt h) l in
           ap₂ (λ (x : State L) (p : ℕ). getD (x .pending .places c) p 0) (next-is t h) (sym (i .pending))
-          ∙ ap (λ (ws : List ℕ). getD ws (s t .pending .count) 0) (places-are t c) ∙ getD-set-same (s t .pending .places c) (s t .pending .count) (toBits binary32 (soundAt L r a c t)) 0 (omega arith)
+          ∙ ap (λ (ws : List ℕ). getD ws (s t .pending .count) 0) (places-are t c)
+          ∙ getD-set-same (s t .pending .places c) (s t .pending .count) (toBits binary32 (soundAt L r a c t)) 0 (omega arith)
 
       pub enters-at : s (suc t) .filter ≡ next (s t .filter) (fed (momentAt L r a t))
       enters-at = ap (λ (x : State L). x .filter) (next-is t h)

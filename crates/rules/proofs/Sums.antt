@@ -71,7 +71,8 @@ bed-place code = fitting-position (bedPosition code) (at-fitting positions code 
 
 bass-bounded : (g : Float) → Bounded (8 * One) g → Bounded (8 * One) (bassGain g)
 unfolding round fits mag One
-bass-bounded g h = mul-bounded {b = One} (whole-grid 8 (lit< tt)) (whole-less 8 (lit≤ tt)) (le-refl (8 * One * One)) h (record { f32 = record { fine = tt; fit = tt }; most = lit≤ tt })
+bass-bounded g h = mul-bounded {b = One} (whole-grid 8 (lit< tt)) (whole-less 8 (lit≤ tt)) (le-refl (8 * One * One)) h
+    (record { f32 = record { fine = tt; fit = tt }; most = lit≤ tt })
 
 alone-modest : (k : ℕ) (g : Float) (c : ℕ) → Bounded (8 * One) g → Modest (alone k g c)
 alone-modest k g c h = either Modest (eqb c k) (record { few = lit≤ tt; small = (h, tt) }) (record { few = lit≤ tt; small = tt })

@@ -83,7 +83,11 @@ pub record Modest (ks : List Float) : Type 0 where
 
 pub panned-modest : (p : Vec3) → Position p → (g s : Float) → T (between 0·0 8·0 g) → T (between 0·0 1·0 s) → (c : ℕ) → Modest (pan714 p g s c)
 panned-modest p q g s h k c =
-    record { few = le-trans (on-few c (terms714 p g s)) (terms-few p g s); small = on-all (Bounded (8 * One)) c (terms714 p g s) (λ t m. eight-bounded (t .coefficient) (pans714 p q .bounded g s h k t m)) }
+    record {
+      few = le-trans (on-few c (terms714 p g s)) (terms-few p g s);
+      small =
+          on-all (Bounded (8 * One)) c (terms714 p g s) (λ t m. eight-bounded (t .coefficient) (pans714 p q .bounded g s h k t m));
+    }
 
 -- ---- an object
 module _ (s : Source) (h : InHall s) where

@@ -10,7 +10,8 @@ use Rattle.mixing.specs.Samples.{allPass}
 use Rattle.beds.specs.Matching.{counted}
 use Rattle.rules.specs.Leaves.{Leaves, Shape}
 use Rattle.rules.specs.Samples.{State}
-use Rattle.rules.specs.Refusals.{Args, Found, clear, stop, _then_, unless, room, sized, listed, early, bedsFound, Announced, objectsMatch, countsAt, shapeAt, walk, noneSent, later}
+use Rattle.rules.specs.Refusals.{Args, Found, clear, stop, _then_, unless, room, sized, listed, early, bedsFound, Announced, objectsMatch, countsAt, shapeAt, walk, noneSent}
+use Rattle.rules.specs.Refusals.{later}
 use Rattle.rules.specs.Calls.{Call, push, flush, reset, Answer, refused, rendered, nothing, cleared, announced, found, asked, drained, step}
 use Rattle.rules.specs.Block.{Layout, outOf, strideOf, left, takes, made}
 
@@ -122,6 +123,8 @@ module _ (L : Leaves) (B : Layout L) where
   pub never-seven : (c : Call) (b : List ℕ) → numberOf (made L B c b .answer) ≡ 7 → ⊥
   never-seven c b = by (takes L B c b)
     where
-      by : (t : Bool) → numberOf (cond t (left L B (step L (B .decode b) c .answer) (step L (B .decode b) c .next) (outOf c) (strideOf c) b) (record { answer = refused 1 0 0; state = b; out = outOf c }) .answer) ≡ 7 → ⊥
+      by : (t : Bool) → numberOf
+          (cond t (left L B (step L (B .decode b) c .answer) (step L (B .decode b) c .next) (outOf c) (strideOf c) b)
+          (record { answer = refused 1 0 0; state = b; out = outOf c }) .answer) ≡ 7 → ⊥
       by true e = of-step (B .decode b) c (ap numberOf (sym (as-answered (step L (B .decode b) c .answer) _ _ _ b)) ∙ e)
       by false e = omega arith

@@ -57,7 +57,8 @@ module _ (given : Channels) (stride n : ℕ) (few : n ≤ stride) where
         outside k (suc c) (withWords out (4 * (c * stride)) ws) at (omega arith) (λ d a b. h d (omega arith) (omega arith))
         ∙ ⊎-elim (λ (b : at < 4 * (c * stride)). kept .before at b) (λ (b : 4 * (c * stride) + 4 * n ≤ at). kept .past at (omega arith)) (h c (le-refl c) (omega arith))
 
-    pub written-beside : (out : List ℕ) (c i : ℕ) → c < 12 → 4 * n ≤ i → i < 4 * stride → getD (written given stride out) (4 * (c * stride) + i) 0 ≡ getD out (4 * (c * stride) + i) 0
+    pub written-beside : (out : List ℕ) (c i : ℕ) → c < 12 → 4 * n ≤ i → i < 4 * stride
+        → getD (written given stride out) (4 * (c * stride) + i) 0 ≡ getD out (4 * (c * stride) + i) 0
     unfolding written
     written-beside out c i l h u = outside 12 0 out (4 * (c * stride) + i) (le-refl 12) (λ d a b. apart d (le-or-lt d c))
       where
@@ -109,7 +110,8 @@ module _ (given : Channels) (stride n : ℕ) (few : n ≤ stride) where
             omega arith
 
     -- sample i of channel c
-    pub written-reads : (out : List ℕ) → 48 * stride ≤ length out → (c i : ℕ) → c < 12 → i < n → word (written given stride out) (4 * (c * stride + i)) ≡ toBits binary32 (getD (given c) i 0·0)
+    pub written-reads : (out : List ℕ) → 48 * stride ≤ length out → (c i : ℕ) → c < 12 → i < n
+        → word (written given stride out) (4 * (c * stride + i)) ≡ toBits binary32 (getD (given c) i 0·0)
     unfolding written
     written-reads out r c i l h = reads 12 0 c out i zero-le l l h (omega arith)
 

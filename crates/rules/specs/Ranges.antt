@@ -1,5 +1,5 @@
--- The ranges of a renderer between calls. Document 01: "Stream positions lie from 0 to 2^40, .. pending samples and slot phase below 64, the slot's start plus phase at most the stream's
--- position, .. nothing pending without a rate, other fields as in frames; every block that an accepted call leaves lies within these." Assumes nothing.
+-- The ranges of a renderer between calls. Document 01: "Stream positions lie from 0 to 2^40, .. pending samples and slot phase below 64, the slot's start plus phase at most the
+-- stream's position, .. nothing pending without a rate, other fields as in frames; every block that an accepted call leaves lies within these." Assumes nothing.
 use Prim.Native.Nat.{ℕ, _+_, _≤_, _<_}
 use mathlib.Core.Path.{_≡_}
 use mathlib.Core.Logic.{_⊎_}

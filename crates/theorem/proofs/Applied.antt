@@ -28,7 +28,8 @@ use Rattle.timed.specs.declared.state.DynamicSourceState.{DynamicSourceState}
 use Rattle.timed.specs.declared.state.ElementRendererState.{ElementRendererState}
 use Rattle.timed.proofs.Keeps.{times-in, times-keeps, cond-keeps, set-each}
 use Rattle.updates.specs.Said.{Element, Update, updateOf}
-use Rattle.updates.specs.Applied.{0·707, newSource, newTrack, nextSources, nextGains, blockGiven, scheduled, elementNext, isKept, isSame, Work, elementGiven, elementsApplied, codeGiven, codesGiven, applied}
+use Rattle.updates.specs.Applied.{0·707, newSource, newTrack, nextSources, nextGains, blockGiven, scheduled, elementNext, isKept, isSame, Work, elementGiven, elementsApplied}
+use Rattle.updates.specs.Applied.{codeGiven, codesGiven, applied}
 use Rattle.updates.specs.Whole.{WholeUpdate}
 use Rattle.updates.proofs.Kept.{applied-within}
 use Rattle.updates.proofs.Elements.{flags-enough}
@@ -54,9 +55,11 @@ table-sound is h = record { long = h .long; bytes = h .bytes; gain = λ k l. h .
 heads-out : (is : List ℕ) (n at : ℕ) → T (headsValid is at n) → (k : ℕ) → k < n → T (headValid (word is (at + 44 * k)))
 unfolding headsValid
 heads-out is zero at h k l = absurd (omega arith)
-heads-out is (suc n) at h zero l = subst (λ (j : ℕ). T (headValid (word is j))) (let e : at ≡ at + 44 * 0 = omega arith in e) (and-l (headValid (word is at)) (headsValid is (at + 44) n) h)
+heads-out is (suc n) at h zero l = subst (λ (j : ℕ). T (headValid (word is j))) (let e : at ≡ at + 44 * 0 = omega arith in e)
+    (and-l (headValid (word is at)) (headsValid is (at + 44) n) h)
 heads-out is (suc n) at h (suc k) l =
-    subst (λ (j : ℕ). T (headValid (word is j))) (let e : at + 44 + 44 * k ≡ at + 44 * suc k = omega arith in e) (heads-out is n (at + 44) (and-r (headValid (word is at)) (headsValid is (at + 44) n) h) k (omega arith))
+    subst (λ (j : ℕ). T (headValid (word is j))) (let e : at + 44 + 44 * k ≡ at + 44 * suc k = omega arith in e)
+    (heads-out is n (at + 44) (and-r (headValid (word is at)) (headsValid is (at + 44) n) h) k (omega arith))
 
 heads-in : (is : List ℕ) (n at : ℕ) → ((k : ℕ) → k < n → T (headValid (word is (at + 44 * k)))) → T (headsValid is at n)
 unfolding headsValid
@@ -66,10 +69,19 @@ heads-in is (suc n) at h =
     (heads-in is n (at + 44) (λ k l. subst (λ (j : ℕ). T (headValid (word is j))) (let e : at + 44 * suc k ≡ at + 44 + 44 * k = omega arith in e) (h (suc k) (omega arith))))
 
 ranged-table : (is : List ℕ) → InfosRanged is → Table RangedSaid is
-ranged-table is h = record { long = h .length; bytes = h .bytes; each = λ k l. subst (λ (j : ℕ). T (headValid (word is j))) (zero-add (44 * k)) (heads-out is 512 0 (h .heads) k l) }
+ranged-table is h = record {
+  long = h .length;
+  bytes = h .bytes;
+  each = λ k l. subst (λ (j : ℕ). T (headValid (word is j))) (zero-add (44 * k)) (heads-out is 512 0 (h .heads) k l);
+}
 
 table-ranged : (is : List ℕ) → Table RangedSaid is → InfosRanged is
-table-ranged is h = record { length = h .long; bytes = h .bytes; heads = heads-in is 512 0 (λ k l. subst (λ (j : ℕ). T (headValid (word is j))) (sym (zero-add (44 * k))) (h .each k l)) }
+table-ranged is h = record {
+  length = h .long;
+  bytes = h .bytes;
+  heads = heads-in is 512 0
+      (λ k l. subst (λ (j : ℕ). T (headValid (word is j))) (sym (zero-add (44 * k))) (h .each k l));
+}
 
 -- ---- lists
 
@@ -112,17 +124,21 @@ module _ (same : Bool) (u : Update) where
   pub states-long : (states : List ElementRendererState) (is : List ℕ) → length (elementsApplied same u states is .states) ≡ length states
   unfolding elementsApplied elementGiven
   states-long states is =
-      times-keeps (λ (w : Work). length (w .states) ≡ length states) (elementGiven same u) (λ e w h. length-set (w .states) e _ ∙ h) (u .elements) 0 (record { states = states; infos = is }) refl
+      times-keeps (λ (w : Work). length (w .states) ≡ length states) (elementGiven same u) (λ e w h. length-set (w .states) e _ ∙ h) (u .elements) 0
+      (record { states = states; infos = is }) refl
 
-  states-kept : (Q : ElementRendererState → Type 0) → ((e : ℕ) → e < u .elements → (kept : Bool) (s : ElementRendererState) → Q s → Q (elementNext kept (u .objects - u .isf) (u .element e) s)) →
-      (states : List ElementRendererState) (is : List ℕ) → ((i : ℕ) → i < 2 → Q (getD states i noElement)) → (i : ℕ) → i < 2 → Q (getD (elementsApplied same u states is .states) i noElement)
+  states-kept : (Q : ElementRendererState → Type 0)
+      → ((e : ℕ) → e < u .elements → (kept : Bool) (s : ElementRendererState) → Q s → Q (elementNext kept (u .objects - u .isf) (u .element e) s)) →
+      (states : List ElementRendererState) (is : List ℕ) → ((i : ℕ) → i < 2 → Q (getD states i noElement)) → (i : ℕ) → i < 2
+      → Q (getD (elementsApplied same u states is .states) i noElement)
   unfolding elementsApplied elementGiven
   states-kept Q next states is h =
       times-in (λ (w : Work). (i : ℕ) → i < 2 → Q (getD (w .states) i noElement)) (elementGiven same u) (u .elements)
       (λ e w l i.
       let s = getD (w .states) e noElement in
       let kept = isKept same (s .blocks) (u .element e .blocks) in
-      set-each (λ (j : ℕ) (y : ElementRendererState). j < 2 → Q y) (w .states) e (elementNext kept (u .objects - u .isf) (u .element e) s) noElement (λ j. next e l kept s (i e j)) i)
+      set-each (λ (j : ℕ) (y : ElementRendererState). j < 2 → Q y) (w .states) e (elementNext kept (u .objects - u .isf) (u .element e) s) noElement (λ j. next e l kept s (i e j))
+      i)
       (u .elements) 0 (omega arith) (record { states = states; infos = is }) h
 
   infos-kept : (P : Said) → u .elements ≤ 2 → u .objects ≤ 32 → ((e : ℕ) → e < u .elements → u .element e .blocks ≤ 8) →
@@ -250,7 +266,8 @@ module _ (m : List ℕ) (bytes : Bytes m) (laid : laidOut m ≡ true) (fit : inR
                 flags = r .flags;
                 enough = cond-keeps (λ (k : ℕ). k ≤ elementOf (applied n u t .state) e .flags) (ltb e (u .elements)) (u .objects - u .isf) 0
                     (λ q. flags-enough n u t e (ltb-true e (u .elements) q) (let k = h .state .states in omega arith)
-                    (λ p. subst (λ (b : Bool). cond b (s .objects - s .isf) 0 ≤ elementOf s e .flags) (lt-ltb e (s .elements) p) (h .state .elements e l .enough))) (λ _. omega arith);
+                    (λ p. subst (λ (b : Bool). cond b (s .objects - s .isf) 0 ≤ elementOf s e .flags) (lt-ltb e (s .elements) p) (h .state .elements e l .enough)))
+                    (λ _. omega arith);
                 schedule = r .schedule;
                 tracks = r .tracks;
                 targets = r .targets;

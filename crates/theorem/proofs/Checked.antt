@@ -87,14 +87,16 @@ head-of : (f a d n : ℕ) → f ≤ 63 → a ≤ 2 → d < 4 → n ≡ f + a * 2
 head-of f a d n x y z e = record { low = omega arith; anchor = omega arith; less = omega arith; gain = omega arith; size = omega arith }
 
 bed-head : (bed : Bool) (f a d : ℕ) (i : Info) → f ≤ 63 → a ≤ 2 → d < 4 → i .head ≡ f + a * 256 + d * 65536 → HeadOf f d (headOf bed i)
-bed-head true f a d i x y z e = head-of f 2 d (headOf true i) x (omega arith) z (let p : i .head % 256 ≡ f = omega arith in let q : i .head / 65536 ≡ d = omega arith in omega arith)
+bed-head true f a d i x y z e = head-of f 2 d (headOf true i) x (omega arith) z (let p : i .head % 256 ≡ f = omega arith in let q : i .head / 65536 ≡ d = omega arith in
+    omega arith)
 bed-head false f a d i x y z e = head-of f a d (i .head) x y z e
 
 head-valid : (f d n : ℕ) → f ≤ 63 → HeadOf f d n → T (headValid n)
 head-valid f d n x h =
     let a = h .low in
     let b = h .anchor in
-    and-in (ltb n 262144 && ltb (n % 256) 64) (ltb (n / 256 % 256) 3) (and-in (ltb n 262144) (ltb (n % 256) 64) (lt→ltb n 262144 (h .less)) (lt→ltb (n % 256) 64 (omega arith))) (lt→ltb (n / 256 % 256) 3 (omega arith))
+    and-in (ltb n 262144 && ltb (n % 256) 64) (ltb (n / 256 % 256) 3) (and-in (ltb n 262144) (ltb (n % 256) 64) (lt→ltb n 262144 (h .less)) (lt→ltb (n % 256) 64 (omega arith)))
+    (lt→ltb (n / 256 % 256) 3 (omega arith))
 
 -- ---- an update of metadata that was let pass
 
@@ -109,7 +111,8 @@ module _ (m : List ℕ) (bytes : Bytes m) (laid : laidOut m ≡ true) (fit : inR
   unfolding isUpdate codesFit
   codes k l =
       let e = update-is m laid i one in
-      let f : codesFit m (40 * u + 8) (beds m u) ≡ true = and-right (eqb (kind m u) 1 && eqb (byte m u 1) 0 && countsFit (objects m u) (bedOrIsf m u) (beds m u) (elements m u)) _ (and-left _ _ e) in
+      let f : codesFit m (40 * u + 8) (beds m u) ≡ true = and-right (eqb (kind m u) 1 && eqb (byte m u 1) 0 && countsFit (objects m u) (bedOrIsf m u) (beds m u) (elements m u)) _
+      (and-left _ _ e) in
       let c : getD m (40 * u + 8 + k) 0 ≤ mostAt k (beds m u) = leb-true _ _ (all-at (λ j. leb (getD m (40 * u + 8 + j) 0) (mostAt j (beds m u))) 18 k l f) in
       let q : getD m (40 * u + 8 + k) 0 ≡ byte m u (8 + k) = ap (λ (j : ℕ). getD m j 0) (let a : 40 * u + 8 + k ≡ 40 * u + (8 + k) = omega arith in a) in
       let d = most k (beds m u) in

@@ -1,5 +1,5 @@
--- Two lists of calls that are heard, so that neither silence nor refusing every call meets the statement, nor one that drops all beds or all objects: a push of one sample of a front left bed
--- or of one object, and a flush. A third whose meters show a peak above 1 and a gain below 1. Assumes nothing.
+-- Two lists of calls that are heard, so that neither silence nor refusing every call meets the statement, nor one that drops all beds or all objects: a push of one sample of a
+-- front left bed or of one object, and a flush. A third whose meters show a peak above 1 and a gain below 1. Assumes nothing.
 use Prim.Native.Nat.{ℕ, zero, suc, _<_}
 use mathlib.Core.Path.{_≡_, refl, sym, subst}
 use mathlib.Core.Bool.{Bool, true, _&&_}
@@ -100,15 +100,23 @@ unfolding laidOut isUpdates isWholeUpdate isUpdate codesFit all some last count 
 accepted-object = refl
 
 told-bed : Told bed (Above0 0)
-unfolding laidOut isUpdates isWholeUpdate isUpdate codesFit all some last count updateAt elementAt inRange recordInRange each times number blank pushed flushed written applied elementsApplied codesGiven nextGains nextSources slotAt heard bedAdds routeOf firstOf matching new coefficientsOf w0 cosine sine partial numeratorAt down lowered blockPeak absolute larger floatAt withNumber lt le eq add sub mul div neg sum round units odd size climb span ofInt ofBits ofFields toBits nanBits
+unfolding laidOut isUpdates isWholeUpdate isUpdate codesFit all some last count updateAt elementAt inRange recordInRange each times number blank pushed flushed written applied
+    elementsApplied codesGiven nextGains nextSources slotAt heard bedAdds routeOf firstOf matching new coefficientsOf w0 cosine sine partial numeratorAt down lowered blockPeak
+    absolute larger floatAt withNumber lt le eq add sub mul div neg sum round units odd size climb span ofInt ofBits ofFields toBits nanBits
 told-bed = tt
 
 told-loud : Told loudBed Reduced
-unfolding laidOut isUpdates isWholeUpdate isUpdate codesFit all some last count updateAt elementAt inRange recordInRange each times number blank pushed flushed written applied elementsApplied codesGiven nextGains nextSources slotAt heard bedAdds routeOf firstOf matching new coefficientsOf w0 cosine sine partial numeratorAt down lowered blockPeak absolute larger floatAt withNumber lt le eq add sub mul div neg sum round units odd size climb span ofInt ofBits ofFields toBits nanBits smaller shown isNan
+unfolding laidOut isUpdates isWholeUpdate isUpdate codesFit all some last count updateAt elementAt inRange recordInRange each times number blank pushed flushed written applied
+    elementsApplied codesGiven nextGains nextSources slotAt heard bedAdds routeOf firstOf matching new coefficientsOf w0 cosine sine partial numeratorAt down lowered blockPeak
+    absolute larger floatAt withNumber lt le eq add sub mul div neg sum round units odd size climb span ofInt ofBits ofFields toBits nanBits smaller shown isNan
 told-loud = tt
 
 told-object : Told object (Above0 512)
-unfolding laidOut isUpdates isWholeUpdate isUpdate codesFit all some last count updateAt elementAt inRange recordInRange each times number blank pushed flushed written applied elementsApplied codesGiven nextGains nextSources slotAt heard bedAdds routeOf firstOf matching new coefficientsOf w0 cosine sine partial numeratorAt down lowered blockPeak absolute larger floatAt withNumber lt le eq add sub mul div neg sum round units odd size climb span ofInt ofBits ofFields toBits nanBits objectTerms onChannel positions714 hall714 keep everyOf orList first choice.outermost below above level end flank layer rowAmong side corner ratio terms.up ahead across rowWeight coefficient innerGain extra panned audible paired root rootUnits floorRoot digits mag ne trailingZeros
+unfolding laidOut isUpdates isWholeUpdate isUpdate codesFit all some last count updateAt elementAt inRange recordInRange each times number blank pushed flushed written applied
+    elementsApplied codesGiven nextGains nextSources slotAt heard bedAdds routeOf firstOf matching new coefficientsOf w0 cosine sine partial numeratorAt down lowered blockPeak
+    absolute larger floatAt withNumber lt le eq add sub mul div neg sum round units odd size climb span ofInt ofBits ofFields toBits nanBits objectTerms onChannel positions714
+    hall714 keep everyOf orList first choice.outermost below above level end flank layer rowAmong side corner ratio terms.up ahead across rowWeight coefficient innerGain extra
+    panned audible paired root rootUnits floorRoot digits mag ne trailingZeros
 told-object = tt
 
 -- ---- what is lent is bytes

@@ -42,7 +42,8 @@ record Heads (s t : List ℕ) (at hi h g z : ℕ) : Type 0 where
   gain : word t (at + 4) ≡ g
   size : word t (at + 8) ≡ z
 
-heads : (h : ℕ) (i : Info) (at : ℕ) (s : List ℕ) → at + 44 ≤ length s → h < 256 ^ 4 → i .gain < 256 ^ 4 → i .size < 256 ^ 4 → Heads s (withHead h i at s) at (at + 20) h (i .gain) (i .size)
+heads : (h : ℕ) (i : Info) (at : ℕ) (s : List ℕ) → at + 44 ≤ length s → h < 256 ^ 4 → i .gain < 256 ^ 4 → i .size < 256 ^ 4
+    → Heads s (withHead h i at s) at (at + 20) h (i .gain) (i .size)
 unfolding withHead
 heads h i at s l p q r =
     let a = withWord s at h in
@@ -78,7 +79,8 @@ info-stored fresh bed i at s l p q r =
 
 module _ (P : Said) where
   -- info k of a table of which info j is written
-  table-at : (s t : List ℕ) (j h g z : ℕ) → Heads s t (44 * j) (44 * j + 44) h g z → P h g z → Table P s → (k : ℕ) → k < 512 → (below same : Bool) → ltb k j ≡ below → eqb k j ≡ same →
+  table-at : (s t : List ℕ) (j h g z : ℕ) → Heads s t (44 * j) (44 * j + 44) h g z → P h g z → Table P s → (k : ℕ) → k < 512 → (below same : Bool) → ltb k j ≡ below
+      → eqb k j ≡ same →
       P (word t (44 * k)) (word t (44 * k + 4)) (word t (44 * k + 8))
   table-at s t j h g z w p q k l true same e f =
       let a = ltb-true k j e in
@@ -101,7 +103,8 @@ module _ (P : Said) where
   info-kept : (fresh bed : Bool) (i : Info) (j : ℕ) (s : List ℕ) → j < 512 → Fit P bed i → Table P s → Table P (withInfo fresh bed i (44 * j) s)
   info-kept fresh bed i j s l f q =
       let n = q .long in
-      table-stored s (withInfo fresh bed i (44 * j) s) j (headOf bed i) (i .gain) (i .size) (info-stored fresh bed i (44 * j) s (omega arith) (f .head) (f .gain) (f .size)) (f .holds) q
+      table-stored s (withInfo fresh bed i (44 * j) s) j (headOf bed i) (i .gain) (i .size) (info-stored fresh bed i (44 * j) s (omega arith) (f .head) (f .gain) (f .size))
+      (f .holds) q
 
   -- ---- the infos of an element
 
@@ -109,7 +112,8 @@ module _ (P : Said) where
       Table P (objectStored fresh bed x first o s)
   unfolding objectStored
   object-kept fresh bed x first o s l few f q =
-      times-in (Table P) (infoGiven fresh bed x first o) (x .blocks) (λ b t m i. info-kept fresh bed (x .info o b) (first + b) t (omega arith) (f b m) i) (x .blocks) 0 (omega arith) s q
+      times-in (Table P) (infoGiven fresh bed x first o) (x .blocks) (λ b t m i. info-kept fresh bed (x .info o b) (first + b) t (omega arith) (f b m) i) (x .blocks) 0
+      (omega arith) s q
 
   pub objects-kept : (fresh : Bool) (isf : ℕ) (x : Element) (first n : ℕ) (s : List ℕ) → first + 256 ≤ 512 → n ≤ 32 → x .blocks ≤ 8 →
       ((bed : Bool) (o b : ℕ) → o < n → b < x .blocks → Fit P bed (x .info o b)) → Table P s → Table P (objectsStored fresh isf x first n s)

@@ -1,5 +1,5 @@
--- "These must not pass": the six players that document 01 names, and for each the theorem that no renderer of the rules is one. Each is about every list of calls from a new or reset renderer
--- and one call more; `after cs` is the renderer that the list leaves. Assumes nothing.
+-- "These must not pass": the six players that document 01 names, and for each the theorem that no renderer of the rules is one. Each is about every list of calls from a new or
+-- reset renderer and one call more; `after cs` is the renderer that the list leaves. Assumes nothing.
 use Prim.Native.Nat.{ℕ, _+_, _*_, _/_, _%_, _<_}
 use mathlib.Core.Path.{_≡_, refl, sym, ap, _∙_, subst}
 use mathlib.Core.Logic.{inl, inr}
@@ -82,7 +82,8 @@ bed-acceptable = record {
 pub all-mixed : (cs : List Call) → AllLent cs → (a : Args) → Lent (push a) → found hall (after cs) a ≡ clear → (t : ℕ) → t < a .samples → AtSample hall (after cs) a t
 all-mixed cs h a l e = pushed-holds cs h a l e .samples
 
--- "one that limits or pans the first block only": every whole block is limited by the gain that it meets; at every sample the objects are those of the timed state of that sample (`all-mixed`)
+-- "one that limits or pans the first block only": every whole block is limited by the gain that it meets; at every sample the objects are those of the timed state of that sample
+-- (`all-mixed`)
 pub every-block : (cs : List Call) → AllLent cs → (a : Args) → Lent (push a) → found hall (after cs) a ≡ clear → (c : ℕ) → c < 12
     → given (step hall (after cs) (push a) .answer) c ≡ limitedBlocks (a .rate) (after cs .limiter .gain) (unlimited hall (after cs) a) (whole hall (after cs) a) c
 every-block cs h a l e c q = let p = pushed-holds cs h a l e in ap (λ x. given x c) (p .answer) ∙ p .gives c q

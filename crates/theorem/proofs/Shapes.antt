@@ -50,7 +50,8 @@ pub each-same : (f g : ℕ → ℕ) (n : ℕ) → ((k : ℕ) → k < n → f k �
 unfolding each
 each-same f g zero h = refl
 each-same f g (suc n) h =
-    subst (λ (x : ℕ). each f (suc n) ≡ x ∷ each (λ k. g (suc k)) n) (h 0 (omega arith)) (ap (λ (l : List ℕ). f 0 ∷ l) (each-same (λ k. f (suc k)) (λ k. g (suc k)) n (λ k l. h (suc k) (omega arith))))
+    subst (λ (x : ℕ). each f (suc n) ≡ x ∷ each (λ k. g (suc k)) n) (h 0 (omega arith))
+    (ap (λ (l : List ℕ). f 0 ∷ l) (each-same (λ k. f (suc k)) (λ k. g (suc k)) n (λ k l. h (suc k) (omega arith))))
 
 pub codes-are : (u : Update) (cs : List ℕ) (k : ℕ) → length cs ≡ 18 → k < 18 → getD (codesGiven u cs) k 0 ≡ u .code k
 unfolding codesGiven

@@ -87,7 +87,8 @@ module _ (is : List ℕ) (j : ℕ) (p l : Vec3) where
 
   stored-keeps : Kept is stored (44 * j + 20) (44 * j + 44)
   stored-keeps =
-      kept-twice (44 * j + 20) (44 * j + 44) (vec-keeps is (44 * j + 20) p) (vec-keeps (withVec is (44 * j + 20) p) (44 * j + 32) l) (omega arith) (omega arith) (omega arith) (omega arith)
+      kept-twice (44 * j + 20) (44 * j + 44) (vec-keeps is (44 * j + 20) p) (vec-keeps (withVec is (44 * j + 20) p) (44 * j + 32) l) (omega arith) (omega arith) (omega arith)
+      (omega arith)
 
   stored-same : (k c : ℕ) → c ≤ 16 → (b : Bool) → ltb j k ≡ b → word stored (44 * k + c) ≡ word is (44 * k + c)
   stored-same k c h true e = let g = ltb-true j k e in reads-past stored-keeps (44 * k + c) 4 (omega arith)
@@ -111,7 +112,8 @@ pub moved-all-like : (arrived : Bool) (first count : ℕ) (m : Moving) (is : Lis
 unfolding movedAll
 moved-all-like arrived first count m is =
     times-keeps (λ (w : objects.ObjectsWork). Like is (w .infos)) (movedAt arrived first)
-    (λ d w h. like-trans h (moved-like arrived (first + 8 * d) (getD (w .moving .sources) d objects.noSource) (w .infos))) count 0 (record { moving = m; infos = is }) (like-refl is)
+    (λ d w h. like-trans h (moved-like arrived (first + 8 * d) (getD (w .moving .sources) d objects.noSource) (w .infos))) count 0 (record { moving = m; infos = is })
+    (like-refl is)
 
 pub applied-like : (w : Timing) (r : Reach) (b : ℕ) (k : SlotWork) → Like (k .infos) (blockApplied w r b k .infos)
 unfolding blockApplied
@@ -123,7 +125,8 @@ pub blocks-like : (w : Timing) (r : Reach) (n : ℕ) (k : SlotWork) → Like (k 
 unfolding blocksApplied
 blocks-like w r n k =
     times-keeps (λ (x : SlotWork). Like (k .infos) (x .infos)) (blockTurn w r)
-    (λ b x h. cond-keeps (λ (y : SlotWork). Like (k .infos) (y .infos)) (due w (getD (x .slot .schedule) b noBlock)) (blockApplied w r b x) x (λ _. like-trans h (applied-like w r b x)) (λ _. h))
+    (λ b x h. cond-keeps (λ (y : SlotWork). Like (k .infos) (y .infos)) (due w (getD (x .slot .schedule) b noBlock)) (blockApplied w r b x) x
+    (λ _. like-trans h (applied-like w r b x)) (λ _. h))
     n 0 k (like-refl (k .infos))
 
 slot-of-like : (w : Timing) (i : ℕ) (t : Timed) → Like (t .infos) (slotOf w i t .infos)

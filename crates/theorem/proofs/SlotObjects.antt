@@ -1,4 +1,5 @@
--- A slot gives beds and objects no gain and no size but those that they or the infos hold, and no place but f32 values: whatever holds of every gain (`G`) and every size (`Z`) still does.
+-- A slot gives beds and objects no gain and no size but those that they or the infos hold, and no place but f32 values: whatever holds of every gain (`G`) and every size (`Z`)
+-- still does.
 -- Assumes nothing.
 use Prim.Native.Nat.{ℕ, _+_, _*_, _<_, _≤_}
 use mathlib.Core.Path.{_≡_}
@@ -76,7 +77,8 @@ module _ (G Z : Float → Type 0) where
         record {
           gain = or-else-holds G (gainAt is k) (s .gain) (i .gain k) (h .gain);
           size = or-else-holds Z (sizeAt is k) (s .size) (i .size k) (h .size);
-          place = cond-keeps VecFits (blockPosition is k .valid && arrived) (placed (blockPosition is k) (s .place) .target) (s .place) (λ _. target-fits .target-fits) (λ _. h .place);
+          place = cond-keeps VecFits (blockPosition is k .valid && arrived) (placed (blockPosition is k) (s .place) .target) (s .place) (λ _. target-fits .target-fits)
+              (λ _. h .place);
         }
 
     pub track-fits : VecFits (objectMoved arrived k s is .moved .track .future)
@@ -109,16 +111,20 @@ module _ (G Z : Float → Type 0) where
       let g = h .moving .sources d l in
       record {
         moving = record {
-          sources = set-each (λ i x. i < 16 → SourceHas G Z x) (w .moving .sources) d (a .moved .source) noSource (λ _. moved-has G Z arrived k s (w .infos) g (h .infos)) (h .moving .sources);
-          targets = set-each (λ i x. i < 16 → VecFits (x .future)) (w .moving .tracks) d (a .moved .track) noTrack (λ _. track-fits G Z arrived k s (w .infos) g) (h .moving .targets);
+          sources = set-each (λ i x. i < 16 → SourceHas G Z x) (w .moving .sources) d (a .moved .source) noSource (λ _. moved-has G Z arrived k s (w .infos) g (h .infos))
+              (h .moving .sources);
+          targets = set-each (λ i x. i < 16 → VecFits (x .future)) (w .moving .tracks) d (a .moved .track) noTrack (λ _. track-fits G Z arrived k s (w .infos) g)
+              (h .moving .targets);
         };
         infos = like-has (moved-like arrived k s (w .infos)) (h .infos);
       }
 
-  pub moved-all-has : (arrived : Bool) (first count : ℕ) (m : Moving) (is : List ℕ) → count ≤ 16 → MovingHas G Z m → InfosHave G Z is → MovingHas G Z (movedAll arrived first count m is .moving)
+  pub moved-all-has : (arrived : Bool) (first count : ℕ) (m : Moving) (is : List ℕ) → count ≤ 16 → MovingHas G Z m → InfosHave G Z is
+      → MovingHas G Z (movedAll arrived first count m is .moving)
   unfolding movedAll
   moved-all-has arrived first count m is l h i =
-      times-in (WorkHas G Z) (movedAt arrived first) 16 (λ d w b k. moved-at-has arrived first d w b k) count 0 (omega arith) (record { moving = m; infos = is }) (record { moving = h; infos = i }) .moving
+      times-in (WorkHas G Z) (movedAt arrived first) 16 (λ d w b k. moved-at-has arrived first d w b k) count 0 (omega arith) (record { moving = m; infos = is })
+      (record { moving = h; infos = i }) .moving
 
   pub ramped-all-has : (t : Float) (before : List Track) (count : ℕ) (m : Moving) → count ≤ 16 → MovingHas G Z m → MovingHas G Z (rampedAll t before count m)
   unfolding rampedAll
@@ -129,14 +135,17 @@ module _ (G Z : Float → Type 0) where
       let track = getD (w .tracks) d noTrack in
       let s = getD (w .sources) d noSource in
       record {
-        sources = set-each (λ i x. i < 16 → SourceHas G Z x) (w .sources) d (ramped t last track s) noSource (λ _. ramped-has G Z t last track s (k .sources d b) (k .targets d b)) (k .sources);
+        sources = set-each (λ i x. i < 16 → SourceHas G Z x) (w .sources) d (ramped t last track s) noSource (λ _. ramped-has G Z t last track s (k .sources d b) (k .targets d b))
+            (k .sources);
         targets = k .targets;
       })
       count 0 (omega arith) m h
 
-  pub bed-gains-have : (is : List ℕ) (first count : ℕ) (gs : List Float) → count ≤ 18 → InfosHave G Z is → ((i : ℕ) → i < 18 → G (getD gs i nan)) → (i : ℕ) → i < 18 → G (getD (bedGains is first count gs) i nan)
+  pub bed-gains-have : (is : List ℕ) (first count : ℕ) (gs : List Float) → count ≤ 18 → InfosHave G Z is → ((i : ℕ) → i < 18 → G (getD gs i nan)) → (i : ℕ) → i < 18
+      → G (getD (bedGains is first count gs) i nan)
   unfolding bedGains
   bed-gains-have is first count gs l h =
       times-in (λ (x : List Float). (i : ℕ) → i < 18 → G (getD x i nan)) (bedAt is first) 18
-      (λ i x b k. set-each (λ j y. j < 18 → G y) x i (orElse (gainAt is (first + 8 * i)) (getD x i nan)) nan (λ _. or-else-holds G (gainAt is (first + 8 * i)) (getD x i nan) (h .gain (first + 8 * i)) (k i b)) k)
+      (λ i x b k. set-each (λ j y. j < 18 → G y) x i (orElse (gainAt is (first + 8 * i)) (getD x i nan)) nan
+      (λ _. or-else-holds G (gainAt is (first + 8 * i)) (getD x i nan) (h .gain (first + 8 * i)) (k i b)) k)
       count 0 (omega arith) gs

@@ -67,7 +67,11 @@ ramped-all-long : (t : Float) (before : List Track) (count : ℕ) (m : Moving) �
 unfolding rampedAll
 ramped-all-long t before count m =
     times-keeps (MovingLong m) (rampedAt t before)
-    (λ d w h. record { sources = length-set (w .sources) d (ramped t (getD before d noTrack .now) (getD (w .tracks) d noTrack) (getD (w .sources) d noSource)) ∙ h .sources; tracks = h .tracks })
+    (λ d w h. record {
+      sources = length-set (w .sources) d (ramped t (getD before d noTrack .now) (getD (w .tracks) d noTrack) (getD (w .sources) d noSource))
+          ∙ h .sources;
+      tracks = h .tracks;
+    })
     count 0 m (record { sources = refl; tracks = refl })
 
 bed-gains-long : (is : List ℕ) (first count : ℕ) (gs : List Float) → length (bedGains is first count gs) ≡ length gs
@@ -101,7 +105,8 @@ blocks-long : (w : Timing) (r : Reach) (n : ℕ) (k : SlotWork) → Long (k .slo
 unfolding blocksApplied
 blocks-long w r n k =
     times-keeps (λ (x : SlotWork). Long (k .slot) (x .slot)) (blockTurn w r)
-    (λ b x h. cond-keeps (λ (y : SlotWork). Long (k .slot) (y .slot)) (due w (getD (x .slot .schedule) b noBlock)) (blockApplied w r b x) x (λ _. long-trans h (applied-long w r b x)) (λ _. h))
+    (λ b x h. cond-keeps (λ (y : SlotWork). Long (k .slot) (y .slot)) (due w (getD (x .slot .schedule) b noBlock)) (blockApplied w r b x) x
+    (λ _. long-trans h (applied-long w r b x)) (λ _. h))
     n 0 k (long-refl (k .slot))
 
 ramp-long : (before : List Track) (n : ℕ) (s : Slot) → Long s (rampApplied before n s)

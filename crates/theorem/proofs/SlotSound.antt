@@ -61,7 +61,8 @@ up-to most Absent h = h
 up-to most (Value x) h = h
 
 -- below 512 as given, from there on absent
-each-held : (most : Float) (f : ℕ → Maybe) → ((k : ℕ) → k < 512 → UpTo most (f k)) → ((k : ℕ) → 512 ≤ k → f k ≡ Absent) → (k : ℕ) → (b : Bool) → ltb k 512 ≡ b → Holds (Upto most) (f k)
+each-held : (most : Float) (f : ℕ → Maybe) → ((k : ℕ) → k < 512 → UpTo most (f k)) → ((k : ℕ) → 512 ≤ k → f k ≡ Absent) → (k : ℕ) → (b : Bool) → ltb k 512 ≡ b
+    → Holds (Upto most) (f k)
 each-held most f h p k true e = held most (f k) (h k (ltb-true k 512 e))
 each-held most f h p k false e = subst (Holds (Upto most)) (sym (p k (ltb-false k 512 e))) tt
 

@@ -50,7 +50,10 @@ module _ (G Z : Float → Type 0) where
         let left = leftAfter w (getD (s .schedule) b noBlock) in
         let m = moved-all-has G Z (rampOver left) (r .first + b) (r .count) (record { sources = s .sources; tracks = s .tracks }) (k .infos) some (h .slot .moving) (h .infos) in
         record {
-          slot = record { gains = bed-gains-have G Z (k .infos) (r .beds + b) (r .channels) (s .gains) few (h .infos) (h .slot .gains); moving = record { sources = m .sources; targets = m .targets } };
+          slot = record {
+            gains = bed-gains-have G Z (k .infos) (r .beds + b) (r .channels) (s .gains) few (h .infos) (h .slot .gains);
+            moving = record { sources = m .sources; targets = m .targets };
+          };
           infos = like-has (applied-like w r b k) (h .infos);
         }
 

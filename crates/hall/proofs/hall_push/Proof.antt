@@ -15,11 +15,13 @@ use Rattle.hall.proofs.hall_push.Tie as tie
 returns : tie.Need-returns
 returns c =
     let a = c .before .before .before .before .before .before .before .before .before .args in
-    leaves-as (wrong (push (argsOf (a .pcm .now) (a .meta .now) (a .out .now) (a .codes .now) (a .rate) (a .samples) (a .objects) (a .stride))) (a .state .now) (sym (c .before .before .is-valid .ensures) ∙ not-true _ (c .before .if1 .taken)))
+    leaves-as (wrong (push (argsOf (a .pcm .now) (a .meta .now) (a .out .now) (a .codes .now) (a .rate) (a .samples) (a .objects) (a .stride))) (a .state .now)
+    (sym (c .before .before .is-valid .ensures) ∙ not-true _ (c .before .if1 .taken)))
     (record { answer = c .refusal .ensures; block = refl; output = refl })
 
 load-requires : tie.Need-load-requires
-load-requires c κs = valid-long (c .before .before .before .before .before .before .before .before .before .args .state .now) (sym (c .before .before .is-valid .ensures) ∙ not-false _ (c .before .if1 .left))
+load-requires c κs = valid-long (c .before .before .before .before .before .before .before .before .before .args .state .now) (sym (c .before .before .is-valid .ensures)
+    ∙ not-false _ (c .before .if1 .left))
 
 push-refusal-requires : tie.Need-push-refusal-requires
 push-refusal-requires c κs =
@@ -49,8 +51,10 @@ returns-3 c =
     let e = l .before .before in
     let a = e .before .before .before .before .before .before .before .before .args in
     let x = f .push-refusal .result in
-    refused-push (argsOf (a .pcm .now) (a .meta .now) (a .out .now) (a .codes .now) (a .rate) (a .samples) (a .objects) (a .stride)) (a .state .now) (c .refusal2 .result) (foundOf x)
-    (sym (e .before .is-valid .ensures) ∙ not-false _ (e .if1 .left)) (f .push-refusal .ensures (a .state .now) (a .out .now) (l .load .ensures) refl) (not-clear x (c .before .match .keys2)) (c .refusal2 .ensures)
+    refused-push (argsOf (a .pcm .now) (a .meta .now) (a .out .now) (a .codes .now) (a .rate) (a .samples) (a .objects) (a .stride)) (a .state .now) (c .refusal2 .result)
+    (foundOf x)
+    (sym (e .before .is-valid .ensures) ∙ not-false _ (e .if1 .left)) (f .push-refusal .ensures (a .state .now) (a .out .now) (l .load .ensures) refl)
+    (not-clear x (c .before .match .keys2)) (c .refusal2 .ensures)
 
 pub hall-push-spec : {M : Type 1} → statement M
 hall-push-spec =
