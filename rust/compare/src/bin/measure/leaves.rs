@@ -1,26 +1,25 @@
-//! Times of the Rattle code as parts of the Rust's: one driver over the same input. Prints a line
-//! for each function; claims nothing.
+//! Times of the leaves beside the Rust's.
 
+use crate::times::{Ratio, least, rounds};
 use compare::{Generator, probe};
 use oracle::leaf;
 use std::hint::black_box;
 use std::time::{Duration, Instant};
 
-/// Prints the shortest of seven times of each, and their ratio.
-fn compare_times(name: &str, mut rattle: impl FnMut(), mut rust: impl FnMut()) {
-    let (mut best_rattle, mut best_rust) = (Duration::MAX, Duration::MAX);
-    for _ in 0..7 {
-        best_rattle = best_rattle.min(time(&mut rattle));
-        best_rust = best_rust.min(time(&mut rust));
-    }
-    let ratio = best_rattle.as_secs_f64() / best_rust.as_secs_f64();
-    println!("{name}: Rattle {best_rattle:?}, Rust {best_rust:?}, ratio {ratio:.2}");
-}
+const SECONDS: f64 = 0.5;
 
-fn time(run: &mut impl FnMut()) -> Duration {
+fn time(run: &mut dyn FnMut()) -> Duration {
     let start = Instant::now();
     run();
     start.elapsed()
+}
+
+fn compare_times(name: &str, mut rattle: impl FnMut(), mut rust: impl FnMut()) {
+    let mut sides: [&mut dyn FnMut(); 2] = [&mut rattle, &mut rust];
+    let times = rounds(2, SECONDS, |side| time(sides[side]));
+    let [ours, theirs] = [0, 1].map(|side| least(&times[side]) * 1e6);
+    let ratio = Ratio::new(&times[0], &times[1]);
+    println!("{name}: Rattle {ours:.1} µs, Rust {theirs:.1} µs, ratio {ratio}");
 }
 
 /// Called, as the Rattle function is, and not inlined.
@@ -178,7 +177,80 @@ fn rust_limiter(channels: &[Vec<f32>]) {
     black_box(gain);
 }
 
-fn main() {
+type Root = fn(f32) -> f32;
+
+const CALLS: u32 = 50_000;
+
+#[inline(never)]
+fn identity(x: f32) -> f32 {
+    x
+}
+
+#[inline(never)]
+fn hardware(x: f32) -> f32 {
+    x.sqrt()
+}
+
+#[inline(never)]
+fn hardware_twice(x: f32) -> f32 {
+    x.sqrt().sqrt()
+}
+
+#[inline(never)]
+fn powf(x: f32) -> f32 {
+    x.powf(0.25)
+}
+
+/// Each call waits for the one before.
+fn chain(root: Root, _: &[f32]) {
+    let mut x = black_box(7.3f32);
+    for i in 0..CALLS {
+        x = root(x) * 3.0 + (i % 8) as f32;
+    }
+    black_box(x);
+}
+
+fn independent(root: Root, inputs: &[f32]) {
+    let sum = inputs.iter().fold(0, |sum, &x| sum ^ root(x).to_bits());
+    black_box(sum);
+}
+
+/// Nanoseconds a call of each, and of a function that returns its argument.
+fn compare_roots(name: &str, ours: Root, theirs: Root, run: fn(Root, &[f32]), inputs: &[f32]) {
+    let roots = [ours, theirs, identity];
+    let times = rounds(3, SECONDS, |side| time(&mut || run(roots[side], inputs)));
+    let [ours, theirs, empty] = [0, 1, 2].map(|i| least(&times[i]) * 1e9 / f64::from(CALLS));
+    println!("{name}: {ours:.2} and {theirs:.2} ns, an empty call {empty:.2}");
+}
+
+fn roots() {
+    let mut drawn = Generator::new(1);
+    let inputs: Vec<f32> = (0..CALLS)
+        .map(|_| f32::from_bits(0x3c00_0000 + drawn.below(0x0400_0000) as u32))
+        .collect();
+    use probe::roots::{fourth_root, sqrt};
+    let compared: [(&str, Root, Root); 3] = [
+        ("sqrt and the hardware's", sqrt, hardware),
+        (
+            "fourth_root and the hardware's twice",
+            fourth_root,
+            hardware_twice,
+        ),
+        ("fourth_root and powf(0.25)", fourth_root, powf),
+    ];
+    for (name, ours, theirs) in compared {
+        compare_roots(&format!("{name}, chain"), ours, theirs, chain, &inputs);
+        compare_roots(
+            &format!("{name}, independent"),
+            ours,
+            theirs,
+            independent,
+            &inputs,
+        );
+    }
+}
+
+pub fn print() {
     lowpass();
     panning();
     mixing();
@@ -195,4 +267,5 @@ fn main() {
     );
     limiter("limiter, quiet", &mut inputs, 0.9);
     limiter("limiter, loud", &mut inputs, 3.0);
+    roots();
 }
