@@ -1,4 +1,5 @@
 pub mod All
+pub mod Zeros
 pub mod Raised
 pub mod Infos
 pub mod Theorems

@@ -33,6 +33,14 @@ pub fn zeros(meta: &[u8], at: usize, n: usize) -> bool
     true
 }
 
+// Whether the four bytes from `at` on are zero, by their word.
+pub fn zero_word(meta: &[u8], at: usize) -> bool
+    requires { ⌜ at + 4 ≤ length (now meta) ⌝ }
+    ensures { λ r. ⌜ r ≡ zeroBytes (now (meta .entry)) at 4 ⌝ }
+{
+    words::u32_at(meta, at) == 0
+}
+
 // Whether the flag that stands for `bit` is set.
 pub fn has(flags: u8, bit: u8) -> bool
     requires { ⌜ 0 < bit ⌝ }

@@ -8,20 +8,25 @@ ghost use Rattle.fields.specs.Infos.{storedInfo};
 ghost use Rattle.vectors.specs.Head.{anchorOf, headWord};
 ghost use Rattle.fields.specs.Object.{absentOr, objectInRange};
 use crate::bytes::has;
-use crate::bytes::zeros;
+use crate::bytes::zero_word;
 use vectors::Anchor;
 use vectors::Maybe;
 use vectors::Vec3;
 
-// Whether a value of n bytes is present or zero.
-fn value_fits(meta: &[u8], flags: u8, bit: u8, at: usize, n: usize) -> bool
-    requires { ⌜ (0 < bit) × (at + n ≤ length (now meta)) ⌝ }
-    ensures { λ r. ⌜ r ≡ valueFits (now (meta .entry)) flags bit at n ⌝ }
+// Whether a value of four bytes is present or zero.
+fn value_fits(meta: &[u8], flags: u8, bit: u8, at: usize) -> bool
+    requires { ⌜ (0 < bit) × (at + 4 ≤ length (now meta)) ⌝ }
+    ensures { λ r. ⌜ r ≡ valueFits (now (meta .entry)) flags bit at 4 ⌝ }
 {
-    if has(flags, bit) {
-        return true;
-    }
-    zeros(meta, at, n)
+    has(flags, bit) | zero_word(meta, at)
+}
+
+// Whether the position, three values, is present or zero.
+fn position_fits(meta: &[u8], flags: u8, at: usize) -> bool
+    requires { ⌜ at + 12 ≤ length (now meta) ⌝ }
+    ensures { λ r. ⌜ r ≡ valueFits (now (meta .entry)) flags 8 at 12 ⌝ }
+{
+    has(flags, 8) | (zero_word(meta, at) & zero_word(meta, at + 4) & zero_word(meta, at + 8))
 }
 
 // Whether each value of the record that starts at byte `at` is present or zero.
@@ -29,41 +34,25 @@ fn values_fit(meta: &[u8], at: usize, flags: u8) -> bool
     requires { ⌜ at + 40 ≤ length (now meta) ⌝ }
     ensures { λ r. ⌜ r ≡ valuesFit (now (meta .entry)) at flags ⌝ }
 {
-    if !value_fits(meta, flags, 4, at + 4, 4) {
-        return false;
-    }
-    if !value_fits(meta, flags, 8, at + 8, 12) {
-        return false;
-    }
-    if !value_fits(meta, flags, 16, at + 20, 4) {
-        return false;
-    }
-    value_fits(meta, flags, 32, at + 24, 4)
+    value_fits(meta, flags, 4, at + 4)
+        & position_fits(meta, flags, at + 8)
+        & value_fits(meta, flags, 16, at + 20)
+        & value_fits(meta, flags, 32, at + 24)
 }
 
-// Whether record r is an object in a block as laid out.
+// Whether record r is an object in a block as laid out, with no branch: which values are present differs from record to record.
 pub fn is_object(meta: &[u8], r: usize) -> bool
     requires { ⌜ 40 * r + 40 ≤ length (now meta) ⌝ }
     ensures { λ b. ⌜ b ≡ isObject (now (meta .entry)) r ⌝ }
 {
     let at = 40 * r;
-    if meta[at] != 4 {
-        return false;
-    }
-    if meta[at + 1] > 2 {
-        return false;
-    }
     let flags = meta[at + 2];
-    if flags > 63 {
-        return false;
-    }
-    if meta[at + 3] != 0 {
-        return false;
-    }
-    if !values_fit(meta, at, flags) {
-        return false;
-    }
-    zeros(meta, at + 36, 4)
+    (meta[at] == 4)
+        & (meta[at + 1] <= 2)
+        & (flags <= 63)
+        & (meta[at + 3] == 0)
+        & values_fit(meta, at, flags)
+        & zero_word(meta, at + 36)
 }
 
 // An object's position: where it was, or a place.
