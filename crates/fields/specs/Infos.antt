@@ -8,9 +8,7 @@ use Rattle.vectors.specs.Head.{Head, headWord, headIn, anchorOf, has}
 use Rattle.vectors.specs.declared.Maybe.{Maybe}
 use Rattle.vectors.specs.declared.Maybe.the-variants.{Absent, Value}
 use Rattle.fields.specs.Bytes.{byte}
-use Rattle.fields.specs.Object.{depthCode}
-use Rattle.fields.specs.declared.object.Position.the-variants.{Same, At}
-use Rattle.fields.specs.declared.object.Object.{Object}
+use Rattle.fields.specs.Object.{Same, At, Object, depthCode}
 use Rattle.fields.specs.declared.object.Info.{Info}
 
 abbrev pub headSaid : List ℕ → ℕ → Head

@@ -7,13 +7,12 @@ use lib.Dec.{eqb, leb, ltb}
 use lib.Ieee.{Float, fin, eq, le}
 use lib.IntN.{pos, negsuc}
 use Rattle.words.specs.Words.{floatAt}
+use Rattle.vectors.specs.declared.Anchor.{Anchor}
+use Rattle.vectors.specs.declared.Vec3.{Vec3}
 use Rattle.vectors.specs.declared.Maybe.{Maybe}
 use Rattle.vectors.specs.declared.Maybe.the-variants.{Absent, Value}
 use Rattle.vectors.specs.Head.{anchorOf}
 use Rattle.fields.specs.Bytes.{byte, kind, zeroBytes, has}
-use Rattle.fields.specs.declared.object.Position.{Position}
-use Rattle.fields.specs.declared.object.Position.the-variants.{Same, At}
-use Rattle.fields.specs.declared.object.Object.{Object}
 
 -- ---- as laid out
 
@@ -33,11 +32,28 @@ isObject m r =
 
 -- ---- its meaning
 
+-- an object's position: where it was, or a place
+pub data Placement : Type 0 where
+  Same : Placement
+  At : Vec3 → Placement
+
+-- what the record says; depth is a code
+pub record Object : Type 0 where
+  pub anchor : Anchor
+  pub valid : Bool
+  pub differential : Bool
+  pub gain : Maybe
+  pub position : Placement
+  pub distance : Maybe
+  pub size : Maybe
+  pub screen : Float
+  pub depth : ℕ
+
 -- the value at a place that is present with `bit`
 unfoldable pub maybeOf : List ℕ → ℕ → ℕ → ℕ → Maybe
 maybeOf m flags bit at = cond (has flags bit) (Value (floatAt m at)) Absent
 
-unfoldable pub positionOf : List ℕ → ℕ → ℕ → Position
+unfoldable pub positionOf : List ℕ → ℕ → ℕ → Placement
 positionOf m flags at = cond (has flags 8) (At (record { x = floatAt m at; y = floatAt m (at + 4); z = floatAt m (at + 8) })) Same
 
 -- the code of a depth factor: 0.25, 0.5, 1, 2 are 0 to 3, any other is 4

@@ -2,16 +2,13 @@
 ghost use mathlib.Core.Path.{_≡_};
 ghost use Prim.Native.Nat.{_+_, _*_, _<_, _≤_};
 ghost use lib.ListN.{length};
-ghost use Rattle.vectors.specs.Head.{anchorOf, headWord};
-ghost use Rattle.fields.specs.Object.{valueFits, valuesFit, isObject, maybeOf, positionOf, depthCode, objectOf};
+ghost use lib.Ieee.{binary32, ofBits};
+ghost use Rattle.vectors.specs.Head.{headWord};
+ghost use Rattle.vectors.specs.declared.Maybe.the-variants.{Value};
+ghost use Rattle.fields.specs.Object.{valueFits, valuesFit, isObject, depthCode, objectOf, absentOr, objectInRange};
 ghost use Rattle.fields.specs.Infos.{storedInfo};
-ghost use Rattle.vectors.specs.Head.{anchorOf, headWord};
-ghost use Rattle.fields.specs.Object.{absentOr, objectInRange};
 use crate::bytes::has;
 use crate::bytes::zero_word;
-use vectors::Anchor;
-use vectors::Maybe;
-use vectors::Vec3;
 
 // Whether a value of four bytes is present or zero.
 fn value_fits(meta: &[u8], flags: u8, bit: u8, at: usize) -> bool
@@ -55,128 +52,44 @@ pub fn is_object(meta: &[u8], r: usize) -> bool
         & zero_word(meta, at + 36)
 }
 
-// An object's position: where it was, or a place.
-pub enum Position {
-    Same,
-    At(Vec3),
-}
-
-// What the record says; depth is a code.
-pub struct Object {
-    pub anchor: Anchor,
-    pub valid: bool,
-    pub differential: bool,
-    pub gain: Maybe,
-    pub position: Position,
-    pub distance: Maybe,
-    pub size: Maybe,
-    pub screen: f32,
-    pub depth: u8,
-}
-
-fn anchor_of(n: u8) -> Anchor
-    ensures { λ r. ⌜ r ≡ anchorOf n ⌝ }
+// Whether the float of the bits w is from 0 to the one of the bits `most`: from 0 on floats are in the order of their bits, and -0.0 is no less than 0.
+fn up_to(most: u32, w: u32) -> bool
+    requires { ⌜ most < 2139095040 ⌝ }
+    ensures { λ r. ⌜ r ≡ absentOr (ofBits binary32 most) (Value (ofBits binary32 w)) ⌝ }
 {
-    if n == 0 {
-        return Anchor::Room;
-    }
-    if n == 1 {
-        return Anchor::Screen;
-    }
-    Anchor::Speaker
+    (w <= most) | (w == 0x8000_0000)
 }
 
-// The value at a place that is present with `bit`.
-fn maybe_at(meta: &[u8], flags: u8, bit: u8, at: usize) -> Maybe
-    requires { ⌜ (0 < bit) × (at + 4 ≤ length (now meta)) ⌝ }
-    ensures { λ r. ⌜ r ≡ maybeOf (now (meta .entry)) flags bit at ⌝ }
+// The code of the depth factor of the bits w; 4 for one that is not listed.
+fn depth_of(w: u32) -> u8
+    ensures { λ r. ⌜ r ≡ depthCode (ofBits binary32 w) ⌝ }
 {
-    if has(flags, bit) {
-        return Maybe::Value(words::f32_at(meta, at));
-    }
-    Maybe::Absent
-}
-
-fn position_at(meta: &[u8], flags: u8, at: usize) -> Position
-    requires { ⌜ at + 12 ≤ length (now meta) ⌝ }
-    ensures { λ r. ⌜ r ≡ positionOf (now (meta .entry)) flags at ⌝ }
-{
-    if has(flags, 8) {
-        return Position::At(Vec3 {
-            x: words::f32_at(meta, at),
-            y: words::f32_at(meta, at + 4),
-            z: words::f32_at(meta, at + 8),
-        });
-    }
-    Position::Same
-}
-
-// The code of a depth factor; 4 for one that is not listed.
-fn depth_of(x: f32) -> u8
-    ensures { λ r. ⌜ r ≡ depthCode x ⌝ }
-{
-    if x == 0.25 {
+    if w == 0x3e80_0000 {
         return 0;
     }
-    if x == 0.5 {
+    if w == 0x3f00_0000 {
         return 1;
     }
-    if x == 1.0 {
+    if w == 0x3f80_0000 {
         return 2;
     }
-    if x == 2.0 {
+    if w == 0x4000_0000 {
         return 3;
     }
     4
 }
 
-pub fn object_at(meta: &[u8], r: usize) -> Object
+// Whether gain, size and depth factor of the object at r are within their ranges, with no branch.
+pub fn object_in_range(meta: &[u8], r: usize) -> bool
     requires { ⌜ 40 * r + 40 ≤ length (now meta) ⌝ }
-    ensures { λ o. ⌜ o ≡ objectOf (now (meta .entry)) r ⌝ }
+    ensures { λ b. ⌜ b ≡ objectInRange (objectOf (now (meta .entry)) r) ⌝ }
 {
     let at = 40 * r;
     let flags = meta[at + 2];
-    Object {
-        anchor: anchor_of(meta[at + 1]),
-        valid: has(flags, 1),
-        differential: has(flags, 2),
-        gain: maybe_at(meta, flags, 4, at + 4),
-        position: position_at(meta, flags, at + 8),
-        distance: maybe_at(meta, flags, 16, at + 20),
-        size: maybe_at(meta, flags, 32, at + 24),
-        screen: words::f32_at(meta, at + 28),
-        depth: depth_of(words::f32_at(meta, at + 32)),
-    }
-}
-
-// Whether a value is absent or from 0 to `most`.
-fn up_to(most: f32, m: Maybe) -> bool
-    ensures { λ r. ⌜ r ≡ absentOr most m ⌝ }
-{
-    match m {
-        Maybe::Absent => true,
-        Maybe::Value(x) => {
-            if 0.0 <= x {
-                return x <= most;
-            }
-            false
-        }
-    }
-}
-
-// Whether gain, size and depth factor are within their ranges.
-pub fn object_in_range(o: Object) -> bool
-    ensures { λ r. ⌜ r ≡ objectInRange o ⌝ }
-{
-    let gain = o.gain;
-    let size = o.size;
-    if !up_to(8.0, gain) {
-        return false;
-    }
-    if !up_to(1.0, size) {
-        return false;
-    }
-    o.depth < 4
+    let gain = up_to(0x4100_0000, words::u32_at(meta, at + 4));
+    let size = up_to(0x3f80_0000, words::u32_at(meta, at + 24));
+    let depth = depth_of(words::u32_at(meta, at + 32));
+    (!has(flags, 4) | gain) & (!has(flags, 32) | size) & (depth < 4)
 }
 
 // What the record says as the state block keeps it: head (flags + 256 anchor + 65,536 depth) and bits.
@@ -204,7 +117,7 @@ pub fn info_at(meta: &[u8], r: usize) -> Info
     ensures { λ i. ⌜ i ≡ storedInfo (now (meta .entry)) r ⌝ }
 {
     let at = 40 * r;
-    let depth = depth_of(words::f32_at(meta, at + 32));
+    let depth = depth_of(words::u32_at(meta, at + 32));
     Info {
         head: head_of(meta[at + 2], meta[at + 1], depth),
         gain: words::u32_at(meta, at + 4),

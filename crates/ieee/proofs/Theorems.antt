@@ -41,6 +41,8 @@ pub use Rattle.ieee.proofs.Bits.{to-bits, no-sign, of-size, Read, read-
 -- a test on the bits, or two comparisons, say that a size is bounded, both ways
 pub use Rattle.ieee.proofs.Bits.{bits-bounded}
 pub use Rattle.ieee.proofs.Bound.{between-bounded}
+-- a test on the bits says that a float is from 0 to another, -0.0 too, or that it is one that is not 0
+pub use Rattle.ieee.proofs.Patterns.{bits-up-to, bits-same}
 -- what a comparison says, and that it holds
 pub use Rattle.ieee.proofs.Compare.{lt→, nlt→, le→, eq→, →lt, →le, →eq}
 -- a share (x - a) / (b - a) is in [0, 1], and with what is left adds up to 1

@@ -5,7 +5,6 @@ ghost use lib.ListN.{length};
 ghost use Rattle.records.specs.Ranges.{recordInRange, inRange, refusal};
 use crate::layout::layout_of;
 use fields::block::block_in_range;
-use fields::object::object_at;
 use fields::object::object_in_range;
 
 fn record_in_range(meta: &[u8], r: usize) -> bool
@@ -17,7 +16,7 @@ fn record_in_range(meta: &[u8], r: usize) -> bool
         return block_in_range(meta, r);
     }
     if kind == 4 {
-        return object_in_range(object_at(meta, r));
+        return object_in_range(meta, r);
     }
     true
 }

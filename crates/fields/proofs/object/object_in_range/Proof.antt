@@ -1,29 +1,29 @@
--- `fields::object::object_in_range`: gain, size, depth. Assumes nothing.
-use mathlib.Core.Path.{sym, _∙_}
-use lib.Ieee.{ofBits}
-use borrow.Author.Tests.{not-true, not-false}
+-- `fields::object::object_in_range`: gain, size, depth, by their bits. Assumes nothing.
+use Prim.Native.Nat.{_+_, _*_}
 use borrow.Author.Needs.{needs}
+use lib.ListN.{getD}
+use Rattle.ieee.specs.Numbers.{1·0, 8·0}
+use Rattle.ieee.proofs.Theorems.{one-bits}
+use Rattle.fields.proofs.Patterns.{eight-bits, float-bits, range-by-bits}
 use Rattle.fields.proofs.object.object_in_range.Statement.{statement}
 use Rattle.fields.proofs.object.object_in_range.Tie as tie
 
 returns : tie.Need-returns
-unfolding ofBits
-returns c = simp (sym (c .before .up-to .ensures) ∙ not-true _ (c .if1 .taken))
-
-returns-2 : tie.Need-returns-2
-unfolding ofBits
-returns-2 c = simp (sym (c .before .before .before .up-to .ensures) ∙ not-false _ (c .before .before .if1 .left), sym (c .before .up-to2 .ensures) ∙ not-true _ (c .if2 .taken))
-
-returns-3 : tie.Need-returns-3
-unfolding ofBits
-returns-3 c = simp (sym (c .before .before .before .before .up-to .ensures) ∙ not-false _ (c .before .before .before .if1 .left), sym (c .before .before .up-to2 .ensures) ∙ not-false _ (c .before .if2 .left))
+returns c =
+    let a = c .before .before .before .before .before .before .before .before .before .before .args in
+    let m = a .meta .now in
+    let at = 40 * a .r in
+    let flags = getD m (at + 2) 0 in
+    cc (range-by-bits 0x41000000 8·0 eight-bits m flags 4 (at + 4), range-by-bits 0x3f800000 1·0 one-bits m flags 32 (at + 24), float-bits m (at + 32))
 
 pub object-in-range-spec : {M : Type 1} → statement M
 object-in-range-spec =
     tie.close
     (tie.spec
-    (λ c κs. search needs)
-    returns
-    (λ c κs. search needs)
-    returns-2
-    returns-3)
+    (λ c. search needs) (λ c. search needs) (λ c. search needs) (λ c. search needs)
+    (λ c κs. search needs) (λ c κs. search needs)
+    (λ c. search needs)
+    (λ c κs. search needs) (λ c κs. search needs)
+    (λ c. search needs)
+    (λ c κs. search needs) (λ c κs. search needs) (λ c κs. search needs) (λ c κs. search needs)
+    returns)

@@ -1,22 +1,11 @@
--- `fields::object::up_to`: absent, or between both ends. Assumes nothing.
-use lib.Ieee.{ofBits}
-use borrow.Author.Needs.{needs}
+-- `fields::object::up_to`: from 0 on floats are in the order of their bits. Assumes nothing.
+use native.Mathlib.Omega.{arith}
+use Rattle.ieee.proofs.Theorems.{bits-up-to}
 use Rattle.fields.proofs.object.up_to.Statement.{statement}
 use Rattle.fields.proofs.object.up_to.Tie as tie
 
 returns : tie.Need-returns
-unfolding ofBits
-returns c = simp (c .before .before .m .given .1, c .if1 .taken)
-
-returns-3 : tie.Need-returns-3
-unfolding ofBits
-returns-3 c = simp (c .before .before .m .given .1, c .if1 .left)
+returns c = bits-up-to (c .args .most) (c .pre) (c .args .w) (omega arith)
 
 pub up-to-spec : {M : Type 1} → statement M
-up-to-spec =
-    tie.close
-    (tie.spec
-    (λ c. search needs) (λ c. search needs)
-    returns
-    (λ c. search needs)
-    returns-3)
+up-to-spec = tie.close (tie.spec returns)

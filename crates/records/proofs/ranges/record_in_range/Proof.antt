@@ -1,7 +1,5 @@
 -- `records::ranges::record_in_range`: by the kind. Assumes nothing.
-use mathlib.Core.Path.{ap, _∙_}
 use borrow.Author.Tests.{eq-eqb, ne-eqb}
-use Rattle.fields.specs.Object.{objectInRange}
 use Rattle.records.specs.Ranges.{recordInRange}
 use borrow.Author.Needs.{needs}
 use Rattle.records.proofs.ranges.record_in_range.Statement.{statement}
@@ -13,7 +11,7 @@ returns c = simp (eq-eqb _ _ (c .before .if1 .taken)) (c .block-in-range .ensure
 
 returns-2 : tie.Need-returns-2
 unfolding recordInRange
-returns-2 c = simp (ne-eqb _ _ (c .before .before .before .if1 .left), eq-eqb _ _ (c .before .before .if2 .taken)) (c .object-in-range .ensures ∙ ap objectInRange (c .before .object-at .ensures))
+returns-2 c = simp (ne-eqb _ _ (c .before .before .if1 .left), eq-eqb _ _ (c .before .if2 .taken)) (c .object-in-range .ensures)
 
 returns-3 : tie.Need-returns-3
 unfolding recordInRange
@@ -26,6 +24,6 @@ record-in-range-spec =
     (λ c. search needs) (λ c. search needs)
     (λ c κs. search needs)
     returns
-    (λ c κs. search needs) (λ c κs. search needs)
+    (λ c κs. search needs)
     returns-2
     returns-3)
