@@ -1,5 +1,5 @@
 pub mod Runs
-pub mod Past
+pub mod RecordKinds
 pub mod Within
 pub mod Ends
 pub mod Updates
@@ -10,3 +10,4 @@ pub mod Placed
 pub mod Meant
 pub mod Each
 pub mod Cases
+pub mod Theorems

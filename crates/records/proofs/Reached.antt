@@ -15,7 +15,7 @@ use Rattle.fields.specs.Object.{isObject}
 use Rattle.records.specs.Laid.{blockAt, objectAt, elementAt, updateAt, isWholeElement, isWholeUpdate, isUpdates, laidOut, count}
 use Rattle.fields.proofs.All.{and-left, and-right, all-at}
 use Rattle.records.proofs.Runs.{some-last}
-use Rattle.records.proofs.Past.{there-update, there-element, there-block, there-object, few-blocks}
+use Rattle.records.proofs.RecordKinds.{there-update, there-element, there-block, there-object, few-blocks}
 use Rattle.records.proofs.Updates.{each-whole, whole-list}
 
 -- the counts of an update's record

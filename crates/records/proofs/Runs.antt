@@ -34,7 +34,9 @@ module _ (p : ℕ → Bool) where
   last-only (suc n) i h e f =
       ⊎-elim
       (λ (q : i ≡ n). ap (λ (b : Bool). cond b n (last p n)) (ap p (sym q) ∙ e) ∙ sym q)
-      (λ (l : i < n). ap (λ (b : Bool). cond b n (last p n)) (not-true (p n) (λ t. let q : n ≡ i = f n (omega arith) t in omega arith)) ∙ last-only n i l e (λ k b. f k (omega arith)))
+      (λ (l : i < n).
+      let no : p n ≡ false = not-true (p n) (λ t. let q : n ≡ i = f n (omega arith) t in omega arith) in
+      ap (λ (b : Bool). cond b n (last p n)) no ∙ last-only n i l e (λ k b. f k (omega arith)))
       (eq-or-lt-of-le (let l : i ≤ n = omega arith in l))
 
   pub last-none : (n : ℕ) → ((i : ℕ) → i < n → p i ≡ false) → last p n ≡ 0

@@ -78,7 +78,8 @@ module _ (m : List ℕ) where
         offset-rest = λ i h. none-held frameStart 16 i;
       }
 
-  pub walk-goes-on : (f : List ℕ) (o : List FrameOffset) (n r : ℕ) (x : FrameOffset) (next : ℕ) → length m % 40 ≡ 0 → Walked m f o n r → n < 16 → isWholeUpdate m r ≡ true → updateEnd m r ≡ next → x .0 ≡ offset m r → Walked m (set f n r) (set o n x) (n + 1) next
+  pub walk-goes-on : (f : List ℕ) (o : List FrameOffset) (n r : ℕ) (x : FrameOffset) (next : ℕ) → length m % 40 ≡ 0 → Walked m f o n r → n < 16
+      → isWholeUpdate m r ≡ true → updateEnd m r ≡ next → x .0 ≡ offset m r → Walked m (set f n r) (set o n x) (n + 1) next
   walk-goes-on f o n r x next whole w l u e y =
       let q = w .at in
       let u' : isWholeUpdate m (updateAt m n) ≡ true = rw q at u in
@@ -96,7 +97,8 @@ module _ (m : List ℕ) where
         offset-rest = rest-more frameStart o n x (w .offset-rest);
       }
 
-  pub walk-ends : (f : List ℕ) (o : List FrameOffset) (n r : ℕ) → length m % 40 ≡ 0 → Walked m f o n r → length m / 40 ≤ r → IsLayout m (record { laid = true; count = n; first = f; offset = o })
+  pub walk-ends : (f : List ℕ) (o : List FrameOffset) (n r : ℕ) → length m % 40 ≡ 0 → Walked m f o n r → length m / 40 ≤ r
+      → IsLayout m (record { laid = true; count = n; first = f; offset = o })
   walk-ends f o n r whole w l =
       let end : 40 * updateAt m n ≡ length m = rw (← w .at) (omega arith) in
       let c = counted m n (w .few) (w .passed) end in

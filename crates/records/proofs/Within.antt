@@ -14,7 +14,7 @@ use Rattle.fields.specs.Update.{objects, elements, isUpdate}
 use Rattle.fields.specs.Object.{isObject}
 use Rattle.records.specs.Laid.{isWholeElement, isWholeUpdate, elementEnd, elementAt, objectAt, updateEnd, updateAt}
 use Rattle.fields.proofs.All.{and-left, and-right, not-true, all-fails}
-use Rattle.records.proofs.Past.{there-update, there-element, there-block, there-object}
+use Rattle.records.proofs.RecordKinds.{there-update, there-element, there-block, there-object}
 
 -- a run of records that are each below R ends at R at most
 run-within : (p : ℕ → Bool) (R : ℕ) → ((r : ℕ) → p r ≡ true → r < R) → (a n : ℕ) → a ≤ R → all (λ k. p (a + k)) n ≡ true → a + n ≤ R

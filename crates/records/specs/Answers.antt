@@ -1,4 +1,4 @@
--- What the functions that read a layout answer. Assumes nothing.
+-- A reader may skip this file: what the functions that read a layout answer, by `laidOut`, `count` and `updateAt` of specs/Laid. Assumes nothing.
 use Prim.Native.Nat.{ℕ, _≤_, _<_}
 use mathlib.Core.Path.{_≡_}
 use mathlib.Core.Bool.{Bool, true, false}

@@ -26,7 +26,7 @@ objectAt m e k = e + 1 + blocks m e + k
 abbrev pub elementEnd : List ℕ → ℕ → ℕ → ℕ
 elementEnd m n e = e + 1 + blocks m e + n * blocks m e
 
--- the element at e with its blocks and objects
+-- "per element its record, its blocks, then for each object all blocks": the element at e, of an update of n objects
 unfoldable pub isWholeElement : List ℕ → ℕ → ℕ → Bool
 isWholeElement m n e = isElement m e && all (λ b. isBlock m (blockAt e b)) (blocks m e) && all (λ k. isObject m (objectAt m e k)) (n * blocks m e)
 
@@ -41,7 +41,7 @@ elementAt m u (suc e) = elementEnd m (objects m u) (elementAt m u e)
 abbrev pub updateEnd : List ℕ → ℕ → ℕ
 updateEnd m u = elementAt m u (elements m u)
 
--- the update at u with its elements
+-- "update; per element ..": the update at u with its elements
 unfoldable pub isWholeUpdate : List ℕ → ℕ → Bool
 isWholeUpdate m u = isUpdate m u && all (λ e. isWholeElement m (objects m u) (elementAt m u e)) (elements m u)
 

@@ -1,4 +1,5 @@
--- Refusals 5 and 6, over the whole metadata: "Lowest number first". Assumes nothing.
+-- Document 01, "Who can cause a refusal", over the whole metadata. "5: records not as laid out .. or a count over its limit" is `laidOut` of specs/Laid; 6 is a value outside
+-- its range, which `fields/specs/Block` and `fields/specs/Object` quote; "Lowest number first among 1 to 8". Assumes nothing.
 use Prim.Native.Nat.{ℕ, _/_}
 use mathlib.Core.Bool.{Bool, true, cond}
 use mathlib.Core.List.{List}

@@ -1,4 +1,4 @@
--- Searches and lists over the numbers below n. Assumes nothing.
+-- Searches and lists over the numbers below n, in which document 01 is rendered. Assumes nothing.
 use Prim.Native.Nat.{ℕ, zero, suc}
 use mathlib.Core.Bool.{Bool, false, _||_, cond}
 use mathlib.Core.List.{List, [], _∷_}

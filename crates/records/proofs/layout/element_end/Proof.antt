@@ -5,7 +5,7 @@ use mathlib.Core.Bool.{true}
 use native.Mathlib.Omega.{arith}
 use borrow.Author.Tests.{not-true, not-false}
 use Rattle.fields.specs.Block.{blocks, isElement}
-use Rattle.records.proofs.Past.{few-blocks}
+use Rattle.records.proofs.RecordKinds.{few-blocks}
 use Rattle.records.proofs.Ends.{broken-if, at-if}
 use Rattle.records.proofs.Within.{too-long, no-element, end-is, no-blocks, no-objects, whole-element}
 use borrow.Author.Needs.{needs}
@@ -48,7 +48,8 @@ returns-5 c =
     let n = k .before .before .before in
     let b = n .before in
     let are = sym (k .before .are-blocks .ensures) ∙ not-false _ (k .if4 .left) in
-    broken-if _ _ (no-objects _ _ _ (held (b .before)) _ (b .blocks-at .ensures .0) are _ (n .cells .ensures .0) (sym (c .before .are-objects .ensures) ∙ not-true _ (c .if5 .taken)))
+    let no = sym (c .before .are-objects .ensures) ∙ not-true _ (c .if5 .taken) in
+    broken-if _ _ (no-objects _ _ _ (held (b .before)) _ (b .blocks-at .ensures .0) are _ (n .cells .ensures .0) no)
 
 returns-6 : tie.Need-returns-6
 returns-6 c =

@@ -20,7 +20,8 @@ use Rattle.records.proofs.layout.update_end.Tie as tie
 
 abbrev Inv-loop : tie.InvT-loop
 Inv-loop meta u n k r₀ e₀ r e =
-    (e ≤ k) × (n ≡ objects meta u) × (k ≡ elements meta u) × (r ≡ elementAt meta u e) × (all (λ j. isWholeElement meta (objects meta u) (elementAt meta u j)) e ≡ true) × (r ≤ length meta / 40)
+    (e ≤ k) × (n ≡ objects meta u) × (k ≡ elements meta u) × (r ≡ elementAt meta u e)
+    × (all (λ j. isWholeElement meta (objects meta u) (elementAt meta u j)) e ≡ true) × (r ≤ length meta / 40)
 
 abbrev μ-loop : tie.MeasureT-loop
 μ-loop meta u objects elements r₀ e₀ r e = elements - e
@@ -65,7 +66,9 @@ loop-again c =
     let s = l .before .before .before .before .before in
     let m = s .args .meta .now in
     let w : isWholeElement m (l .before .header-at .result .objects) (l .loop .r) ≡ true = end-whole _ _ _ q in
-    (search needs, i .1, i .2, sym (end-at _ _ _ q) ∙ next-element _ _ _ _ _ (i .1) (i .3), all-more _ _ (i .4) (rw (i .1, i .3) at w), rw (end-at _ _ _ q) at (element-within m (s .pre .0) (l .before .header-at .result .objects) (l .loop .r) w))
+    let end = end-at _ _ _ q in
+    let in-list = element-within m (s .pre .0) (l .before .header-at .result .objects) (l .loop .r) w in
+    (search needs, i .1, i .2, sym end ∙ next-element _ _ _ _ _ (i .1) (i .3), all-more _ _ (i .4) (rw (i .1, i .3) at w), rw end at in-list)
 
 returns-3 : tie.Need-returns-3 Inv-loop μ-loop
 unfolding endIf

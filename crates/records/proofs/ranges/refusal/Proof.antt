@@ -12,11 +12,15 @@ returns c = simp (sym (c .before .before .layout-of .ensures .fits) ∙ not-true
 
 returns-2 : tie.Need-returns-2
 unfolding refusal
-returns-2 c = simp (sym (c .before .before .before .before .layout-of .ensures .fits) ∙ not-false _ (c .before .before .if1 .left), sym (c .before .in-range .ensures) ∙ not-true _ (c .if2 .taken))
+returns-2 c =
+    let l = c .before .before in
+    simp (sym (l .before .before .layout-of .ensures .fits) ∙ not-false _ (l .if1 .left), sym (c .before .in-range .ensures) ∙ not-true _ (c .if2 .taken))
 
 returns-3 : tie.Need-returns-3
 unfolding refusal
-returns-3 c = simp (sym (c .before .before .before .before .layout-of .ensures .fits) ∙ not-false _ (c .before .before .if1 .left), sym (c .before .in-range .ensures) ∙ not-false _ (c .if2 .left))
+returns-3 c =
+    let l = c .before .before in
+    simp (sym (l .before .before .layout-of .ensures .fits) ∙ not-false _ (l .if1 .left), sym (c .before .in-range .ensures) ∙ not-false _ (c .if2 .left))
 
 pub refusal-spec : {M : Type 1} → statement M
 refusal-spec =
