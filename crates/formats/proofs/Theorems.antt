@@ -4,10 +4,12 @@
 pub use Rattle.formats.proofs.Word.{lawful-u32-where, lawful-u32-to, lawful-u32-below, lawful-usize-to, lawful-u8-to, lawful-flag, lawful-float, lawful-u64-to}
 -- of a pair, an array, a struct, another range, a test more
 pub use Rattle.formats.proofs.Parts.{lawful-pair, lawful-array, lawful-struct, lawful-ranged, lawful-such}
+-- of a vector, of an info's head, of an info; the test of infos is that of their heads, and a head is in range exactly if its fields are
+pub use Rattle.formats.proofs.Infos.{lawful-vec, lawful-info-head, lawful-info, infos-test, head-within, head-exact}
 -- so decode after encode is the value, a value in range passes the test, and words that spell a value are its words
 pub use Rattle.formats.proofs.Places.{round, passes, spelled}
--- words in place: a list holds itself
-pub use Rattle.formats.proofs.Places.{stands-all}
+-- words in place: a list holds itself, and a word of a run of bytes
+pub use Rattle.formats.proofs.Places.{stands-all, word-of-run}
 -- two runs of words, or two values, one after the other
 pub use Rattle.formats.proofs.Loops.{runs-at, pair-stored}
 -- a turn of a loop that reads an array, that stores one, that tests one

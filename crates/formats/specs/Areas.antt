@@ -1,13 +1,14 @@
 -- The areas of the state block behind the small part, which stay bytes: the object infos, and the places of pending samples, a row for each channel. Document 01: an update has
 -- "up to 32 objects in all", "2 elements, 8 blocks each", so that there are 512 infos; "pending samples .. below 64", of twelve channels. Assumes nothing.
 use Prim.Native.Nat.{ℕ, _*_}
+use Rattle.formats.specs.Info.{infoFormat}
 
 -- infos, and how many bytes one has
 abbrev pub infoCount : ℕ
 infoCount = 512
 
 abbrev pub infoBytes : ℕ
-infoBytes = 44
+infoBytes = 4 * infoFormat .width
 
 abbrev pub infosBytes : ℕ
 infosBytes = infoCount * infoBytes

@@ -1,7 +1,9 @@
 // The areas of the state block that stay bytes: the object infos, and the places of pending samples, a row for each channel.
+use crate::info;
+
 pub const INFO_COUNT: usize = 512;
 
-pub const INFO_BYTES: usize = 44;
+pub const INFO_BYTES: usize = info::BYTES;
 
 pub const INFOS_BYTES: usize = INFO_COUNT * INFO_BYTES;
 

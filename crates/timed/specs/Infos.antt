@@ -1,9 +1,12 @@
--- The object infos as bytes, by the numbers of specs/Sizes: what an object in a block says, and what it keeps from update to update. Assumes nothing.
+-- The object infos: what an object in a block says, by the format of formats/specs/Info; then the same from the bytes in which they stay, as the code reads them, which a reader may
+-- skip. proofs/InfoFields: both are the same. Assumes nothing.
 use Prim.Native.Nat.{ℕ, _+_}
 use mathlib.Core.Bool.{Bool, cond}
 use mathlib.Core.List.{List}
 use lib.Dec.{eqb}
-use Rattle.words.specs.Words.{word, floatAt, withFloat}
+use lib.Ieee.{Float}
+use Rattle.words.specs.Words.{word, wordsAt, floatAt, withFloat}
+use Rattle.formats.specs.Info.{ObjectInfo, infoFormat}
 use Rattle.roots.specs.declared.Depth.{Depth}
 use Rattle.roots.specs.declared.Depth.the-variants.{Fourth, Half, One, Two}
 use Rattle.vectors.specs.Head.{headIn, anchorOf, has}
@@ -16,6 +19,38 @@ use Rattle.timed.specs.Sizes.{gainByte, sizeByte, distanceByte, screenBy
 -- "y to the power 0.25, 0.5, 1 or 2": codes 0 to 3
 abbrev pub depthOf : ℕ → Depth
 depthOf n = cond (eqb n 0) Fourth (cond (eqb n 1) Half (cond (eqb n 2) One Two))
+
+-- ---- an info by its fields
+
+abbrev pub infoOf : List ℕ → ℕ → ObjectInfo
+infoOf is k = infoFormat .get (wordsAt is (infoAt k) (infoFormat .width)) 0
+
+-- "An absent value is zero": the value that is present with a flag
+abbrev pub presentWith : ℕ → ℕ → Float → Maybe
+presentWith flags bit x = cond (has flags bit) (Value x) Absent
+
+-- its gain and its size; "2 flags (.., 4 gain, .., 32 size present)"
+abbrev pub gainSaid : ObjectInfo → Maybe
+gainSaid i = presentWith (i .head .flags) 4 (i .gain)
+
+abbrev pub sizeSaid : ObjectInfo → Maybe
+sizeSaid i = presentWith (i .head .flags) 32 (i .size)
+
+-- of its position; "2 flags (1 position valid, 2 differential, .., 16 distance .. present)"
+abbrev pub positionSaid : ObjectInfo → BlockPosition
+positionSaid i =
+    record {
+      valid = has (i .head .flags) 1;
+      differential = has (i .head .flags) 2;
+      anchor = anchorOf (i .head .anchor);
+      position = i .position;
+      last = i .last;
+      distance = presentWith (i .head .flags) 16 (i .distance);
+      screen = i .screen;
+      depth = depthOf (i .head .depth);
+    }
+
+-- ---- the same from the bytes
 
 abbrev pub headAt : List ℕ → ℕ → ℕ
 headAt is k = word is (infoAt k)

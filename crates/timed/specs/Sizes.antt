@@ -1,6 +1,7 @@
 -- The numbers of the infos, in document 01's limits: "An update has up to 32 objects in all, .. 2 elements, 8 blocks each". Each object in each block of each element has an
--- info, a record of eleven words: head, gain, size, distance, screen factor, position (x, y, z), last absolute position (x, y, z). Assumes nothing.
+-- info, of the format of formats/specs/Info. Assumes nothing.
 use Prim.Native.Nat.{ℕ, _+_, _*_}
+use Rattle.formats.specs.Info.{gainIn, sizeIn, distanceIn, screenIn, positionIn, lastIn}
 pub use Rattle.formats.specs.Areas.{infoBytes}
 
 abbrev pub mostElements : ℕ
@@ -28,22 +29,22 @@ allBytes = infoBytes * allInfos
 
 -- where a word stands in its info
 abbrev pub gainByte : ℕ
-gainByte = 4
+gainByte = 4 * gainIn
 
 abbrev pub sizeByte : ℕ
-sizeByte = 8
+sizeByte = 4 * sizeIn
 
 abbrev pub distanceByte : ℕ
-distanceByte = 12
+distanceByte = 4 * distanceIn
 
 abbrev pub screenByte : ℕ
-screenByte = 16
+screenByte = 4 * screenIn
 
 abbrev pub positionByte : ℕ
-positionByte = 20
+positionByte = 4 * positionIn
 
 abbrev pub lastByte : ℕ
-lastByte = 32
+lastByte = 4 * lastIn
 
 -- ---- where an info is
 

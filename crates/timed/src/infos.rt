@@ -8,6 +8,7 @@ ghost use lib.ListN.{length};
 ghost use Rattle.vectors.specs.Head.{anchorOf, has};
 ghost use Rattle.timed.specs.Sizes.{allInfos, infoBytes, infoAt};
 ghost use Rattle.timed.specs.Infos.{depthOf, maybeAt, vecAt, withVec, blockPosition};
+use formats::info;
 use roots::Depth;
 use vectors::Anchor;
 use vectors::BlockPosition;
@@ -18,20 +19,21 @@ use vectors::Vec3;
 pub const BLOCKS: usize = 8;
 
 pub const ELEMENT_INFOS: usize = 256;
+
 // An info's bytes, and where its words stand after the head.
-pub const INFO_BYTES: usize = 44;
+pub const INFO_BYTES: usize = info::BYTES;
 
-pub const GAIN: usize = 4;
+pub const GAIN: usize = info::GAIN;
 
-pub const SIZE: usize = 8;
+pub const SIZE: usize = info::SIZE;
 
-pub const DISTANCE: usize = 12;
+pub const DISTANCE: usize = info::DISTANCE;
 
-pub const SCREEN: usize = 16;
+pub const SCREEN: usize = info::SCREEN;
 
-pub const POSITION: usize = 20;
+pub const POSITION: usize = info::POSITION;
 
-pub const LAST: usize = 32;
+pub const LAST: usize = info::LAST;
 
 fn anchor_of(n: u32) -> Anchor
     ensures { λ r. ⌜ r ≡ anchorOf n ⌝ }
@@ -64,7 +66,7 @@ fn has(head: u32, bit: u32) -> bool
 
 // The value at a place of an info that is present with `bit`.
 pub fn maybe_at(infos: &[u8], k: usize, bit: u32, at: usize) -> Maybe
-    requires { ⌜ (infoAt k + infoBytes ≤ length (now infos)) × (at ≤ 40) × (k < allInfos) × (0 < bit) ⌝ }
+    requires { ⌜ (infoAt k + infoBytes ≤ length (now infos)) × (at + 4 ≤ infoBytes) × (k < allInfos) × (0 < bit) ⌝ }
     ensures { λ r. ⌜ r ≡ maybeAt (now (infos .entry)) k bit at ⌝ }
 {
     let head = words::u32_at(infos, INFO_BYTES * k);
