@@ -12,10 +12,11 @@ use Rattle.formats.specs.Lawful.{Lawful}
 use Rattle.formats.specs.Format.{u8To, flag, float, usizeTo, u64To, u32To, u32Below, u32Where, _⊗_, array}
 use Rattle.formats.proofs.Places.{stands-all}
 use Rattle.formats.proofs.Word.{lawful-u32-where, lawful-u32-to, lawful-u32-below, lawful-usize-to, lawful-u8-to, lawful-flag, lawful-float, lawful-u64-to}
+use Rattle.formats.proofs.Infos.{lawful-vec}
 use Rattle.formats.proofs.Parts.{lawful-pair, lawful-array, lawful-struct, lawful-ranged, lawful-such}
 use Rattle.rates.specs.Rates.{lowest, highest, listed}
 use Rattle.store.specs.declared.renderer.Renderer714.{Renderer714}
-use Rattle.store.specs.Singles.{Singles, FilterSingles, SourceSingles, TrackSingles, Brief}
+use Rattle.store.specs.Singles.{FilterSingles, SourceSingles, TrackSingles, Brief}
 use Rattle.store.specs.Fields.{longest, smallWords, smallOf}
 use Rattle.store.specs.Fields.{vecFormat, sourceFormat, blockFormat, trackFormat, headFormat, elementFormat}
 use Rattle.store.specs.Fields.{filterFormat, payloadFormat, countsFormat, tablesFormat, stateFormat, basicsFormat, smallFormat}
@@ -23,11 +24,6 @@ use Rattle.store.specs.Layout.{smallWidth}
 use Rattle.store.specs.Ranges.{related, smallPart}
 
 -- ---- entries of tables
-
-pub lawful-vec : Lawful vecFormat
-lawful-vec =
-    lawful-ranged Singles _ (λ v h. (h .x, (h .y, h .z))) (λ v h. record { x = h .0; y = h .1 .0; z = h .1 .1 })
-    (lawful-struct _ _ _ (λ v. refl) (λ y. refl) (lawful-pair float (float ⊗ float) lawful-float (lawful-pair float float lawful-float lawful-float)))
 
 pub lawful-source : Lawful sourceFormat
 lawful-source =

@@ -5,7 +5,7 @@ use mathlib.Core.List.{List}
 use lib.Dec.{eqb}
 use lib.Ieee.{Float}
 use Rattle.formats.specs.Format.{Format, u32Where, u32To, u32Below, usizeTo, u8To, flag, float, u64To, _⊗_, array, struct, ranged}
-use Rattle.vectors.specs.declared.Vec3.{Vec3}
+pub use Rattle.formats.specs.Vector.{vecFormat}
 use Rattle.lowpass.specs.declared.BiquadLowpassState.{BiquadLowpassState}
 use Rattle.clock.specs.declared.StreamSample.{StreamSample}
 use Rattle.timed.specs.declared.state.BlockState.{BlockState}
@@ -17,16 +17,13 @@ use Rattle.rules.specs.Refusals.{listed}
 use Rattle.rules.specs.Samples as rules
 use Rattle.store.specs.declared.renderer.Clock.{Clock}
 use Rattle.store.specs.declared.renderer.Renderer714.{Renderer714}
-use Rattle.store.specs.Singles.{Singles, FilterSingles, SourceSingles, TrackSingles, Brief}
+use Rattle.store.specs.Singles.{FilterSingles, SourceSingles, TrackSingles, Brief}
 
 -- 2^40
 abbrev pub longest : ℕ
 longest = 1099511627776
 
 -- ---- entries of tables
-
-abbrev pub vecFormat : Format Vec3
-vecFormat = ranged Singles (struct (λ v. (v .x, (v .y, v .z))) (λ (x, (y, z)). record { x = x; y = y; z = z }) (float ⊗ float ⊗ float))
 
 -- a dynamic object
 abbrev pub sourceFormat : Format DynamicSourceState

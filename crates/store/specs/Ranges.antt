@@ -1,13 +1,14 @@
 -- Each field's range. Document 01: "Stream positions lie from 0 to 2^40, a remaining ramp from -2^21 - 64 × the stream's position to 2^20,
 -- pending samples and slot phase below 64, the slot's start plus phase at most the stream's position, an element's objects as many as the last update's, its flags no fewer than
 -- the dynamic objects, nothing pending without a rate, other fields as in frames". Floats have any bits. Assumes nothing.
-use Prim.Native.Nat.{ℕ, zero, suc, _+_, _-_, _*_, _/_, _%_}
+use Prim.Native.Nat.{ℕ, zero, suc, _+_, _-_, _*_}
 use mathlib.Core.Bool.{Bool, true, not, _&&_, _||_, cond}
 use mathlib.Core.List.{List}
 use lib.Dec.{eqb, leb, ltb}
 use lib.ListN.{length}
 use Rattle.words.specs.Words.{word, wordsAt}
 use Rattle.formats.specs.Areas.{infoCount, infoBytes}
+pub use Rattle.formats.specs.Info.{headValid}
 use Rattle.formats.specs.Format.{Format, such}
 use Rattle.timed.specs.Slot.{middle}
 use Rattle.timed.specs.State.{elementOf}
@@ -52,11 +53,7 @@ smallPart = such related smallFormat
 unfoldable pub smallValid : List ℕ → Bool
 smallValid w = smallPart .test w 0
 
--- an info's head: flags + 256 anchor + 65,536 depth, with flags below 64, anchor below 3, depth below 4
-abbrev pub headValid : ℕ → Bool
-headValid h = ltb h 262144 && ltb (h % 256) 64 && ltb (h / 256 % 256) 3
-
--- the heads of n infos from `at` on
+-- the heads of n infos from `at` on; `heads-format` of proofs/Heads: it is the test of n infos by their format
 unfoldable pub headsValid : List ℕ → ℕ → ℕ → Bool
 headsValid is at zero = true
 headsValid is at (suc n) = headValid (word is at) && headsValid is (at + infoBytes) n
