@@ -6,6 +6,7 @@ use Prim.Native.Nat.{ℕ, zero, suc, _+_, _-_, _*_, _<_, _≤_}
 use native.Mathlib.Nat.{mul-le-mul-left, mul-suc, mul-comm}
 use native.Mathlib.Numerals.{add-one}
 use native.Mathlib.Omega.{arith}
+use lib.Dec.{leb}
 use lib.ListN.{length, getD, set, take}
 use lib.Seq.{take-suc-set, take-all}
 use Rattle.words.proofs.Runs.{run-length-kept}
@@ -32,6 +33,10 @@ and-false false b e = refl
 pub and-assoc : (a b c : Bool) → ((a && b) && c) ≡ (a && (b && c))
 and-assoc true b c = refl
 and-assoc false b c = refl
+
+-- word j of an entry is at most a limit
+abbrev pub most : List ℕ → ℕ → ℕ → ℕ → Bool
+most w j limit a = leb (getD w (a + j) 0) limit
 
 module _ (k : ℕ) where
   -- tests that agree at each place

@@ -14,5 +14,10 @@ pub use Rattle.formats.proofs.Places.{stands-all, word-of-run}
 pub use Rattle.formats.proofs.Loops.{runs-at, pair-stored}
 -- a turn of a loop that reads an array, that stores one, that tests one
 pub use Rattle.formats.proofs.Loops.{room, gets-filled, gets-full, store-turn, store-none, store-all, all-step, all-stop, all-done}
--- tests at each place of an array
-pub use Rattle.formats.proofs.Loops.{all-same, all-any, all-both}
+-- tests at each place of an array, and of a column of it
+pub use Rattle.formats.proofs.Loops.{all-same, all-any, all-both, most}
+-- the heads of infos are valid exactly if the infos pass the test of their format
+pub use Rattle.formats.proofs.Heads.{heads-format}
+-- both of two tests
+pub use Rattle.formats.proofs.Loops.{and-true, and-false, and-assoc}
+pub use Rattle.formats.proofs.Places.{and-in}

@@ -1,6 +1,6 @@
--- The format of an info: what the state keeps of an object in a block. Document 01, record of kind 4: "object in a block: 1 anchor (0 room, 1 screen, 2 speaker); 2 flags (1 position
--- valid, 2 differential, 4 gain, 8 position, 16 distance, 32 size present); f32 at 4 gain, 8, 12, 16 position, 20 distance, 24 size, 28 screen factor, 32 depth factor"; and item 2,
--- "Depth is y to the power 0.25, 0.5, 1 or 2". The last absolute position is kept beside it. A word that is added later stands last. Assumes nothing.
+-- The format of an info: what the state keeps of an object in a block. Document 01, record of kind 4: "object in a block: 1 anchor (0 room, 1 screen, 2 speaker); 2 flags
+-- (1 position valid, 2 differential, 4 gain, 8 position, 16 distance, 32 size present); f32 at 4 gain, 8, 12, 16 position, 20 distance, 24 size, 28 screen factor, 32 depth
+-- factor"; and item 2, "Depth is y to the power 0.25, 0.5, 1 or 2". The last absolute position is kept beside it. A word that is added later stands last. Assumes nothing.
 use Prim.Native.Nat.{ℕ, _+_, _*_, _<_}
 use mathlib.Core.Bool.{Bool, _&&_}
 use lib.Dec.{ltb}

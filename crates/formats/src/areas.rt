@@ -1,4 +1,7 @@
 // The areas of the state block that stay bytes: the object infos, and the places of pending samples, a row for each channel.
+ghost use mathlib.Core.Path.{_≡_};
+ghost use lib.ListN.{length};
+ghost use Rattle.formats.specs.Areas.{infoCount, infosBytes, headsValid};
 use crate::info;
 
 pub const INFO_COUNT: usize = 512;
@@ -16,3 +19,27 @@ pub const ROW_BYTES: usize = 4 * ROW_PLACES;
 pub const PLACE_COUNT: usize = ROW_COUNT * ROW_PLACES;
 
 pub const PLACES_BYTES: usize = ROW_COUNT * ROW_BYTES;
+
+// The heads of the infos (flags + 256 anchor + 65,536 depth), with no branch a head: an OR is below a power of two where every term is.
+// The anchors go in plus 1, in the second byte: all are below 3 where those are below 4.
+pub fn heads_valid(infos: &[u8]) -> bool
+    requires { ⌜ length (now infos) ≡ infosBytes ⌝ }
+    ensures { λ r. ⌜ r ≡ headsValid (now (infos .entry)) 0 infoCount ⌝ }
+{
+    let mut heads = 0u32;
+    let mut anchors = 0u32;
+    let mut k = 0usize;
+    while k < INFO_COUNT {
+        let h = words::u32_at(infos, INFO_BYTES * k);
+        heads |= h;
+        anchors |= h % 65536 + 256;
+        k += 1;
+    }
+    if heads >= 262144 {
+        return false;
+    }
+    if heads % 256 >= 64 {
+        return false;
+    }
+    anchors < 1024
+}

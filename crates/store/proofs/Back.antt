@@ -10,10 +10,10 @@ use lib.ListN.{length}
 use Rattle.words.specs.Words.{Words}
 use Rattle.formats.specs.Lawful.{Lawful}
 use Rattle.formats.specs.Format.{u8To, flag, float, usizeTo, u64To, u32To, u32Below, u32Where, _⊗_, array}
-use Rattle.formats.proofs.Places.{stands-all}
-use Rattle.formats.proofs.Word.{lawful-u32-where, lawful-u32-to, lawful-u32-below, lawful-usize-to, lawful-u8-to, lawful-flag, lawful-float, lawful-u64-to}
-use Rattle.formats.proofs.Infos.{lawful-vec}
-use Rattle.formats.proofs.Parts.{lawful-pair, lawful-array, lawful-struct, lawful-ranged, lawful-such}
+use Rattle.formats.proofs.Theorems.{stands-all}
+use Rattle.formats.proofs.Theorems.{lawful-u32-where, lawful-u32-to, lawful-u32-below, lawful-usize-to, lawful-u8-to, lawful-flag, lawful-float, lawful-u64-to}
+use Rattle.formats.proofs.Theorems.{lawful-vec}
+use Rattle.formats.proofs.Theorems.{lawful-pair, lawful-array, lawful-struct, lawful-ranged, lawful-such}
 use Rattle.rates.specs.Rates.{lowest, highest, listed}
 use Rattle.store.specs.declared.renderer.Renderer714.{Renderer714}
 use Rattle.store.specs.Singles.{FilterSingles, SourceSingles, TrackSingles, Brief}

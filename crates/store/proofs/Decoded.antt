@@ -16,6 +16,7 @@ use Rattle.timed.specs.Slot.{middle, InRange, noBlock}
 use Rattle.timed.specs.State.{noElement}
 use Rattle.timed.specs.State as timed
 use Rattle.rules.specs.Parts.{Places}
+use Rattle.formats.specs.Areas.{infoCount, infosBytes, rowCount, rowPlaces, rowBytes}
 use Rattle.store.specs.declared.renderer.Renderer714.{Renderer714}
 use Rattle.store.specs.Singles.{Brief}
 use Rattle.store.specs.Fields.{elementFormat, smallOf}
@@ -72,7 +73,8 @@ module _ (s : Renderer714) (h : smallPart .In s) where
   element-range i l =
       let e = timed.elementOf (s .state) i in
       let ((blocks, (flags, remaining)), (schedule, tracks)) = element-in i l in
-      let b : (j : ℕ) → j < 8 → Brief (getD (e .schedule) j noBlock) = λ j k. all-out Brief noBlock (e .schedule) (schedule .each) j (let m = schedule .count in omega arith) in
+      let b : (j : ℕ) → j < 8 → Brief (getD (e .schedule) j noBlock) =
+      λ j k. all-out Brief noBlock (e .schedule) (schedule .each) j (let m = schedule .count in omega arith) in
       record {
         blocks = blocks;
         ramps = record { offsets = λ j k. b j k .offset; ramps = λ j k. b j k .ramp; most = remaining; least = element-both i l .1 };
@@ -150,29 +152,30 @@ module _ (b : List ℕ) (bs : Bytes b) (v : T (valid b)) where
   unfolding valid
   is-long =
       eqb→eq (length b) size (and-l (eqb (length b) size) (smallValid (wordsAt b 0 smallWidth))
-      (and-l (eqb (length b) size && smallValid (wordsAt b 0 smallWidth)) (headsValid (infosOf b) 0 512) v))
+      (and-l (eqb (length b) size && smallValid (wordsAt b 0 smallWidth)) (headsValid (infosOf b) 0 infoCount) v))
 
   small-in : smallPart .In (smallOf (wordsAt b 0 smallWidth))
   unfolding valid smallOf
   small-in =
       lawful-small-part .within (wordsAt b 0 smallWidth) 0
-      (and-r (eqb (length b) size) (smallValid (wordsAt b 0 smallWidth)) (and-l (eqb (length b) size && smallValid (wordsAt b 0 smallWidth)) (headsValid (infosOf b) 0 512) v))
+      (and-r (eqb (length b) size) (smallValid (wordsAt b 0 smallWidth))
+      (and-l (eqb (length b) size && smallValid (wordsAt b 0 smallWidth)) (headsValid (infosOf b) 0 infoCount) v))
 
   infos-ranged : InfosRanged (infosOf b)
   unfolding valid
   infos-ranged =
       record {
-        length = length-take-le 22528 (drop infosAt b) (let e = is-long in simp length-drop (omega arith));
-        bytes = bytes-take 22528 (drop infosAt b) (bytes-drop infosAt b bs);
-        heads = and-r (eqb (length b) size && smallValid (wordsAt b 0 smallWidth)) (headsValid (infosOf b) 0 512) v;
+        length = length-take-le infosBytes (drop infosAt b) (let e = is-long in simp length-drop (omega arith));
+        bytes = bytes-take infosBytes (drop infosAt b) (bytes-drop infosAt b bs);
+        heads = and-r (eqb (length b) size && smallValid (wordsAt b 0 smallWidth)) (headsValid (infosOf b) 0 infoCount) v;
       }
 
   places-ranged : PlacesRanged (placesOf b)
   places-ranged =
       record {
-        lengths = λ c l. rw (lt-ltb c 12 l) (words-long b (placesAt + 256 * c) 64);
-        words = λ c l. rw (lt-ltb c 12 l) (run-small b (placesAt + 256 * c) 64 bs);
-        none = λ c l. rw (le-ltb c 12 l) refl;
+        lengths = λ c l. rw (lt-ltb c rowCount l) (words-long b (placesAt + rowBytes * c) rowPlaces);
+        words = λ c l. rw (lt-ltb c rowCount l) (run-small b (placesAt + rowBytes * c) rowPlaces bs);
+        none = λ c l. rw (le-ltb c rowCount l) refl;
       }
 
   pub decode-ranged : BlockRanged (decode b)

@@ -16,15 +16,18 @@ use Rattle.timed.specs.State.{noElement}
 use Rattle.timed.specs.declared.state.BlockState.{BlockState}
 use Rattle.timed.specs.declared.state.MetadataRendererState.{MetadataRendererState}
 use Rattle.rules.specs.Parts.{zeros, 0·0, 1·0}
+use Rattle.formats.specs.Areas.{infoCount, infoBytes, infosBytes, rowCount, rowPlaces, rowBytes, placesBytes}
 use Rattle.formats.specs.Format.{puts}
 use Rattle.store.specs.Bytes.{bytesOf}
 use Rattle.store.specs.Fields.{smallWords}
 use Rattle.store.specs.Places.{limiterGainAt, remainingIn, firstAt, secondAt, infosAt}
-use Rattle.store.specs.Layout.{size, small, placeRows, encode, still, noBlocks, blank, freshRenderer, marked, filled}
+use Rattle.store.specs.Fresh.{still, noBlocks, blank, freshRenderer}
+use Rattle.store.specs.Layout.{size, small, placeRows, encode}
+use Rattle.store.specs.Filled.{marked, filled}
 use Rattle.store.specs.Ranges.{leastFlags, headValid, headsValid}
 use Rattle.store.specs.Ranged.{Single, Singles, SourceSingles, TrackSingles, ElementRanged, StateRanged, InfosRanged, PlacesRanged, BlockRanged}
 use Rattle.store.proofs.Bytes.{written-front}
-use Rattle.formats.proofs.Places.{and-in}
+use Rattle.formats.proofs.Theorems.{and-in}
 
 -- ---- zeros
 
@@ -46,8 +49,8 @@ zero-heads : (n at k : ℕ) → T (headsValid (replicate n 0) at k)
 unfolding headsValid
 zero-heads n at zero = tt
 zero-heads n at (suc k) =
-    and-in (headValid (word (replicate n 0) at)) (headsValid (replicate n 0) (at + 44) k)
-    (subst (λ (x : ℕ). T (headValid x)) (sym (zero-number n at 4)) tt) (zero-heads n (at + 44) k)
+    and-in (headValid (word (replicate n 0) at)) (headsValid (replicate n 0) (at + infoBytes) k)
+    (subst (λ (x : ℕ). T (headValid x)) (sym (zero-number n at 4)) tt) (zero-heads n (at + infoBytes) k)
 
 zero-words : (n : ℕ) → Words (replicate n 0)
 zero-words zero = tt
@@ -56,15 +59,15 @@ zero-words (suc n) = (lit< tt, zero-words n)
 zero-bytes : (n : ℕ) → Bytes (replicate n 0)
 zero-bytes n i = subst (λ (x : ℕ). x < 256) (sym (same-at n i 0)) (lit< tt)
 
-infos-fresh : (n : ℕ) → n ≡ 22528 → InfosRanged (replicate n 0)
-infos-fresh n e = record { length = length-replicate {A = ℕ} n 0 ∙ e; bytes = zero-bytes n; heads = zero-heads n 0 512 }
+infos-fresh : (n : ℕ) → n ≡ infosBytes → InfosRanged (replicate n 0)
+infos-fresh n e = record { length = length-replicate {A = ℕ} n 0 ∙ e; bytes = zero-bytes n; heads = zero-heads n 0 infoCount }
 
 places-fresh : PlacesRanged zeros
 places-fresh =
     record {
-      lengths = λ c l. rw (lt-ltb c 12 l) (length-replicate {A = ℕ} 64 0);
-      words = λ c l. rw (lt-ltb c 12 l) (zero-words 64);
-      none = λ c l. rw (le-ltb c 12 l) refl;
+      lengths = λ c l. rw (lt-ltb c rowCount l) (length-replicate {A = ℕ} rowPlaces 0);
+      words = λ c l. rw (lt-ltb c rowCount l) (zero-words rowPlaces);
+      none = λ c l. rw (le-ltb c rowCount l) refl;
     }
 
 -- ---- the renderer
@@ -155,7 +158,7 @@ fresh-ranged =
       pending = lit< tt;
       idle = λ e. refl;
       state = state-fresh;
-      infos = infos-fresh 22528 refl;
+      infos = infos-fresh infosBytes refl;
       places = places-fresh;
     }
 
@@ -166,13 +169,13 @@ unfolding bytesOf withNumber
 bytes-zero zero = refl
 bytes-zero (suc n) = ap (λ (t : List ℕ). 0 ∷ 0 ∷ 0 ∷ 0 ∷ t) (bytes-zero n) ∙ ap (λ (k : ℕ). replicate k 0) (let e : suc (suc (suc (suc (4 * n)))) ≡ 4 * suc n = omega arith in e)
 
-zero-rows : (n k : ℕ) → n + k ≤ 12 → placeRows n k zeros ≡ replicate (n * 256) 0
+zero-rows : (n k : ℕ) → n + k ≤ rowCount → placeRows n k zeros ≡ replicate (n * rowBytes) 0
 unfolding placeRows
 zero-rows zero k l = refl
 zero-rows (suc n) k l =
-    let z : zeros k ≡ replicate 64 0 = let m : k < 12 = omega arith in rw (lt-ltb k 12 m) refl in
-    ap₂ (λ (a b : List ℕ). a ++ b) (ap bytesOf z ∙ bytes-zero 64) (zero-rows n (suc k) (omega arith))
-    ∙ replicate-append-replicate 256 (n * 256) 0 ∙ ap (λ (m : ℕ). replicate m 0) (let e : 256 + n * 256 ≡ suc n * 256 = omega arith in e)
+    let z : zeros k ≡ replicate rowPlaces 0 = let m : k < rowCount = omega arith in rw (lt-ltb k rowCount m) refl in
+    ap₂ (λ (a b : List ℕ). a ++ b) (ap bytesOf z ∙ bytes-zero rowPlaces) (zero-rows n (suc k) (omega arith))
+    ∙ replicate-append-replicate rowBytes (n * rowBytes) 0 ∙ ap (λ (m : ℕ). replicate m 0) (let e : rowBytes + n * rowBytes ≡ suc n * rowBytes = omega arith in e)
 
 marked-front : (s t : List ℕ) → infosAt ≤ length s → marked (s ++ t) ≡ marked s ++ t
 marked-front s t l =
@@ -190,15 +193,15 @@ small-fresh : bytesOf (smallWords (small freshRenderer)) ≡ marked (replicate i
 unfolding bytesOf smallWords puts blank withNumber toBits
 small-fresh = refl
 
-tail-fresh : (n m : ℕ) → n ≡ 22528 → m ≡ 12 → replicate n 0 ++ placeRows m 0 zeros ≡ replicate (n + m * 256) 0
-tail-fresh n m e f = ap (λ (t : List ℕ). replicate n 0 ++ t) (zero-rows m 0 (omega arith)) ∙ replicate-append-replicate n (m * 256) 0
+tail-fresh : (n m : ℕ) → n ≡ infosBytes → m ≡ rowCount → replicate n 0 ++ placeRows m 0 zeros ≡ replicate (n + m * rowBytes) 0
+tail-fresh n m e f = ap (λ (t : List ℕ). replicate n 0 ++ t) (zero-rows m 0 (omega arith)) ∙ replicate-append-replicate n (m * rowBytes) 0
 
 pub encode-fresh : encode freshRenderer ≡ filled
 unfolding encode blank filled
 encode-fresh =
-    ap₂ (λ (a b : List ℕ). a ++ b) small-fresh (tail-fresh 22528 12 refl refl)
-    ∙ sym (marked-front (replicate infosAt 0) (replicate 25600 0) (subst (λ (n : ℕ). infosAt ≤ n) (sym (length-replicate {A = ℕ} infosAt 0)) (lit≤ tt)))
-    ∙ ap marked (replicate-append-replicate infosAt 25600 0)
+    ap₂ (λ (a b : List ℕ). a ++ b) small-fresh (tail-fresh infosBytes rowCount refl refl)
+    ∙ sym (marked-front (replicate infosAt 0) (replicate (infosBytes + placesBytes) 0) (subst (λ (n : ℕ). infosAt ≤ n) (sym (length-replicate {A = ℕ} infosAt 0)) (lit≤ tt)))
+    ∙ ap marked (replicate-append-replicate infosAt (infosBytes + placesBytes) 0)
 
 -- what reset writes
 pub refilled : (n : ℕ) → n ≡ size → marked (replicate n 0) ≡ encode freshRenderer

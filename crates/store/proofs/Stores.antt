@@ -5,9 +5,9 @@ use Prim.Native.Nat.{ℕ, _+_, _*_}
 use lib.ListN.{getD}
 use Rattle.words.specs.Words.{withWords}
 use Rattle.formats.specs.Format.{u8To, float, _⊗_, puts, array}
-use Rattle.formats.proofs.Word.{lawful-u8-to, lawful-float}
-use Rattle.formats.proofs.Parts.{lawful-array}
-use Rattle.formats.proofs.Loops.{runs-at, pair-stored}
+use Rattle.formats.proofs.Theorems.{lawful-u8-to, lawful-float}
+use Rattle.formats.proofs.Theorems.{lawful-array}
+use Rattle.formats.proofs.Theorems.{runs-at, pair-stored}
 use lib.Dec.{lit<}
 use Rattle.timed.specs.State.{noElement}
 use Rattle.timed.specs.declared.state.ElementRendererState.{ElementRendererState}
@@ -63,6 +63,7 @@ module _ (s : List ℕ) (x : MetadataRendererState) where
       s1 (4 * tablesAt) (x .codes) (x .gains, (x .sources, x .states))
       ∙ pair-stored countsFormat tablesFormat lawful-counts s (4 * stateAt) (countsOf x) (tablesOf x)
 
-pub small-stored : (s : List ℕ) (x : Renderer714) → withWords (withWords s 0 (basicsFormat .put (basicsOf x))) (4 * stateAt) (stateFormat .put (x .state)) ≡ withWords s 0 (smallWords x)
+pub small-stored : (s : List ℕ) (x : Renderer714)
+    → withWords (withWords s 0 (basicsFormat .put (basicsOf x))) (4 * stateAt) (stateFormat .put (x .state)) ≡ withWords s 0 (smallWords x)
 unfolding smallWords
 small-stored s x = pair-stored basicsFormat stateFormat lawful-basics s 0 (basicsOf x) (x .state)

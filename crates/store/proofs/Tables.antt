@@ -7,48 +7,50 @@ use native.Mathlib.Omega.{arith}
 use borrow.Author.Tests.{eq-eqb, ne-eqb}
 use lib.Dec.{T, eqb, leb}
 use lib.ListN.{length, getD}
-pub use Rattle.formats.proofs.Places.{and-in}
+pub use Rattle.formats.proofs.Theorems.{and-in}
+use Rattle.formats.specs.Areas.{infoCount}
 use Rattle.words.specs.Words.{wordsAt}
 use Rattle.formats.specs.Numbers.{longOf}
 use Rattle.formats.specs.Format.{allAt, gets, u8To}
-use Rattle.formats.proofs.Loops.{all-same, all-both, all-any, and-true, and-false}
+use Rattle.formats.proofs.Theorems.{most, all-same, all-both, all-any, and-true, and-false}
 use Rattle.store.specs.Fields.{longest, sourceFormat, blockFormat, trackFormat, elementFormat, tablesFormat, smallFormat, smallOf}
-use Rattle.store.specs.Places.{phaseAt, positionAt, startAt, pendingAt, objectsAt, isfAt, bedsAt, inUseAt, tablesAt, gainsAt, sourcesAt, placedIn, flagsIn, remainingIn, firstAt, secondAt}
+use Rattle.store.specs.Places.{phaseAt, positionAt, startAt, pendingAt, objectsAt, isfAt, bedsAt, inUseAt}
+use Rattle.store.specs.Places.{tablesAt, gainsAt, sourcesAt, placedIn, flagsIn, remainingIn, firstAt, secondAt}
 use Rattle.store.specs.Layout.{smallWidth, size, infosOf}
 use Rattle.store.specs.Ranges.{clockIn, countsIn, least, elementIn, related, smallValid, headsValid, valid}
 use Rattle.store.proofs.Back.{lawful-small}
 
 module _ (w : List ℕ) where
-  -- word j of an entry is at most a limit
-  abbrev pub most : ℕ → ℕ → ℕ → Bool
-  most j limit a = leb (getD w (a + j) 0) limit
+  -- a column of the table
+  abbrev col : ℕ → ℕ → ℕ → Bool
+  col = most w
 
   -- the same, at a place in another form
   place : (limit : ℕ) {m n : ℕ} → m ≡ n → leb (getD w m 0) limit ≡ leb (getD w n 0) limit
   place limit e = ap (λ (i : ℕ). leb (getD w i 0) limit) e
 
-  pub codes-test : (n at : ℕ) → allAt (u8To 17 .test w) 1 n at ≡ allAt (most 0 17) 1 n at
-  codes-test = all-same 1 (u8To 17 .test w) (most 0 17) (λ a. place 17 (omega arith))
+  pub codes-test : (n at : ℕ) → allAt (u8To 17 .test w) 1 n at ≡ allAt (col 0 17) 1 n at
+  codes-test = all-same 1 (u8To 17 .test w) (col 0 17) (λ a. place 17 (omega arith))
 
-  pub sources-test : (n at : ℕ) → allAt (sourceFormat .test w) (sourceFormat .width) n at ≡ allAt (most placedIn 1) (sourceFormat .width) n at
-  sources-test = all-same (sourceFormat .width) (sourceFormat .test w) (most placedIn 1) (λ a. place 1 (omega arith))
+  pub sources-test : (n at : ℕ) → allAt (sourceFormat .test w) (sourceFormat .width) n at ≡ allAt (col placedIn 1) (sourceFormat .width) n at
+  sources-test = all-same (sourceFormat .width) (sourceFormat .test w) (col placedIn 1) (λ a. place 1 (omega arith))
 
-  pub tracks-test : (n at : ℕ) → allAt (trackFormat .test w) (trackFormat .width) n at ≡ allAt (most 0 1) (trackFormat .width) n at
-  tracks-test = all-same (trackFormat .width) (trackFormat .test w) (most 0 1) (λ a. and-true (leb (getD w a 0) 1) true refl ∙ place 1 (omega arith))
+  pub tracks-test : (n at : ℕ) → allAt (trackFormat .test w) (trackFormat .width) n at ≡ allAt (col 0 1) (trackFormat .width) n at
+  tracks-test = all-same (trackFormat .width) (trackFormat .test w) (col 0 1) (λ a. and-true (leb (getD w a 0) 1) true refl ∙ place 1 (omega arith))
 
-  pub blocks-test : (n at : ℕ) → allAt (blockFormat .test w) 3 n at ≡ (allAt (most 0 2097152) 3 n at && (allAt (most 1 2097152) 3 n at && allAt (most 2 1) 3 n at))
+  pub blocks-test : (n at : ℕ) → allAt (blockFormat .test w) 3 n at ≡ (allAt (col 0 2097152) 3 n at && (allAt (col 1 2097152) 3 n at && allAt (col 2 1) 3 n at))
   blocks-test n at =
-      all-same 3 (blockFormat .test w) (λ a. most 0 2097152 a && (most 1 2097152 a && most 2 1 a))
+      all-same 3 (blockFormat .test w) (λ a. col 0 2097152 a && (col 1 2097152 a && col 2 1 a))
       (λ a. ap₂ _&&_ (place 2097152 (omega arith)) (ap (λ (x : Bool). leb (getD w (a + 1) 0) 2097152 && x) (place 1 (omega arith)))) n at
-      ∙ all-both 3 (most 0 2097152) (λ a. most 1 2097152 a && most 2 1 a) n at
-      ∙ ap (λ (x : Bool). allAt (most 0 2097152) 3 n at && x) (all-both 3 (most 1 2097152) (most 2 1) n at)
+      ∙ all-both 3 (col 0 2097152) (λ a. col 1 2097152 a && col 2 1 a) n at
+      ∙ ap (λ (x : Bool). allAt (col 0 2097152) 3 n at && x) (all-both 3 (col 1 2097152) (col 2 1) n at)
 
   pub elements-test : (at : ℕ) → allAt (elementFormat .test w) (elementFormat .width) 2 at ≡ (elementFormat .test w at && elementFormat .test w (at + elementFormat .width))
   unfolding allAt
   elements-test at = ap (λ (x : Bool). elementFormat .test w at && x) (and-true (elementFormat .test w (at + elementFormat .width)) true refl)
 
   pub tables-test : tablesFormat .test w tablesAt
-      ≡ (allAt (most 0 17) 1 18 tablesAt && (allAt (most placedIn 1) (sourceFormat .width) 16 sourcesAt && (elementFormat .test w firstAt && elementFormat .test w secondAt)))
+      ≡ (allAt (col 0 17) 1 18 tablesAt && (allAt (col placedIn 1) (sourceFormat .width) 16 sourcesAt && (elementFormat .test w firstAt && elementFormat .test w secondAt)))
   tables-test =
       λ i. codes-test 18 tablesAt i && (all-any 1 18 gainsAt i && (sources-test 16 sourcesAt i && elements-test firstAt i))
 
@@ -104,14 +106,14 @@ fields-bad w e = ap (λ (x : Bool). x && related (smallFormat .get w 0)) e
 module _ (b : List ℕ) where
   pub wrong-length : (length b ≡ size → ⊥) → valid b ≡ false
   unfolding valid
-  wrong-length h = ap (λ (x : Bool). x && smallValid (wordsAt b 0 smallWidth) && headsValid (infosOf b) 0 512) (ne-eqb (length b) size h)
+  wrong-length h = ap (λ (x : Bool). x && smallValid (wordsAt b 0 smallWidth) && headsValid (infosOf b) 0 infoCount) (ne-eqb (length b) size h)
 
-  pub bad-heads : headsValid (infosOf b) 0 512 ≡ false → valid b ≡ false
+  pub bad-heads : headsValid (infosOf b) 0 infoCount ≡ false → valid b ≡ false
   unfolding valid
-  bad-heads e = and-false (eqb (length b) size && smallValid (wordsAt b 0 smallWidth)) (headsValid (infosOf b) 0 512) e
+  bad-heads e = and-false (eqb (length b) size && smallValid (wordsAt b 0 smallWidth)) (headsValid (infosOf b) 0 infoCount) e
 
-  pub good-heads : length b ≡ size → headsValid (infosOf b) 0 512 ≡ true → valid b ≡ smallValid (wordsAt b 0 smallWidth)
+  pub good-heads : length b ≡ size → headsValid (infosOf b) 0 infoCount ≡ true → valid b ≡ smallValid (wordsAt b 0 smallWidth)
   unfolding valid
   good-heads h e =
-      and-true (eqb (length b) size && smallValid (wordsAt b 0 smallWidth)) (headsValid (infosOf b) 0 512) e
+      and-true (eqb (length b) size && smallValid (wordsAt b 0 smallWidth)) (headsValid (infosOf b) 0 infoCount) e
       ∙ ap (λ (x : Bool). x && smallValid (wordsAt b 0 smallWidth)) (eq-eqb (length b) size h)

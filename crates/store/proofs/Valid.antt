@@ -6,7 +6,8 @@ use Prim.Native.Nat.{ℕ}
 use lib.Dec.{T, eqb}
 use lib.ListN.{length}
 use Rattle.words.specs.Words.{wordsAt}
-use Rattle.formats.proofs.Places.{and-in, stands-all, passes}
+use Rattle.formats.specs.Areas.{infoCount}
+use Rattle.formats.proofs.Theorems.{and-in, stands-all, passes}
 use Rattle.timed.specs.State.{Timed}
 use Rattle.rules.specs.Samples.{Renderer}
 use Rattle.store.specs.Fields.{smallWords}
@@ -25,7 +26,7 @@ module _ (r : Renderer Timed) (h : BlockRanged r) where
   unfolding valid
   valid-encode =
       let b = encode r in
-      and-in (eqb (length b) size && smallValid (wordsAt b 0 smallWidth)) (headsValid (infosOf b) 0 512)
+      and-in (eqb (length b) size && smallValid (wordsAt b 0 smallWidth)) (headsValid (infosOf b) 0 infoCount)
       (and-in (eqb (length b) size) (smallValid (wordsAt b 0 smallWidth)) (subst (λ (n : ℕ). T (eqb n size)) (sym (encode-long r h)) tt)
       (subst (λ (w : List ℕ). T (smallValid w)) (sym (words-back r h)) small-valid))
-      (subst (λ (is : List ℕ). T (headsValid is 0 512)) (sym (infos-back r h)) (h .infos .heads))
+      (subst (λ (is : List ℕ). T (headsValid is 0 infoCount)) (sym (infos-back r h)) (h .infos .heads))

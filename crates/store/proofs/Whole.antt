@@ -1,4 +1,4 @@
--- A renderer in range is read back from its block, which is 26,960 bytes. Assumes nothing.
+-- A renderer in range is read back from its block, which has the block's size. Assumes nothing.
 use mathlib.Core.Path.{_≡_, refl, sym, ap, ap₂, subst, _∙_}
 use mathlib.Core.Bool.{Bool, true, false, not, _&&_, _||_}
 use mathlib.Core.List.{List, [], _∷_, _++_}
@@ -11,7 +11,7 @@ use lib.ListN.{length, getD, drop, length-append, take-append-drop}
 use lib.Seq.{drop-at, take-at, drop-drop}
 use Rattle.ieee.specs.Bounds.{All}
 use Rattle.words.specs.Words.{Bytes, wordsAt, withWords}
-use Rattle.formats.proofs.Places.{and-in}
+use Rattle.formats.proofs.Theorems.{and-in}
 use Rattle.timed.specs.Slot.{middle, InRange, noBlock}
 use Rattle.timed.specs.State.{Timed, noElement}
 use Rattle.timed.specs.State as timed
@@ -19,6 +19,7 @@ use Rattle.timed.specs.declared.state.ElementRendererState.{ElementRendererStat
 use Rattle.timed.specs.declared.state.MetadataRendererState.{MetadataRendererState}
 use Rattle.rules.specs.Parts.{Places}
 use Rattle.rules.specs.Samples.{Renderer}
+use Rattle.formats.specs.Areas.{infosBytes, rowCount, rowPlaces, rowBytes}
 use Rattle.store.specs.Bytes.{bytesOf}
 use Rattle.store.specs.Singles.{Brief}
 use Rattle.store.specs.Fields.{elementFormat, stateFormat, smallWords, smallOf}
@@ -83,7 +84,8 @@ related-full r h =
     λ i l. and-in (leb (leastFlags i m) (timed.elementOf m i .flags)) (leb middle (timed.elementOf m i .remaining + (2097152 + 64 * r .clock .position)))
     (le→leb _ _ (h .state .elements i l .enough)) (le→leb _ _ (w .states i l .ramps .least)) in
     let k : T (clockIn (r .rate) (r .clock .phase) (r .clock .position) (r .clock .start) (r .pending .count)) =
-    and-in (leb (r .clock .start + r .clock .phase) (r .clock .position)) (not (eqb (r .rate) 0) || eqb (r .pending .count) 0) (le→leb _ _ (h .start)) (idle-test (r .rate) (r .pending .count) (h .idle)) in
+    and-in (leb (r .clock .start + r .clock .phase) (r .clock .position)) (not (eqb (r .rate) 0) || eqb (r .pending .count) 0)
+    (le→leb _ _ (h .start)) (idle-test (r .rate) (r .pending .count) (h .idle)) in
     let n : T (countsIn (m .objects) (m .isf) (m .beds)) =
     and-in (leb (m .objects - m .isf) 16) (leb (m .beds) (m .objects)) (le→leb _ _ (w .dynamic)) (le→leb _ _ (w .channels)) in
     and-in (clockIn (r .rate) (r .clock .phase) (r .clock .position) (r .clock .start) (r .pending .count))
@@ -102,25 +104,26 @@ small-full r h =
 -- ---- rows of places
 
 module _ (p : Places) (h : PlacesRanged p) where
-  row-long : (c : ℕ) → c < 12 → length (bytesOf (p c)) ≡ 256
+  row-long : (c : ℕ) → c < rowCount → length (bytesOf (p c)) ≡ rowBytes
   row-long c l = bytes-length (p c) ∙ ap (λ (n : ℕ). 4 * n) (h .lengths c l)
 
-  rows-long : (n k : ℕ) → n + k ≤ 12 → length (placeRows n k p) ≡ n * 256
+  rows-long : (n k : ℕ) → n + k ≤ rowCount → length (placeRows n k p) ≡ n * rowBytes
   unfolding placeRows
   rows-long zero k l = refl
   rows-long (suc n) k l =
       length-append (bytesOf (p k)) (placeRows n (suc k) p) ∙ (let a = row-long k (omega arith) in let b = rows-long n (suc k) (omega arith) in omega arith)
 
-  rows-back : (n k c : ℕ) → n + k ≤ 12 → c < n → wordsAt (placeRows n k p) (256 * c) 64 ≡ p (k + c)
+  rows-back : (n k c : ℕ) → n + k ≤ rowCount → c < n → wordsAt (placeRows n k p) (rowBytes * c) rowPlaces ≡ p (k + c)
   unfolding placeRows
   rows-back zero k c l m = absurd (omega arith)
   rows-back (suc n) k zero l m =
       ap (λ (w : ℕ). wordsAt (bytesOf (p k) ++ placeRows n (suc k) p) 0 w) (sym (h .lengths k (omega arith)))
       ∙ bytes-back (p k) (placeRows n (suc k) p) (h .words k (omega arith)) ∙ ap p (sym (add-zero k))
   rows-back (suc n) k (suc c) l m =
-      let e : 256 * suc c ≡ 256 + 256 * c = omega arith in
+      let e : rowBytes * suc c ≡ rowBytes + rowBytes * c = omega arith in
       let f : suc k + c ≡ k + suc c = omega arith in
-      rw (e, words-drop (bytesOf (p k) ++ placeRows n (suc k) p) 256 (256 * c) 64, drop-at (bytesOf (p k)) (placeRows n (suc k) p) 256 (row-long k (omega arith)))
+      let rest = placeRows n (suc k) p in
+      rw (e, words-drop (bytesOf (p k) ++ rest) rowBytes (rowBytes * c) rowPlaces, drop-at (bytesOf (p k)) rest rowBytes (row-long k (omega arith)))
       (rows-back n (suc k) c (omega arith) (omega arith) ∙ ap p f)
 
 -- ---- the block
@@ -130,7 +133,7 @@ module _ (r : Renderer Timed) (h : BlockRanged r) where
   W = smallWords (small r)
 
   abbrev R : List ℕ
-  R = placeRows 12 0 (r .pending .places)
+  R = placeRows rowCount 0 (r .pending .places)
 
   front-long : length (bytesOf W) ≡ infosAt
   front-long = bytes-length W ∙ ap (λ (n : ℕ). 4 * n) (small-long (small r) (small-full r h))
@@ -145,19 +148,20 @@ module _ (r : Renderer Timed) (h : BlockRanged r) where
   rest-back = drop-at (bytesOf W) (r .meta .infos ++ R) infosAt front-long
 
   pub infos-back : infosOf (encode r) ≡ r .meta .infos
-  infos-back = rw rest-back (take-at (r .meta .infos) R 22528 (h .infos .length))
+  infos-back = rw rest-back (take-at (r .meta .infos) R infosBytes (h .infos .length))
 
   rows-at : drop placesAt (encode r) ≡ R
-  rows-at = sym (drop-drop 22528 infosAt (encode r)) ∙ rw rest-back (drop-at (r .meta .infos) R 22528 (h .infos .length))
+  rows-at = sym (drop-drop infosBytes infosAt (encode r)) ∙ rw rest-back (drop-at (r .meta .infos) R infosBytes (h .infos .length))
 
   place-back : (c : ℕ) → placesOf (encode r) c ≡ r .pending .places c
-  place-back c = by (ltb c 12) refl
+  place-back c = by (ltb c rowCount) refl
     where
-      by : (b : Bool) → ltb c 12 ≡ b → placesOf (encode r) c ≡ r .pending .places c
+      by : (b : Bool) → ltb c rowCount ≡ b → placesOf (encode r) c ≡ r .pending .places c
       by true e =
-          let l = ltb-true c 12 e in
-          rw (e, words-drop (encode r) placesAt (256 * c) 64, rows-at) (rows-back (r .pending .places) (h .places) 12 0 c (lit≤ tt) l ∙ ap (r .pending .places) (zero-add c))
-      by false e = rw e (sym (h .places .none c (ltb-false c 12 e)))
+          let l = ltb-true c rowCount e in
+          rw (e, words-drop (encode r) placesAt (rowBytes * c) rowPlaces, rows-at)
+          (rows-back (r .pending .places) (h .places) rowCount 0 c (lit≤ tt) l ∙ ap (r .pending .places) (zero-add c))
+      by false e = rw e (sym (h .places .none c (ltb-false c rowCount e)))
 
   pub decode-encode : decode (encode r) ≡ r
   unfolding decode
@@ -167,7 +171,8 @@ module _ (r : Renderer Timed) (h : BlockRanged r) where
   unfolding encode
   encode-long =
       length-append (bytesOf W) (r .meta .infos ++ R)
-      ∙ ap₂ (λ (m n : ℕ). m + n) front-long (length-append (r .meta .infos) R ∙ ap₂ (λ (m n : ℕ). m + n) (h .infos .length) (rows-long (r .pending .places) (h .places) 12 0 (lit≤ tt)))
+      ∙ ap₂ (λ (m n : ℕ). m + n) front-long
+      (length-append (r .meta .infos) R ∙ ap₂ (λ (m n : ℕ). m + n) (h .infos .length) (rows-long (r .pending .places) (h .places) rowCount 0 (lit≤ tt)))
 
 -- ---- bytes
 
@@ -184,17 +189,18 @@ rows-bytes p (suc n) k = bytes-append (bytesOf (p k)) (placeRows n (suc k) p) (b
 pub encode-bytes : (r : Renderer Timed) → Bytes (r .meta .infos) → Bytes (encode r)
 unfolding encode
 encode-bytes r h =
-    bytes-append (bytesOf (smallWords (small r))) (r .meta .infos ++ placeRows 12 0 (r .pending .places)) (bytes-bytes (smallWords (small r)))
-    (bytes-append (r .meta .infos) (placeRows 12 0 (r .pending .places)) h (rows-bytes (r .pending .places) 12 0))
+    bytes-append (bytesOf (smallWords (small r))) (r .meta .infos ++ placeRows rowCount 0 (r .pending .places)) (bytes-bytes (smallWords (small r)))
+    (bytes-append (r .meta .infos) (placeRows rowCount 0 (r .pending .places)) h (rows-bytes (r .pending .places) 12 0))
 
 -- ---- a block that was saved
 
 -- the small part of r stored into a block that has r's infos and places
-pub saved-encode : (b : List ℕ) (r : Renderer Timed) → length b ≡ size → length (smallWords (small r)) ≡ smallWidth → infosOf b ≡ r .meta .infos → drop placesAt b ≡ placeRows 12 0 (r .pending .places)
+pub saved-encode : (b : List ℕ) (r : Renderer Timed) → length b ≡ size → length (smallWords (small r)) ≡ smallWidth → infosOf b ≡ r .meta .infos
+    → drop placesAt b ≡ placeRows rowCount 0 (r .pending .places)
     → withWords b 0 (smallWords (small r)) ≡ encode r
 unfolding encode
 saved-encode b r l n i p =
     let w = smallWords (small r) in
-    let t : drop infosAt b ≡ r .meta .infos ++ placeRows 12 0 (r .pending .places) =
-    sym (take-append-drop 22528 (drop infosAt b)) ∙ ap₂ (λ (x y : List ℕ). x ++ y) i (drop-drop 22528 infosAt b ∙ p) in
+    let t : drop infosAt b ≡ r .meta .infos ++ placeRows rowCount 0 (r .pending .places) =
+    sym (take-append-drop infosBytes (drop infosAt b)) ∙ ap₂ (λ (x y : List ℕ). x ++ y) i (drop-drop infosBytes infosAt b ∙ p) in
     stored w b (omega arith) ∙ ap (λ (k : ℕ). bytesOf w ++ drop (4 * k) b) n ∙ ap (λ (x : List ℕ). bytesOf w ++ x) t

@@ -1,4 +1,6 @@
--- The small part of the state block: each struct's format. Its places, its words, what words say and the range of each field follow from these. Assumes nothing.
+-- The small part of the state block: each struct's format, with each field's range. Document 01: "the renderer's state is a block of fixed length, its layout and each field's
+-- range written in docs/, its floats of any bits". Its places, its words, what words say and the range test follow from these. What is added to a source goes last in it.
+-- Assumes nothing.
 use Prim.Native.Nat.{ℕ}
 use mathlib.Core.Bool.{Bool, _||_}
 use mathlib.Core.List.{List}
@@ -19,7 +21,7 @@ use Rattle.store.specs.declared.renderer.Clock.{Clock}
 use Rattle.store.specs.declared.renderer.Renderer714.{Renderer714}
 use Rattle.store.specs.Singles.{FilterSingles, SourceSingles, TrackSingles, Brief}
 
--- 2^40
+-- "Stream positions lie from 0 to 2^40"
 abbrev pub longest : ℕ
 longest = 1099511627776
 
@@ -34,7 +36,7 @@ sourceFormat =
     (λ (gain, (size, (place, placed))). record { gain = gain; size = size; place = place; placed = placed })
     (float ⊗ float ⊗ vecFormat ⊗ flag))
 
--- a block: offset and ramp, each plus 2^20, and whether it was applied
+-- a block: offset and ramp, each plus 2^20, and whether it was applied; "an offset or ramp outside ±1,048,576" is refused in a frame, and "other fields as in frames"
 abbrev pub blockFormat : Format BlockState
 blockFormat =
     ranged Brief
@@ -44,7 +46,7 @@ blockFormat =
 abbrev pub trackFormat : Format Track
 trackFormat = ranged TrackSingles (struct (λ t. (t .now, t .future)) (λ (now, future). record { now = now; future = future }) (flag ⊗ vecFormat))
 
--- an element: blocks, flags, remaining ramp plus 2^47; its tables
+-- an element: "8 blocks each", flags for "16 of them dynamic", a remaining ramp "to 2^20", plus 2^47; its tables
 abbrev pub elementHead : ElementRendererState → ℕ × (ℕ × ℕ)
 elementHead e = (e .blocks, (e .flags, e .remaining))
 
@@ -72,7 +74,7 @@ filterFormat =
 abbrev pub payloadFormat : Format StreamSample
 payloadFormat = struct (λ p. p .0) (λ n. record { 0 = n }) (u64To longest)
 
--- initialized, the last applied update's position, objects, isf, beds, elements
+-- initialized, the last applied update's position, objects, isf, beds, elements: "up to 32 objects in all, 16 of them dynamic, 18 bed channels .., 2 elements"
 abbrev pub Counts : Type 0
 Counts = Bool × (StreamSample × (ℕ × (ℕ × (ℕ × ℕ))))
 
@@ -118,7 +120,7 @@ clockOf k = record { position = k .position .0; phase = k .phase; start = k .sta
 abbrev pub clockFrom : rules.Clock → Clock
 clockFrom k = record { position = record { 0 = k .position }; start = record { 0 = k .start }; phase = k .phase }
 
--- rate (0: no frame yet), phase, position, slot start, limiter gain, low-pass, pending
+-- rate (0: no frame yet), phase, position, slot start, limiter gain, low-pass, pending; "pending samples and slot phase below 64"
 abbrev pub Basics : Type 0
 Basics = ℕ × (ℕ × (ℕ × (ℕ × (Float × (BiquadLowpassState × ℕ)))))
 

@@ -1,22 +1,21 @@
--- The state block: 26,960 bytes. The small part's words (1,360 bytes), the object infos as they are (22,528), 12 rows of 64 places for pending samples (3,072). Assumes nothing.
+-- The state block, from a renderer and to one. Document 01: "the renderer's state is a block of fixed length". It is 26,960 bytes: the small part's words (1,360), the object
+-- infos as they are (22,528), 12 rows of 64 places for pending samples (3,072). What is added later stands behind these. Assumes nothing.
 use Prim.Native.Nat.{ℕ, zero, suc, _+_, _*_}
-use mathlib.Core.Bool.{false, cond}
+use mathlib.Core.Bool.{cond}
 use mathlib.Core.List.{List, [], _++_}
 use lib.Dec.{ltb}
-use lib.ListN.{take, drop, replicate}
-use Rattle.words.specs.Words.{wordsAt, withWord, withLong}
+use lib.ListN.{take, drop}
+use Rattle.words.specs.Words.{wordsAt}
 use Rattle.formats.specs.Areas.{infosBytes, rowCount, rowPlaces, rowBytes}
-use Rattle.vectors.specs.declared.Vec3.{Vec3}
-use Rattle.timed.specs.Slot.{middle}
 use Rattle.timed.specs.State.{Timed}
-use Rattle.timed.specs.declared.state.ElementRendererState.{ElementRendererState}
-use Rattle.rules.specs.Parts.{0·0, 1·0, Places, zeros}
-use Rattle.rules.specs.Samples.{Renderer, idle}
+use Rattle.rules.specs.Parts.{Places}
+use Rattle.rules.specs.Samples.{Renderer}
 use Rattle.store.specs.declared.renderer.Renderer714.{Renderer714}
 use Rattle.store.specs.Bytes.{bytesOf}
 use Rattle.store.specs.Fields.{clockOf, clockFrom, smallWords, smallOf}
-use Rattle.store.specs.Places.{limiterGainAt, remainingIn, firstAt, secondAt}
 pub use Rattle.store.specs.Places.{smallWidth, infosAt, placesAt, size}
+pub use Rattle.store.specs.Fresh.{still, noBlocks, freshRenderer}
+unfoldable pub use Rattle.store.specs.Fresh.{blank}
 
 -- ---- a renderer's parts
 
@@ -56,56 +55,3 @@ placeRows (suc n) c p = bytesOf (p c) ++ placeRows n (suc c) p
 unfoldable pub encode : Renderer Timed → List ℕ
 unfolding smallWords bytesOf placeRows
 encode r = bytesOf (smallWords (small r)) ++ (r .meta .infos ++ placeRows rowCount 0 (r .pending .places))
-
--- ---- a fresh renderer
-
-abbrev pub still : Vec3
-still = record { x = 0·0; y = 0·0; z = 0·0 }
-
-abbrev pub noBlocks : ElementRendererState
-noBlocks =
-    record {
-      blocks = 0;
-      flags = 0;
-      remaining = middle;
-      schedule = replicate 8 (record { offset = 0; ramp = 0; used = false });
-      tracks = replicate 16 (record { now = false; future = still });
-    }
-
--- the timed state before any update
-unfoldable pub blank : Timed
-blank =
-    record {
-      state = record {
-        initialized = false;
-        payload = record { 0 = 0 };
-        objects = 0;
-        isf = 0;
-        beds = 0;
-        elements = 0;
-        codes = replicate 18 0;
-        gains = replicate 18 0·0;
-        states = replicate 2 noBlocks;
-        sources = replicate 16 (record { gain = 0·0; size = 0·0; place = still; placed = false });
-      };
-      infos = replicate infosBytes 0;
-    }
-
--- what a block that reset has filled decodes to; `freshRenderer` of the rules, with `blank`
-abbrev pub freshRenderer : Renderer Timed
-freshRenderer =
-    record {
-      rate = 0;
-      clock = record { position = 0; phase = 0; start = 0 };
-      limiter = record { gain = 1·0 };
-      filter = idle;
-      meta = blank;
-      pending = record { count = 0; places = zeros };
-    }
-
--- its block: zeros, but for the limiter gain 1.0 and the two remaining ramps 0, which stand plus 2^47
-abbrev pub marked : List ℕ → List ℕ
-marked s = withLong (withLong (withWord s (4 * limiterGainAt) 0x3f80_0000) (4 * (firstAt + remainingIn)) middle) (4 * (secondAt + remainingIn)) middle
-
-unfoldable pub filled : List ℕ
-filled = marked (replicate size 0)

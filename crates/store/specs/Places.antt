@@ -1,4 +1,4 @@
--- Where each field stands, worked out from the widths of those before it. Assumes nothing.
+-- A reader may skip this file: where each field stands, worked out from the widths of those before it. Assumes nothing.
 use Prim.Native.Nat.{ℕ, _+_, _*_}
 use Rattle.formats.specs.Areas.{infosBytes, placesBytes}
 use Rattle.formats.specs.Format.{u8To, float, array}

@@ -1,13 +1,13 @@
--- Each field's range. Document 01: "Stream positions lie from 0 to 2^40, a remaining ramp from -2^21 - 64 × the stream's position to 2^20,
--- pending samples and slot phase below 64, the slot's start plus phase at most the stream's position, an element's objects as many as the last update's, its flags no fewer than
--- the dynamic objects, nothing pending without a rate, other fields as in frames". Floats have any bits. Assumes nothing.
-use Prim.Native.Nat.{ℕ, zero, suc, _+_, _-_, _*_}
-use mathlib.Core.Bool.{Bool, true, not, _&&_, _||_, cond}
+-- Which blocks are valid: of the right length, each field in its own range (specs/Fields, and formats/specs/Info for the infos), and what fields owe each other. Assumes
+-- nothing.
+use Prim.Native.Nat.{ℕ, _+_, _-_, _*_}
+use mathlib.Core.Bool.{Bool, not, _&&_, _||_, cond}
 use mathlib.Core.List.{List}
 use lib.Dec.{eqb, leb, ltb}
 use lib.ListN.{length}
-use Rattle.words.specs.Words.{word, wordsAt}
-use Rattle.formats.specs.Areas.{infoCount, infoBytes}
+use Rattle.words.specs.Words.{wordsAt}
+use Rattle.formats.specs.Areas.{infoCount}
+unfoldable pub use Rattle.formats.specs.Areas.{headsValid}
 pub use Rattle.formats.specs.Info.{headValid}
 use Rattle.formats.specs.Format.{Format, such}
 use Rattle.timed.specs.Slot.{middle}
@@ -19,22 +19,24 @@ use Rattle.store.specs.Fields.{smallFormat}
 use Rattle.store.specs.Layout.{smallWidth, size, infosOf}
 pub use Rattle.store.specs.Fields.{longest}
 
--- what fields owe each other: the clock and what is pending
+-- ---- what fields owe each other
+
+-- "the slot's start plus phase at most the stream's position", "nothing pending without a rate"
 abbrev pub clockIn : ℕ → ℕ → ℕ → ℕ → ℕ → Bool
 clockIn rate phase position start pending = leb (start + phase) position && (not (eqb rate 0) || eqb pending 0)
 
--- the last applied update's counts: "An update has up to 32 objects in all, 16 of them dynamic, 18 bed channels (never more than objects), 2 elements"
+-- the last applied update's: "up to 32 objects in all, 16 of them dynamic, 18 bed channels (never more than objects)"
 abbrev pub countsIn : ℕ → ℕ → ℕ → Bool
 countsIn objects isf beds = leb (objects - isf) 16 && leb beds objects
 
--- element i has flags for the dynamic objects where it is in use
+-- "an element's objects as many as the last update's, its flags no fewer than the dynamic objects": of element i, where it is in use
 abbrev pub least : ℕ → ℕ → ℕ → ℕ → ℕ
 least i elements objects isf = cond (ltb i elements) (objects - isf) 0
 
 abbrev pub leastFlags : ℕ → MetadataRendererState → ℕ
 leastFlags i s = least i (s .elements) (s .objects) (s .isf)
 
--- an element's flags, and its remaining ramp (plus 2^47)
+-- "a remaining ramp from -2^21 - 64 × the stream's position to 2^20": not below, where it stands plus 2^47
 abbrev pub elementIn : ℕ → ℕ → ℕ → ℕ → Bool
 elementIn position least flags remaining = leb least flags && leb middle (remaining + (2097152 + 64 * position))
 
@@ -46,17 +48,14 @@ related s =
     clockIn (s .rate) (s .clock .phase) (s .clock .position .0) (s .clock .start .0) (s .pending)
     && (countsIn (s .state .objects) (s .state .isf) (s .state .beds) && (elementRelated s 0 && elementRelated s 1))
 
+-- ---- the block
+
 -- the small part
 abbrev pub smallPart : Format Renderer714
 smallPart = such related smallFormat
 
 unfoldable pub smallValid : List ℕ → Bool
 smallValid w = smallPart .test w 0
-
--- the heads of n infos from `at` on; `heads-format` of proofs/Heads: it is the test of n infos by their format
-unfoldable pub headsValid : List ℕ → ℕ → ℕ → Bool
-headsValid is at zero = true
-headsValid is at (suc n) = headValid (word is at) && headsValid is (at + infoBytes) n
 
 -- "a state block of wrong length, or with a field outside its range": refusal 1
 unfoldable pub valid : List ℕ → Bool

@@ -1,5 +1,5 @@
--- What the methods of the renderer return, field by field: the shapes of the code, each the rules' step of the same name where infos and places are added. A reader of the rules may skip
--- them. Assumes nothing.
+-- A reader may skip this file: what the methods of the renderer return, field by field, each the rules' step of the same name where infos and places are added. Assumes
+-- nothing.
 use Prim.Native.Nat.{ℕ, _+_}
 use mathlib.Core.Bool.{cond}
 use lib.Dec.{eqb}
@@ -28,7 +28,14 @@ openedBy s rate =
 
 abbrev pub settledBy : Renderer714 → BiquadLowpassState → ℕ → Renderer714
 settledBy s low k =
-    record { rate = s .rate; clock = clockFrom (ticked (s .state .initialized) k (clockOf (s .clock))); limiter = s .limiter; filter = low; pending = s .pending + k; state = s .state }
+    record {
+      rate = s .rate;
+      clock = clockFrom (ticked (s .state .initialized) k (clockOf (s .clock)));
+      limiter = s .limiter;
+      filter = low;
+      pending = s .pending + k;
+      state = s .state;
+    }
 
 abbrev pub emptiedBy : Renderer714 → Limiter → Renderer714
 emptiedBy s l = record { rate = s .rate; clock = s .clock; limiter = l; filter = s .filter; pending = 0; state = s .state }

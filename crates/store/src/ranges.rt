@@ -1,62 +1,19 @@
 // The ranges of a block's fields.
 ghost use mathlib.Core.Path.{_≡_};
-ghost use Prim.Native.Nat.{_+_, _*_, _≤_, _<_};
+ghost use Prim.Native.Nat.{_+_, _≤_};
 ghost use mathlib.Core.Bool.{true, not, _||_};
-ghost use lib.Dec.{eqb, leb};
-ghost use lib.ListN.{length, getD};
+ghost use lib.Dec.{eqb};
 ghost use Rattle.rules.specs.Refusals as refusals;
-ghost use Rattle.formats.specs.Areas.{infoCount, infosBytes};
-ghost use Rattle.formats.specs.Format.{allAt};
 ghost use Rattle.store.specs.Fields.{longest, elementFormat, countsFormat, tablesFormat, basicsFormat, smallFormat, smallOf};
 ghost use Rattle.store.specs.Places.{stateAt, tablesAt, smallWidth};
 ghost use Rattle.store.specs.Ranges as ranges;
-ghost use Rattle.store.specs.Ranges.{clockIn, countsIn, least, elementIn, smallValid, headsValid, valid};
+ghost use Rattle.store.specs.Ranges.{clockIn, countsIn, least, elementIn, smallValid, valid};
 use crate::places;
 use crate::places::Words;
 use crate::read;
-use formats::areas;
+use formats::areas::heads_valid;
+use formats::at_most;
 use timed::state;
-
-// Whether word j of each of n entries of k words, from word `at` on, is at most `limit`.
-fn at_most(w: &Words, at: usize, j: usize, k: usize, n: usize, limit: u32) -> bool
-    requires { ⌜ (at + j + k * n ≤ smallWidth) × (j < k) ⌝ }
-    ensures { λ r. ⌜ r ≡ allAt (λ a. leb (getD (now (w .entry)) (a + j) 0) limit) k n at ⌝ }
-{
-    let mut p = at + j;
-    let mut i = 0usize;
-    while i < n {
-        if w[p] > limit {
-            return false;
-        }
-        i += 1;
-        p += k;
-    }
-    true
-}
-
-// The heads of the infos (flags + 256 anchor + 65,536 depth), with no branch a head: an OR is below a power of two where every term is.
-// The anchors go in plus 1, in the second byte: all are below 3 where those are below 4.
-fn heads_valid(infos: &[u8]) -> bool
-    requires { ⌜ length (now infos) ≡ infosBytes ⌝ }
-    ensures { λ r. ⌜ r ≡ headsValid (now (infos .entry)) 0 infoCount ⌝ }
-{
-    let mut heads = 0u32;
-    let mut anchors = 0u32;
-    let mut k = 0usize;
-    while k < areas::INFO_COUNT {
-        let h = words::u32_at(infos, areas::INFO_BYTES * k);
-        heads |= h;
-        anchors |= h % 65536 + 256;
-        k += 1;
-    }
-    if heads >= 262144 {
-        return false;
-    }
-    if heads % 256 >= 64 {
-        return false;
-    }
-    anchors < 1024
-}
 
 fn rate_valid(rate: u32) -> bool
     ensures { λ r. ⌜ r ≡ (eqb rate 0 || refusals.listed rate) ⌝ }

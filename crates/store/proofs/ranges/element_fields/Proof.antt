@@ -9,7 +9,7 @@ use Rattle.store.proofs.ranges.element_fields.Tie as tie
 
 returns : tie.Need-returns
 returns c =
-    let a = c .before .before .before .before .before .before .before .args in
+    let a = c .before .before .before .before .before .before .before .before .before .before .before .args in
     cc (blocks-test (a .w .now) 8 (a .at + headFormat .width), tracks-test (a .w .now) 16 (a .at + headFormat .width + array 8 blockFormat .width))
 
 pub element-fields-spec : {M : Type 1} → statement M

@@ -5,7 +5,7 @@ use Prim.Native.Nat.{_+_, _-_, _*_, _%_, _≤_, _<_}
 use native.Mathlib.Omega.{arith}
 use lib.ListN.{length, getD, take, length-set}
 use Rattle.formats.specs.Format.{gets, array, u8To}
-use Rattle.formats.proofs.Loops.{gets-filled, gets-full}
+use Rattle.formats.proofs.Theorems.{gets-filled, gets-full}
 use Rattle.store.proofs.read.codes.Statement.{statement}
 use Rattle.store.proofs.read.codes.Tie as tie
 

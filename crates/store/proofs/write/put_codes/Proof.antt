@@ -8,8 +8,8 @@ use lib.Dec.{lit<}
 use lib.ListN.{length, getD}
 use Rattle.words.specs.Words.{withWords}
 use Rattle.formats.specs.Format.{array, u8To}
-use Rattle.formats.proofs.Word.{lawful-u8-to}
-use Rattle.formats.proofs.Loops.{store-turn, store-none, store-all}
+use Rattle.formats.proofs.Theorems.{lawful-u8-to}
+use Rattle.formats.proofs.Theorems.{store-turn, store-none, store-all}
 use Rattle.store.proofs.write.put_codes.Statement.{statement}
 use Rattle.store.proofs.write.put_codes.Tie as tie
 

@@ -6,7 +6,7 @@ use Prim.Native.Nat.{ℕ, _+_, _*_}
 use lib.ListN.{length}
 use Rattle.words.specs.Words.{withWords}
 use Rattle.formats.specs.Format.{array}
-use Rattle.formats.proofs.Places.{spelled}
+use Rattle.formats.proofs.Theorems.{spelled}
 use Rattle.store.specs.Fields.{elementHead, headFormat, blockFormat, trackFormat}
 use Rattle.store.proofs.Back.{lawful-head}
 use Rattle.store.proofs.Stores.{element-stored}

@@ -6,7 +6,7 @@ use Prim.Native.Nat.{ℕ, _*_}
 use lib.ListN.{length}
 use Rattle.words.specs.Words.{withWords}
 use Rattle.formats.specs.Format.{u8To, float, array}
-use Rattle.formats.proofs.Places.{spelled}
+use Rattle.formats.proofs.Theorems.{spelled}
 use Rattle.store.specs.Fields.{sourceFormat, elementFormat, countsOf, countsFormat}
 use Rattle.store.specs.Places.{stateAt, tablesAt, gainsAt, sourcesAt, firstAt}
 use Rattle.store.proofs.Back.{lawful-counts}

@@ -5,7 +5,7 @@ use mathlib.Core.List.{List}
 use Prim.Native.Nat.{ℕ, _*_}
 use lib.ListN.{length}
 use Rattle.words.specs.Words.{withWords}
-use Rattle.formats.proofs.Places.{spelled}
+use Rattle.formats.proofs.Theorems.{spelled}
 use Rattle.store.specs.Fields.{basicsOf, basicsFormat, stateFormat}
 use Rattle.store.specs.Places.{stateAt}
 use Rattle.store.proofs.Back.{lawful-basics}

@@ -12,7 +12,8 @@ returns : tie.Need-returns
 returns c =
     let a = c .before .before .args in
     let d : Renderer714 = settledBy (a .self) (a .filter) (a .k) in
-    ap (λ (k : rules.Clock). record { rate = d .rate; clock = clockFrom k; limiter = d .limiter; filter = d .filter; pending = d .pending; state = d .state }) (c .before .tick .ensures)
+    ap (λ (k : rules.Clock). record { rate = d .rate; clock = clockFrom k; limiter = d .limiter; filter = d .filter; pending = d .pending; state = d .state })
+    (c .before .tick .ensures)
 
 pub settle-spec : {M : Type 1} → statement M
 settle-spec = tie.close (tie.spec (λ c κs. search needs) (λ c. search needs) returns)

@@ -6,11 +6,11 @@ use Prim.Native.Nat.{_+_, _-_, _*_, _≤_}
 use native.Mathlib.Nat.{mul-zero, add-zero, sub-zero}
 use native.Mathlib.Omega.{arith}
 use borrow.Author.Tests.{le-leb, lt-leb}
 use Rattle.formats.specs.Format.{allAt}
 use Rattle.formats.proofs.Loops.{room, all-step, all-stop, all-done}
-use Rattle.store.proofs.Tables.{most}
-use Rattle.store.proofs.ranges.at_most.Statement.{statement}
-use Rattle.store.proofs.ranges.at_most.Tie as tie
+use Rattle.formats.proofs.Loops.{most}
+use Rattle.formats.proofs.at_most.Statement.{statement}
+use Rattle.formats.proofs.at_most.Tie as tie
 
 abbrev Inv-loop : tie.InvT-loop
 Inv-loop w at j k n limit p₀ i₀ p i = (i ≤ n) × (p ≡ at + j + k * i) × (allAt (most w j limit) k n at ≡ allAt (most w j limit) k (n - i) (at + k * i))
@@ -24,8 +24,8 @@ loop-holds c = (omega arith, omega arith, rw (mul-zero, add-zero, sub-zero))
 mul-if1 : tie.Need-mul-if1 Inv-loop μ-loop
 mul-if1 c = record { fits = omega (arith, room (c .before .before .args .k) (c .loop-test .taken)) }
 
-element-copy-out-if1 : tie.Need-element-copy-out-if1 Inv-loop μ-loop
-element-copy-out-if1 c = omega (arith, room (c .before .before .args .k) (c .loop-test .taken))
+shared-slice-read-if1 : tie.Need-shared-slice-read-if1 Inv-loop μ-loop
+shared-slice-read-if1 c = omega (arith, room (c .before .before .before .args .k) (c .before .loop-test .taken))
 
 returns : tie.Need-returns Inv-loop μ-loop
 returns c =
@@ -63,7 +63,7 @@ at-most-spec =
     (λ c. search needs)
     loop-holds
     mul-if1
-    element-copy-out-if1
+    shared-slice-read-if1
     returns
     (λ c. search needs)
     add-p-2
