@@ -15,7 +15,7 @@ use Rattle.limiter.specs.Places.{channels, withChannels}
 use Rattle.rules.specs.Parts.{laid}
 use Rattle.store.specs.Layout.{size, infosOf}
 use Rattle.store.proofs.Bytes.{words-drop}
-use Rattle.render.proofs.Behind.{Fit, append-laid, length-channels}
+use Rattle.render.proofs.Theorems.{Fit, append-laid, length-channels}
 use Rattle.frame.specs.Held.{smallBytes}
 use Rattle.frame.specs.Pass.{Laid}
 

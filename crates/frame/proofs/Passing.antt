@@ -26,18 +26,16 @@ use Rattle.store.specs.declared.renderer.Renderer714.{Renderer714}
 use Rattle.store.specs.Layout.{assembled, infosOf, placesOf}
 use Rattle.store.specs.Steps.{settledBy}
 use Rattle.store.proofs.Decoded.{words-long}
-use Rattle.render.specs.Sources.{Framed, bedWith, bedsOf, plainSource, sourcesOf}
-use Rattle.render.specs.Run.{momentOf, filterAfter, rowRun, Passed}
-use Rattle.render.proofs.Channels.{fewer}
-use Rattle.render.proofs.Tables.{beds-each, sources-each}
-use Rattle.render.proofs.Steps.{filter-as, run-as}
+use Rattle.render.specs.declared.Span.{Span}
+use Rattle.render.specs.Run.{Framed, bedWith, bedsOf, plainSource, sourcesOf, momentOf, sceneAt, filterAfter, rowRun, Passed}
+use Rattle.render.proofs.Theorems.{fewer, beds-each, sources-each, filter-as, run-as}
 use Rattle.frame.specs.declared.Rendering.{Rendering}
 use Rattle.frame.specs.Held.{held, Leads}
 use Rattle.frame.specs.Chunk.{chunk}
 use Rattle.frame.specs.Out.{behind}
 use Rattle.frame.specs.Give.{CanGive, Gave}
 use Rattle.frame.specs.Pass as pass
-use Rattle.frame.specs.Pass.{readyAfter, CanPass, Laid, frameWith, Passes}
+use Rattle.frame.specs.Pass.{readyAfter, CanPass, Laid, sceneOf, frameWith, Passes}
 use Rattle.frame.proofs.Given.{none-behind}
 use Rattle.frame.proofs.Laying.{laid-nil, length-laid}
 
@@ -47,9 +45,9 @@ pub count-within : (q : Bool) {r count limit : ℕ} → r ≡ cond q count 0 →
 count-within true e h = rw e h
 count-within false e h = rw e (omega arith)
 
-pub framed-within : (q : Bool) (pcm : List ℕ) (m count n t k : ℕ) {r : ℕ} → r ≡ cond q count 0 → Framed pcm (m + count) n t k → Framed pcm (m + r) n t k
-framed-within true pcm m count n t k e h = rw e h
-framed-within false pcm m count n t k e h = rw (e, add-zero) (fewer pcm m count n t k h)
+pub framed-within : (q : Bool) (pcm : List ℕ) (m count : ℕ) (s : Span) {r : ℕ} → r ≡ cond q count 0 → Framed pcm (m + count) s → Framed pcm (m + r) s
+framed-within true pcm m count s e h = rw e h
+framed-within false pcm m count s e h = rw (e, add-zero) (fewer pcm s m count h)
 
 -- ---- the moments of a run are the rules'
 
@@ -61,7 +59,7 @@ pub record Full (m : MetadataRendererState) (objects : ℕ) : Type 0 where
 
 -- what is mixed: nothing before the first update
 abbrev pub mixed : MetadataRendererState → List ℕ → ℕ → List ℕ → ℕ → ℕ → Moment
-mixed m codes objects pcm n = momentOf (bedsOf (cond (m .initialized) (m .beds) 0) (m .codes) (m .gains)) (sourcesOf (cond (m .initialized) objects 0) (m .sources)) codes pcm n
+mixed m codes objects = sceneAt (sceneOf m objects) codes
 
 module _ (codes pcm : List ℕ) (objects n t c : ℕ) where
   -- the same beds and objects, each with its own sample

@@ -14,8 +14,9 @@ use Rattle.rules.specs.Samples.{Frame, Renderer, moment, settled}
 use Rattle.theorem.specs.Instance.{Sent, hall}
 use Rattle.store.specs.declared.renderer.Renderer714.{Renderer714}
 use Rattle.store.specs.Layout.{size, infosOf, placesOf}
-use Rattle.render.specs.Sources.{Framed}
-use Rattle.render.specs.Run.{filterAfter, rowRun}
+use Rattle.timed.specs.declared.state.MetadataRendererState.{MetadataRendererState}
+use Rattle.render.specs.declared.Scene.{Scene}
+use Rattle.render.specs.Run.{Framed, filterAfter, rowRun}
 use Rattle.frame.specs.Held.{held, smallBytes, IsNext}
 use Rattle.frame.specs.Chunk.{chunk}
 use Rattle.frame.specs.Out.{behind}
@@ -28,7 +29,7 @@ readyAfter ready pending = cond (eqb pending 0) (ready + 64) ready
 -- what is asked: the k samples from t on of a frame of n samples a channel; the frame's objects are the state's dynamic ones
 pub record CanPass (s : Renderer714) (state pcm codes : List ℕ) (objects n t k : ℕ) : Type 0 where
   pub block : length state ≡ size
-  pub framed : Framed pcm (length codes + objects) n t k
+  pub framed : Framed pcm (length codes + objects) (record { frame = n; first = t; count = k })
   pub inputs : length codes ≤ 18
   pub few : objects ≤ 16
   pub beds : s .state .beds ≤ 18
@@ -37,6 +38,11 @@ pub record CanPass (s : Renderer714) (state pcm codes : List ℕ) (objects n t k
   pub phase : s .clock .phase ≤ 64
   pub position : s .clock .position .0 ≤ 1099511627776
   pub start : s .clock .start .0 ≤ 1099511627776
+
+-- "Samples before the first update are silent": what sounds of a timed state, of whose objects the first are those of the frame
+abbrev pub sceneOf : MetadataRendererState → ℕ → Scene
+sceneOf m objects =
+    record { codes = m .codes; gains = m .gains; beds = cond (m .initialized) (m .beds) 0; sources = m .sources; objects = cond (m .initialized) objects 0 }
 
 -- the first k places of each row behind the pending samples of its channel; the small part's bytes and the infos stay
 pub record Laid (placesAfter : List Float) (pending k : ℕ) (state state' : List ℕ) : Type 0 where

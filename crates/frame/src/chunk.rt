@@ -9,15 +9,16 @@ ghost use Prim.Native.Nat.{ℕ, _+_, _≤_};
 ghost use lib.ListN.{length};
 ghost use Rattle.formats.specs.Areas.{rowPlaces, placeCount};
 ghost use Rattle.theorem.specs.Instance.{Sent};
-ghost use Rattle.render.specs.Sources.{Framed, bedsOf, sourcesOf};
-ghost use Rattle.render.specs.Run.{momentOf, Passed};
+ghost use Rattle.render.specs.Run.{Framed, sceneAt, Passed};
 ghost use Rattle.store.specs.Layout.{size};
 ghost use Rattle.frame.specs.Held.{Leads};
-ghost use Rattle.frame.specs.Pass.{CanPass, Laid, frameWith, settledAt};
+ghost use Rattle.frame.specs.Pass.{CanPass, Laid, sceneOf, frameWith, settledAt};
 use crate::Rendering;
 use clock::FrameOffset;
 use formats::areas;
 use lowpass::BiquadLowpassState;
+use render::Scene;
+use render::Span;
 use timed::state::MetadataRendererState;
 
 // A count, or none before the first update.
@@ -35,32 +36,24 @@ fn mix(
     pcm: &[u8],
     codes: &[u8],
     objects: usize,
-    n: usize,
-    t: usize,
-    k: usize,
+    span: Span,
 ) -> BiquadLowpassState
-    requires { ⌜ Framed (now pcm) (length (now codes) + objects) n t k × (length (now rows) ≡ placeCount) × (length (now codes) ≤ 18) × (m .beds ≤ 18) × (objects ≤ 16) ⌝ }
-    ensures { λ r. ⌜ Passed (momentOf (bedsOf (cond (m .initialized) (m .beds) 0) (m .codes) (m .gains)) (sourcesOf (cond (m .initialized) objects 0) (m .sources)) (now (codes .entry)) (now (pcm .entry)) n) filter t k (now (rows .exit)) r ⌝ }
+    requires { ⌜ Framed (now pcm) (length (now codes) + objects) span × (length (now rows) ≡ placeCount) × (length (now codes) ≤ 18) × (m .beds ≤ 18) × (objects ≤ 16) ⌝ }
+    ensures { λ r. ⌜ Passed (sceneAt (sceneOf m objects) (now (codes .entry)) (now (pcm .entry)) (span .frame)) filter (span .first) (span .count) (now (rows .exit)) r ⌝ }
 {
     let wanted = m.codes;
     let gains = m.gains;
     let sources = m.sources;
     let beds = audible(m.initialized, m.beds);
     let dynamic = audible(m.initialized, objects);
-    render::run::pass_run(
-        rows,
-        pcm,
-        codes,
-        wanted,
+    let scene = Scene {
+        codes: wanted,
         gains,
         beds,
         sources,
-        dynamic,
-        n,
-        t,
-        k,
-        filter,
-    )
+        objects: dynamic,
+    };
+    render::run::pass_run(rows, pcm, codes, scene, span, filter)
 }
 
 // The rows' first k places behind the pending samples of the block.
@@ -90,7 +83,13 @@ impl Rendering {
         let mut rows = [0.0f32; areas::PLACE_COUNT];
         let m = self.renderer.state;
         let before = self.renderer.filter;
-        let filter = mix(m, before, &mut rows, pcm, codes, objects, n, t.index(), k);
+        let first = t.index();
+        let span = Span {
+            frame: n,
+            first,
+            count: k,
+        };
+        let filter = mix(m, before, &mut rows, pcm, codes, objects, span);
         lay(state, &rows, self.renderer.pending as usize, k);
         let next = self.renderer.settle(filter, k as u32);
         self.renderer = next;

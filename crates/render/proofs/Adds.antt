@@ -18,7 +18,7 @@ use Rattle.mixing.proofs.Theorems.{full-at, total-append}
 use Rattle.mixing.proofs.Parts.{length-part, part-before, part-within, part-past}
 use Rattle.panning.specs.Terms.{Term, onChannel}
 use Rattle.rules.specs.Mix.{scaledBy}
-use Rattle.render.specs.Rows.{mixedTerm, mixedTerms}
+use Rattle.render.specs.MixedRows.{mixedTerm, mixedTerms}
 
 -- `new` is `os` with the terms of `G` added: `G c i` at place i of channel c's row, for the first k places of each row
 pub record Adds (k : ℕ) (G : ℕ → ℕ → List sums.Addend) (os new : List Float) : Type 0 where

@@ -1,18 +1,62 @@
--- A run of samples within which no update and no slot starts: beds and objects stay the same. Assumes nothing.
+-- A run: samples within which no update falls and no slot starts, so that beds and objects stay as they are. What it asks, and what it leaves in twelve rows. Assumes nothing.
 use Prim.Native.Nat.{ℕ, zero, suc, _+_, _*_, _≤_, _<_}
 use mathlib.Core.Path.{_≡_}
-use mathlib.Core.List.{List, [], _∷_, _++_}
+use mathlib.Core.List.{List, [], _∷_, _++_, map}
 use lib.ListN.{length, getD, take, drop}
 use lib.Ieee.{Float, nan}
 use Rattle.formats.specs.Areas.{rowCount, rowPlaces, placeCount}
-use Rattle.rules.specs.Parts.{0·0}
-use Rattle.rules.specs.Leaves.{Source, Bed}
+use Rattle.mixing.specs.Patterns.{Plain}
 use Rattle.lowpass.specs.Lowpass.{next}
 use Rattle.lowpass.specs.declared.BiquadLowpassState.{BiquadLowpassState}
+use Rattle.timed.specs.declared.state.DynamicSourceState.{DynamicSourceState}
+use Rattle.rules.specs.Parts.{0·0}
+use Rattle.rules.specs.Leaves.{Source, Bed}
 use Rattle.rules.specs.Mix.{sampleAt, samplesAt, Moment, heard, fed}
 use Rattle.rules.specs.Samples.{row}
+use Rattle.render.specs.declared.Scene.{Scene}
+use Rattle.render.specs.declared.Span.{Span}
 
--- the moment at sample t of a frame of n samples a channel
+-- ---- what is asked
+
+-- PCM of m channels, none of whose samples is a NaN, of which a run takes a span of at most 64
+pub record Framed (pcm : List ℕ) (m : ℕ) (s : Span) : Type 0 where
+  pub room : 4 * (m * s .frame) ≤ length pcm
+  pub plain : Plain pcm 0 (m * s .frame)
+  pub span : s .first + s .count ≤ s .frame
+  pub short : s .count ≤ rowPlaces
+
+-- PCM for the frame's inputs and the objects that sound, all rows, and no count above what its table holds
+pub record CanMix (pcm codes : List ℕ) (scene : Scene) (s : Span) (rows : List Float) : Type 0 where
+  pub framed : Framed pcm (length codes + scene .objects) s
+  pub whole : length rows ≡ placeCount
+  pub inputs : length codes ≤ 18
+  pub beds : scene .beds ≤ 18
+  pub objects : scene .objects ≤ 16
+
+-- ---- the beds and the objects of a scene, as the rules list them
+
+abbrev pub bedWith : ℕ → Float → Bed
+bedWith code gain = record { code = code; gain = gain }
+
+abbrev pub zipped : List ℕ → List Float → List Bed
+zipped [] gs = []
+zipped (c ∷ cs) [] = []
+zipped (c ∷ cs) (g ∷ gs) = bedWith c g ∷ zipped cs gs
+
+-- the first m of a table of beds: codes and gains
+abbrev pub bedsOf : ℕ → List ℕ → List Float → List Bed
+bedsOf m cs gs = zipped (take m cs) (take m gs)
+
+abbrev pub plainSource : DynamicSourceState → Source
+plainSource d = record { gain = d .gain; size = d .size; place = d .place }
+
+-- the first m of a table of objects
+abbrev pub sourcesOf : ℕ → List DynamicSourceState → List Source
+sourcesOf m ds = map plainSource (take m ds)
+
+-- ---- moments
+
+-- Document 01: "PCM comes channel after channel, beds then objects". The moment at sample t of a frame of n samples a channel.
 abbrev pub momentOf : List Bed → List Source → List ℕ → List ℕ → ℕ → ℕ → Moment
 momentOf beds objects codes pcm n t =
     record {
@@ -23,7 +67,12 @@ momentOf beds objects codes pcm n t =
       own = samplesAt pcm n (length objects) (length codes) t;
     }
 
--- what is heard on channel c at the k samples from t on
+abbrev pub sceneAt : Scene → List ℕ → List ℕ → ℕ → ℕ → Moment
+sceneAt s = momentOf (bedsOf (s .beds) (s .codes) (s .gains)) (sourcesOf (s .objects) (s .sources))
+
+-- ---- what is left: before the low-pass
+
+-- Document 01, item 6: "Sums in the source's order". What is heard on channel c at the k samples from t on.
 abbrev pub column : (ℕ → Moment) → ℕ → ℕ → ℕ → List Float
 column m c t zero = []
 column m c t (suc k) = heard (m t) c ∷ column m c (suc t) k
@@ -34,7 +83,7 @@ pub record Heard (m : ℕ → Moment) (t k : ℕ) (rows : List Float) : Type 0 w
   pub columns : (c : ℕ) → c < rowCount → take k (drop (rowPlaces * c) rows) ≡ column m c t k
   pub rest : (c i : ℕ) → c < rowCount → k ≤ i → i < rowPlaces → getD rows (rowPlaces * c + i) nan ≡ 0·0
 
--- ---- with the low-pass
+-- ---- what is left: with the low-pass
 
 -- the filter after the k samples from t on
 abbrev pub filterAfter : (ℕ → Moment) → BiquadLowpassState → ℕ → ℕ → BiquadLowpassState

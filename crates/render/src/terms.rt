@@ -6,7 +6,7 @@ ghost use mathlib.Core.Path.{_≡_};
 ghost use Prim.Native.Nat.{_-_, _<_, _≤_};
 ghost use Rattle.panning.specs.Speakers.{fullRange, terms714};
 ghost use Rattle.panning.specs.Terms.{term, paired, spread};
-ghost use Rattle.render.specs.Rows.{Sized, AmongTwelve, upFrom, mixedTerm, mixedTerms};
+ghost use Rattle.render.specs.MixedRows.{Sized, AmongTwelve, upFrom, mixedTerm, mixedTerms};
 use formats::areas;
 use vectors::Vec3;
 

@@ -39,7 +39,7 @@ settles c rate us =
     let s = a .self .renderer in
     let ly = c .before .before .before in
     let mx = c .before .before .before .before .before .before .before .before .mix in
-    let at = c .before .before .before .before .before .before .before .before .before .index .ensures in
+    let at = c .before .before .before .before .before .before .before .before .before .before .index .ensures in
     held-settled (frame c rate us) (a .t .0) (a .k) s (a .state .now) (mixed (s .state) (a .codes .now) (a .objects) (a .pcm .now) (a .n))
     (same-heard rate us (a .codes .now) (a .pcm .now) (a .objects) (a .n) s (a .state .now) (full (start c)) (start c .pre .dynamic)) (mx .last .1 .1 .0) (mx .result) (rw at at (mx .ensures))
     (ly .lay .last .0) (ly .lay .ensures) (c .settle .ensures)
@@ -50,7 +50,7 @@ returns c =
     λ rate us. record { next = record { holds = record { is = settles c rate us; long = l .long }; small = l .small }; ready = refl; meters = refl }
 
 mix-requires : tie.Need-mix-requires
-mix-requires c κs = let p = c .before .before .before .before .before .before .before .pre in (rw (c .index .ensures) (p .framed), search needs, p .inputs, p .beds, p .few)
+mix-requires c κs = let p = c .before .before .before .before .before .before .before .pre in (rw (c .before .index .ensures) (p .framed), search needs, p .inputs, p .beds, p .few)
 
 cast-settle : tie.Need-cast-settle
 cast-settle c = let p = c .before .before .before .before .before .before .before .before .before .before .before .before .before .before .before .pre in omega (arith, p .pending)
@@ -62,8 +62,8 @@ pub pass-spec : {M : Type 1} → statement M
 pass-spec =
     tie.close
     (tie.spec
-    (λ c. search needs)
     (λ c κs. search needs)
+    (λ c. search needs)
     mix-requires
     (λ c. search needs) (λ c. search needs)
     (λ c κs. search needs)

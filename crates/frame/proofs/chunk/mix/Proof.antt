@@ -12,7 +12,13 @@ pass-run-requires c κs =
     let q = a .m .initialized in
     let n = c .before .before .audible .ensures in
     let d = c .before .audible2 .ensures in
-    (framed-within q (a .pcm .now) (length (a .codes .now)) (a .objects) (a .n) (a .t) (a .k) d (s .pre .0), s .pre .1, s .pre .2, count-within q n (s .pre .3), count-within q d (s .pre .4))
+    record {
+      framed = framed-within q (a .pcm .now) (length (a .codes .now)) (a .objects) (a .span) d (s .pre .0);
+      whole = s .pre .1;
+      inputs = s .pre .2;
+      beds = count-within q n (s .pre .3);
+      objects = count-within q d (s .pre .4);
+    }
 
 returns : tie.Need-returns
 returns c =

@@ -5,7 +5,7 @@ use native.Mathlib.Omega.{arith}
 use Prim.Native.Nat.{_+_, _*_}
 use lib.ListN.{length, drop}
 use Rattle.limiter.specs.Places.{channels, withChannels}
-use Rattle.render.proofs.Stores.{channel-step, channels-done}
+use Rattle.render.proofs.WrittenRows.{channel-step, channels-done}
 use Rattle.render.proofs.places.append_rows.Statement.{statement}
 use Rattle.render.proofs.places.append_rows.Tie as tie
 

@@ -7,7 +7,7 @@ use Prim.Native.Nat.{_-_, _≤_}
 use lib.ListN.{length, drop, replicate}
 use lib.Ieee.{nan, ofBits}
 use Rattle.rules.specs.Parts.{0·0}
-use Rattle.render.proofs.Loops.{clear-step, clear-done}
+use Rattle.render.proofs.MixedInOrder.{clear-step, clear-done}
 use Rattle.render.proofs.run.clear.Statement.{statement}
 use Rattle.render.proofs.run.clear.Tie as tie
 

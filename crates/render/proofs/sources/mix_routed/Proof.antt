@@ -7,9 +7,9 @@ use Rattle.beds.proofs.Channels.{direct-channel}
 use Rattle.panning.specs.Speakers.{terms714}
 use Rattle.panning.specs.Terms.{term}
 use Rattle.rules.specs.Parts.{0·0}
-use Rattle.render.specs.Sources.{routeTerms}
-use Rattle.render.specs.Rows.{mixedTerm, mixedTerms}
-use Rattle.render.proofs.Routes.{by-route}
+use Rattle.render.specs.MixedSources.{routeTerms}
+use Rattle.render.specs.MixedRows.{mixedTerm, mixedTerms}
+use Rattle.render.proofs.BedTerms.{by-route}
 use Rattle.render.proofs.sources.mix_routed.Statement.{statement}
 use Rattle.render.proofs.sources.mix_routed.Tie as tie
 

@@ -4,8 +4,8 @@ use mathlib.Core.Path.{_≡_}
 use Prim.Native.Nat.{_-_, _≤_}
 use lib.ListN.{length, drop}
 use Rattle.panning.specs.Terms.{paired}
-use Rattle.render.specs.Rows.{mixedTerms}
-use Rattle.render.proofs.Mixed.{corner-step, corners-done}
+use Rattle.render.specs.MixedRows.{mixedTerms}
+use Rattle.render.proofs.MixedTerms.{corner-step, corners-done}
 use Rattle.render.proofs.terms.mix_corners.Statement.{statement}
 use Rattle.render.proofs.terms.mix_corners.Tie as tie
 

@@ -4,8 +4,8 @@ use mathlib.Core.Path.{ap, _∙_}
 use Rattle.panning.specs.declared.Panned.{Panned}
 use Rattle.panning.specs.Speakers.{fullRange}
 use Rattle.panning.specs.Terms.{terms, paired}
-use Rattle.render.specs.Rows.{mixedTerms}
-use Rattle.render.proofs.Mixed.{mixed-panned}
+use Rattle.render.specs.MixedRows.{mixedTerms}
+use Rattle.render.proofs.MixedTerms.{mixed-panned}
 use Rattle.render.proofs.terms.mix_object.Statement.{statement}
 use Rattle.render.proofs.terms.mix_object.Tie as tie
 

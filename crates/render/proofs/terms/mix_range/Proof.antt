@@ -5,8 +5,8 @@ use native.Mathlib.Omega.{arith}
 use Prim.Native.Nat.{_-_, _≤_}
 use lib.ListN.{length}
 use Rattle.panning.specs.Terms.{spread}
-use Rattle.render.specs.Rows.{upFrom, mixedTerms}
-use Rattle.render.proofs.Mixed.{range-step, range-done}
+use Rattle.render.specs.MixedRows.{upFrom, mixedTerms}
+use Rattle.render.proofs.MixedTerms.{range-step, range-done}
 use Rattle.render.proofs.terms.mix_range.Statement.{statement}
 use Rattle.render.proofs.terms.mix_range.Tie as tie
 

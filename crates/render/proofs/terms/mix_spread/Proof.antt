@@ -3,8 +3,8 @@ use borrow.Author.Needs.{needs}
 use mathlib.Core.Path.{sym, ap, _∙_}
 use Rattle.panning.specs.Speakers.{fullRange}
 use Rattle.panning.specs.Terms.{spread}
-use Rattle.render.specs.Rows.{upFrom, mixedTerms}
-use Rattle.render.proofs.Mixed.{spread-none}
+use Rattle.render.specs.MixedRows.{upFrom, mixedTerms}
+use Rattle.render.proofs.MixedTerms.{spread-none}
 use Rattle.render.proofs.terms.mix_spread.Statement.{statement}
 use Rattle.render.proofs.terms.mix_spread.Tie as tie
 

@@ -1,6 +1,6 @@
 -- `mix_term`: the part that was lent is the term's row.
 use borrow.Author.Needs.{needs}
-use Rattle.render.specs.Rows.{mixedTerm}
+use Rattle.render.specs.MixedRows.{mixedTerm}
 use Rattle.render.proofs.terms.mix_term.Statement.{statement}
 use Rattle.render.proofs.terms.mix_term.Tie as tie
 

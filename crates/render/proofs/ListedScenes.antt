@@ -9,7 +9,7 @@ use Rattle.records.specs.Runs.{each}
 use Rattle.timed.specs.Objects.{noSource}
 use Rattle.timed.specs.declared.state.DynamicSourceState.{DynamicSourceState}
 use Rattle.rules.specs.Leaves.{Source, Bed}
-use Rattle.render.specs.Sources.{bedWith, bedsOf, plainSource, sourcesOf}
+use Rattle.render.specs.Run.{bedWith, bedsOf, plainSource, sourcesOf}
 
 pub beds-each : (m : ℕ) (cs : List ℕ) (gs : List Float) → m ≤ length cs → m ≤ length gs → each (λ k. bedWith (getD cs k 0) (getD gs k nan)) m ≡ bedsOf m cs gs
 unfolding each

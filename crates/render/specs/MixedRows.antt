@@ -1,4 +1,5 @@
--- A run of samples in twelve rows of 64 places, row c from place 64 × c on: what mixing leaves there, source after source. Assumes nothing.
+-- A reader may skip this file: what the code leaves in twelve rows of 64 places, row c from place 64 × c on, term after term. At each place that is the sum of the terms on its
+-- channel (`adds-terms`). Assumes nothing.
 use Prim.Native.Nat.{ℕ, zero, suc, _*_, _≤_, _<_}
 use mathlib.Core.Path.{_≡_}
 use mathlib.Core.List.{List, [], _∷_}

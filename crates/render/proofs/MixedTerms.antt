@@ -13,7 +13,7 @@ use Rattle.mixing.specs.Part.{onPart}
 use Rattle.mixing.proofs.Theorems.{full-zero}
 use Rattle.panning.specs.Terms.{Term, term, terms, audible, paired, spread}
 use Rattle.panning.specs.declared.Panned.{Panned}
-use Rattle.render.specs.Rows.{upFrom, mixedTerm, mixedTerms}
+use Rattle.render.specs.MixedRows.{upFrom, mixedTerm, mixedTerms}
 
 module _ (xs : List Float) where
   -- ---- nothing to add

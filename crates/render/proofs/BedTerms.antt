@@ -18,16 +18,20 @@ use Rattle.panning.specs.Speakers.{pan714}
 use Rattle.rules.specs.Parts.{0·0}
 use Rattle.rules.specs.Leaves.{Bed}
 use Rattle.rules.specs.Mix.{addsOf}
-use Rattle.render.specs.Rows.{mixedTerms}
-use Rattle.render.specs.Sources.{bedWith, routeTerms, bedTerms, mixedFound}
+use Rattle.render.specs.MixedRows.{mixedTerms}
+use Rattle.render.specs.declared.Span.{Span}
+use Rattle.render.specs.Run.{bedWith}
+use Rattle.render.specs.MixedSources.{routeTerms, bedTerms, mixedFound}
 
-pub by-route : (xs os : List Float) (code : ℕ) (gain : Float) {r : Route} {new : List Float} → routeOf code ≡ r → new ≡ mixedTerms xs (routeTerms r code gain) os
+pub by-route : (xs os : List Float) (code : ℕ) (gain : Float) {r : Route} {new : List Float} → routeOf code ≡ r
+    → new ≡ mixedTerms xs (routeTerms r code gain) os
     → new ≡ mixedTerms xs (bedTerms (bedWith code gain)) os
 by-route xs os code gain e p = p ∙ ap (λ (s : Route). mixedTerms xs (routeTerms s code gain) os) (sym e)
 
-pub by-found : (pcm : List ℕ) (n t k : ℕ) (ts : List Term) (os : List Float) {found f : Found} {new : List Float} → found ≡ f → new ≡ mixedFound pcm n t k ts f os
-    → new ≡ mixedFound pcm n t k ts found os
-by-found pcm n t k ts os e p = p ∙ ap (λ (g : Found). mixedFound pcm n t k ts g os) (sym e)
+pub by-found : (pcm : List ℕ) (s : Span) (ts : List Term) (os : List Float) {found f : Found} {new : List Float} → found ≡ f
+    → new ≡ mixedFound pcm s ts f os
+    → new ≡ mixedFound pcm s ts found os
+by-found pcm s ts os e p = p ∙ ap (λ (g : Found). mixedFound pcm s ts g os) (sym e)
 
 -- what is found is one of the inputs
 pub found-inside : (code : ℕ) (codes : List ℕ) {i : ℕ} → matching code codes ≡ At i → i < length codes
