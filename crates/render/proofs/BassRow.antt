@@ -62,7 +62,8 @@ module _ (m : ℕ → Moment) where
         go false e =
             let a = r (ltb-false j 192 e) in
             let s : 192 + (k + (j - (192 + k))) ≡ j = omega arith in
-            subst (λ (i : ℕ). getD (onPart (filtered low) 192 k rows) i nan ≡ getD rows i nan) s (part-past (filtered low) (length-filtered low) 192 k rows room (j - (192 + k)) nan)
+            subst (λ (i : ℕ). getD (onPart (filtered low) 192 k rows) i nan ≡ getD rows i nan) s
+            (part-past (filtered low) (length-filtered low) 192 k rows room (j - (192 + k)) nan)
 
     pub passed : Passed m low t k new last
     passed = record {

@@ -10,7 +10,9 @@ use Rattle.render.proofs.places.append_rows.Statement.{statement}
 use Rattle.render.proofs.places.append_rows.Tie as tie
 
 abbrev Inv-loop : tie.InvT-loop
-Inv-loop rows places₀ pending k from₀ to₀ left₀ places from to left = (from + 64 * left ≡ 768) × (to + 256 * left ≡ 3072 + 4 * pending) × (length places ≡ length places₀) × (withChannels (channels left k (drop from rows)) 256 to places ≡ withChannels (channels 12 k rows) 256 (4 * pending) places₀)
+Inv-loop rows places₀ pending k from₀ to₀ left₀ places from to left =
+    (from + 64 * left ≡ 768) × (to + 256 * left ≡ 3072 + 4 * pending) × (length places ≡ length places₀)
+    × (withChannels (channels left k (drop from rows)) 256 to places ≡ withChannels (channels 12 k rows) 256 (4 * pending) places₀)
 
 abbrev μ-loop : tie.MeasureT-loop
 μ-loop rows places₀ pending k from₀ to₀ left₀ places from to left = left
@@ -19,7 +21,9 @@ loop-again : tie.Need-loop-again Inv-loop μ-loop
 loop-again c =
     let l = c .before .before .before .before .before .before in
     let a = l .before .before .before .args in
-    (search needs, search needs, search needs, channel-step (l .loop .from) (l .loop .to) (l .loop .left) (a .k) (a .rows .now) (l .loop .places) (omega arith) (c .before .before .store-samples .ensures) (l .loop .inv .3))
+    let v = l .loop in
+    let s = c .before .before .store-samples in
+    (search needs, search needs, search needs, channel-step (v .from) (v .to) (v .left) (a .k) (a .rows .now) (v .places) (omega arith) (s .ensures) (v .inv .3))
 
 returns : tie.Need-returns Inv-loop μ-loop
 returns c =
@@ -30,12 +34,6 @@ returns c =
 pub append-rows-spec : {M : Type 1} → statement M
 append-rows-spec =
     tie.close
-    (tie.spec
-    Inv-loop
-    μ-loop
-    (λ c. search needs) (λ c. search needs) (λ c. search needs) (λ c. search needs) (λ c. search needs) (λ c. search needs) (λ c. search needs)
-    (λ c κs. search needs)
-    (λ c. search needs) (λ c. search needs) (λ c. search needs) (λ c. search needs)
-    loop-again
-    (λ c. search needs)
-    returns)
+    (tie.spec Inv-loop μ-loop (λ c. search needs) (λ c. search needs) (λ c. search needs) (λ c. search needs) (λ c. search needs)
+    (λ c. search needs) (λ c. search needs) (λ c κs. search needs) (λ c. search needs) (λ c. search needs) (λ c. search needs)
+    (λ c. search needs) loop-again (λ c. search needs) returns)

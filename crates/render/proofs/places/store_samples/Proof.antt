@@ -10,7 +10,8 @@ use Rattle.render.proofs.places.store_samples.Statement.{statement}
 use Rattle.render.proofs.places.store_samples.Tie as tie
 
 abbrev Inv-loop : tie.InvT-loop
-Inv-loop samples places₀ at i₀ places i = (i ≤ length samples) × (length places ≡ length places₀) × (withFloats places (at + 4 * i) (drop i samples) ≡ withFloats places₀ at samples)
+Inv-loop samples places₀ at i₀ places i =
+    (i ≤ length samples) × (length places ≡ length places₀) × (withFloats places (at + 4 * i) (drop i samples) ≡ withFloats places₀ at samples)
 
 abbrev μ-loop : tie.MeasureT-loop
 μ-loop samples places₀ at i₀ places i = length samples - i
@@ -33,13 +34,5 @@ returns c =
 pub store-samples-spec : {M : Type 1} → statement M
 store-samples-spec =
     tie.close
-    (tie.spec
-    Inv-loop
-    μ-loop
-    loop-holds
-    (λ c. search needs) (λ c. search needs) (λ c. search needs) (λ c. search needs)
-    (λ c κs. search needs)
-    (λ c. search needs) (λ c. search needs)
-    loop-again
-    (λ c. search needs)
-    returns)
+    (tie.spec Inv-loop μ-loop loop-holds (λ c. search needs) (λ c. search needs) (λ c. search needs) (λ c. search needs) (λ c κs. search needs)
+    (λ c. search needs) (λ c. search needs) loop-again (λ c. search needs) returns)

@@ -14,13 +14,11 @@ returns c =
     let a = c .before .before .before .before .before .args in
     let p = c .before .before .process-in-place in
     let e : 192 + a .k - 192 ≡ a .k = omega arith in
-    (p .ensures .0 ∙ ap (λ (n : ℕ). afterAll (a .filter) (take n (drop 192 (a .rows .now)))) e, part-back (filtered (a .filter)) 192 (a .k) (a .rows .now) (p .last .1 .0) (p .ensures .1))
+    let after = p .ensures .0 ∙ ap (λ (n : ℕ). afterAll (a .filter) (take n (drop 192 (a .rows .now)))) e in
+    (after, part-back (filtered (a .filter)) 192 (a .k) (a .rows .now) (p .last .1 .0) (p .ensures .1))
 
 pub filter-bass-spec : {M : Type 1} → statement M
 filter-bass-spec =
     tie.close
-    (tie.spec
-    (λ c. search needs) (λ c. search needs) (λ c. search needs) (λ c. search needs) (λ c. search needs)
-    (λ c κs. search needs)
-    (λ c. search needs)
-    returns)
+    (tie.spec (λ c. search needs) (λ c. search needs) (λ c. search needs) (λ c. search needs) (λ c. search needs) (λ c κs. search needs)
+    (λ c. search needs) returns)

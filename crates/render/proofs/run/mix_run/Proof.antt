@@ -37,9 +37,4 @@ returns c =
 pub mix-run-spec : {M : Type 1} → statement M
 mix-run-spec =
     tie.close
-    (tie.spec
-    (λ c κs. search needs)
-    mix-beds-requires
-    mix-sources-requires
-    (λ c. search needs)
-    returns)
+    (tie.spec (λ c κs. search needs) mix-beds-requires mix-sources-requires (λ c. search needs) returns)

@@ -23,8 +23,4 @@ returns c =
 pub pass-run-spec : {M : Type 1} → statement M
 pass-run-spec =
     tie.close
-    (tie.spec
-    (λ c κs. search needs)
-    filter-bass-requires
-    (λ c. search needs)
-    returns)
+    (tie.spec (λ c κs. search needs) filter-bass-requires (λ c. search needs) returns)

@@ -59,14 +59,5 @@ returns-2 c =
 pub mix-bed-spec : {M : Type 1} → statement M
 mix-bed-spec =
     tie.close
-    (tie.spec
-    (λ c κs. search needs)
-    (λ c. search needs) (λ c. search needs)
-    returns
-    (λ c. search needs)
-    read-channel-requires
-    array-share-prefix-row
-    slice-aggregate-mix-routed
-    mix-routed-requires
-    (λ c. search needs)
-    returns-2)
+    (tie.spec (λ c κs. search needs) (λ c. search needs) (λ c. search needs) returns (λ c. search needs) read-channel-requires
+    array-share-prefix-row slice-aggregate-mix-routed mix-routed-requires (λ c. search needs) returns-2)

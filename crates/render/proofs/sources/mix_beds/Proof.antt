@@ -51,13 +51,5 @@ returns c =
 pub mix-beds-spec : {M : Type 1} → statement M
 mix-beds-spec =
     tie.close
-    (tie.spec
-    Inv-loop
-    μ-loop
-    loop-holds
-    (λ c. search needs) (λ c. search needs) (λ c. search needs)
-    (λ c κs. search needs)
-    (λ c. search needs) (λ c. search needs)
-    loop-again
-    (λ c. search needs)
-    returns)
+    (tie.spec Inv-loop μ-loop loop-holds (λ c. search needs) (λ c. search needs) (λ c. search needs) (λ c κs. search needs) (λ c. search needs)
+    (λ c. search needs) loop-again (λ c. search needs) returns)

@@ -46,11 +46,5 @@ returns c =
 pub mix-source-spec : {M : Type 1} → statement M
 mix-source-spec =
     tie.close
-    (tie.spec
-    (λ c. search needs)
-    read-channel-requires
-    array-share-prefix-row
-    slice-aggregate-mix-object
-    mix-object-requires
-    (λ c. search needs)
-    returns)
+    (tie.spec (λ c. search needs) read-channel-requires array-share-prefix-row slice-aggregate-mix-object mix-object-requires
+    (λ c. search needs) returns)

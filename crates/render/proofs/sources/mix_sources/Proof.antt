@@ -56,13 +56,5 @@ returns c =
 pub mix-sources-spec : {M : Type 1} → statement M
 mix-sources-spec =
     tie.close
-    (tie.spec
-    Inv-loop
-    μ-loop
-    loop-holds
-    (λ c. search needs) (λ c. search needs) (λ c. search needs)
-    mix-source-requires
-    (λ c. search needs) (λ c. search needs)
-    loop-again
-    (λ c. search needs)
-    returns)
+    (tie.spec Inv-loop μ-loop loop-holds (λ c. search needs) (λ c. search needs) (λ c. search needs) mix-source-requires (λ c. search needs)
+    (λ c. search needs) loop-again (λ c. search needs) returns)

@@ -29,9 +29,5 @@ returns c =
 pub read-channel-spec : {M : Type 1} → statement M
 read-channel-spec =
     tie.close
-    (tie.spec
-    (λ c. search needs) (λ c. search needs) (λ c. search needs) (λ c. search needs)
-    slice-aggregate-read-row
-    read-row-requires
-    (λ c. search needs)
-    returns)
+    (tie.spec (λ c. search needs) (λ c. search needs) (λ c. search needs) (λ c. search needs) slice-aggregate-read-row read-row-requires
+    (λ c. search needs) returns)

@@ -10,7 +10,9 @@ use Rattle.render.proofs.terms.mix_corners.Statement.{statement}
 use Rattle.render.proofs.terms.mix_corners.Tie as tie
 
 abbrev Inv-loop : tie.InvT-loop
-Inv-loop rows₀ samples corners coefficients j₀ rows j = (j ≤ 8) × (length rows ≡ length rows₀) × (mixedTerms samples (paired (drop j corners) (drop j coefficients)) rows ≡ mixedTerms samples (paired corners coefficients) rows₀)
+Inv-loop rows₀ samples corners coefficients j₀ rows j =
+    (j ≤ 8) × (length rows ≡ length rows₀)
+    × (mixedTerms samples (paired (drop j corners) (drop j coefficients)) rows ≡ mixedTerms samples (paired corners coefficients) rows₀)
 
 abbrev μ-loop : tie.MeasureT-loop
 μ-loop rows₀ samples corners coefficients j₀ rows j = 8 - j
@@ -22,7 +24,8 @@ loop-again : tie.Need-loop-again Inv-loop μ-loop
 loop-again c =
     let l = c .before .before .before .before .before in
     let a = l .before .before .before .args in
-    (search needs, search needs, corner-step (a .samples .now) (l .loop .j) (a .t3) (a .t4) (l .loop .rows) (search needs) (search needs) (c .before .before .mix-term .ensures) (l .loop .inv .2))
+    let m = c .before .before .mix-term in
+    (search needs, search needs, corner-step (a .samples .now) (l .loop .j) (a .t3) (a .t4) (l .loop .rows) (search needs) (search needs) (m .ensures) (l .loop .inv .2))
 
 returns : tie.Need-returns Inv-loop μ-loop
 returns c =
@@ -33,12 +36,5 @@ returns c =
 pub mix-corners-spec : {M : Type 1} → statement M
 mix-corners-spec =
     tie.close
-    (tie.spec
-    Inv-loop
-    μ-loop
-    (λ c. search needs) (λ c. search needs) (λ c. search needs) (λ c. search needs) (λ c. search needs)
-    mix-term-requires
-    (λ c. search needs) (λ c. search needs)
-    loop-again
-    (λ c. search needs)
-    returns)
+    (tie.spec Inv-loop μ-loop (λ c. search needs) (λ c. search needs) (λ c. search needs) (λ c. search needs) (λ c. search needs)
+    mix-term-requires (λ c. search needs) (λ c. search needs) loop-again (λ c. search needs) returns)

@@ -25,8 +25,4 @@ returns c =
 pub mix-object-spec : {M : Type 1} → statement M
 mix-object-spec =
     tie.close
-    (tie.spec
-    (λ c κs. search needs) (λ c κs. search needs)
-    mix-corners-requires
-    (λ c. search needs)
-    returns)
+    (tie.spec (λ c κs. search needs) (λ c κs. search needs) mix-corners-requires (λ c. search needs) returns)

@@ -11,7 +11,9 @@ use Rattle.render.proofs.terms.mix_range.Statement.{statement}
 use Rattle.render.proofs.terms.mix_range.Tie as tie
 
 abbrev Inv-loop : tie.InvT-loop
-Inv-loop rows₀ samples from to gain c₀ rows c = (from ≤ c) × (c ≤ to) × (length rows ≡ length rows₀) × (mixedTerms samples (spread (upFrom c (to - c)) gain) rows ≡ mixedTerms samples (spread (upFrom from (to - from)) gain) rows₀)
+Inv-loop rows₀ samples from to gain c₀ rows c =
+    (from ≤ c) × (c ≤ to) × (length rows ≡ length rows₀)
+    × (mixedTerms samples (spread (upFrom c (to - c)) gain) rows ≡ mixedTerms samples (spread (upFrom from (to - from)) gain) rows₀)
 
 abbrev μ-loop : tie.MeasureT-loop
 μ-loop rows₀ samples from to gain c₀ rows c = to - c
@@ -20,7 +22,8 @@ loop-again : tie.Need-loop-again Inv-loop μ-loop
 loop-again c =
     let l = c .before .before .before .before .before in
     let a = l .before .before .before .args in
-    (search needs, search needs, search needs, range-step (a .samples .now) (l .loop .c) (a .to) (a .gain) (l .loop .rows) (omega arith) (c .before .before .mix-term .ensures) (l .loop .inv .3))
+    let m = c .before .before .mix-term in
+    (search needs, search needs, search needs, range-step (a .samples .now) (l .loop .c) (a .to) (a .gain) (l .loop .rows) (omega arith) (m .ensures) (l .loop .inv .3))
 
 returns : tie.Need-returns Inv-loop μ-loop
 returns c =
@@ -31,12 +34,5 @@ returns c =
 pub mix-range-spec : {M : Type 1} → statement M
 mix-range-spec =
     tie.close
-    (tie.spec
-    Inv-loop
-    μ-loop
-    (λ c. search needs)
-    (λ c κs. search needs)
-    (λ c. search needs) (λ c. search needs)
-    loop-again
-    (λ c. search needs)
+    (tie.spec Inv-loop μ-loop (λ c. search needs) (λ c κs. search needs) (λ c. search needs) (λ c. search needs) loop-again (λ c. search needs)
     returns)

@@ -14,13 +14,10 @@ returns c = sym (spread-none _ fullRange _ _ (c .if1 .taken))
 returns-2 : tie.Need-returns-2
 returns-2 c =
     let a = c .before .before .before .before .before .before .before .before .before .before .before .args in
-    c .before .before .mix-range2 .ensures ∙ ap (mixedTerms (a .samples .now) (spread (upFrom 4 8) (a .gain))) (c .before .before .before .before .before .before .mix-range .ensures)
+    c .before .before .mix-range2 .ensures
+    ∙ ap (mixedTerms (a .samples .now) (spread (upFrom 4 8) (a .gain))) (c .before .before .before .before .before .before .mix-range .ensures)
 
 pub mix-spread-spec : {M : Type 1} → statement M
 mix-spread-spec =
     tie.close
-    (tie.spec
-    returns
-    (λ c κs. search needs) (λ c κs. search needs)
-    (λ c. search needs)
-    returns-2)
+    (tie.spec returns (λ c κs. search needs) (λ c κs. search needs) (λ c. search needs) returns-2)

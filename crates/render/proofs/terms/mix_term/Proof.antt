@@ -11,8 +11,4 @@ returns c = c .before .before .mix-segment .ensures
 pub mix-term-spec : {M : Type 1} → statement M
 mix-term-spec =
     tie.close
-    (tie.spec
-    (λ c. search needs)
-    (λ c κs. search needs)
-    (λ c. search needs)
-    returns)
+    (tie.spec (λ c. search needs) (λ c κs. search needs) (λ c. search needs) returns)
