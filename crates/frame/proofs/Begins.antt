@@ -11,7 +11,7 @@ use lib.ListN.{length, getD}
 use Rattle.timed.specs.State.{Timed, slotAt}
 use Rattle.timed.specs.Contracts.{IsTimed}
 use Rattle.timed.specs.declared.state.MetadataRendererState.{MetadataRendererState}
-use Rattle.timed.proofs.Kept as timed
+use Rattle.timed.proofs.Theorems as timed
 use Rattle.fields.specs.Update.{offset}
 use Rattle.records.specs.Runs.{each}
 use Rattle.records.specs.Laid.{updateAt, count}

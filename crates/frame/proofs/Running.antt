@@ -17,7 +17,7 @@ use Rattle.records.specs.Answers.{IsLayout, offsetAt}
 use Rattle.records.specs.Order.{nextOffset}
 use Rattle.records.specs.declared.layout.Layout.{Layout}
 use Rattle.records.proofs.Times.{next-within, next-above, next-least}
-use Rattle.updates.specs.Whole.{WholeUpdates}
+use Rattle.updates.specs.WholeRecords.{WholeUpdates}
 use Rattle.updates.specs.Applied.{applied}
 use Rattle.updates.proofs.Passed.{passes-all}
 use Rattle.mixing.proofs.Passes.{pass-plain}

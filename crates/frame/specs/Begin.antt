@@ -10,7 +10,7 @@ use Rattle.timed.specs.declared.state.MetadataRendererState.{MetadataRendererSt
 use Rattle.records.specs.Order.{FirstAt}
 use Rattle.records.specs.Answers.{IsLayout, offsetAt}
 use Rattle.records.specs.declared.layout.Layout as records
-use Rattle.updates.specs.Whole.{WholeUpdates}
+use Rattle.updates.specs.WholeRecords.{WholeUpdates}
 use Rattle.rules.specs.Samples.{Renderer, updated}
 use Rattle.store.specs.declared.renderer.Renderer714.{Renderer714}
 use Rattle.store.specs.Layout.{size}

@@ -6,7 +6,7 @@ ghost use mathlib.Core.Path.{_≡_};
 ghost use mathlib.Core.Bool.{cond};
 ghost use Prim.Native.Nat.{_≤_};
 ghost use lib.ListN.{length};
-ghost use Rattle.updates.specs.Whole.{WholeUpdate, WholeUpdates};
+ghost use Rattle.updates.specs.WholeRecords.{WholeUpdate, WholeUpdates};
 ghost use Rattle.records.specs.Answers.{IsLayout};
 ghost use Rattle.rules.specs.Refusals.{clear, bedFound, bedsFound};
 ghost use Rattle.refusals.specs.Found.{foundOf};

@@ -2,7 +2,7 @@
 ghost use mathlib.Core.Path.{_≡_};
 ghost use mathlib.Core.Bool.{cond};
 ghost use Prim.Native.Nat.{_≤_};
-ghost use Rattle.updates.specs.Whole.{WholeUpdate, WholeUpdates};
+ghost use Rattle.updates.specs.WholeRecords.{WholeUpdate, WholeUpdates};
 ghost use Rattle.records.specs.Answers.{IsLayout};
 ghost use Rattle.refusals.specs.Told.{saidShape, presentShape, presentOf, IsAfter};
 use clock::FrameOffset;

@@ -26,12 +26,12 @@ use Rattle.timed.specs.declared.state.BlockState.{BlockState}
 use Rattle.timed.specs.declared.state.Track.{Track}
 use Rattle.timed.specs.declared.state.DynamicSourceState.{DynamicSourceState}
 use Rattle.timed.specs.declared.state.ElementRendererState.{ElementRendererState}
-use Rattle.timed.proofs.Keeps.{times-in, times-keeps, cond-keeps, set-each}
+use Rattle.timed.proofs.Theorems.{times-in, times-keeps, cond-keeps, set-each}
 use Rattle.updates.specs.Said.{Element, Update, updateOf}
 use Rattle.updates.specs.Applied.{0·707, newSource, newTrack, nextSources, nextGains, blockGiven, scheduled, elementNext, isKept, isSame, Work, elementGiven, elementsApplied}
 use Rattle.updates.specs.Applied.{codeGiven, codesGiven, applied}
-use Rattle.updates.specs.Whole.{WholeUpdate}
-use Rattle.updates.proofs.Kept.{applied-within}
+use Rattle.updates.specs.WholeRecords.{WholeUpdate}
+use Rattle.updates.proofs.Theorems.{applied-within}
 use Rattle.updates.proofs.Elements.{flags-enough}
 use Rattle.store.specs.Ranges.{headValid, headsValid}
 use Rattle.store.specs.Ranged.{Single, Singles, SourceSingles, TrackSingles, InfosRanged}

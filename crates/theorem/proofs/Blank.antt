@@ -13,7 +13,7 @@ use Rattle.timed.specs.Objects.{noSource, noTrack}
 use Rattle.timed.specs.State.{Timed, noElement}
 use Rattle.timed.specs.declared.state.Track.{Track}
 use Rattle.timed.specs.declared.state.ElementRendererState.{ElementRendererState}
-use Rattle.timed.proofs.Kept as timed′
+use Rattle.timed.proofs.Theorems as timed′
 use Rattle.store.specs.Layout.{still, noBlocks, blank}
 use Rattle.store.proofs.Fresh.{fresh-ranged}
 use Rattle.theorem.proofs.Sound.{SourceSound, InfosSound, Sound, Within}

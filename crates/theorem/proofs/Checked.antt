@@ -29,7 +29,7 @@ use Rattle.records.specs.Ranges.{inRange}
 use Rattle.records.proofs.Reached.{whole-records, update-whole, update-is, element-whole, object-is}
 use Rattle.records.proofs.Meant.{all-within}
 use Rattle.updates.specs.Stored.{headOf}
-use Rattle.updates.specs.Whole.{WholeUpdate}
+use Rattle.updates.specs.WholeRecords.{WholeUpdate}
 use Rattle.updates.proofs.Passed.{passes}
 use Rattle.store.specs.Ranges.{headValid}
 use Rattle.store.proofs.Tables.{and-in}

@@ -12,10 +12,10 @@ use Rattle.words.proofs.Back.{reads-back}
 use Rattle.words.proofs.Beside.{reads-before, reads-past}
 use Rattle.words.proofs.Numbers.{length-kept}
 use Rattle.fields.specs.declared.object.Info.{Info}
-use Rattle.timed.proofs.Keeps.{times-in}
+use Rattle.timed.proofs.Theorems.{times-in}
 use Rattle.updates.specs.Said.{Element}
 use Rattle.updates.specs.Stored.{headOf, withHead, withInfo, infoGiven, objectStored, objectGiven, objectsStored}
-use Rattle.updates.proofs.Written.{Stored, one, twice, places-stored}
+use Rattle.updates.proofs.Theorems.{Stored, one, twice, places-stored}
 
 -- what is said of an info by its head, gain and size
 abbrev pub Said : Type 1

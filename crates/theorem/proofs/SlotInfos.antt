@@ -23,7 +23,7 @@ use Rattle.timed.specs.declared.state.DynamicSourceState.{DynamicSourceState}
 use Rattle.timed.specs.declared.objects.Moving.{Moving}
 use Rattle.timed.specs.declared.slot.Timing.{Timing}
 use Rattle.timed.specs.declared.slot.Reach.{Reach}
-use Rattle.timed.proofs.Keeps.{times-keeps, cond-keeps}
+use Rattle.timed.proofs.Theorems.{times-keeps, cond-keeps}
 use Rattle.theorem.proofs.SlotShape.{slotOn}
 
 -- js has is's words before each position

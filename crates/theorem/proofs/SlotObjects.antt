@@ -22,7 +22,7 @@ use Rattle.timed.specs.Objects as objects
 use Rattle.timed.specs.declared.state.Track.{Track}
 use Rattle.timed.specs.declared.state.DynamicSourceState.{DynamicSourceState}
 use Rattle.timed.specs.declared.objects.Moving.{Moving}
-use Rattle.timed.proofs.Keeps.{times-in, cond-keeps, set-each}
+use Rattle.timed.proofs.Theorems.{times-in, cond-keeps, set-each}
 use Rattle.theorem.proofs.SlotInfos.{Like, like-head, moved-like}
 
 -- absent, or with P

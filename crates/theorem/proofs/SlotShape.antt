@@ -19,7 +19,7 @@ use Rattle.timed.specs.declared.objects.Moving.{Moving}
 use Rattle.timed.specs.declared.slot.Slot.{Slot}
 use Rattle.timed.specs.declared.slot.Timing.{Timing}
 use Rattle.timed.specs.declared.slot.Reach.{Reach}
-use Rattle.timed.proofs.Keeps.{times-keeps, cond-keeps, set-each}
+use Rattle.timed.proofs.Theorems.{times-keeps, cond-keeps, set-each}
 
 -- tables as long as those of a slot
 pub record Long (s t : Slot) : Type 0 where

@@ -18,7 +18,7 @@ use Rattle.timed.specs.declared.state.MetadataRendererState.{MetadataRendererSt
 use Rattle.timed.specs.declared.slot.Slot.{Slot}
 use Rattle.timed.specs.declared.slot.Timing.{Timing}
 use Rattle.timed.specs.declared.slot.Reach.{Reach}
-use Rattle.timed.proofs.Keeps.{times-keeps, cond-keeps, set-each}
+use Rattle.timed.proofs.Theorems.{times-keeps, cond-keeps, set-each}
 use Rattle.theorem.proofs.SlotShape.{slotOn}
 use Rattle.theorem.proofs.SlotInfos.{applied-like}
 use Rattle.theorem.proofs.SlotObjects.{SourceHas, InfosHave, MovingHas, like-has, moved-all-has, ramped-all-has, bed-gains-have}

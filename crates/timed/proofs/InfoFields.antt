@@ -15,7 +15,7 @@ use Rattle.vectors.specs.declared.Maybe.{Maybe}
 use Rattle.vectors.specs.declared.Maybe.the-variants.{Absent, Value}
 use Rattle.vectors.specs.Head.{headIn, anchorOf, has}
 use Rattle.vectors.proofs.Theorems.{IsBit, flag-of-word}
-use Rattle.timed.specs.Sizes.{gainByte, sizeByte, distanceByte, screenByte, positionByte, lastByte, infoAt}
+use Rattle.timed.specs.InfoSizes.{gainByte, sizeByte, distanceByte, screenByte, positionByte, lastByte, infoAt}
 use Rattle.timed.specs.Infos.{depthOf, infoOf, presentWith, gainSaid, sizeSaid, positionSaid, headAt, maybeAt, vecAt, gainAt, sizeAt, blockPosition}
 
 module _ (is : List ℕ) (k : ℕ) where

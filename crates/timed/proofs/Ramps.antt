@@ -8,9 +8,9 @@ use lib.ListN.{getD}
 use native.Mathlib.Omega.{arith}
 use borrow.Author.Tests.{ltb-true, leb-false}
 use Rattle.timed.proofs.Shifted.{due-shifted, left-shifted, over-shifted, less-shifted}
-use Rattle.timed.proofs.Keeps.{times-in, cond-keeps, set-each}
+use Rattle.timed.proofs.Invariants.{times-in, cond-keeps, set-each}
 use Rattle.timed.specs.Rules.{middle, noBlock, due, leftAfter, remainingOf, rampOver}
-use Rattle.timed.specs.Bounds.{Ramps, InRange}
+use Rattle.timed.specs.Preconditions.{Ramps, InRange}
 use Rattle.timed.specs.Slot.{SlotWork, blockApplied, blockTurn, blocksApplied, rampApplied, updatedSources}
 use Rattle.timed.specs.declared.state.BlockState.{BlockState}
 use Rattle.timed.specs.declared.state.Track.{Track}
@@ -60,7 +60,8 @@ module _ (p : ℕ) (w : Timing) (r : Reach) (early : w .start .0 ≤ p) where
 
 -- ---- the ramp
 
-pub ramp-ramps : (p : ℕ) (before : List Track) (n : ℕ) (s : Slot) → Ramps p (s .schedule) (s .remaining) → Ramps p (rampApplied before n s .schedule) (rampApplied before n s .remaining)
+pub ramp-ramps : (p : ℕ) (before : List Track) (n : ℕ) (s : Slot) → Ramps p (s .schedule) (s .remaining) →
+    Ramps p (rampApplied before n s .schedule) (rampApplied before n s .remaining)
 unfolding rampApplied
 ramp-ramps p before n s h =
     cond-keeps (λ (x : Slot). Ramps p (x .schedule) (x .remaining)) (rampOver (remainingOf (s .remaining))) s _ (λ _. h)
@@ -75,10 +76,13 @@ ramp-ramps p before n s h =
 
 -- ---- the element
 
-pub sources-range : (p : ℕ) (w : Timing) (r : Reach) (e : ElementRendererState) (gains : List Float) (sources : List DynamicSourceState) (is : List ℕ) → w .start .0 ≤ p → InRange p e → InRange p (updatedSources w r e gains sources is .updated .element)
+pub sources-range : (p : ℕ) (w : Timing) (r : Reach) (e : ElementRendererState) (gains : List Float) (sources : List DynamicSourceState) (is : List ℕ) →
+    w .start .0 ≤ p → InRange p e → InRange p (updatedSources w r e gains sources is .updated .element)
 unfolding updatedSources
 sources-range p w r e gains sources is early h =
     record { blocks = h .blocks; ramps = ramp-ramps p (e .tracks) (r .count) _ (blocks-ramps p w r early (e .blocks) _ (h .blocks) (h .ramps)) }
 
 pub later : (p q : ℕ) (e : ElementRendererState) → p ≤ q → InRange p e → InRange q e
-later p q e l h = record { blocks = h .blocks; ramps = record { offsets = h .ramps .offsets; ramps = h .ramps .ramps; most = h .ramps .most; least = omega (arith, h .ramps .least) } }
+later p q e l h =
+    let r = h .ramps in
+    record { blocks = h .blocks; ramps = record { offsets = r .offsets; ramps = r .ramps; most = r .most; least = omega (arith, r .least) } }

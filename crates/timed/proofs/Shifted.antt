@@ -76,7 +76,8 @@ module _ (w : Timing) (b : BlockState) where
   unfolding due
   due-shifted = by (b .used) (is-lt (offsetOf b) (timecode w) (b .offset) 1048576 (w .start .0) (w .payload .0) offset-is timecode-is)
     where
-      by : (u : Bool) {s : Bool} → s ≡ ltb (b .offset + w .payload .0) (w .start .0 + 1048576) → (not u && s) ≡ cond u false (ltb (w .payload .0 + b .offset) (w .start .0 + 1048576))
+      by : (u : Bool) {s : Bool} → s ≡ ltb (b .offset + w .payload .0) (w .start .0 + 1048576)
+          → (not u && s) ≡ cond u false (ltb (w .payload .0 + b .offset) (w .start .0 + 1048576))
       by true e = refl
       by false e = e ∙ (let q : b .offset + w .payload .0 ≡ w .payload .0 + b .offset = omega arith in rw q)
 
@@ -124,8 +125,11 @@ module _ (e : ElementRendererState) where
 
   pub begins-shifted : (w : Timing) → begins w e ≡ beginsShifted w e
   unfolding begins
-  begins-shifted w = by (eqb (e .blocks) 0) from-zero (is-le (firstOffset e) (timecode w) o 1048576 (w .start .0) (w .payload .0) (first-is e) (is-less (w .start .0) (w .payload .0)))
+  begins-shifted w = by (eqb (e .blocks) 0) from-zero up-to
     where
+      up-to : leZ (firstOffset e) (timecode w) ≡ leb (o + w .payload .0) (w .start .0 + 1048576)
+      up-to = is-le (firstOffset e) (timecode w) o 1048576 (w .start .0) (w .payload .0) (first-is e) (is-less (w .start .0) (w .payload .0))
+
       turn : o + w .payload .0 ≡ w .payload .0 + o
       turn = omega arith
 

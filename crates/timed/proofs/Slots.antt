@@ -6,7 +6,7 @@ use mathlib.Core.List.{List}
 use lib.ListN.{getD}
 use native.Mathlib.Omega.{arith}
 use borrow.Author.Tests.{eq-eqb, ne-eqb}
-use Rattle.timed.proofs.Keeps.{cond-keeps}
+use Rattle.timed.proofs.Invariants.{cond-keeps}
 use Rattle.timed.specs.Rules.{begins, active}
 use Rattle.timed.specs.Slot.{updatedSources}
 use Rattle.timed.specs.Contracts.{IsUpdated, IsTimed}
@@ -17,7 +17,8 @@ use Rattle.timed.specs.declared.slot.Timing.{Timing}
 use Rattle.timed.specs.declared.slot.Updated.{Updated}
 
 -- one step of the downward search
-pub taken-more : (w : Timing) (es : List ElementRendererState) (i : ℕ) → (i ≡ 0 → ⊥) → elementTaken w es i ≡ cond (begins w (getD es (i - 1) noElement)) (i - 1) (elementTaken w es (i - 1))
+pub taken-more : (w : Timing) (es : List ElementRendererState) (i : ℕ) → (i ≡ 0 → ⊥) →
+    elementTaken w es i ≡ cond (begins w (getD es (i - 1) noElement)) (i - 1) (elementTaken w es (i - 1))
 unfolding elementTaken
 taken-more w es zero h = absurd (h refl)
 taken-more w es (suc i) h = let e : suc i - 1 ≡ i = omega arith in rw e
@@ -49,6 +50,7 @@ module _ (start : ℕ) (t : Timed) (i : ℕ) (some : t .state .elements ≡ 0 �
   slot-idle a = let q = ne-eqb (t .state .elements) 0 some in record { state = rw (q, ← found, a); infos = rw (q, ← found, a) }
 
   -- the element taken has its slot
-  pub slot-moves : (s : MetadataRendererState) (is : List ℕ) → active (elementOf (t .state) i) ≡ true → IsTimed (slotOf (timingOf start (t .state)) i t) s is → IsTimed (slotAt start t) s is
+  pub slot-moves : (s : MetadataRendererState) (is : List ℕ) → active (elementOf (t .state) i) ≡ true → IsTimed (slotOf (timingOf start (t .state)) i t) s is →
+      IsTimed (slotAt start t) s is
   unfolding slotAt
   slot-moves s is a h = let q = ne-eqb (t .state .elements) 0 some in rw (q, ← found, a) h

@@ -7,10 +7,10 @@ pub use Rattle.timed.proofs.Shifted.{remaining-reads-back, kept-reads-b
 -- a signed number as a difference: sums, differences and comparisons
 pub use Rattle.timed.proofs.Differences.{Is, is-pos, is-less, is-plus, is-minus, is-natural, is-lt, is-le, is-one}
 -- a slot keeps the ranges of the state; a later stream position has wider ones
-pub use Rattle.timed.proofs.Kept.{slot-within, within-later}
+pub use Rattle.timed.proofs.SlotInRange.{slot-within, within-later}
 -- what the code reads of an info's bytes is what the info's format reads
 pub use Rattle.timed.proofs.InfoFields.{gain-said, size-said, position-said}
--- one turn more, and the last is over
-pub use Rattle.timed.proofs.Laws.{turn, ended}
+-- a loop of n turns: those that are left lead from the value now to that at the end
+pub use Rattle.timed.proofs.LoopTurns.{Leads, leads, leads-on, leads-to}
 -- what every turn keeps, what both ways of a test keep, what holds of every entry of a table
-pub use Rattle.timed.proofs.Keeps.{times-in, times-keeps, cond-keeps, set-each, set-keeps}
+pub use Rattle.timed.proofs.Invariants.{times-in, times-keeps, cond-keeps, set-each, set-keeps}

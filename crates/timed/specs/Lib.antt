@@ -1,10 +1,10 @@
 pub mod Turns
-pub mod Sizes
+pub mod InfoSizes
 pub mod Infos
 pub mod Objects
 pub mod Rules
 pub mod Shifted
 pub mod Slot
 pub mod State
-pub mod Bounds
+pub mod Preconditions
 pub mod Contracts

@@ -13,7 +13,7 @@ use Rattle.vectors.specs.declared.Placed.{Placed}
 use Rattle.vectors.specs.Vectors.{lerpVec3}
 use Rattle.vectors.specs.Target.{placed}
 use Rattle.timed.specs.Turns.{times}
-use Rattle.timed.specs.Sizes.{mostBlocks, positionByte, lastByte, infoAt}
+use Rattle.timed.specs.InfoSizes.{mostBlocks, positionByte, lastByte, infoAt}
 use Rattle.timed.specs.Infos.{gainAt, sizeAt, blockPosition, withVec}
 use Rattle.timed.specs.declared.state.DynamicSourceState.{DynamicSourceState}
 use Rattle.timed.specs.declared.state.Track.{Track}

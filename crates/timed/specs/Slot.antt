@@ -6,7 +6,7 @@ use lib.ListN.{getD, set}
 use lib.Ieee.{Float}
 use Rattle.timed.specs.Turns.{times}
 pub use Rattle.timed.specs.Rules.{middle, noBlock}
-pub use Rattle.timed.specs.Bounds.{InRange}
+pub use Rattle.timed.specs.Preconditions.{InRange}
 use Rattle.timed.specs.Rules.{remainingOf, keptAs, due, leftAfter, rampOver, share, slotLess}
 use Rattle.timed.specs.Objects.{movedAll, bedGains, rampedAll}
 use Rattle.timed.specs.declared.state.BlockState.{BlockState}
@@ -77,7 +77,8 @@ pub record Sourced : Type 0 where
 unfoldable pub updatedSources : Timing → Reach → ElementRendererState → List Float → List DynamicSourceState → List ℕ → Sourced
 unfolding due leftAfter remainingOf keptAs share blocksApplied rampApplied
 updatedSources w r e gains sources is =
-    let k = blocksApplied w r (e .blocks) (record { slot = record { schedule = e .schedule; remaining = e .remaining; gains = gains; sources = sources; tracks = e .tracks }; infos = is }) in
+    let begun : Slot = record { schedule = e .schedule; remaining = e .remaining; gains = gains; sources = sources; tracks = e .tracks } in
+    let k = blocksApplied w r (e .blocks) (record { slot = begun; infos = is }) in
     let s = rampApplied (e .tracks) (r .count) (k .slot) in
     record {
       updated = record {

@@ -4,10 +4,10 @@ use mathlib.Core.Bool.{cond}
 use mathlib.Core.List.{List}
 use lib.Dec.{eqb}
 use lib.ListN.{getD, set}
-use Rattle.timed.specs.Sizes.{mostBlocks, elementInfos}
+use Rattle.timed.specs.InfoSizes.{mostBlocks, elementInfos}
 pub use Rattle.timed.specs.Rules.{noElement, elementOf}
 use Rattle.timed.specs.Rules.{active, begins}
-pub use Rattle.timed.specs.Bounds.{Within}
+pub use Rattle.timed.specs.Preconditions.{Within}
 use Rattle.timed.specs.Slot.{Sourced, updatedSources}
 use Rattle.timed.specs.declared.state.ElementRendererState.{ElementRendererState}
 use Rattle.timed.specs.declared.state.MetadataRendererState.{MetadataRendererState}
@@ -48,10 +48,13 @@ slotLeft s i a =
       infos = a .infos;
     }
 
--- a slot of element i
+-- a slot of element i: what it makes of the element, the beds, the objects and the infos, and the state after it
+abbrev pub elementSlot : Timing → ℕ → Timed → Sourced
+elementSlot w i t = updatedSources w (reachOf (t .state) i) (elementOf (t .state) i) (t .state .gains) (t .state .sources) (t .infos)
+
 unfoldable pub slotOf : Timing → ℕ → Timed → Timed
 unfolding updatedSources
-slotOf w i t = slotLeft (t .state) i (updatedSources w (reachOf (t .state) i) (elementOf (t .state) i) (t .state .gains) (t .state .sources) (t .infos))
+slotOf w i t = slotLeft (t .state) i (elementSlot w i t)
 
 -- "The timecode is the slot's start less the last applied update's stream position."
 abbrev pub timingOf : ℕ → MetadataRendererState → Timing

@@ -1,12 +1,12 @@
 // SPDX-License-Identifier: Apache-2.0
 // Translated from libstarmine_ad render.rs; changed.
 
-// The object infos: what an object in a block says, and what it keeps from update to update. The numbers are those of specs/Sizes.antt.
+// The object infos: what an object in a block says, and what it keeps from update to update. The numbers are those of specs/InfoSizes.antt.
 ghost use mathlib.Core.Path.{_≡_};
 ghost use Prim.Native.Nat.{_+_, _*_, _<_, _≤_};
 ghost use lib.ListN.{length};
 ghost use Rattle.vectors.specs.Head.{anchorOf, has};
-ghost use Rattle.timed.specs.Sizes.{allInfos, infoBytes, infoAt};
+ghost use Rattle.timed.specs.InfoSizes.{allInfos, infoBytes, infoAt};
 ghost use Rattle.timed.specs.Infos.{depthOf, maybeAt, vecAt, withVec, blockPosition};
 use formats::info;
 use roots::Depth;

@@ -5,7 +5,7 @@
 ghost use mathlib.Core.Path.{_≡_};
 ghost use Prim.Native.Nat.{ℕ, _+_, _*_, _<_, _≤_};
 ghost use lib.ListN.{length};
-ghost use Rattle.timed.specs.Sizes.{mostBlocks, allInfos, infoBytes, allBytes, infoAt};
+ghost use Rattle.timed.specs.InfoSizes.{mostBlocks, allInfos, infoBytes, allBytes, infoAt};
 ghost use Rattle.timed.specs.Objects.{orElse, objectMoved, movedAll, bedGains, ramped, rampedAll};
 ghost use Rattle.timed.specs.Contracts.{IsMoved, IsMovedAll};
 use crate::infos;

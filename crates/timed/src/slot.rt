@@ -5,10 +5,10 @@
 ghost use mathlib.Core.Path.{_≡_};
 ghost use Prim.Native.Nat.{ℕ, _+_, _-_, _*_, _<_, _≤_};
 ghost use lib.ListN.{length};
-ghost use Rattle.timed.specs.Sizes.{mostBlocks, allBytes};
+ghost use Rattle.timed.specs.InfoSizes.{mostBlocks, allBytes};
 ghost use Rattle.timed.specs.Rules.{remainingOf, keptAs, due, leftAfter, share, active, begins};
 ghost use Rattle.timed.specs.Slot.{blockApplied, blocksApplied, rampApplied, updatedSources};
-ghost use Rattle.timed.specs.Bounds.{InTime, InRange, Reaches};
+ghost use Rattle.timed.specs.Preconditions.{InTime, InRange, Reaches};
 ghost use Rattle.timed.specs.Contracts.{IsSlotWork, IsUpdated};
 use crate::objects;
 use crate::objects::Moving;

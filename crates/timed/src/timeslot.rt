@@ -5,9 +5,9 @@
 ghost use mathlib.Core.Path.{_≡_};
 ghost use Prim.Native.Nat.{_+_, _<_, _≤_};
 ghost use lib.ListN.{length};
-ghost use Rattle.timed.specs.Sizes.{mostElements, allBytes};
+ghost use Rattle.timed.specs.InfoSizes.{mostElements, allBytes};
 ghost use Rattle.timed.specs.State.{elementTaken, slotOf, slotAt};
-ghost use Rattle.timed.specs.Bounds.{InTime, Within};
+ghost use Rattle.timed.specs.Preconditions.{InTime, Within};
 ghost use Rattle.timed.specs.Contracts.{IsTimed};
 use crate::infos::BLOCKS;
 use crate::infos::ELEMENT_INFOS;

@@ -67,7 +67,11 @@ module _ (n : ℕ) (u : Update) (t : Timed) (e : ℕ) where
   abbrev s : MetadataRendererState
   s = t .state
 
-  enough : (kept : Bool) → isKept (isSame s u) (elementOf s e .blocks) (u .element e .blocks) ≡ kept → e < u .elements → (e < s .elements → s .objects - s .isf ≤ elementOf s e .flags) →
+  -- where element e was one, its flags were enough
+  abbrev Had : Type 0
+  Had = e < s .elements → s .objects - s .isf ≤ elementOf s e .flags
+
+  enough : (kept : Bool) → isKept (isSame s u) (elementOf s e .blocks) (u .element e .blocks) ≡ kept → e < u .elements → Had →
       u .objects - u .isf ≤ cond kept (elementOf s e .flags) (u .objects - u .isf)
   enough true k l had =
       let elements : Bool = eqb (s .elements) (u .elements) in
@@ -80,6 +84,6 @@ module _ (n : ℕ) (u : Update) (t : Timed) (e : ℕ) where
       omega arith
   enough false k l had = omega arith
 
-  pub flags-enough : e < u .elements → e < length (s .states) → (e < s .elements → s .objects - s .isf ≤ elementOf s e .flags) → u .objects - u .isf ≤ elementOf (applied n u t .state) e .flags
+  pub flags-enough : e < u .elements → e < length (s .states) → Had → u .objects - u .isf ≤ elementOf (applied n u t .state) e .flags
   unfolding elementNext
   flags-enough h l had = rw (element-at n u t e h l) (enough (isKept (isSame s u) (elementOf s e .blocks) (u .element e .blocks)) refl h had)

@@ -16,7 +16,7 @@ use Rattle.words.proofs.Numbers.{length-kept}
 use Rattle.vectors.specs.Vectors.{zeroVec3}
 use Rattle.fields.specs.declared.object.Info.{Info}
 use Rattle.vectors.specs.Head.{has}
-use Rattle.timed.specs.Sizes.{infoNumber}
+use Rattle.timed.specs.InfoSizes.{infoNumber}
 use Rattle.timed.specs.Infos.{vecAt}
 use Rattle.timed.specs.Rules.{middle, noBlock}
 use Rattle.timed.specs.Turns.{times}
@@ -28,7 +28,7 @@ use Rattle.updates.specs.Said.{Element, Update}
 use Rattle.updates.specs.Stored.{withThree, cleared, withPlace, headOf, withHead, withInfo, infoGiven, objectStored, objectGiven, objectsStored}
 use Rattle.updates.specs.Applied.{Work, isSame, scheduled, elementNext, elementGiven, elementsApplied, applied}
 use Rattle.updates.specs.Lifted.{WithinCounts, Afresh}
-use Rattle.updates.proofs.Written.{Stored, head-stored, place-stored, three, info-stored, object-stored, objects-stored}
+use Rattle.updates.proofs.StoredInfos.{Stored, head-stored, place-stored, three, info-stored, object-stored, objects-stored}
 use Rattle.updates.proofs.Elements.{turned-at, element-at}
 
 -- ---- turn k makes what the others leave
@@ -120,11 +120,11 @@ info-origin bed i k s l n =
     let m = head-stored (headOf bed i) i (44 * k) s .long in
     let c = cleared-origin at a (omega arith) in
     let p = place-stored i at (cleared true at a) in
+    let q : at + 12 ≡ 44 * k + 32 = omega arith in
     record {
       long = info-stored true bed i (44 * k) s .long ∙ n;
       position = λ e. rw (no-place i at (cleared true at a) e) (c .0);
-      last =
-          subst (λ (j : ℕ). vecAt (withPlace i at (cleared true at a)) j ≡ zeroVec3) (let q : at + 12 ≡ 44 * k + 32 = omega arith in q) (vec-beside (at + 12) (p .kept) (inr (omega arith)) ∙ c .1);
+      last = subst (λ (j : ℕ). vecAt (withPlace i at (cleared true at a)) j ≡ zeroVec3) q (vec-beside (at + 12) (p .kept) (inr (omega arith)) ∙ c .1);
     }
 
 -- ---- an object's infos, an element's, all
@@ -140,7 +140,8 @@ apart n a b at ne = by (ltb a b) refl
     by true e = let l = ltb-true a b e in inl (omega (arith, mul-le-mul-left {m = suc a} {n = b} n l))
     by false e = let l = ltb-false a b e in inr (omega (arith, mul-le-mul-left {m = suc b} {n = a} n (omega arith)))
 
-object-origin : (bed : Bool) (x : Element) (first o b : ℕ) (s : List ℕ) → first + 8 ≤ 512 → x .blocks ≤ 8 → b < x .blocks → Long s → Origin (x .info o b) (first + b) (objectStored true bed x first o s)
+object-origin : (bed : Bool) (x : Element) (first o b : ℕ) (s : List ℕ) → first + 8 ≤ 512 → x .blocks ≤ 8 → b < x .blocks → Long s →
+    Origin (x .info o b) (first + b) (objectStored true bed x first o s)
 unfolding objectStored
 object-origin bed x first o b s most few l h =
     made Long (Origin (x .info o b) (first + b)) (infoGiven true bed x first o) (x .blocks) b
@@ -161,8 +162,9 @@ objects-origin isf x first n o b s most all few l m h =
     origin-beside (object-stored true (ltb j isf) x (first + 8 * j) j t few) (elim (apart 352 o j (44 * first) ne) [ inl z ↦ inl (omega arith) | inr z ↦ inr (omega arith) ]) i)
     l s h
 
-infos-origin : (u : Update) (w : Work) → u .elements ≤ 2 → u .objects ≤ 32 → ((e : ℕ) → e < u .elements → u .element e .blocks ≤ 8) → Long (w .infos) → (e o b : ℕ) → e < u .elements →
-    o < u .objects → b < u .element e .blocks → Origin (u .element e .info o b) (infoNumber e o b) (times (u .elements) 0 (elementGiven false u) w .infos)
+infos-origin : (u : Update) (w : Work) → u .elements ≤ 2 → u .objects ≤ 32 → ((e : ℕ) → e < u .elements → u .element e .blocks ≤ 8) → Long (w .infos) →
+    (e o b : ℕ) → e < u .elements → o < u .objects → b < u .element e .blocks →
+    Origin (u .element e .info o b) (infoNumber e o b) (times (u .elements) 0 (elementGiven false u) w .infos)
 unfolding elementGiven
 infos-origin u w two most few h e o b le lo lb =
     let same : e * 256 + 8 * o + b ≡ infoNumber e o b = omega arith in
@@ -186,7 +188,8 @@ given-unapplied x s b n few l =
     ap (λ (y : BlockState). y .used) (turned-at (λ j _. record { offset = x .block j .offset; ramp = x .block j .ramp; used = false }) noBlock (x .blocks) b s l (omega arith))
 
 -- an element of an update whose number of dynamic objects differs from the last applied one's
-pub lifted : (n : ℕ) (u : Update) (t : Timed) → WithinCounts u t → (t .state .objects - t .state .isf ≡ u .objects - u .isf → ⊥) → (e : ℕ) → e < u .elements → Afresh u e (applied n u t)
+pub lifted : (n : ℕ) (u : Update) (t : Timed) → WithinCounts u t → (t .state .objects - t .state .isf ≡ u .objects - u .isf → ⊥) →
+    (e : ℕ) → e < u .elements → Afresh u e (applied n u t)
 unfolding applied elementsApplied elementNext
 lifted n u t f ne e l =
     let d = not-same (t .state) u ne in

@@ -1,7 +1,7 @@
 -- Metadata that refusals 5 and 6 let pass: each of its updates is as an applied update asks. Assumes nothing.
 use Prim.Native.Nat.{ℕ, _+_, _*_, _<_}
 use mathlib.Core.Path.{_≡_, _∙_}
-use mathlib.Core.Bool.{true}
+use mathlib.Core.Bool.{Bool, true, _&&_}
 use mathlib.Core.List.{List}
 use lib.Dec.{leb}
 use native.Mathlib.Omega.{arith}
@@ -19,7 +19,7 @@ use Rattle.records.specs.declared.layout.Layout.{Layout}
 use Rattle.records.proofs.Within.{element-within}
 use Rattle.records.proofs.Reached.{whole-records, update-whole, update-is, update-place, update-counts, element-whole, blocks-few}
 use Rattle.records.proofs.Meant.{all-within}
-use Rattle.updates.specs.Whole.{WholeElement, WholeUpdate, WholeUpdates}
+use Rattle.updates.specs.WholeRecords.{WholeElement, WholeUpdate, WholeUpdates}
 
 module _ (m : List ℕ) (laid : laidOut m ≡ true) (fit : inRange m ≡ true) (bytes : Bytes m) (i : ℕ) (one : i < count m) where
   element-passes : (e : ℕ) → e < elements m (updateAt m i) → WholeElement m (objects m (updateAt m i)) (elementAt m (updateAt m i) e)
@@ -29,13 +29,15 @@ module _ (m : List ℕ) (laid : laidOut m ≡ true) (fit : inRange m ≡ true) (
       let whole = whole-records m laid in
       let w = element-whole m whole u e (update-whole m laid i one) h in
       let end = element-within m whole (objects m u) p w in
-      let range : (b : ℕ) (l : b < blocks m p) → _ = λ b l. raised-within m bytes (blockAt p b) ∙ all-within m laid fit .block i e b one h l in
+      let offset : ℕ → Bool = λ b. leb (raisedOf m (blockAt p b) .offset) 2097152 in
+      let ramp : ℕ → Bool = λ b. leb (raisedOf m (blockAt p b) .ramp) 2097152 in
+      let range : (b : ℕ) → b < blocks m p → (offset b && ramp b) ≡ true = λ b l. raised-within m bytes (blockAt p b) ∙ all-within m laid fit .block i e b one h l in
       record {
         given = record {
           few = blocks-few m whole (objects m u) p w;
           within = omega arith;
-          offsets = λ b l. leb-true (raisedOf m (blockAt p b) .offset) 2097152 (and-left (leb (raisedOf m (blockAt p b) .offset) 2097152) (leb (raisedOf m (blockAt p b) .ramp) 2097152) (range b l));
-          ramps = λ b l. leb-true (raisedOf m (blockAt p b) .ramp) 2097152 (and-right (leb (raisedOf m (blockAt p b) .offset) 2097152) (leb (raisedOf m (blockAt p b) .ramp) 2097152) (range b l));
+          offsets = λ b l. leb-true (raisedOf m (blockAt p b) .offset) 2097152 (and-left (offset b) (ramp b) (range b l));
+          ramps = λ b l. leb-true (raisedOf m (blockAt p b) .ramp) 2097152 (and-right (offset b) (ramp b) (range b l));
         };
         within = omega arith;
       }

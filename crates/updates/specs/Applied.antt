@@ -7,7 +7,7 @@ use lib.ListN.{getD, set, replicate}
 use lib.Ieee.{Float, binary32, ofBits}
 use Rattle.vectors.specs.Vectors.{0·0f, zeroVec3}
 use Rattle.timed.specs.Turns.{times}
-use Rattle.timed.specs.Sizes.{elementInfos}
+use Rattle.timed.specs.InfoSizes.{elementInfos}
 use Rattle.timed.specs.Rules.{middle}
 use Rattle.timed.specs.State.{Timed, noElement}
 use Rattle.timed.specs.declared.state.BlockState.{BlockState}
@@ -48,7 +48,8 @@ unfoldable pub scheduled : Element → List BlockState → List BlockState
 unfolding times
 scheduled x s = times (x .blocks) 0 (blockGiven x) s
 
--- "Kept elements keep their old flags, targets and remaining ramp; only their blocks count as unapplied again." A new one has a flag, unset, for each of `dynamic` objects, and no ramp.
+-- "Kept elements keep their old flags, targets and remaining ramp; only their blocks count as unapplied again." A new one has a flag, unset, for each of `dynamic` objects,
+-- and no ramp.
 unfoldable pub elementNext : Bool → ℕ → Element → ElementRendererState → ElementRendererState
 unfolding scheduled
 elementNext kept dynamic x s =
@@ -93,8 +94,8 @@ unfoldable pub codesGiven : Update → List ℕ → List ℕ
 unfolding times
 codesGiven u cs = times 18 0 (codeGiven u) cs
 
--- Elements and objects are as many as at the last applied update, and by R-1 the dynamic objects too: "an element that would be kept starts afresh when an applied update's number of
--- dynamic objects differs from the last applied one's, as if its block count had changed"
+-- Elements and objects are as many as at the last applied update, and by R-1 the dynamic objects too: "an element that would be kept starts afresh when an applied update's
+-- number of dynamic objects differs from the last applied one's, as if its block count had changed"
 abbrev pub isSame : MetadataRendererState → Update → Bool
 isSame s u = eqb (s .elements) (u .elements) && eqb (s .objects) (u .objects) && eqb (s .objects - s .isf) (u .objects - u .isf)
 

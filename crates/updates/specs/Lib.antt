@@ -1,4 +1,4 @@
-pub mod Whole
+pub mod WholeRecords
 pub mod Said
 pub mod Stored
 pub mod Applied

@@ -6,14 +6,15 @@ use lib.IntN.{pos}
 use lib.ListN.{length, getD, replicate}
 use Rattle.vectors.specs.Vectors.{zeroVec3}
 use Rattle.vectors.specs.Head.{has}
-use Rattle.timed.specs.Sizes.{mostElements, mostObjects, mostBlocks, allBytes, positionByte, lastByte, infoNumber, infoAt}
+use Rattle.timed.specs.InfoSizes.{mostElements, mostObjects, mostBlocks, allBytes, positionByte, lastByte, infoNumber, infoAt}
 use Rattle.timed.specs.Infos.{vecAt}
 use Rattle.timed.specs.Rules.{remainingOf, noBlock}
 use Rattle.timed.specs.State.{Timed, elementOf}
 use Rattle.updates.specs.Said.{Update}
 use Rattle.updates.specs.Applied.{newTrack}
 
--- What the limits of document 01 leave of a state and of an update: "2 elements, up to 8 blocks each", "up to 32 objects". Every block in range and every update that refusal 5 lets pass is so.
+-- What the limits of document 01 leave of a state and of an update: "up to 32 objects in all", "2 elements, 8 blocks each". Every block in range and every update that
+-- refusal 5 lets pass is so.
 pub record WithinCounts (u : Update) (t : Timed) : Type 0 where
   pub states : length (t .state .states) ≡ mostElements
   pub schedules : (e : ℕ) → e < mostElements → length (elementOf (t .state) e .schedule) ≡ mostBlocks
@@ -22,9 +23,9 @@ pub record WithinCounts (u : Update) (t : Timed) : Type 0 where
   pub objects : u .objects ≤ mostObjects
   pub blocks : (e : ℕ) → e < u .elements → u .element e .blocks ≤ mostBlocks
 
--- Element e of an update that has been applied "starts afresh ..: flags clear, targets at the origin, no ramp remaining". `newTrack` is a flag that is clear and a target at the origin;
--- there are as many flags as the update has dynamic objects, and no block counts as applied. Of the positions that are stored from update to update none is left: where a record brings no
--- position it is the origin, and so is the last absolute one.
+-- Element e of an update that has been applied "starts afresh ..: flags clear, targets at the origin, no ramp remaining". `newTrack` is a flag that is clear and a target at
+-- the origin; there are as many flags as the update has dynamic objects, and no block counts as applied. Of the positions that are stored from update to update none is left:
+-- where a record brings no position it is the origin, and so is the last absolute one.
 pub record Afresh (u : Update) (e : ℕ) (t : Timed) : Type 0 where
   pub flags : elementOf (t .state) e .flags ≡ u .objects - u .isf
   pub tracks : elementOf (t .state) e .tracks ≡ replicate 16 newTrack

@@ -1,4 +1,4 @@
--- What an update makes of the infos: `apply_parsed_update` for each object in each block. An info is as in timed/specs/Sizes. Assumes nothing.
+-- What an update makes of the infos: `apply_parsed_update` for each object in each block. An info is as in timed/specs/InfoSizes. Assumes nothing.
 use Prim.Native.Nat.{ℕ, _+_, _*_}
 use mathlib.Core.Bool.{Bool, cond}
 use mathlib.Core.List.{List}
@@ -6,7 +6,7 @@ use lib.Dec.{ltb}
 use Rattle.words.specs.Words.{withWord}
 use Rattle.vectors.specs.Head.{headIn, headWord, asSpeaker, has}
 use Rattle.timed.specs.Turns.{times}
-use Rattle.timed.specs.Sizes.{mostBlocks, gainByte, sizeByte, distanceByte, screenByte, positionByte, infoAt}
+use Rattle.timed.specs.InfoSizes.{mostBlocks, gainByte, sizeByte, distanceByte, screenByte, positionByte, infoAt}
 use Rattle.fields.specs.declared.object.Info.{Info}
 use Rattle.updates.specs.Said.{Element}
 

@@ -6,10 +6,10 @@ ghost use mathlib.Core.Path.{_≡_};
 ghost use mathlib.Core.Bool.{not, cond};
 ghost use Prim.Native.Nat.{ℕ, _+_, _-_, _*_, _<_, _≤_};
 ghost use lib.ListN.{length, replicate};
-ghost use Rattle.timed.specs.Sizes.{mostObjects, mostBlocks, elementInfos, allInfos, allBytes};
+ghost use Rattle.timed.specs.InfoSizes.{mostObjects, mostBlocks, elementInfos, allInfos, allBytes};
 ghost use Rattle.fields.specs.Block.{blocks};
 ghost use Rattle.records.specs.Laid.{objectAt};
-ghost use Rattle.updates.specs.Whole.{WholeBlocks, WholeElement};
+ghost use Rattle.updates.specs.WholeRecords.{WholeBlocks, WholeElement};
 ghost use Rattle.updates.specs.Said.{elementSaid};
 ghost use Rattle.updates.specs.Stored.{objectStored, objectsStored};
 ghost use Rattle.updates.specs.Applied.{newTrack, isKept, scheduled, elementNext};
@@ -44,7 +44,15 @@ fn put_object(
     fresh: bool,
     bed: bool,
 )
-    requires { ⌜ (length (now infos) ≡ allBytes) × (n ≡ blocks (now meta) p) × (n ≤ mostBlocks) × (first + mostBlocks ≤ allInfos) × (o ≤ mostObjects) × (40 * p + 40 ≤ length (now meta)) × ((b : ℕ) → b < n → 40 * objectAt (now meta) p (o * blocks (now meta) p + b) + 40 ≤ length (now meta)) ⌝ }
+    requires { ⌜
+        (length (now infos) ≡ allBytes)
+        × (n ≡ blocks (now meta) p)
+        × (n ≤ mostBlocks)
+        × (first + mostBlocks ≤ allInfos)
+        × (o ≤ mostObjects)
+        × (40 * p + 40 ≤ length (now meta))
+        × ((b : ℕ) → b < n → 40 * objectAt (now meta) p (o * blocks (now meta) p + b) + 40 ≤ length (now meta))
+        ⌝ }
     ensures { λ _. ⌜ now (infos .exit) ≡ objectStored fresh bed (elementSaid (now (meta .entry)) p) first o (now (infos .entry)) ⌝ }
 {
     let mut b = 0usize;
@@ -65,7 +73,13 @@ fn put_objects(
     counts: Counts,
     fresh: bool,
 )
-    requires { ⌜ (length (now infos) ≡ allBytes) × (n ≡ blocks (now meta) p) × (first + elementInfos ≤ allInfos) × (counts .objects ≤ mostObjects) × WholeElement (now meta) (counts .objects) p ⌝ }
+    requires { ⌜
+        (length (now infos) ≡ allBytes)
+        × (n ≡ blocks (now meta) p)
+        × (first + elementInfos ≤ allInfos)
+        × (counts .objects ≤ mostObjects)
+        × WholeElement (now meta) (counts .objects) p
+        ⌝ }
     ensures { λ _. ⌜ now (infos .exit) ≡ objectsStored fresh (counts .isf) (elementSaid (now (meta .entry)) p) first (counts .objects) (now (infos .entry)) ⌝ }
 {
     let objects = counts.objects;

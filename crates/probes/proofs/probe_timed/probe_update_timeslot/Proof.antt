@@ -4,7 +4,7 @@ use mathlib.Core.Path.{refl, sym, _∙_}
 use native.Mathlib.Omega.{arith}
 use borrow.Author.Tests.{not-true, not-false, eq-eqb, ne-eqb, le-leb, lt-leb}
 use borrow.Author.Needs.{needs}
-use Rattle.timed.proofs.Kept.{within-later}
+use Rattle.timed.proofs.Theorems.{within-later}
 use Rattle.probes.specs.Timed.{lastPosition}
 use Rattle.probes.proofs.Timed.{fits-within}
 use Rattle.probes.proofs.probe_timed.probe_update_timeslot.Statement.{statement}

@@ -1,73 +1,76 @@
 -- `timed::objects::update_source_state`: by whether the position is valid and the ramp over; the info as the two stores leave it. Assumes nothing.
+use Prim.Native.Nat.{ℕ, _+_}
+use mathlib.Core.Path.{_∙_, ap}
+use mathlib.Core.List.{List}
 use native.Mathlib.Omega.{arith}
 use denote.Ref.{now}
 use borrow.Author.Needs.{needs}
-use Rattle.timed.proofs.Laws.{moved-by}
+use Rattle.vectors.specs.declared.Maybe.{Maybe}
+use Rattle.timed.specs.InfoSizes.{lastByte, infoAt}
+use Rattle.timed.specs.Infos.{withVec}
+use Rattle.timed.specs.Objects.{orElse}
+use Rattle.timed.proofs.AppliedBlock.{BlockRead, put-there, left-there}
 use Rattle.timed.proofs.objects.update_source_state.Statement.{statement}
 use Rattle.timed.proofs.objects.update_source_state.Tie as tie
 
-mul-put-vec : tie.Need-mul-put-vec
-mul-put-vec c = omega (arith, c .before .before .before .before .before .before .before .before .before .before .before .before .before .pre)
+-- ---- what was read and stored, once all of it is
 
-add-put-vec : tie.Need-add-put-vec
-add-put-vec c = omega (arith, c .before .before .before .before .before .before .before .before .before .before .before .before .before .pre)
+abbrev sized : tie.After-block-position → tie.After-or-else2
+sized c = c .before .before .before
 
-put-vec-requires : tie.Need-put-vec-requires
-put-vec-requires c κs = omega (arith, c .before .before .before .before .before .before .before .before .before .before .before .before .before .pre)
+abbrev heard : tie.After-block-position → tie.After-or-else
+heard c = sized c .before .before .before
 
-mul-put-vec-2 : tie.Need-mul-put-vec-2
-mul-put-vec-2 c = omega (arith, c .before .before .before .before .before .before .before .before .before .before .before .before .before .before .before .before .before .pre)
+abbrev start : tie.After-block-position → tie.Start
+start c = heard c .before .before .before .before
 
-add-put-vec-2 : tie.Need-add-put-vec-2
-add-put-vec-2 c = omega (arith, c .before .before .before .before .before .before .before .before .before .before .before .before .before .before .before .before .before .pre)
+abbrev placed : tie.After-slice-known3 → tie.After-update-source-position
+placed c = c .before .before .before .before .before .before .before .before .before
 
-put-vec-requires-2 : tie.Need-put-vec-requires-2
-put-vec-requires-2 c κs = omega (arith, c .before .before .before .before .before .before .before .before .before .before .before .before .before .before .before .before .before .pre, c .before .before .before .put-vec .kept)
+all-read : (c : tie.After-slice-known3) →
+    let p = placed c in
+    let s = start (p .before) .args in
+    BlockRead (s .k) (s .source) (now (s .infos)) (p .before .block-position .result) (p .update-source-position .result) (heard (p .before) .or-else .result)
+    (sized (p .before) .or-else2 .result) (c .before .before .put-vec2 .last .0)
+all-read c =
+    let p = placed c in
+    let t = p .update-source-position .result in
+    let w = c .before .before in
+    let g = heard (p .before) in
+    let z = sized (p .before) in
+    let s = start (p .before) .args in
+    record {
+      block = p .before .block-position .ensures;
+      target = p .update-source-position .ensures;
+      heard = g .or-else .ensures ∙ ap (λ (m : Maybe). orElse m (s .source .gain)) (g .before .maybe-at .ensures);
+      sized = z .or-else2 .ensures ∙ ap (λ (m : Maybe). orElse m (s .source .size)) (z .before .maybe-at2 .ensures);
+      infos = w .put-vec2 .ensures ∙ ap (λ (is : List ℕ). withVec is (infoAt (s .k) + lastByte) (t .last)) (w .before .before .before .before .put-vec .ensures);
+    }
+
+-- ---- the needs
+
+abbrev first : tie.After-put-vec-arg → tie.Start
+first c = start (c .before .before .before)
+
+abbrev second : tie.After-put-vec-arg2 → tie.Start
+second c = first (c .before .before .before .before)
 
 returns : tie.Need-returns
-returns c =
-    let s = c .before .before .before .before .before .before .before .before .before .before .before .before .before .before .before .before .before .before .before .before .before .before .args in
-    let b = c .before .before .before .before .before .before .before .before .before .before .before .before .block-position in
-    let p = c .before .before .before .before .before .before .before .before .before .before .before .update-source-position in
-    let e = moved-by (s .arrived) (s .k) (s .source) (now (s .infos)) (b .result) (p .result) (b .ensures) (p .ensures) in
-    record {
-      object = rw (e, c .before .if1 .taken, c .if2 .taken, c .before .before .before .before .before .before .before .before .before .before .before .before .before .before .before .before .before .before .or-else .ensures, c .before .before .before .before .before .before .before .before .before .before .before .before .before .before .before .before .before .before .before .maybe-at .ensures, c .before .before .before .before .before .before .before .before .before .before .before .before .before .before .before .or-else2 .ensures, c .before .before .before .before .before .before .before .before .before .before .before .before .before .before .before .before .maybe-at2 .ensures);
-      infos = rw (e, c .before .before .before .before .put-vec2 .ensures, c .before .before .before .before .before .before .before .before .put-vec .ensures);
-    }
+returns c = put-there (all-read (c .before .before)) _ (rw (c .before .if1 .taken) (c .if2 .taken))
 
 returns-2 : tie.Need-returns-2
-returns-2 c =
-    let s = c .before .before .before .before .before .before .before .before .before .before .before .before .before .before .before .before .before .before .before .before .before .before .args in
-    let b = c .before .before .before .before .before .before .before .before .before .before .before .before .block-position in
-    let p = c .before .before .before .before .before .before .before .before .before .before .before .update-source-position in
-    let e = moved-by (s .arrived) (s .k) (s .source) (now (s .infos)) (b .result) (p .result) (b .ensures) (p .ensures) in
-    record {
-      object = rw (e, c .before .if1 .taken, c .if2 .left, c .before .before .before .before .before .before .before .before .before .before .before .before .before .before .before .before .before .before .or-else .ensures, c .before .before .before .before .before .before .before .before .before .before .before .before .before .before .before .before .before .before .before .maybe-at .ensures, c .before .before .before .before .before .before .before .before .before .before .before .before .before .before .before .or-else2 .ensures, c .before .before .before .before .before .before .before .before .before .before .before .before .before .before .before .before .maybe-at2 .ensures);
-      infos = rw (e, c .before .before .before .before .put-vec2 .ensures, c .before .before .before .before .before .before .before .before .put-vec .ensures);
-    }
+returns-2 c = left-there (all-read (c .before .before)) _ (rw (c .before .if1 .taken) (c .if2 .left))
 
 returns-3 : tie.Need-returns-3
-returns-3 c =
-    let s = c .before .before .before .before .before .before .before .before .before .before .before .before .before .before .before .before .before .before .before .before .before .args in
-    let b = c .before .before .before .before .before .before .before .before .before .before .before .block-position in
-    let p = c .before .before .before .before .before .before .before .before .before .before .update-source-position in
-    let e = moved-by (s .arrived) (s .k) (s .source) (now (s .infos)) (b .result) (p .result) (b .ensures) (p .ensures) in
-    record {
-      object = rw (e, c .if1 .left, c .before .before .before .before .before .before .before .before .before .before .before .before .before .before .before .before .before .or-else .ensures, c .before .before .before .before .before .before .before .before .before .before .before .before .before .before .before .before .before .before .maybe-at .ensures, c .before .before .before .before .before .before .before .before .before .before .before .before .before .before .or-else2 .ensures, c .before .before .before .before .before .before .before .before .before .before .before .before .before .before .before .maybe-at2 .ensures);
-      infos = rw (e, c .before .before .before .put-vec2 .ensures, c .before .before .before .before .before .before .before .put-vec .ensures);
-    }
+returns-3 c = left-there (all-read (c .before)) _ (rw (c .if1 .left))
 
 pub update-source-state-spec : {M : Type 1} → statement M
 update-source-state-spec =
     tie.close
     (tie.spec
     (λ c κs. search needs) (λ c κs. search needs) (λ c κs. search needs) (λ c κs. search needs) (λ c κs. search needs) (λ c κs. search needs)
-    mul-put-vec
-    add-put-vec
-    put-vec-requires
-    mul-put-vec-2
-    add-put-vec-2
-    put-vec-requires-2
+    (λ c. omega (arith, first c .pre)) (λ c. omega (arith, first c .pre)) (λ c κs. omega (arith, first c .pre))
+    (λ c. omega (arith, second c .pre)) (λ c. omega (arith, second c .pre)) (λ c κs. omega (arith, second c .pre, c .before .before .before .put-vec .kept))
     (λ c. search needs)
     returns
     (λ c. search needs)

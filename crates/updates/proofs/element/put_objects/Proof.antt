@@ -1,28 +1,27 @@
 -- `updates::element::put_objects`: the turns left lead from the infos now to those at the end; each object's records are within the element. Assumes nothing.
 use Prim.Native.Nat.{_≤_, _-_}
-use mathlib.Core.Path.{_≡_, sym, _∙_}
+use mathlib.Core.Path.{_≡_}
 use native.Mathlib.Omega.{arith}
-use native.Mathlib.Numerals.{unary-clauses}
 use lib.ListN.{length}
 use denote.Ref.{now}
 use borrow.Author.Needs.{needs}
 use Rattle.fields.specs.Block.{blocks}
-use Rattle.timed.proofs.Laws.{turn, ended}
-use Rattle.timed.specs.Turns.{times}
+use Rattle.timed.proofs.Theorems.{Leads, leads, leads-on, leads-to}
 use Rattle.updates.specs.Said.{elementSaid}
 use Rattle.updates.specs.Stored.{objectGiven, objectsStored}
-use Rattle.updates.proofs.Laws.{cell-below}
+use Rattle.updates.proofs.AppliedByParts.{cell-below}
 use Rattle.updates.proofs.element.put_objects.Statement.{statement}
 use Rattle.updates.proofs.element.put_objects.Tie as tie
 
 abbrev Inv-loop : tie.InvT-loop
-Inv-loop infos₀ meta p n first fresh objects isf o₀ infos o = (o ≤ objects) × ((length infos ≡ 22528) × (times (objects - o) o (objectGiven fresh isf (elementSaid meta p) first) infos ≡ times objects 0 (objectGiven fresh isf (elementSaid meta p) first) infos₀))
+Inv-loop infos₀ meta p n first fresh objects isf o₀ infos o =
+    (o ≤ objects) × (length infos ≡ 22528) × Leads (objectGiven fresh isf (elementSaid meta p) first) objects infos₀ o infos
 
 abbrev μ-loop : tie.MeasureT-loop
 μ-loop infos₀ meta p n first fresh objects isf o₀ infos o = objects - o
 
 loop-holds : tie.Need-loop-holds Inv-loop μ-loop
-loop-holds c = (search needs, (search needs, simp unary-clauses))
+loop-holds c = (search needs, search needs, leads)
 
 put-object-requires : tie.Need-put-object-requires Inv-loop μ-loop
 put-object-requires c κs =
@@ -41,16 +40,12 @@ put-object-requires c κs =
 
 loop-again : tie.Need-loop-again Inv-loop μ-loop
 loop-again c =
-    let l = c .before .before .before .before .before .loop in
-    let s = c .before .before .before .before .before .before .before .before .args in
-    (search needs, (omega (arith, c .before .before .put-object .kept), rw (c .before .before .put-object .ensures) (sym (turn (s .counts .objects) (l .o) (objectGiven (s .fresh) (s .counts .isf) (elementSaid (now (s .meta)) (s .p)) (s .first)) (l .infos) (search needs)) ∙ l .inv .1 .1)))
+    let w = c .before .before in
+    (search needs, omega (arith, w .put-object .kept), rw (w .put-object .ensures) (leads-on (w .before .before .before .loop .inv .2) (search needs)))
 
 returns : tie.Need-returns Inv-loop μ-loop
 unfolding objectsStored
-returns c =
-    let l = c .before .loop in
-    let s = c .before .before .before .before .args in
-    sym (ended (s .counts .objects) (l .o) (objectGiven (s .fresh) (s .counts .isf) (elementSaid (now (s .meta)) (s .p)) (s .first)) (l .infos) (omega arith)) ∙ l .inv .1 .1
+returns c = leads-to (c .before .loop .inv .2) (omega arith)
 
 pub put-objects-spec : {M : Type 1} → statement M
 put-objects-spec =

@@ -6,7 +6,10 @@ use Rattle.updates.proofs.info.clear.Tie as tie
 
 returns : tie.Need-returns
 unfolding cleared
-returns c = rw (c .before .before .before .before .before .before .before .before .if1 .taken, c .before .before .put-three2 .ensures, c .before .before .before .before .before .before .put-three .ensures)
+returns c =
+    let second = c .before .before in
+    let first = second .before .before .before .before in
+    rw (first .before .before .if1 .taken, second .put-three2 .ensures, first .put-three .ensures)
 
 returns-2 : tie.Need-returns-2
 unfolding cleared

@@ -8,7 +8,10 @@ use Rattle.updates.proofs.info.put_place.Tie as tie
 
 returns : tie.Need-returns
 unfolding withPlace
-returns c = rw (eq-eqb (c .before .before .before .before .before .before .before .args .i .head / 8 % 2) 1 (c .before .before .before .before .if1 .taken), c .before .before .put-three .ensures)
+returns c =
+    let p = c .before .before in
+    let t = p .before .before in
+    rw (eq-eqb (t .before .before .before .args .i .head / 8 % 2) 1 (t .if1 .taken), p .put-three .ensures)
 
 returns-2 : tie.Need-returns-2
 unfolding withPlace

@@ -15,7 +15,8 @@ returns : tie.Need-returns
 returns c =
     let p = c .before .before .before in
     let s = p .before .before .before .args in
-    sum _ _ _ _ (s .self .ramp) (s .self .offset) (s .when .payload .0) (s .when .start .0) (p .plus .ensures) (c .before .before .plus2 .ensures) (c .before .plus3 .ensures) (c .past .ensures)
+    sum _ _ _ _ (s .self .ramp) (s .self .offset) (s .when .payload .0) (s .when .start .0)
+    (p .plus .ensures) (c .before .before .plus2 .ensures) (c .before .plus3 .ensures) (c .past .ensures)
     ∙ sym (left-shifted (s .when) (s .self))
 
 pub left-spec : {M : Type 1} → statement M

@@ -8,16 +8,20 @@ use Rattle.timed.proofs.state.ElementRendererState.update_sources.Tie a
 
 ramp-requires : tie.Need-ramp-requires
 ramp-requires c κs =
-    let s = c .before .before .before .before .before .before .before .args in
-    (omega (arith, c .before .before .before .before .before .before .before .pre .2), rw (c .before .before .apply-blocks .ensures .slot) (blocks-ramps 1099511627776 (s .when) (s .reach) (c .before .before .before .before .before .before .before .pre .1 .start) (s .self .blocks) _ (c .before .before .before .before .before .before .before .pre .3 .blocks) (c .before .before .before .before .before .before .before .pre .3 .ramps) .most))
+    let b = c .before .before in
+    let s = b .before .before .before .before .before in
+    let h = s .pre .3 in (
+      omega (arith, s .pre .2),
+      rw (b .apply-blocks .ensures .slot)
+          (blocks-ramps 1099511627776 (s .args .when) (s .args .reach) (s .pre .1 .start) (s .args .self .blocks) _ (h .blocks) (h .ramps) .most),
+    )
 
 returns : tie.Need-returns
 unfolding updatedSources
 returns c =
-    record {
-      updated = rw (c .before .before .before .before .ramp .ensures, c .before .before .before .before .before .before .before .apply-blocks .ensures .slot);
-      infos = c .before .before .before .before .before .before .before .apply-blocks .ensures .infos;
-    }
+    let r = c .before .before .before .before in
+    let b = r .before .before .before .apply-blocks in
+    record { updated = rw (r .ramp .ensures, b .ensures .slot); infos = b .ensures .infos }
 
 pub update-sources-spec : {M : Type 1} → statement M
 update-sources-spec =

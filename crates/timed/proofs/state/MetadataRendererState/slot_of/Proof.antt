@@ -6,19 +6,31 @@ use Rattle.timed.proofs.Slots.{slot-left}
 use Rattle.timed.proofs.state.MetadataRendererState.slot_of.Statement.{statement}
 use Rattle.timed.proofs.state.MetadataRendererState.slot_of.Tie as tie
 
+abbrev counted : tie.After-update-sources-arg → tie.After-dynamic
+counted c = c .before .before .before .before .before
+
+abbrev start : tie.After-update-sources-arg → tie.Start
+start c = counted c .before .before .before
+
 update-sources-requires : tie.Need-update-sources-requires
 update-sources-requires c κs =
-    let s = c .before .before .before .before .before .before .before .before .args in
-    let h = c .before .before .before .before .before .before .before .before .pre .3 in
-    let j = c .before .before .before .before .before .before .before .before .pre .1 in
-    let e = c .before .before .before .before .before .dynamic .ensures in
-    (search needs, c .before .before .before .before .before .before .before .before .pre .2, record { few = h .beds; some = omega arith; beds = λ i l. omega arith; objects = λ d l. omega arith; near = omega arith; low = omega arith }, h .states (s .index) j)
+    let s = start c in
+    let h = s .pre .3 in
+    let j = s .pre .1 in
+    let e = counted c .dynamic .ensures in (
+      search needs,
+      s .pre .2,
+      record { few = h .beds; some = omega arith; beds = λ i l. omega arith; objects = λ d l. omega arith; near = omega arith; low = omega arith },
+      h .states (s .args .index) j,
+    )
 
 returns : tie.Need-returns
 returns c =
-    let s = c .before .before .before .before .before .before .before .before .before .before .before .before .before .before .before .before .args in
-    let u = c .before .before .before .before .before .before .before .update-sources in
-    slot-left (s .when) (s .index) (s .self) (now (s .infos)) (c .before .before .before .before .before .before .before .before .before .before .before .before .before .dynamic .result) (u .result) (u .last .1 .0) (c .before .before .before .before .before .before .before .before .before .before .before .before .before .dynamic .ensures) (u .ensures)
+    let d = c .before .before .before .before .before .before .before in
+    let u = d .update-sources in
+    let n = counted (d .before) .dynamic in
+    let s = start (d .before) .args in
+    slot-left (s .when) (s .index) (s .self) (now (s .infos)) (n .result) (u .result) (u .last .1 .0) (n .ensures) (u .ensures)
 
 pub slot-of-spec : {M : Type 1} → statement M
 slot-of-spec =

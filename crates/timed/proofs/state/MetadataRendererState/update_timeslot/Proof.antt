@@ -4,35 +4,57 @@ use mathlib.Core.Path.{sym, _∙_}
 use native.Mathlib.Omega.{arith}
 use denote.Ref.{now}
 use borrow.Author.Needs.{needs}
+use Rattle.timed.specs.State.{Timed}
 use Rattle.timed.proofs.Slots.{taken-low, slot-empty, slot-idle, slot-moves}
 use Rattle.timed.proofs.state.MetadataRendererState.update_timeslot.Statement.{statement}
 use Rattle.timed.proofs.state.MetadataRendererState.update_timeslot.Tie as tie
 
+-- ---- the state, and the element that is taken
+
+abbrev state : tie.Start → Timed
+state s = record { state = s .args .self; infos = now (s .args .infos) }
+
+abbrev some : tie.After-element-at → tie.Else1
+some c = c .before .before
+
+abbrev start : tie.After-element-at → tie.Start
+start c = some c .before .before .before
+
+low : (c : tie.After-element-at) → c .element-at .result < 2
+low c = rw (c .element-at .ensures) (taken-low _ _ (start c .args .self .elements) (omega (arith, start c .pre .2 .elements)))
+
+-- ---- the needs
+
 returns : tie.Need-returns
-returns c = slot-empty (c .before .before .before .args .start .0) (record { state = c .before .before .before .args .self; infos = now (c .before .before .before .args .infos) }) (c .if1 .taken)
+returns c = let s = c .before .before .before in slot-empty (s .args .start .0) (state s) (c .if1 .taken)
 
 element-at-requires : tie.Need-element-at-requires
-element-at-requires c κs = (omega (arith, c .before .before .before .before .pre .2 .elements), record { start = c .before .before .before .before .pre .1; payload = c .before .before .before .before .pre .2 .payload })
-
-mul-element : tie.Need-mul-element
-mul-element c = let h : c .before .element-at .result < 2 = rw (c .before .element-at .ensures) (taken-low _ _ (c .before .before .before .before .before .before .args .self .elements) (omega (arith, c .before .before .before .before .before .before .pre .2 .elements))) in omega arith
-
-array-copy-out-element : tie.Need-array-copy-out-element
-array-copy-out-element c = rw (c .before .element-at .ensures) (taken-low _ _ (c .before .before .before .before .before .before .args .self .elements) (omega (arith, c .before .before .before .before .before .before .pre .2 .elements)))
+element-at-requires c κs =
+    let p = c .before .before .before .before .pre in
+    (omega (arith, p .2 .elements), record { start = p .1; payload = p .2 .payload })
 
 slot-of-requires : tie.Need-slot-of-requires
-slot-of-requires c κs = let p = c .before .before .before .before .before .before .before .before .before .before .pre in (omega (arith, p), rw (c .before .before .before .before .before .element-at .ensures) (taken-low _ _ (c .before .before .before .before .before .before .before .before .before .before .args .self .elements) (omega (arith, c .before .before .before .before .before .before .before .before .before .before .pre .2 .elements))), record { start = p .1; payload = p .2 .payload }, p .2)
+slot-of-requires c κs =
+    let e = c .before .before .before .before .before in
+    let p = start e .pre in
+    (omega (arith, p), low e, record { start = p .1; payload = p .2 .payload }, p .2)
 
 returns-2 : tie.Need-returns-2
 returns-2 c =
-    let s = c .before .before .before .before .before .before .before .before .before .before .before .before .before .args in
-    let u = c .before .before .slot-of in
-    slot-moves (s .start .0) (record { state = s .self; infos = now (s .infos) }) (c .before .before .before .before .before .before .before .before .element-at .result) (c .before .before .before .before .before .before .before .before .before .before .if1 .left) (c .before .before .before .before .before .before .before .before .element-at .ensures) (u .result) (u .last .1 .0) (sym (c .before .before .before .before .before .active .ensures) ∙ c .before .before .before .before .if2 .taken) (u .ensures)
+    let m = c .before .before in
+    let t = m .before .before in
+    let a = t .before in
+    let e = a .before .before .before in
+    let s = start e in
+    slot-moves (s .args .start .0) (state s) (e .element-at .result) (some e .if1 .left) (e .element-at .ensures) (m .slot-of .result) (m .slot-of .last .1 .0)
+    (sym (a .active .ensures) ∙ t .if2 .taken) (m .slot-of .ensures)
 
 returns-3 : tie.Need-returns-3
 returns-3 c =
-    let s = c .before .before .before .before .before .before .before .before .before .args in
-    slot-idle (s .start .0) (record { state = s .self; infos = now (s .infos) }) (c .before .before .before .before .element-at .result) (c .before .before .before .before .before .before .if1 .left) (c .before .before .before .before .element-at .ensures) (sym (c .before .active .ensures) ∙ c .if2 .left)
+    let a = c .before in
+    let e = a .before .before .before in
+    let s = start e in
+    slot-idle (s .args .start .0) (state s) (e .element-at .result) (some e .if1 .left) (e .element-at .ensures) (sym (a .active .ensures) ∙ c .if2 .left)
 
 pub update-timeslot-spec : {M : Type 1} → statement M
 update-timeslot-spec =
@@ -40,8 +62,7 @@ update-timeslot-spec =
     (tie.spec
     returns
     element-at-requires
-    mul-element
-    array-copy-out-element
+    (λ c. let h = low (c .before) in omega arith) (λ c. low (c .before))
     (λ c κs. search needs)
     slot-of-requires
     (λ c. search needs)

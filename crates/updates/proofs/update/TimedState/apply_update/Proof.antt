@@ -3,7 +3,7 @@ use mathlib.Core.Path.{_∙_}
 use native.Mathlib.Omega.{arith}
 use denote.Ref.{now}
 use borrow.Author.Needs.{needs}
-use Rattle.updates.proofs.Laws.{update-done}
+use Rattle.updates.proofs.AppliedByParts.{update-done}
 use Rattle.updates.proofs.update.TimedState.apply_update.Statement.{statement}
 use Rattle.updates.proofs.update.TimedState.apply_update.Tie as tie
 
@@ -25,7 +25,8 @@ returns c =
     let now′ = was .before in
     let h = now′ .before in
     let s = h .before .before .before .before .args in
-    update-done (s .at) (now (s .meta)) (s .u) (s .self .0) (now (s .infos)) (h .header-at .result) (same .same-counts .result) (w .apply-elements .result) (w .apply-elements .last .1 .0)
+    update-done (s .at) (now (s .meta)) (s .u) (s .self .0) (now (s .infos))
+    (h .header-at .result) (same .same-counts .result) (w .apply-elements .result) (w .apply-elements .last .1 .0)
     (k .next-codes .result) (g .next-gains .result) (c .next-sources .result) (was .dynamic2 .result) (now′ .dynamic .result) (h .header-at .ensures) (same .same-counts .ensures)
     (w .apply-elements .ensures) (k .next-codes .ensures) (g .next-gains .ensures) (c .next-sources .ensures) (was .dynamic2 .ensures) (now′ .dynamic .ensures)
 

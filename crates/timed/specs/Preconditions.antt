@@ -3,7 +3,7 @@
 use Prim.Native.Nat.{ℕ, _+_, _-_, _*_, _≤_, _<_}
 use mathlib.Core.List.{List}
 use lib.ListN.{getD}
-use Rattle.timed.specs.Sizes.{mostElements, mostObjects, mostBlocks, allInfos}
+use Rattle.timed.specs.InfoSizes.{mostElements, mostObjects, mostBlocks, allInfos}
 use Rattle.timed.specs.Rules.{middle, noBlock, elementOf}
 use Rattle.timed.specs.declared.state.BlockState.{BlockState}
 use Rattle.timed.specs.declared.state.ElementRendererState.{ElementRendererState}

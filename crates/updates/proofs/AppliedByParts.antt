@@ -19,6 +19,7 @@ use Rattle.fields.specs.Update.{objects, headerOf}
 use Rattle.fields.specs.declared.update.Header.{Header}
 use Rattle.records.specs.Laid.{elementAt, elementEnd}
 use Rattle.updates.specs.declared.element.Counts.{Counts}
+use Rattle.updates.specs.WholeRecords.{WholeElement}
 use Rattle.updates.specs.Said.{elementSaid, updateOf}
 use Rattle.updates.specs.Contracts.{IsCounts, IsElement, IsWork}
 use Rattle.updates.specs.Applied.{Work, elementGiven, elementsApplied, codesGiven, nextGains, nextSources, applied}
@@ -26,6 +27,10 @@ use Rattle.updates.specs.Applied.{Work, elementGiven, elementsApplied, c
 -- object o in block b is among n objects in k blocks each
 pub cell-below : (o n b k : ℕ) → o < n → b < k → o * k + b < n * k
 cell-below o n b k h l = omega (arith, mul-le-mul-right {m = suc o} {n = n} k h, suc-mul o k)
+
+-- the record of element e is as an applied update asks
+pub whole-at : (m : List ℕ) (u e : ℕ) {n p : ℕ} → n ≡ objects m u → p ≡ elementAt m u e → WholeElement m (objects m u) (elementAt m u e) → WholeElement m n p
+whole-at m u e a b w = rw (a, b) w
 
 -- where the next element stands
 pub element-more : (m : List ℕ) (u e : ℕ) → elementAt m u (e + 1) ≡ elementEnd m (objects m u) (elementAt m u e)
@@ -43,11 +48,28 @@ element-turn same m u c p e es is r out k q h = rw (h .element, h .infos, k .obj
 -- an applied update, from its parts
 module _ (at : StreamSample) (m : List ℕ) (u : ℕ) (s : MetadataRendererState) (is : List ℕ) where
   pub update-done :
-      (h : Header) (same : Bool) (states : List ElementRendererState) (out codes : List ℕ) (gains : List Float) (sources : List DynamicSourceState) (was now : ℕ) → h ≡ headerOf m u →
-      same ≡ (eqb (s .elements) (h .elements) && eqb (s .objects) (h .objects) && eqb was now) → IsWork (elementsApplied same (updateOf m u) (s .states) is) states out → codes ≡ codesGiven (updateOf m u) (s .codes) →
-      gains ≡ nextGains (s .beds) (h .beds) (s .gains) → sources ≡ nextSources was now (s .sources) → was ≡ s .objects - s .isf → now ≡ h .objects - h .«bed_or_isf» →
+      (h : Header) (same : Bool) (states : List ElementRendererState) (out codes : List ℕ) (gains : List Float) (sources : List DynamicSourceState) (was now : ℕ) →
+      h ≡ headerOf m u →
+      same ≡ (eqb (s .elements) (h .elements) && eqb (s .objects) (h .objects) && eqb was now) →
+      IsWork (elementsApplied same (updateOf m u) (s .states) is) states out →
+      codes ≡ codesGiven (updateOf m u) (s .codes) →
+      gains ≡ nextGains (s .beds) (h .beds) (s .gains) →
+      sources ≡ nextSources was now (s .sources) →
+      was ≡ s .objects - s .isf →
+      now ≡ h .objects - h .«bed_or_isf» →
       IsTimed (applied (at .0) (updateOf m u) (record { state = s; infos = is }))
-      (record { initialized = true; payload = at; objects = h .objects; isf = h .«bed_or_isf»; beds = h .beds; elements = h .elements; codes = codes; gains = gains; states = states; sources = sources })
+      (record {
+        initialized = true;
+        payload = at;
+        objects = h .objects;
+        isf = h .«bed_or_isf»;
+        beds = h .beds;
+        elements = h .elements;
+        codes = codes;
+        gains = gains;
+        states = states;
+        sources = sources;
+      })
       out
   unfolding applied
   update-done h same states out codes gains sources was now e f w k g r a b =

@@ -11,9 +11,9 @@ use Rattle.timed.specs.Slot.{InRange}
 use Rattle.timed.specs.State.{Timed, Within, noElement}
 use Rattle.timed.specs.declared.state.BlockState.{BlockState}
 use Rattle.timed.specs.declared.state.ElementRendererState.{ElementRendererState}
-use Rattle.timed.proofs.Keeps.{times-in, cond-keeps, set-each}
-use Rattle.updates.specs.Whole.{WholeElement, WholeUpdate}
-use Rattle.updates.specs.Said.{elementSaid, updateOf}
+use Rattle.timed.proofs.Theorems.{times-in, cond-keeps, set-each}
+use Rattle.updates.specs.WholeRecords.{WholeElement, WholeUpdate}
+use Rattle.updates.specs.Said.{Element, elementSaid, updateOf}
 use Rattle.updates.specs.Applied.{Work, blockGiven, scheduled, elementNext, isKept, elementGiven, elementsApplied, isSame, applied}
 
 -- ---- an element
@@ -21,22 +21,26 @@ use Rattle.updates.specs.Applied.{Work, blockGiven, scheduled, elementNe
 abbrev Fit : (BlockState → ℕ) → List BlockState → Type 0
 Fit f s = (b : ℕ) → b < 8 → f (getD s b noBlock) ≤ 2097152
 
-schedule-fits : (f : BlockState → ℕ) (m : List ℕ) (p : ℕ) (s : List BlockState) → ((b : ℕ) → b < elementSaid m p .blocks → f (record { offset = elementSaid m p .block b .offset; ramp = elementSaid m p .block b .ramp; used = false }) ≤ 2097152) → Fit f s →
-    Fit f (scheduled (elementSaid m p) s)
-unfolding scheduled
-schedule-fits f m p s g h =
-    times-in (Fit f) (blockGiven (elementSaid m p)) (elementSaid m p .blocks)
-    (λ b t l i. set-each (λ (k : ℕ) (x : BlockState). k < 8 → f x ≤ 2097152) t b (record { offset = elementSaid m p .block b .offset; ramp = elementSaid m p .block b .ramp; used = false }) noBlock (λ _. g b l) i)
-    (elementSaid m p .blocks) 0 (omega arith) s h
+-- block b of an element, as it is scheduled
+abbrev scheduledAs : Element → ℕ → BlockState
+scheduledAs x b = record { offset = x .block b .offset; ramp = x .block b .ramp; used = false }
 
-element-range : (position : ℕ) (kept : Bool) (dynamic : ℕ) (m : List ℕ) (n p : ℕ) (s : ElementRendererState) → WholeElement m n p → InRange position s → InRange position (elementNext kept dynamic (elementSaid m p) s)
+schedule-fits : (f : BlockState → ℕ) (x : Element) (s : List BlockState) → ((b : ℕ) → b < x .blocks → f (scheduledAs x b) ≤ 2097152) → Fit f s → Fit f (scheduled x s)
+unfolding scheduled
+schedule-fits f x s g h =
+    times-in (Fit f) (blockGiven x) (x .blocks)
+    (λ b t l i. set-each (λ (k : ℕ) (y : BlockState). k < 8 → f y ≤ 2097152) t b (scheduledAs x b) noBlock (λ _. g b l) i)
+    (x .blocks) 0 (omega arith) s h
+
+element-range : (position : ℕ) (kept : Bool) (dynamic : ℕ) (m : List ℕ) (n p : ℕ) (s : ElementRendererState) → WholeElement m n p → InRange position s →
+    InRange position (elementNext kept dynamic (elementSaid m p) s)
 unfolding elementNext
 element-range position kept dynamic m n p s w h =
     record {
       blocks = w .given .few;
       ramps = record {
-        offsets = schedule-fits (λ (x : BlockState). x .offset) m p (s .schedule) (w .given .offsets) (h .ramps .offsets);
-        ramps = schedule-fits (λ (x : BlockState). x .ramp) m p (s .schedule) (w .given .ramps) (h .ramps .ramps);
+        offsets = schedule-fits (λ (x : BlockState). x .offset) (elementSaid m p) (s .schedule) (w .given .offsets) (h .ramps .offsets);
+        ramps = schedule-fits (λ (x : BlockState). x .ramp) (elementSaid m p) (s .schedule) (w .given .ramps) (h .ramps .ramps);
         most = cond-keeps (λ (x : ℕ). x ≤ 140737489403904) kept (s .remaining) middle (λ _. h .ramps .most) (λ _. omega arith);
         least = cond-keeps (λ (x : ℕ). middle ≤ x + (2097152 + 64 * position)) kept (s .remaining) middle (λ _. h .ramps .least) (λ _. omega arith);
       };
@@ -47,8 +51,8 @@ element-range position kept dynamic m n p s w h =
 abbrev Ranged : ℕ → Work → Type 0
 Ranged position w = (i : ℕ) → i < 2 → InRange position (getD (w .states) i noElement)
 
-elements-range : (position : ℕ) (same : Bool) (m : List ℕ) (u : ℕ) (states : List ElementRendererState) (is : List ℕ) → WholeUpdate m u → ((i : ℕ) → i < 2 → InRange position (getD states i noElement)) →
-    Ranged position (elementsApplied same (updateOf m u) states is)
+elements-range : (position : ℕ) (same : Bool) (m : List ℕ) (u : ℕ) (states : List ElementRendererState) (is : List ℕ) → WholeUpdate m u →
+    Ranged position (record { states = states; infos = is }) → Ranged position (elementsApplied same (updateOf m u) states is)
 unfolding elementsApplied elementGiven
 elements-range position same m u states is w h =
     let n = updateOf m u .elements in
@@ -56,11 +60,14 @@ elements-range position same m u states is w h =
     (λ e k l i.
     let s = getD (k .states) e noElement in
     let x = elementSaid m (elementAt m u e) in
-    set-each (λ (j : ℕ) (y : ElementRendererState). j < 2 → InRange position y) (k .states) e (elementNext (isKept same (s .blocks) (x .blocks)) (updateOf m u .objects - updateOf m u .isf) x s) noElement
-    (λ j. element-range position (isKept same (s .blocks) (x .blocks)) (updateOf m u .objects - updateOf m u .isf) m (objects m u) (elementAt m u e) s (w .each e l) (i e j)) i)
+    let kept = isKept same (s .blocks) (x .blocks) in
+    let dynamic = updateOf m u .objects - updateOf m u .isf in
+    set-each (λ (j : ℕ) (y : ElementRendererState). j < 2 → InRange position y) (k .states) e (elementNext kept dynamic x s) noElement
+    (λ j. element-range position kept dynamic m (objects m u) (elementAt m u e) s (w .each e l) (i e j)) i)
     n 0 (omega arith) (record { states = states; infos = is }) h
 
-pub applied-within : (position : ℕ) (m : List ℕ) (u : ℕ) (t : Timed) → WholeUpdate m u → position ≤ 1099511627776 → Within position (t .state) → Within position (applied position (updateOf m u) t .state)
+pub applied-within : (position : ℕ) (m : List ℕ) (u : ℕ) (t : Timed) → WholeUpdate m u → position ≤ 1099511627776 → Within position (t .state) →
+    Within position (applied position (updateOf m u) t .state)
 unfolding applied
 applied-within position m u t w l h =
     let s = t .state in

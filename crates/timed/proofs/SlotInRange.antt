@@ -2,12 +2,11 @@
 use Prim.Native.Nat.{ℕ, _≤_, _<_}
 use lib.Dec.{eqb}
 use Rattle.timed.specs.Rules.{active}
-use Rattle.timed.specs.Bounds.{InRange, Within}
-use Rattle.timed.specs.Slot.{updatedSources}
-use Rattle.timed.specs.State.{Timed, noElement, elementOf, elementTaken, timingOf, reachOf, slotOf, slotAt}
+use Rattle.timed.specs.Preconditions.{InRange, Within}
+use Rattle.timed.specs.State.{Timed, noElement, elementOf, elementTaken, timingOf, reachOf, elementSlot, slotOf, slotAt}
 use Rattle.timed.specs.declared.state.MetadataRendererState.{MetadataRendererState}
 use Rattle.timed.specs.declared.slot.Timing.{Timing}
-use Rattle.timed.proofs.Keeps.{cond-keeps, set-each}
+use Rattle.timed.proofs.Invariants.{cond-keeps, set-each}
 use Rattle.timed.proofs.Ramps.{sources-range, later}
 
 slot-of-within : (p : ℕ) (w : Timing) (i : ℕ) (t : Timed) → w .start .0 ≤ p → Within p (t .state) → Within p (slotOf w i t .state)
@@ -22,7 +21,7 @@ slot-of-within p w i t early h =
       channels = h .channels;
       elements = h .elements;
       states =
-          set-each (λ k e. k < 2 → InRange p e) (t .state .states) i (updatedSources w (reachOf (t .state) i) (elementOf (t .state) i) (t .state .gains) (t .state .sources) (t .infos) .updated .element) noElement
+          set-each (λ k e. k < 2 → InRange p e) (t .state .states) i (elementSlot w i t .updated .element) noElement
           (λ j. sources-range p w (reachOf (t .state) i) (elementOf (t .state) i) (t .state .gains) (t .state .sources) (t .infos) early (h .states i j)) (h .states);
     }
 

@@ -11,7 +11,7 @@ use Rattle.words.proofs.Beside.{Kept, kept-twice, number-keeps}
 use Rattle.words.proofs.Numbers.{length-kept}
 use Rattle.words.proofs.Small.{number-bytes}
 use Rattle.fields.specs.declared.object.Info.{Info}
-use Rattle.timed.proofs.Keeps.{times-in, cond-keeps}
+use Rattle.timed.proofs.Theorems.{times-in, cond-keeps}
 use Rattle.updates.specs.Said.{Element}
 use Rattle.updates.specs.Stored.{withThree, cleared, withPlace, headOf, withHead, withInfo, infoGiven, objectStored, objectGiven, objectsStored}
 
@@ -37,7 +37,8 @@ unfolding withThree
 three s at x y z =
     let a = withWord s at x in
     let b = withWord a (at + 4) y in
-    twice at (at + 12) (twice at (at + 8) (one s at x) (one a (at + 4) y) (omega arith) (omega arith) (omega arith) (omega arith)) (one b (at + 8) z) (omega arith) (omega arith) (omega arith) (omega arith)
+    let two = twice at (at + 8) (one s at x) (one a (at + 4) y) (omega arith) (omega arith) (omega arith) (omega arith) in
+    twice at (at + 12) two (one b (at + 8) z) (omega arith) (omega arith) (omega arith) (omega arith)
 
 cleared-stored : (fresh : Bool) (at : ℕ) (s : List ℕ) → Stored s (cleared fresh at s) at (at + 24)
 unfolding cleared
@@ -48,7 +49,8 @@ cleared-stored false at s = stays s at (at + 24)
 pub place-stored : (i : Info) (at : ℕ) (s : List ℕ) → Stored s (withPlace i at s) at (at + 12)
 unfolding withPlace
 place-stored i at s =
-    cond-keeps (λ (t : List ℕ). Stored s t at (at + 12)) (eqb (i .head / 8 % 2) 1) (withThree s at (i .x) (i .y) (i .z)) s (λ _. three s at (i .x) (i .y) (i .z)) (λ _. stays s at (at + 12))
+    cond-keeps (λ (t : List ℕ). Stored s t at (at + 12)) (eqb (i .head / 8 % 2) 1) (withThree s at (i .x) (i .y) (i .z)) s
+    (λ _. three s at (i .x) (i .y) (i .z)) (λ _. stays s at (at + 12))
 
 pub head-stored : (h : ℕ) (i : Info) (at : ℕ) (s : List ℕ) → Stored s (withHead h i at s) at (at + 20)
 unfolding withHead
@@ -70,7 +72,8 @@ places-stored fresh i at s =
 pub info-stored : (fresh bed : Bool) (i : Info) (at : ℕ) (s : List ℕ) → Stored s (withInfo fresh bed i at s) at (at + 44)
 unfolding withInfo
 info-stored fresh bed i at s =
-    twice at (at + 44) (head-stored (headOf bed i) i at s) (places-stored fresh i (at + 20) (withHead (headOf bed i) i at s)) (omega arith) (omega arith) (omega arith) (omega arith)
+    twice at (at + 44) (head-stored (headOf bed i) i at s) (places-stored fresh i (at + 20) (withHead (headOf bed i) i at s))
+    (omega arith) (omega arith) (omega arith) (omega arith)
 
 -- an object's infos, of at most eight blocks, and an element's, of at most 32 objects
 pub object-stored : (fresh bed : Bool) (x : Element) (first o : ℕ) (s : List ℕ) → x .blocks ≤ 8 → Stored s (objectStored fresh bed x first o s) (44 * first) (44 * first + 352)
@@ -81,7 +84,8 @@ object-stored fresh bed x first o s few =
     twice (44 * first) (44 * first + 352) h (info-stored fresh bed (x .info o b) (44 * (first + b)) t) (omega arith) (omega arith) (omega arith) (omega arith))
     (x .blocks) 0 (omega arith) s (stays s _ _)
 
-pub objects-stored : (fresh : Bool) (isf : ℕ) (x : Element) (first n : ℕ) (s : List ℕ) → x .blocks ≤ 8 → n ≤ 32 → Stored s (objectsStored fresh isf x first n s) (44 * first) (44 * first + 11264)
+pub objects-stored : (fresh : Bool) (isf : ℕ) (x : Element) (first n : ℕ) (s : List ℕ) → x .blocks ≤ 8 → n ≤ 32 →
+    Stored s (objectsStored fresh isf x first n s) (44 * first) (44 * first + 11264)
 unfolding objectsStored
 objects-stored fresh isf x first n s few most =
     times-in (λ (t : List ℕ). Stored s t (44 * first) (44 * first + 11264)) (objectGiven fresh isf x first) n
