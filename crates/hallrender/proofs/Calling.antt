@@ -10,18 +10,27 @@ use lib.Seq.{take-at}
 use Rattle.words.specs.Words.{half, word}
 use Rattle.rules.specs.Refusals.{argsOf}
 use Rattle.rules.specs.Calls as rules
-use Rattle.rules.specs.Calls.{push, flush, reset}
+use Rattle.rules.specs.Calls.{push, flush, reset, refused, rendered, nothing, cleared}
 use Rattle.rules.specs.Block.{made, finalOn}
 use Rattle.theorem.specs.Instance.{hall, block}
 use Rattle.hall.specs.Answers.{Left, codeOf}
 use Rattle.hall.specs.declared.answer.Answer.{Answer}
-use Rattle.hallrender.specs.Framing.{bedCount, isFrame, isPlain, isBody, metadataBytes, pcmBytes, pcmOf, pcmRecords, recordBytes, recordCount, arePcm, heldIn, Unpacked}
-use Rattle.hallrender.specs.Text.{textOf, textOfCode, Told}
-use Rattle.hallrender.specs.Asked.{frameArgs, outAfter, Called, Kept, pushOf, FrameTaken, callOf, isCall, NotAlone, Handled, RecordTaken, callsOf, outOn, Ran}
-use Rattle.hallrender.proofs.Spelling.{code-text}
-use Rattle.hallrender.proofs.Unpacking.{none-are}
+use Rattle.framing.specs.Framing.{bedCount, isFrame, isPlain, isBody, metadataBytes, pcmBytes, pcmOf, pcmRecords, recordBytes, recordCount, arePcm}
+use Rattle.framing.specs.Contracts.{Unpacked}
+use Rattle.framing.proofs.Theorems.{none-are}
+use Rattle.listing.specs.Contracts.{Told}
+use Rattle.hallrender.specs.Text.{textOf}
+use Rattle.hallrender.specs.Asked.{frameArgs, outAfter, pushOf, callOf, isCall, callsOf, outOn, Ran}
+use Rattle.hallrender.specs.Contracts.{textOfCode, Called, Kept, FrameTaken, NotAlone, Handled, RecordTaken}
 
 -- an entry's answer in the words of the rules
+code-text : (a : rules.Answer) (out : List ℕ) → textOfCode (codeOf a) out ≡ textOf a out
+unfolding textOfCode
+code-text (rendered given m) out = refl
+code-text (refused n a b) out = refl
+code-text nothing out = refl
+code-text cleared out = refl
+
 told : (x : rules.Answer) (out : List ℕ) {n : ℕ} {text : List ℕ} {a : Answer} → a ≡ codeOf x → Told n text (textOfCode a out) → Told n text (textOf x out)
 told x out {n} {text} e s = subst (λ (t : List ℕ). Told n text t) (ap (λ (y : Answer). textOfCode y out) e ∙ code-text x out) s
 

@@ -1,4 +1,3 @@
-pub mod Framing
-pub mod Line
 pub mod Text
 pub mod Asked
+pub mod Contracts

@@ -3,15 +3,15 @@ ghost use mathlib.Core.Path.{_≡_};
 ghost use mathlib.Core.Bool.{true};
 ghost use lib.ListN.{length};
 ghost use Rattle.rules.specs.Calls.{push};
-ghost use Rattle.hallrender.specs.Framing.{isFrame};
-ghost use Rattle.hallrender.specs.Asked.{frameArgs, Called, FrameTaken, Handled, RecordTaken, Rooms, newBlock, Ran};
+ghost use Rattle.framing.specs.Framing.{isFrame};
+ghost use Rattle.listing.specs.Contracts.{Told};
+ghost use Rattle.hallrender.specs.Asked.{frameArgs, newBlock, Ran};
+ghost use Rattle.hallrender.specs.Contracts.{Rooms, textOfCode, Called, FrameTaken, Handled, RecordTaken};
 use fields::bytes::byte_at;
+use hall::answer::Answer;
 use libc::STDERR_FILENO;
 use libc::STDIN_FILENO;
 use libc::STDOUT_FILENO;
-
-mod framing;
-mod text;
 
 // Whether all of `bytes` was written; where not, standard error says so. A program of the kit has no exit status.
 fn say(bytes: &[u8]) -> bool {
@@ -33,6 +33,20 @@ fn bad() -> usize
     0
 }
 
+// Puts the text of an answer to the front of `text`, and answers how long it is.
+fn tell(text: &mut [u8], answer: Answer, out: &[u8]) -> usize
+    requires { ⌜ (length (now text) ≡ 27675) × (length (now out) ≡ 12288) ⌝ }
+    ensures { λ r. ⌜ Told r (now (text .exit)) (textOfCode answer (now (out .entry))) ⌝ }
+{
+    let kind = answer.kind;
+    match kind {
+        0 => listing::ready(text, answer.ready, out),
+        1 => listing::refused(text, answer.number, answer.first, answer.second),
+        2 => listing::none(text),
+        _ => listing::reset(text),
+    }
+}
+
 // The push of a frame whose header is `rec`; how long the answer's text is.
 fn push(
     state: &mut [u8],
@@ -52,7 +66,7 @@ fn push(
     let header = &rec[..];
     let codes = &header[14..codes_end];
     let answer = hall::hall_push(state, pcm, meta, out, codes, rate, samples, objects, 256);
-    text::answer(text, answer, out)
+    tell(text, answer, out)
 }
 
 // A frame whose header is `rec`; how long the answer's text is, 0 where the program ends. All that belongs to a frame is read at once, and nothing of a frame that is cut is pushed.
@@ -102,10 +116,10 @@ fn handle(
     }
     if rec[0] == 7 {
         let answer = hall::hall_flush(state, out, 256);
-        return text::answer(text, answer, out);
+        return tell(text, answer, out);
     }
     let answer = hall::hall_reset(state);
-    text::answer(text, answer, out)
+    tell(text, answer, out)
 }
 
 // One record and what belongs to it; how long the answer's text is, 0 where the program ends.

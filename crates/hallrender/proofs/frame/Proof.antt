@@ -2,7 +2,7 @@
 use Prim.Native.Nat.{_+_, _-_}
 use mathlib.Core.Path.{_≡_, refl, sym, ap, _∙_}
 use mathlib.Core.List.{_++_}
-use Rattle.hallrender.specs.Framing.{recordBytes}
+use Rattle.framing.specs.Framing.{recordBytes}
 use Rattle.hallrender.proofs.Calling.{clash, cut-alone, bad-alone, framed}
 use native.Mathlib.Omega.{arith}
 use borrow.Author.Tests.{not-true, not-false}

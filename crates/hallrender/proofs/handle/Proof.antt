@@ -1,7 +1,7 @@
 -- `handle`: each arm makes the call of its kind. Assumes nothing.
 use mathlib.Core.Path.{refl, sym, _∙_}
 use borrow.Author.Tests.{ne-eqb, not-true, not-false}
-use Rattle.hallrender.proofs.Laws.{frame-kind}
+use Rattle.framing.proofs.Theorems.{frame-kind}
 use Rattle.hallrender.proofs.Calling.{frame-handled, flush-handled, reset-handled}
 use borrow.Author.Needs.{needs}
 use Rattle.hallrender.proofs.handle.Statement.{statement}
@@ -17,13 +17,13 @@ returns-3 : tie.Need-returns-3
 returns-3 c =
     let f = c .before .before .before .before .before .before .before .before .before in
     let e = f .before .before .before .before .before in
-    flush-handled _ _ _ _ (c .before .before .answer .result) _ _ _ (sym (e .before .is-plain .ensures) ∙ not-false _ (e .if2 .left)) (f .before .before .before .if3 .taken) (f .hall-flush .ensures) (c .before .before .answer .ensures)
+    flush-handled _ _ _ _ (c .before .before .tell .result) _ _ _ (sym (e .before .is-plain .ensures) ∙ not-false _ (e .if2 .left)) (f .before .before .before .if3 .taken) (f .hall-flush .ensures) (c .before .before .tell .ensures)
 
 returns-4 : tie.Need-returns-4
 returns-4 c =
     let f = c .before .before .before .before .before .before .before in
     let e = f .before .before .before .before in
-    reset-handled _ _ _ _ (c .before .before .answer2 .result) _ _ (sym (e .before .is-plain .ensures) ∙ not-false _ (e .if2 .left)) (ne-eqb _ _ (e .before .before .if1 .left)) (ne-eqb _ _ (f .before .before .if3 .left)) (f .hall-reset .ensures .0) (f .hall-reset .ensures .1) (c .before .before .answer2 .ensures)
+    reset-handled _ _ _ _ (c .before .before .tell2 .result) _ _ (sym (e .before .is-plain .ensures) ∙ not-false _ (e .if2 .left)) (ne-eqb _ _ (e .before .before .if1 .left)) (ne-eqb _ _ (f .before .before .if3 .left)) (f .hall-reset .ensures .0) (f .hall-reset .ensures .1) (c .before .before .tell2 .ensures)
 
 pub handle-spec : {M : Type 1} → statement M
 handle-spec =

@@ -1,0 +1,21 @@
+-- `ready`: the lines behind the first. Assumes nothing.
+use mathlib.Core.Path.{ap}
+use native.Mathlib.Omega.{arith}
+use Rattle.listing.specs.Text.{linesOf}
+use Rattle.listing.proofs.Spelling.{grown, renamed, said}
+use borrow.Author.Needs.{needs}
+use Rattle.listing.proofs.ready.Statement.{statement}
+use Rattle.listing.proofs.ready.Tie as tie
+
+returns : tie.Need-returns
+returns c =
+    let a = c .before .before .before .before .before .before .before .before .before .before .before .args in
+    said (omega arith) (grown _ _ (c .before .before .before .before .before .before .before .ready-line .ensures .0) (renamed (ap (linesOf (a .out .now)) (c .before .before .before .least .ensures)) (c .before .before .lines .ensures)))
+
+pub ready-spec : {M : Type 1} → statement M
+ready-spec =
+    tie.close
+    (tie.spec
+    (λ c κs. search needs) (λ c κs. search needs) (λ c κs. search needs)
+    (λ c. search needs)
+    returns)
