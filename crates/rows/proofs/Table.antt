@@ -18,6 +18,10 @@ held way is (r ∷ rs) e =
     let rest : map way rs ≡ map says rs = cc in
     (sym (is r) ∙ here, held way is rs rest)
 
+-- group after group: where one does not hold, those behind it are not worked out
+after : {A B : Type 0} → A → B → B
+after a b = b
+
 -- ---- by the rules as they stand
 
 refusals-hold : All Holds refusals
@@ -26,31 +30,31 @@ refusals-hold = held seen (λ r. refl) refusals refl
 
 outputs-hold : All Holds outputs
 unfolding everything
-outputs-hold = held seen (λ r. refl) outputs refl
+outputs-hold = after refusals-hold (held seen (λ r. refl) outputs refl)
 
 -- ---- with the places worked out once a sample
 
 blocks-hold : All Holds block-rows
 unfolding plainly
-blocks-hold = held plainly plainly-is block-rows refl
+blocks-hold = after outputs-hold (held plainly plainly-is block-rows refl)
 
 -- ---- with the coefficients worked out once a slot too
 
 beds-hold : All Holds bed-rows
 unfolding quickly
-beds-hold = held quickly quickly-is bed-rows refl
+beds-hold = after blocks-hold (held quickly quickly-is bed-rows refl)
 
 objects-hold : All Holds object-rows
 unfolding quickly
-objects-hold = held quickly quickly-is object-rows refl
+objects-hold = after beds-hold (held quickly quickly-is object-rows refl)
 
 updates-hold : All Holds updates
 unfolding quickly
-updates-hold = held quickly quickly-is updates refl
+updates-hold = after objects-hold (held quickly quickly-is updates refl)
 
 slots-hold : All Holds slots
 unfolding quickly
-slots-hold = held quickly quickly-is slots refl
+slots-hold = after updates-hold (held quickly quickly-is slots refl)
 
 -- ---- all rows
 
