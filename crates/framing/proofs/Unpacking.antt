@@ -88,7 +88,8 @@ module _ (n : ℕ) (s : List ℕ) where
     cut : (got : Bool) (now : List ℕ) → Taken (take (40 * k + 40 - 40 * k) (drop (40 * k) s)) rest got now → Taken (recordAt s k) rest got now
     cut got now t = let e : 40 * k + 40 - 40 * k ≡ 40 = omega arith in subst (λ (i : ℕ). Taken (take i (drop (40 * k) s)) rest got now) e t
 
-    pub record-more : (got : Bool) (now : List ℕ) → got ≡ true → Taken (take (40 * k + 40 - 40 * k) (drop (40 * k) s)) rest got now → arePcm n s k ≡ true → take (36 * k) pcm ≡ heldIn n s k
+    pub record-more : (got : Bool) (now : List ℕ) → got ≡ true → Taken (take (40 * k + 40 - 40 * k) (drop (40 * k) s)) rest got now
+        → arePcm n s k ≡ true → take (36 * k) pcm ≡ heldIn n s k
         → (arePcm n s (k + 1) ≡ true) × (take (36 * (k + 1)) (putMid (36 * k) (length pcm - 36 * k) pcm now) ≡ heldIn n s (k + 1))
     record-more got now g t are held =
         let w = subst (λ (b : Bool). Taken (recordAt s k) rest b now) g (cut got now t) in
@@ -96,10 +97,12 @@ module _ (n : ℕ) (s : List ℕ) where
         let y = take (inUse n k) (drop 4 (recordAt s k)) in
         let h : length y ≡ inUse n k = length-take-le (inUse n k) (drop 4 (recordAt s k)) (omega (arith, long, length-drop 4 (recordAt s k))) in (
           rw add-one (more-are k are (v .0)),
-          ap (λ (z : List ℕ). take (36 * (k + 1)) (putMid (36 * k) (length pcm - 36 * k) pcm z)) (v .1) ∙ placed y h ∙ ap (λ (z : List ℕ). z ++ y) held ∙ more-held k ∙ ap (heldIn n s) (sym (add-one k)),
+          ap (λ (z : List ℕ). take (36 * (k + 1)) (putMid (36 * k) (length pcm - 36 * k) pcm z)) (v .1)
+              ∙ placed y h ∙ ap (λ (z : List ℕ). z ++ y) held ∙ more-held k ∙ ap (heldIn n s) (sym (add-one k)),
         )
 
-    pub record-bad : (got : Bool) (now : List ℕ) → got ≡ false → Taken (take (40 * k + 40 - 40 * k) (drop (40 * k) s)) rest got now → arePcm n s k ≡ true → arePcm n s (recordCount n) ≡ false
+    pub record-bad : (got : Bool) (now : List ℕ) → got ≡ false → Taken (take (40 * k + 40 - 40 * k) (drop (40 * k) s)) rest got now
+        → arePcm n s k ≡ true → arePcm n s (recordCount n) ≡ false
     record-bad got now g t are =
         let w = subst (λ (b : Bool). Taken (recordAt s k) rest b now) g (cut got now t) in
         let q : isPcm (inUse n k) (recordAt s k) ≡ false = ap (λ (i : ℕ). isPcm i (recordAt s k)) (sym used) ∙ w .0 in

@@ -55,16 +55,19 @@ pub cells-none : (out : List ℕ) (i : ℕ) → [] ≡ cells out i 0
 unfolding cells
 cells-none out i = refl
 
-pub cells-more : (out : List ℕ) (i c : ℕ) (line : List ℕ) → 9 * c + 9 ≤ length line → take (9 * c) line ≡ cells out i c → take (9 * (c + 1)) (take (9 * c) line ++ (hex8 (word out (1024 * c + 4 * i)) ++ (32 ∷ drop (9 * c + 9) line))) ≡ cells out i (c + 1)
+pub cells-more : (out : List ℕ) (i c : ℕ) (line : List ℕ) → 9 * c + 9 ≤ length line → take (9 * c) line ≡ cells out i c
+    → take (9 * (c + 1)) (take (9 * c) line ++ (hex8 (word out (1024 * c + 4 * i)) ++ (32 ∷ drop (9 * c + 9) line))) ≡ cells out i (c + 1)
 unfolding cells
 cells-more out i c line h p =
     let v = hex8 (word out (1024 * c + 4 * i)) in
     let q = take (9 * c) line ++ (v ++ (32 ∷ [])) in
-    let n : length q ≡ 9 * (c + 1) = length-append (take (9 * c) line) (v ++ (32 ∷ [])) ∙ (omega (arith, length-take-le (9 * c) line (omega arith), length-append v (32 ∷ []), hex8-length (word out (1024 * c + 4 * i)))) in
+    let n : length q ≡ 9 * (c + 1) = length-append (take (9 * c) line) (v ++ (32 ∷ []))
+    ∙ (omega (arith, length-take-le (9 * c) line (omega arith), length-append v (32 ∷ []), hex8-length (word out (1024 * c + 4 * i)))) in
     let e : take (9 * c) line ++ (v ++ (32 ∷ drop (9 * c + 9) line)) ≡ q ++ drop (9 * c + 9) line = simp append-assoc in
     ap (take (9 * (c + 1))) e ∙ take-at q (drop (9 * c + 9) line) (9 * (c + 1)) n ∙ rw (p, add-one)
 
-pub line-whole : (out : List ℕ) (i : ℕ) (line : List ℕ) → length line ≡ 108 → take 99 line ≡ cells out i 11 → take 99 line ++ (hex8 (word out (11264 + 4 * i)) ++ (10 ∷ drop 108 line)) ≡ cells out i 11 ++ (hex8 (word out (11264 + 4 * i)) ++ (10 ∷ []))
+pub line-whole : (out : List ℕ) (i : ℕ) (line : List ℕ) → length line ≡ 108 → take 99 line ≡ cells out i 11
+    → take 99 line ++ (hex8 (word out (11264 + 4 * i)) ++ (10 ∷ drop 108 line)) ≡ cells out i 11 ++ (hex8 (word out (11264 + 4 * i)) ++ (10 ∷ []))
 line-whole out i line n p =
     let d : drop 108 line ≡ [] = ap (λ (k : ℕ). drop k line) (sym n) ∙ drop-length line in
     rw (d, p)

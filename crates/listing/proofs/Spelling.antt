@@ -40,7 +40,11 @@ spelt-to (suc f) n (suc (suc j)) h w =
     let least : 10 ^ 1 ≤ 10 ^ suc j = pow-le-pow-right (lit< tt) {i = 1} {j = suc j} (omega arith) in
     let low : 10 ^ suc j ≤ n = before-last n (suc j) (w .2 (omega arith)) in
     let high : n < 10 ^ suc j * 10 = rw pow-suc at (w .1) in
-    let rest : Fewest 10 1 (n / 10) (suc j) = (omega arith, div-lt-iff-lt-mul (lit< tt) .1 high, λ l. let e : suc j - 1 ≡ j = omega arith in rw e (le-div-iff-mul-le (lit< tt) .1 (rw pow-suc at low))) in
+    let rest : Fewest 10 1 (n / 10) (suc j) = (
+      omega arith,
+      div-lt-iff-lt-mul (lit< tt) .1 high,
+      λ l. let e : suc j - 1 ≡ j = omega arith in rw e (le-div-iff-mul-le (lit< tt) .1 (rw pow-suc at low)),
+    ) in
     ap (λ (t : List ℕ). t ++ (glyph (n % 10) ∷ [])) (spelt-to f (n / 10) (suc j) (omega arith) rest) ∙ more-digits f n (omega arith)
 
 pub spelt-decimal : (n k : ℕ) (t : List ℕ) → Fewest 10 1 n k → take k t ≡ digits 10 k n → take k t ≡ decimal n

@@ -18,11 +18,17 @@ returns-2 c = simp (le-leb _ _ (rw (c .before .before .before .u16-at .ensures) 
 
 returns-3 : tie.Need-returns-3
 unfolding inLimits
-returns-3 c = simp (le-leb _ _ (rw (c .before .before .before .before .before .u16-at .ensures) at (c .before .before .before .before .if1 .left)), le-leb _ _ (c .before .before .if2 .left), lt-leb _ _ (c .if3 .taken))
+returns-3 c =
+    let a = c .before .before .before .before in
+    simp (le-leb _ _ (rw (a .before .u16-at .ensures) at (a .if1 .left)), le-leb _ _ (c .before .before .if2 .left), lt-leb _ _ (c .if3 .taken))
 
 returns-4 : tie.Need-returns-4
 unfolding inLimits
-returns-4 c = simp (le-leb _ _ (rw (c .before .before .before .before .before .before .before .u16-at .ensures) at (c .before .before .before .before .before .before .if1 .left)), le-leb _ _ (c .before .before .before .before .if2 .left), le-leb _ _ (c .before .before .if3 .left)) (ap (λ (n : ℕ). leb n 1200) (c .u16-at2 .ensures))
+returns-4 c =
+    let b = c .before .before .before .before in
+    let a = b .before .before in
+    simp (le-leb _ _ (rw (a .before .u16-at .ensures) at (a .if1 .left)), le-leb _ _ (b .if2 .left), le-leb _ _ (c .before .before .if3 .left))
+    (ap (λ (n : ℕ). leb n 1200) (c .u16-at2 .ensures))
 
 pub in-limits-spec : {M : Type 1} → statement M
 in-limits-spec =

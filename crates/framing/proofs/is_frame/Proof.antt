@@ -18,17 +18,29 @@ returns-2 c = simp (eq-eqb _ _ (c .before .before .if1 .left), sym (c .before .i
 
 returns-3 : tie.Need-returns-3
 unfolding isFrame
-returns-3 c = simp (eq-eqb _ _ (c .before .before .before .before .before .if1 .left), sym (c .before .before .before .before .in-limits .ensures) ∙ not-false _ (c .before .before .before .if2 .left), sym (c .before .zeros .ensures) ∙ not-true _ (c .if3 .taken))
+returns-3 c =
+    let l = c .before .before .before in
+    simp (eq-eqb _ _ (l .before .before .if1 .left), sym (l .before .in-limits .ensures) ∙ not-false _ (l .if2 .left), sym (c .before .zeros .ensures) ∙ not-true _ (c .if3 .taken))
 
 sub-zeros : tie.Need-sub-zeros
-sub-zeros c = let l = in-limits _ (sym (c .before .before .before .before .before .before .before .in-limits .ensures) ∙ not-false _ (c .before .before .before .before .before .before .if2 .left)) in omega (arith, l .beds, c .before .byte-at .ensures .0)
+sub-zeros c =
+    let t = c .before .before .before .before .before .before in
+    let l = in-limits _ (sym (t .before .in-limits .ensures) ∙ not-false _ (t .if2 .left)) in
+    omega (arith, l .beds, c .before .byte-at .ensures .0)
 
 zeros-requires-2 : tie.Need-zeros-requires-2
-zeros-requires-2 c κs = let l = in-limits _ (sym (c .before .before .before .before .before .before .before .in-limits .ensures) ∙ not-false _ (c .before .before .before .before .before .before .if2 .left)) in omega (arith, l .beds, c .before .byte-at .ensures .0)
+zeros-requires-2 c κs =
+    let t = c .before .before .before .before .before .before in
+    let l = in-limits _ (sym (t .before .in-limits .ensures) ∙ not-false _ (t .if2 .left)) in
+    omega (arith, l .beds, c .before .byte-at .ensures .0)
 
 returns-4 : tie.Need-returns-4
 unfolding isFrame
-returns-4 c = simp (eq-eqb _ _ (c .before .before .before .before .before .before .before .before .before .if1 .left), sym (c .before .before .before .before .before .before .before .before .in-limits .ensures) ∙ not-false _ (c .before .before .before .before .before .before .before .if2 .left), sym (c .before .before .before .before .before .zeros .ensures) ∙ not-false _ (c .before .before .before .before .if3 .left)) (rw (c .before .before .byte-at .ensures .0) at (c .zeros2 .ensures))
+returns-4 c =
+    let z = c .before .before .before .before in
+    let l = z .before .before .before in
+    simp (eq-eqb _ _ (l .before .before .if1 .left), sym (l .before .in-limits .ensures) ∙ not-false _ (l .if2 .left), sym (z .before .zeros .ensures) ∙ not-false _ (z .if3 .left))
+    (rw (c .before .before .byte-at .ensures .0) at (c .zeros2 .ensures))
 
 pub is-frame-spec : {M : Type 1} → statement M
 is-frame-spec =

@@ -6,13 +6,25 @@ use Rattle.framing.proofs.pcm_bytes.Statement.{statement}
 use Rattle.framing.proofs.pcm_bytes.Tie as tie
 
 mul-result : tie.Need-mul-result
-mul-result c = let m = pcm-fits _ (frame-limits _ (c .before .before .before .before .before .before .pre)) (c .before .before .before .before .byte-at .ensures .0) (c .before .before .byte-at2 .ensures .0) (c .u16-at .ensures) in omega (arith, m)
+mul-result c =
+    let o = c .before .before in
+    let b = o .before .before in
+    let m = pcm-fits _ (frame-limits _ (b .before .before .pre)) (b .byte-at .ensures .0) (o .byte-at2 .ensures .0) (c .u16-at .ensures) in
+    omega (arith, m)
 
 mul-result-2 : tie.Need-mul-result-2
-mul-result-2 c = let m = pcm-fits _ (frame-limits _ (c .before .before .before .before .before .before .pre)) (c .before .before .before .before .byte-at .ensures .0) (c .before .before .byte-at2 .ensures .0) (c .u16-at .ensures) in omega (arith, m)
+mul-result-2 c =
+    let o = c .before .before in
+    let b = o .before .before in
+    let m = pcm-fits _ (frame-limits _ (b .before .before .pre)) (b .byte-at .ensures .0) (o .byte-at2 .ensures .0) (c .u16-at .ensures) in
+    omega (arith, m)
 
 returns : tie.Need-returns
-returns c = let m = pcm-fits _ (frame-limits _ (c .before .before .before .before .before .before .pre)) (c .before .before .before .before .byte-at .ensures .0) (c .before .before .byte-at2 .ensures .0) (c .u16-at .ensures) in (cc, omega (arith, m))
+returns c =
+    let o = c .before .before in
+    let b = o .before .before in
+    let m = pcm-fits _ (frame-limits _ (b .before .before .pre)) (b .byte-at .ensures .0) (o .byte-at2 .ensures .0) (c .u16-at .ensures) in
+    (cc, omega (arith, m))
 
 pub pcm-bytes-spec : {M : Type 1} → statement M
 pcm-bytes-spec =

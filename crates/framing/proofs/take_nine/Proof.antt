@@ -7,13 +7,16 @@ use Rattle.framing.proofs.take_nine.Statement.{statement}
 use Rattle.framing.proofs.take_nine.Tie as tie
 
 returns : tie.Need-returns
-returns c = let a = c .before .before .before .before .before .args in none-taken (a .rec .now) (a .rest .now) (c .before .before .least .ensures) (sym (c .before .is-pcm .ensures) ∙ not-true _ (c .if1 .taken))
+returns c =
+    let a = c .before .before .before .before .before .args in
+    none-taken (a .rec .now) (a .rest .now) (c .before .before .least .ensures) (sym (c .before .is-pcm .ensures) ∙ not-true _ (c .if1 .taken))
 
 returns-2 : tie.Need-returns-2
 returns-2 c =
     let s = c .before .before .before .before .before .before .before .before .before .before in
     let i = c .before .before .before .before .before in
-    nine-taken (s .args .rec .now) (s .args .rest .now) (i .before .before .least .ensures) (s .pre) (sym (i .before .is-pcm .ensures) ∙ not-false _ (i .if1 .left)) (c .before .before .copy-bytes .ensures)
+    let p = sym (i .before .is-pcm .ensures) ∙ not-false _ (i .if1 .left) in
+    nine-taken (s .args .rec .now) (s .args .rest .now) (i .before .before .least .ensures) (s .pre) p (c .before .before .copy-bytes .ensures)
 
 pub take-nine-spec : {M : Type 1} → statement M
 take-nine-spec =

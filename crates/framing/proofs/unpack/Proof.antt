@@ -13,30 +13,44 @@ use Rattle.framing.proofs.unpack.Statement.{statement}
 use Rattle.framing.proofs.unpack.Tie as tie
 
 abbrev Inv-loop : tie.InvT-loop
-Inv-loop records pcm₀ k₀ pcm k = (length pcm ≡ length pcm₀) × (36 * k ≤ length pcm₀ + 35) × (arePcm (length pcm₀) records k ≡ true) × (take (36 * k) pcm ≡ heldIn (length pcm₀) records k)
+Inv-loop records pcm₀ k₀ pcm k =
+    let n = length pcm₀ in
+    (length pcm ≡ n) × (36 * k ≤ n + 35) × (arePcm n records k ≡ true) × (take (36 * k) pcm ≡ heldIn n records k)
 
 abbrev μ-loop : tie.MeasureT-loop
 μ-loop records pcm₀ k₀ pcm k = length pcm₀ + 36 - 36 * k
 
 loop-holds : tie.Need-loop-holds Inv-loop μ-loop
-loop-holds c = let a = c .before .before .args in (search needs, search needs, none-are (length (a .pcm .now)) (a .records .now), none-held (length (a .pcm .now)) (a .records .now) (a .pcm .now))
+loop-holds c =
+    let a = c .before .before .args in
+    (search needs, search needs, none-are (length (a .pcm .now)) (a .records .now), none-held (length (a .pcm .now)) (a .records .now) (a .pcm .now))
 
 take-nine-requires : tie.Need-take-nine-requires Inv-loop μ-loop
-take-nine-requires c κs = let k = c .before .before .before .loop .k in mid-len (40 * k) (40 * k + 40) (c .before .before .before .before .before .before .args .records .now) (omega arith) ∙ (omega arith)
+take-nine-requires c κs =
+    let l = c .before .before .before in
+    let k = l .loop .k in
+    mid-len (40 * k) (40 * k + 40) (l .before .before .before .args .records .now) (omega arith) ∙ (omega arith)
 
 returns : tie.Need-returns Inv-loop μ-loop
 returns c =
-    let a = c .before .before .before .before .before .before .before .before .before .before .args in
-    let l = c .before .before .before .before .before .before .before .loop in
+    let u = c .before .before .before .before .before .before .before in
+    let s = u .before .before .before in
+    let a = s .args in
+    let l = u .loop in
     let t = c .before .before .before .take-nine in
-    record-bad (length (a .pcm .now)) (a .records .now) (l .pcm) (l .k) (l .inv .0) (c .before .before .before .before .before .before .before .before .before .before .pre .0) (omega arith) (t .result) (t .last .1 .0) (not-true _ (c .if1 .taken)) (t .ensures) (l .inv .2)
+    record-bad (length (a .pcm .now)) (a .records .now) (l .pcm) (l .k) (l .inv .0) (s .pre .0) (omega arith)
+    (t .result) (t .last .1 .0) (not-true _ (c .if1 .taken)) (t .ensures) (l .inv .2)
 
 loop-again : tie.Need-loop-again Inv-loop μ-loop
 loop-again c =
-    let a = c .before .before .before .before .before .before .before .before .before .before .args in
-    let l = c .before .before .before .before .before .before .before .loop in
+    let u = c .before .before .before .before .before .before .before in
+    let s = u .before .before .before in
+    let a = s .args in
+    let l = u .loop in
     let t = c .before .before .before .take-nine in
-    let m = record-more (length (a .pcm .now)) (a .records .now) (l .pcm) (l .k) (l .inv .0) (c .before .before .before .before .before .before .before .before .before .before .pre .0) (omega arith) (t .result) (t .last .1 .0) (not-false _ (c .if1 .left)) (t .ensures) (l .inv .2) (l .inv .3) in
+    let m =
+    record-more (length (a .pcm .now)) (a .records .now) (l .pcm) (l .k) (l .inv .0) (s .pre .0) (omega arith)
+    (t .result) (t .last .1 .0) (not-false _ (c .if1 .left)) (t .ensures) (l .inv .2) (l .inv .3) in
     (search needs, search needs, m .0, m .1)
 
 returns-2 : tie.Need-returns-2 Inv-loop μ-loop
@@ -52,7 +66,8 @@ unpack-spec =
     Inv-loop
     μ-loop
     loop-holds
-    (λ c. search needs) (λ c. search needs) (λ c. search needs) (λ c. search needs) (λ c. search needs) (λ c. search needs) (λ c. search needs) (λ c. search needs) (λ c. search needs) (λ c. search needs) (λ c. search needs)
+    (λ c. search needs) (λ c. search needs) (λ c. search needs) (λ c. search needs) (λ c. search needs) (λ c. search needs)
+    (λ c. search needs) (λ c. search needs) (λ c. search needs) (λ c. search needs) (λ c. search needs)
     take-nine-requires
     (λ c. search needs)
     returns

@@ -24,7 +24,8 @@ loop-again c =
     let a = c .before .before .before .before .before .before .before .before .before .before .args in
     let l = c .before .before .before .before .before .before .before .loop in
     let p = c .before .before .put in
-    (search needs, search needs, omega (arith, p .ensures .end), line-more (a .out .now) (l .i) (l .inv .3) (renamed (c .before .before .before .before .before .line-of .ensures) (p .ensures)))
+    let line = c .before .before .before .before .before .line-of in
+    (search needs, search needs, omega (arith, p .ensures .end), line-more (a .out .now) (l .i) (l .inv .3) (renamed (line .ensures) (p .ensures)))
 
 returns : tie.Need-returns Inv-loop μ-loop
 returns c =

@@ -11,10 +11,13 @@ use Rattle.listing.proofs.put.Tie as tie
 
 returns : tie.Need-returns
 returns c =
-    let a = c .before .before .before .before .before .before .args in
+    let s = c .before .before .before .before .before .before in
+    let a = s .args in
+    let t = a .text .now in
     record {
       end = refl;
-      text = ap (λ (l : List ℕ). take (a .at + length (a .s .now)) (putMid (a .at) (length (a .text .now) - a .at) (a .text .now) l)) (c .before .before .copy-bytes .ensures) ∙ put-at (a .at) (a .text .now) (a .s .now) _ _ (c .before .before .before .before .before .before .pre);
+      text = ap (λ (l : List ℕ). take (a .at + length (a .s .now)) (putMid (a .at) (length t - a .at) t l)) (c .before .before .copy-bytes .ensures)
+          ∙ put-at (a .at) t (a .s .now) _ _ (s .pre);
     }
 
 pub put-spec : {M : Type 1} → statement M

@@ -15,14 +15,18 @@ slice-aggregate-copy-bytes : tie.Need-slice-aggregate-copy-bytes
 slice-aggregate-copy-bytes c = sym (length-take-le 8 (c .before .hex .last .1 .1 .0) (omega arith))
 
 copy-bytes-requires : tie.Need-copy-bytes-requires
-copy-bytes-requires c κs = let s = c .before .before .before .before .before in omega (arith, length-take-le 8 (c .before .before .hex .last .1 .1 .0) (omega arith), mid-len (s .args .at) (s .args .at + 8) (s .args .line .now) (omega arith))
+copy-bytes-requires c κs =
+    let a = c .before .before .before .before .before .args in
+    omega (arith, length-take-le 8 (c .before .before .hex .last .1 .1 .0) (omega arith), mid-len (a .at) (a .at + 8) (a .line .now) (omega arith))
 
 returns : tie.Need-returns
 returns c =
-    let s = c .before .before .before .before .before .before .before .before .args in
+    let u = c .before .before .before .before .before .before .before .before in
+    let s = u .args in
     let h = c .before .before .before .before .before .hex in
     let d = spelt (s .word) (h .result) (h .last .1 .1 .0) (omega arith) (h .ensures .1 .0) (h .ensures .1 .1) in
-    ap (λ (l : List ℕ). set (putMid (s .at) (s .at + 8 - s .at) (s .line .now) l) (s .at + 8) (s .end)) (c .before .before .copy-bytes .ensures) ∙ put-cell (s .word) (s .end) (s .at) (s .line .now) (h .last .1 .1 .0) (c .before .before .before .before .before .before .before .before .pre) d
+    ap (λ (l : List ℕ). set (putMid (s .at) (s .at + 8 - s .at) (s .line .now) l) (s .at + 8) (s .end)) (c .before .before .copy-bytes .ensures)
+    ∙ put-cell (s .word) (s .end) (s .at) (s .line .now) (h .last .1 .1 .0) (u .pre) d
 
 pub put-word-spec : {M : Type 1} → statement M
 put-word-spec =

@@ -9,8 +9,10 @@ use Rattle.listing.proofs.ready.Tie as tie
 
 returns : tie.Need-returns
 returns c =
-    let a = c .before .before .before .before .before .before .before .before .before .before .before .args in
-    said (omega arith) (grown _ _ (c .before .before .before .before .before .before .before .ready-line .ensures .0) (renamed (ap (linesOf (a .out .now)) (c .before .before .before .least .ensures)) (c .before .before .lines .ensures)))
+    let l = c .before .before in
+    let r = l .before .before .before .before .before in
+    let a = r .before .before .before .before .args in
+    said (omega arith) (grown _ _ (r .ready-line .ensures .0) (renamed (ap (linesOf (a .out .now)) (l .before .least .ensures)) (l .lines .ensures)))
 
 pub ready-spec : {M : Type 1} → statement M
 ready-spec =

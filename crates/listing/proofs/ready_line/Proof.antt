@@ -12,8 +12,10 @@ returns c =
     let q = c .before .before in
     let d = q .before .before .before .before .before in
     let p = d .before .before .before .before in
-    let n = decimal (p .before .before .before .before .args .count) in
-    (grown (ascii "ready ") (n ++ ascii "\n") (p .put .ensures) (grown n (ascii "\n") (d .put-decimal .ensures .0) (q .put2 .ensures)), omega (arith, p .put .ensures .end, d .put-decimal .ensures .1, q .put2 .ensures .end))
+    let n = decimal (p .before .before .before .before .args .count) in (
+      grown (ascii "ready ") (n ++ ascii "\n") (p .put .ensures) (grown n (ascii "\n") (d .put-decimal .ensures .0) (q .put2 .ensures)),
+      omega (arith, p .put .ensures .end, d .put-decimal .ensures .1, q .put2 .ensures .end),
+    )
 
 pub ready-line-spec : {M : Type 1} → statement M
 ready-line-spec =
