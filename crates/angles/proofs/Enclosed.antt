@@ -65,7 +65,8 @@ module _ (s a c w : ℕ) (small : a ≤ c) (some : 0 < c) (at : a * 2 ^ 32 ≡ w
   unfolding down
   next k t h = record {
     least = le-of-mul-le-mul-right (under (nextTerm y t (by s k)) (T k) (T (suc k)) (D k) y (by s k) (next-is k) (low-term y t (by s k)) (h .least)) (pow-pos 64);
-    most = le-of-mul-le-mul-right (over (nextTerm y t (by s k)) (T k) (T (suc k)) (D k) y (by s k) (next-is k) (high-term y t (by s k) few (factor-pos s k)) (h .most)) (pow-pos 64);
+    most = le-of-mul-le-mul-right (over (nextTerm y t (by s k)) (T k) (T (suc k)) (D k) y (by s k) (next-is k) (high-term y t (by s k) few (factor-pos s k)) (h .most))
+        (pow-pos 64);
   }
     where
       under : (u T T' D y n : ℕ) → T' * 2 ^ 64 ≡ T * (y * (c * c)) → u * (2 ^ 64 * n) ≤ y * t → t * D ≤ T → u * (D * (c * c * n)) * 2 ^ 64 ≤ T' * 2 ^ 64
@@ -85,7 +86,8 @@ module _ (s a c w : ℕ) (small : a ≤ c) (some : 0 < c) (at : a * 2 ^ 32 ≡ w
   unfolding down
   less k t {p} {n} {p'} {n'} e h i =
       let G = nextDivisor s c k in
-      let u : U (suc k) + T (suc k) ≡ U k * G = go (numeratorAt s a c (suc k)) (a ^ (s + 2 * suc k)) (numeratorAt s a c k) G (ap (λ (x : ℕ). x * 2 ^ 60) (taken s a c small some k e)) in
+      let u : U (suc k) + T (suc k) ≡ U k * G = go (numeratorAt s a c (suc k)) (a ^ (s + 2 * suc k)) (numeratorAt s a c k) G
+      (ap (λ (x : ℕ). x * 2 ^ 60) (taken s a c small some k e)) in
       record {
         above = under (U k) (U (suc k)) (T (suc k)) (D k) G u (h .most) (mul-le-mul-right G (i .above));
         below = over (U k) (U (suc k)) (T (suc k)) (D k) G u (h .least) (mul-le-mul-right G (i .below));
@@ -104,7 +106,8 @@ module _ (s a c w : ℕ) (small : a ≤ c) (some : 0 < c) (at : a * 2 ^ 32 ≡ w
   unfolding down
   more k t {p} {n} {p'} {n'} e h i =
       let G = nextDivisor s c k in
-      let u : U (suc k) ≡ U k * G + T (suc k) = go (numeratorAt s a c (suc k)) (a ^ (s + 2 * suc k)) (numeratorAt s a c k) G (ap (λ (x : ℕ). x * 2 ^ 60) (plus s a c small some k e)) in
+      let u : U (suc k) ≡ U k * G + T (suc k) = go (numeratorAt s a c (suc k)) (a ^ (s + 2 * suc k)) (numeratorAt s a c k) G
+      (ap (λ (x : ℕ). x * 2 ^ 60) (plus s a c small some k e)) in
       record {
         above = under (U k) (U (suc k)) (T (suc k)) (D k) G u (h .least) (mul-le-mul-right G (i .above));
         below = over (U k) (U (suc k)) (T (suc k)) (D k) G u (h .most) (mul-le-mul-right G (i .below));

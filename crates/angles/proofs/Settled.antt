@@ -108,7 +108,8 @@ module _ (s w t i : ℕ) (x : Float) (small : num x ≤ den x) (at : num x * 2 ^
       between : (low s w t ≤ n) × (n < low s w t + wide s w t)
       between = subst (λ (k : ℕ). (low s w t ≤ k) × (k < low s w t + wide s w t)) (sym e) (enclosed.cut s (num x) (den x) w small (den-pos x) at few t first positive)
 
-      one : (k : ℕ) → Within (low s w t) (low s w t + wide s w t) (numeratorAt s (num x) (den x) k) (down s (den x) k) → partial s x k ≡ round binary32 false (2 * (n / 2 ^ 13) + 1) (2 ^ 48)
+      one : (k : ℕ) → Within (low s w t) (low s w t + wide s w t) (numeratorAt s (num x) (den x) k) (down s (den x) k)
+          → partial s x k ≡ round binary32 false (2 * (n / 2 ^ 13) + 1) (2 ^ 48)
       one k v =
           alike (low s w t / g) (13 + i + 89) (numeratorAt s (num x) (den x) k) (down s (den x) k) (2 * (n / 2 ^ 13) + 1) (2 ^ 48) (le-div-iff-mul-le g-pos .1 large)
           (fraction s (num x) (den x) small (den-pos x) k) (record { some = pow-pos 48; most = omega arith })

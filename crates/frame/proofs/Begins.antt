@@ -40,12 +40,14 @@ module _ (t : ℕ) (u : Update) (s : Renderer714) (b : List ℕ) where
   abbrev pub before : Timed
   before = record { state = s .state; infos = infosOf b }
 
-  by-start : (new : Bool) (m : Timed) → (not (s .state .initialized) || eqb t 0) ≡ new → updates.applied (s .clock .position .0) u before ≡ m → assembled (restated new s (m .state)) (m .infos) (placesOf b) ≡ appliedAt hall t (sent t u) (held s b)
+  by-start : (new : Bool) (m : Timed) → (not (s .state .initialized) || eqb t 0) ≡ new → updates.applied (s .clock .position .0) u before ≡ m
+      → assembled (restated new s (m .state)) (m .infos) (placesOf b) ≡ appliedAt hall t (sent t u) (held s b)
   by-start true m e f = rw (e, f)
   by-start false m e f = rw (e, f)
 
   pub one-applied :
-      (new : Bool) (at : ℕ) (m : MetadataRendererState) (is : List ℕ) (r : Renderer714) → length b ≡ size → length is ≡ 22528 → (not (s .state .initialized) || eqb t 0) ≡ new → at ≡ s .clock .position .0 →
+      (new : Bool) (at : ℕ) (m : MetadataRendererState) (is : List ℕ) (r : Renderer714) → length b ≡ size → length is ≡ 22528 → (not (s .state .initialized) || eqb t 0) ≡ new
+      → at ≡ s .clock .position .0 →
       IsTimed (updates.applied at u before) m is → r ≡ restated new s m → IsNext (appliedAt hall t (sent t u) (held s b)) b r (changed b is)
   one-applied new at m is r whole long e here h q =
       record {
@@ -56,7 +58,9 @@ module _ (t : ℕ) (u : Update) (s : Renderer714) (b : List ℕ) where
 -- ---- the slot
 
 module _ (s : Renderer714) (b : List ℕ) where
-  by-slot : (on : Bool) (m : Timed) → (s .state .initialized && eqb (s .clock .phase) 0) ≡ on → cond on (slotAt (s .clock .start .0) (record { state = s .state; infos = infosOf b })) (record { state = s .state; infos = infosOf b }) ≡ m → assembled (withState s (m .state)) (m .infos) (placesOf b) ≡ slotted hall (held s b)
+  by-slot : (on : Bool) (m : Timed) → (s .state .initialized && eqb (s .clock .phase) 0) ≡ on
+      → cond on (slotAt (s .clock .start .0) (record { state = s .state; infos = infosOf b })) (record { state = s .state; infos = infosOf b }) ≡ m
+      → assembled (withState s (m .state)) (m .infos) (placesOf b) ≡ slotted hall (held s b)
   by-slot true m e f = rw (e, f)
   by-slot false m e f = rw (e, f)
 
@@ -173,7 +177,10 @@ slotted-after h g = record { holds = record { is = g .holds .is ∙ ap (slotted 
 
 -- a renderer within document 01's ranges
 pub ranged-starts : (r : Renderer Timed) → Ranged hall Within r → CanStart r
-ranged-starts r g = record { within = timed.within-later (r .clock .position) 1099511627776 (r .meta .state) (g .position) (g .meta .state .within); start = omega (arith, g .start, g .position) }
+ranged-starts r g = record {
+  within = timed.within-later (r .clock .position) 1099511627776 (r .meta .state) (g .position) (g .meta .state .within);
+  start = omega (arith, g .start, g .position);
+}
 
 -- none is sent for the time
 pub past : {f : ℕ → ℕ} {n t from i : ℕ} → FirstAt f n t from i → n ≤ i → FirstAt f n t from n
@@ -183,13 +190,16 @@ past {f} {n} {t} {from} {i} h l =
     subst (λ (j : ℕ). FirstAt f n t from j) e h
 
 -- where none is sent a slot may start
-pub slot-begins : (l : records.Layout) (t phase : ℕ) (b : Bool) → eqb phase 0 ≡ b → FirstAt (offsetAt l) (l .count) t 0 (l .count) → cond b (Rests l t true phase → ⊥) (Rests l t true phase)
+pub slot-begins : (l : records.Layout) (t phase : ℕ) (b : Bool) → eqb phase 0 ≡ b → FirstAt (offsetAt l) (l .count) t 0 (l .count)
+    → cond b (Rests l t true phase → ⊥) (Rests l t true phase)
 slot-begins l t phase true e n = λ h. subst T (sym e ∙ h .slot) tt
 slot-begins l t phase false e n = record { none = n; slot = e }
 
 -- nothing begins
-pub rests : (m : List ℕ) (l : records.Layout) → IsLayout m l → (t : ℕ) (s : Renderer714) (b : List ℕ) → length b ≡ size → Rests l t (s .state .initialized) (s .clock .phase) → IsNext (slotted hall (updated hall t (sentOf m) (held s b))) b s b
+pub rests : (m : List ℕ) (l : records.Layout) → IsLayout m l → (t : ℕ) (s : Renderer714) (b : List ℕ) → length b ≡ size → Rests l t (s .state .initialized) (s .clock .phase)
+    → IsNext (slotted hall (updated hall t (sentOf m) (held s b))) b s b
 rests m l g t s b long h =
     let all = updated hall t (sentOf m) (held s b) in
-    let e = ends m l t (s .clock .position .0) all b g (l .count) s b (omega arith) (standing m l t (s .clock .position .0) all b g 0 (l .count) s b (h .none) long refl refl (from-first m l g t (held s b))) in
+    let e = ends m l t (s .clock .position .0) all b g (l .count) s b (omega arith)
+    (standing m l t (s .clock .position .0) all b g 0 (l .count) s b (h .none) long refl refl (from-first m l g t (held s b))) in
     slotted-after e (slot-rests s b long (h .slot))

@@ -102,10 +102,12 @@ module _ (L : Leaves) where
       (moments m t n)
 
   -- the first sample, and then the n + 1 others at once
-  more : (f : Frame (L .Update)) (n t : ℕ) (r : State L) (run : Bool) → started L (r .meta) ≡ run → both (opening run f t r) (chunk L f (suc n) (suc t) (middle run f t r)) ≡ chunk L f (suc (suc n)) t r
+  more : (f : Frame (L .Update)) (n t : ℕ) (r : State L) (run : Bool) → started L (r .meta) ≡ run
+      → both (opening run f t r) (chunk L f (suc n) (suc t) (middle run f t r)) ≡ chunk L f (suc (suc n)) t r
   unfolding chunk
   more f n t r run go =
-      (λ i. shut f (suc (suc n)) t r (go i) (past (r .clock .position) i) (cond run (r .clock .phase + 1) (r .clock .phase) + suc n) (cond run (r .clock .phase + 1) (r .clock .phase)) (past (r .pending .count) i) (λ c. rows c i))
+      (λ i. shut f (suc (suc n)) t r (go i) (past (r .clock .position) i) (cond run (r .clock .phase + 1) (r .clock .phase) + suc n)
+      (cond run (r .clock .phase + 1) (r .clock .phase)) (past (r .pending .count) i) (λ c. rows c i))
       ∙ clock run
       ∙ (λ i. shut f (suc (suc n)) t r (sym go i) (r .clock .position + suc (suc n)) (r .clock .phase + suc (suc n)) (r .clock .phase) (r .pending .count + suc (suc n)) after)
     where
@@ -118,13 +120,16 @@ module _ (L : Leaves) where
       after : Places
       after c = laid (r .pending .count) (rowRun m (r .filter) c t (suc (suc n))) (r .pending .places c)
 
-      rows : (c : ℕ) → laid (r .pending .count + 1) (rowRun m (next (r .filter) (fed (m t))) c (suc t) (suc n)) (laid (r .pending .count) (row (m t) (r .filter) c) (r .pending .places c)) ≡ after c
-      rows c = one-by-one (eqb c 3) (r .pending .count) (output (r .filter) (fed (m t))) (heard (m t) c) (rowRun m (next (r .filter) (fed (m t))) c (suc t) (suc n)) (r .pending .places c)
+      rows : (c : ℕ) → laid (r .pending .count + 1) (rowRun m (next (r .filter) (fed (m t))) c (suc t) (suc n))
+          (laid (r .pending .count) (row (m t) (r .filter) c) (r .pending .places c)) ≡ after c
+      rows c = one-by-one (eqb c 3) (r .pending .count) (output (r .filter) (fed (m t))) (heard (m t) c) (rowRun m (next (r .filter) (fed (m t))) c (suc t) (suc n))
+          (r .pending .places c)
 
       at : Bool → ℕ → ℕ → After L
       at b phase rest = shut f (suc (suc n)) t r b (r .clock .position + suc (suc n)) phase rest (r .pending .count + suc (suc n)) after
 
-      clock : (b : Bool) → at b (cond b (r .clock .phase + 1) (r .clock .phase) + suc n) (cond b (r .clock .phase + 1) (r .clock .phase)) ≡ at b (r .clock .phase + suc (suc n)) (r .clock .phase)
+      clock : (b : Bool) → at b (cond b (r .clock .phase + 1) (r .clock .phase) + suc n) (cond b (r .clock .phase + 1) (r .clock .phase))
+          ≡ at b (r .clock .phase + suc (suc n)) (r .clock .phase)
       clock true = ap (λ (k : ℕ). at true k (r .clock .phase)) (past (r .clock .phase))
       clock false = refl
 
@@ -142,7 +147,8 @@ module _ (L : Leaves) where
   abbrev pub Quiet : Frame (L .Update) → ℕ → ℕ → Type 0
   Quiet f n t = (k : ℕ) → t < k → k ≤ t + n → NoneAt k (f .updates)
 
-  pub chunk-is : (f : Frame (L .Update)) (n t : ℕ) (r : State L) (run : Bool) → started L (r .meta) ≡ run → Quiet f n t → (run ≡ true → r .clock .phase + suc n ≤ 64) → r .pending .count + suc n ≤ 64
+  pub chunk-is : (f : Frame (L .Update)) (n t : ℕ) (r : State L) (run : Bool) → started L (r .meta) ≡ run → Quiet f n t → (run ≡ true → r .clock .phase + suc n ≤ 64)
+      → r .pending .count + suc n ≤ 64
       → follow f n t r ≡ chunk L f (suc n) t r
   chunk-is f zero t r run go q p c = single f t r
   chunk-is f (suc n) t r run go q p c =
@@ -172,7 +178,8 @@ module _ (L : Leaves) where
   unfolding chunk
   chunk-passes f n t r = record { rate = refl; position = refl; meta = refl }
 
-  pub chunk-whole : (f : Frame (L .Update)) (n t : ℕ) (r : State L) → Turn f n t (slotted L (updated L t (f .updates) r)) → framed L f (suc n) t r ≡ chunk L f (suc n) t (slotted L (updated L t (f .updates) r))
+  pub chunk-whole : (f : Frame (L .Update)) (n t : ℕ) (r : State L) → Turn f n t (slotted L (updated L t (f .updates) r))
+      → framed L f (suc n) t r ≡ chunk L f (suc n) t (slotted L (updated L t (f .updates) r))
   chunk-whole f n t r h = chunk-is f n t (slotted L (updated L t (f .updates) r)) _ refl (h .quiet) (h .slot) (h .room)
 
   -- a frame is a chunk, behind the updates and the slot at its first sample, and the rest

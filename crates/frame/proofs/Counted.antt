@@ -44,7 +44,8 @@ module _ (L : Leaves) where
           let m = leb-true 64 k q in
           record {
             blocks = 1;
-            length = λ c l. ap (λ (b : Bool). length (cond b (limited (r .limiter .gain) block) none c)) q ∙ length-limited (r .limiter .gain) block c ∙ length-map (ofBits binary32) (r .pending .places c) ∙ long c l;
+            length = λ c l. ap (λ (b : Bool). length (cond b (limited (r .limiter .gain) block) none c)) q ∙ length-limited (r .limiter .gain) block c
+                ∙ length-map (ofBits binary32) (r .pending .places c) ∙ long c l;
             all = ap (λ (b : Bool). 64 * 1 + cond b 0 k) q ∙ (omega arith);
           }
       go false q =
@@ -76,7 +77,8 @@ module _ (L : Leaves) where
       same = ap (λ (p : Pending). p .count) (untouched L t (f .updates) r .pending)
 
       laid-long : Long (λ c. laid (s .pending .count) (row m (s .filter) c) (s .pending .places c))
-      laid-long c l = length-laid (s .pending .count) (row m (s .filter) c) (s .pending .places c) ∙ ap (λ (p : Pending). length (p .places c)) (untouched L t (f .updates) r .pending) ∙ long c l
+      laid-long c l = length-laid (s .pending .count) (row m (s .filter) c) (s .pending .places c)
+          ∙ ap (λ (p : Pending). length (p .places c)) (untouched L t (f .updates) r .pending) ∙ long c l
 
       a : Counted (s .pending .count) 1 (sampled L f t r)
       a = closing-counted (s .pending .count) 1 (settled L 1 (next (s .filter) (fed m)) (row m (s .filter)) s) (m ∷ []) refl (omega (arith, same)) laid-long

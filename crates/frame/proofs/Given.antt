@@ -63,7 +63,8 @@ channels-listed f s n e (suc k) c h =
     (ap (channelsAt k n s) a ∙ channels-listed f s n e k (suc c) (omega arith))
 
 module _ (g : Float) (f : Channels) (stride ready : ℕ) where
-  channels-behind : (k c : ℕ) (out : List ℕ) → withChannels (scaledBlock g (listed k c f)) (4 * stride) (4 * (c * stride + ready)) out ≡ behindFrom k c ready (λ c. scaled g (f c)) stride out
+  channels-behind : (k c : ℕ) (out : List ℕ) → withChannels (scaledBlock g (listed k c f)) (4 * stride) (4 * (c * stride + ready)) out
+      ≡ behindFrom k c ready (λ c. scaled g (f c)) stride out
   unfolding withChannels scaledBlock listed
   channels-behind zero c out = refl
   channels-behind (suc k) c out =

@@ -17,7 +17,8 @@ use Rattle.rules.specs.Samples.{Pending, State, After, updated, slotted, framed
 use Rattle.rules.specs.Refusals.{Args, listed, shapeAt}
 use Rattle.rules.specs.Calls.{announced, frameOf}
 use Rattle.rules.specs.Block.{Layout, written}
-use Rattle.rules.proofs.Theorems.{Facts, Passed, is-roomy, samples-fit, untouched, R, updated-ranged, slotted-ranged, framed-ranged, opened-ranged, Matches, matches-on, judged, updated-shape, slotted-shape}
+use Rattle.rules.proofs.Theorems.{Facts, Passed, is-roomy, samples-fit, untouched, R, updated-ranged, slotted-ranged, framed-ranged, opened-ranged, Matches, matches-on, judged}
+use Rattle.rules.proofs.Theorems.{updated-shape, slotted-shape}
 use Rattle.frame.specs.Chunk.{chunk}
 use Rattle.frame.specs.Out.{behind}
 use Rattle.frame.proofs.Chunks.{both, Turn, chunk-passes, chunk-whole, turn}
@@ -87,7 +88,8 @@ module _ (L : Leaves) (B : Layout L) (F : Facts L B) where
       pub pending : met t r .pending .count ≡ r .pending .count
       pub fits : Fit (L .shape (met t r .meta))
 
-    module _ (S : Shaped) (p : Passed L r₀ a) (k : All (F .Checked) us) (t : ℕ) (r : State L) (ready : ℕ) (level : Meters) (out : List ℕ) (g : Going t r ready level out) (more : t < a .samples) where
+    module _ (S : Shaped) (p : Passed L r₀ a) (k : All (F .Checked) us) (t : ℕ) (r : State L) (ready : ℕ) (level : Meters) (out : List ℕ) (g : Going t r ready level out)
+        (more : t < a .samples) where
       pub begun : Begun t r
       begun =
           let u = updated-ranged L B F t us r k (g .ranged) in
@@ -136,7 +138,8 @@ module _ (L : Leaves) (B : Layout L) (F : Facts L B) where
             let e = rest-counted .length c l in
             let w = is-roomy (a .stride) (length (a .out)) (p .early .room) in
             subst (λ (i : ℕ). ready + 64 * counted .blocks + i ≤ a .stride) (sym e)
-            (space ready (r₀ .pending .count) (r .pending .count) t n (a .samples - (t + suc n)) (a .samples) (a .stride) (counted .blocks) (rest-counted .blocks) (C .next .pending .count) (D .next .pending .count) (g .whole) (w .whole)
+            (space ready (r₀ .pending .count) (r .pending .count) t n (a .samples - (t + suc n)) (a .samples) (a .stride) (counted .blocks) (rest-counted .blocks)
+            (C .next .pending .count) (D .next .pending .count) (g .whole) (w .whole)
             few (samples-fit a (p .early .sized)) (omega arith) (g .pending) (counted .all) (rest-counted .all))
 
         count-more : length (rest t r .given 0) ≡ 64 * counted .blocks + length (D .given 0)
@@ -163,7 +166,8 @@ module _ (L : Leaves) (B : Layout L) (F : Facts L B) where
               long = length-behind ready (C .given) (a .stride) out ∙ g .long;
               ranged = chunk-ranged;
               listed = ap listed (c .rate) ∙ b .listed;
-              position = numbers-position (r₀ .clock .position) (C .next .clock .position) (met t r .clock .position) (r .clock .position) (c .position) (b .position) (g .position);
+              position = numbers-position (r₀ .clock .position) (C .next .clock .position) (met t r .clock .position) (r .clock .position) (c .position) (b .position)
+                  (g .position);
               pending = numbers-pending (r₀ .pending .count) (counted .blocks) (C .next .pending .count) (r .pending .count) (counted .all) (g .pending);
               whole = numbers-whole (counted .blocks) (g .whole);
               fits = fits-more;

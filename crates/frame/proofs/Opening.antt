@@ -37,7 +37,8 @@ run-length-is true phase pending left p q l =
     let y = least-some (64 - phase) (lesser (64 - pending) left) (omega arith) (x .0) in
     bounds phase pending left (lesser (64 - pending) left) (lesser (64 - phase) (lesser (64 - pending) left)) p q x y
   where
-    bounds : (phase pending left m k : ℕ) → phase < 64 → pending < 64 → (0 < m) × (m ≤ 64 - pending) × (m ≤ left) → (0 < k) × (k ≤ 64 - phase) × (k ≤ m) → RunLength true phase pending left k
+    bounds : (phase pending left m k : ℕ) → phase < 64 → pending < 64 → (0 < m) × (m ≤ 64 - pending) × (m ≤ left) → (0 < k) × (k ≤ 64 - phase) × (k ≤ m)
+        → RunLength true phase pending left k
     bounds phase pending left m k p q x y =
         let a = x .1 in
         let b = x .2 in

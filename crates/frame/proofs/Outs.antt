@@ -93,7 +93,8 @@ module _ (a d : Channels) (k n stride : ℕ) (long : (c : ℕ) → c < 12 → le
 behind-length : (m c k : ℕ) (a : Channels) (stride : ℕ) (out : List ℕ) → length (behindFrom m c k a stride out) ≡ length out
 behind-length zero c k a stride out = refl
 behind-length (suc m) c k a stride out =
-    behind-length m (suc c) k a stride (withWords out (4 * (c * stride + k)) (map (toBits binary32) (a c))) ∙ run-length-kept out (4 * (c * stride + k)) (map (toBits binary32) (a c))
+    behind-length m (suc c) k a stride (withWords out (4 * (c * stride + k)) (map (toBits binary32) (a c)))
+    ∙ run-length-kept out (4 * (c * stride + k)) (map (toBits binary32) (a c))
 
 pub length-behind : (k : ℕ) (a : Channels) (stride : ℕ) (out : List ℕ) → length (behind k a stride out) ≡ length out
 unfolding behind

@@ -67,7 +67,8 @@ module _ (codes pcm : List ℕ) (objects n t c : ℕ) where
       → heard (momentOf bs ss codes pcm n t) c
       ≡ heard (record { beds = beds; objects = sources; codes = codes; inputs = λ i. sampleAt pcm n i t; own = samplesAt pcm n objects (length codes) t }) c
   heard-same bs ss beds sources p q e =
-      ap₂ (λ (x : List Bed) (y : List Source). heard (record { beds = x; objects = y; codes = codes; inputs = λ i. sampleAt pcm n i t; own = samplesAt pcm n (length ss) (length codes) t }) c) p q
+      ap₂ (λ (x : List Bed) (y : List Source). heard
+      (record { beds = x; objects = y; codes = codes; inputs = λ i. sampleAt pcm n i t; own = samplesAt pcm n (length ss) (length codes) t }) c) p q
       ∙ ap (λ (k : ℕ). heard (record { beds = beds; objects = sources; codes = codes; inputs = λ i. sampleAt pcm n i t; own = samplesAt pcm n k (length codes) t }) c) e
 
   mixed-heard : (b : Bool) (m : MetadataRendererState) → Full m objects → (b ≡ true → m .objects - m .isf ≡ objects)
@@ -152,7 +153,8 @@ module _ (f : Frame Sent) (t k : ℕ) (s : Renderer714) (b : List ℕ) where
   module _ (m : ℕ → Moment) (same : (t c : ℕ) → heard (m t) c ≡ heard (at t) c) (ys : List Float) (low : BiquadLowpassState) (p : Passed m (s .filter) t k ys low) (b' : List ℕ)
       (l : Laid ys (s .pending) k b b') where
     rows-laid : (c : ℕ) (q : Bool) → ltb c 12 ≡ q
-        → laid (s .pending) (take k (drop (64 * c) ys)) (cond q (wordsAt b (23888 + 256 * c) 64) []) ≡ laid (s .pending) (rowRun at (s .filter) c t k) (cond q (wordsAt b (23888 + 256 * c) 64) [])
+        → laid (s .pending) (take k (drop (64 * c) ys)) (cond q (wordsAt b (23888 + 256 * c) 64) [])
+        ≡ laid (s .pending) (rowRun at (s .filter) c t k) (cond q (wordsAt b (23888 + 256 * c) 64) [])
     rows-laid c true e =
         ap (λ (xs : List Float). laid (s .pending) xs (wordsAt b (23888 + 256 * c) 64)) (p .columns c (ltb-true c 12 e) ∙ run-as m at same (s .filter) c t k)
     rows-laid c false e = laid-nil (s .pending) (take k (drop (64 * c) ys)) ∙ sym (laid-nil (s .pending) (rowRun at (s .filter) c t k))
@@ -171,8 +173,10 @@ adds-ready : (ready : ℕ) {pending : ℕ} → pending ≡ 0 → ready + 64 ≡ 
 adds-ready ready e = rw e refl
 
 -- the moments that `mix` hears
-pub same-heard : (rate : ℕ) (us : List Sent) (codes pcm : List ℕ) (objects n : ℕ) (s : Renderer714) (b : List ℕ) → Full (s .state) objects → (s .state .initialized ≡ true → s .state .objects - s .state .isf ≡ objects)
-    → (t c : ℕ) → heard (mixed (s .state) codes objects pcm n t) c ≡ heard (moment hall (frameWith rate us codes objects pcm n) t (record { state = s .state; infos = infosOf b })) c
+pub same-heard : (rate : ℕ) (us : List Sent) (codes pcm : List ℕ) (objects n : ℕ) (s : Renderer714) (b : List ℕ) → Full (s .state) objects
+    → (s .state .initialized ≡ true → s .state .objects - s .state .isf ≡ objects)
+    → (t c : ℕ) → heard (mixed (s .state) codes objects pcm n t) c ≡ heard (moment hall (frameWith rate us codes objects pcm n) t (record { state = s .state; infos = infosOf b }))
+    c
 same-heard rate us codes pcm objects n s b h d t c = mixed-heard codes pcm objects n t c (s .state .initialized) (s .state) h d
 
 -- what a turn of the frame's loop may do: pass its samples, and where a block gets whole, give it out behind those that are ready
@@ -201,7 +205,14 @@ module _ (f : Frame Sent) {w v : Rendering} {b b' pcm out codes : List ℕ} {obj
       let p = pending-after in
       let q = h .room (sym p ∙ z) in
       let y = e .ready in
-      record { block = e .next .holds .long; pending = omega arith; rate = rw (ap (λ (x : Renderer Timed). x .rate) is-settled) (h .rate); room = omega arith; short = h .short; output = h .output }
+      record {
+        block = e .next .holds .long;
+        pending = omega arith;
+        rate = rw (ap (λ (x : Renderer Timed). x .rate) is-settled) (h .rate);
+        room = omega arith;
+        short = h .short;
+        output = h .output;
+      }
 
   pub passes-on : (v .renderer .pending ≡ 64 → ⊥) → Passes f t k stride w b out v b' out
   passes-on z =
@@ -224,7 +235,10 @@ module _ (f : Frame Sent) {w v : Rendering} {b b' pcm out codes : List ℕ} {obj
       let y = e .ready in
       let c : r .ready ≡ w .ready + 64 = g .ready ∙ (let i = y in let j = z in omega arith) in
       record {
-        next = record { holds = record { is = g .next ∙ ap (λ (x : Renderer Timed). flushed hall x .next) is-settled ∙ sym (chunk-whole f t k s b o); long = e .next .holds .long }; small = e .next .small };
+        next = record {
+          holds = record { is = g .next ∙ ap (λ (x : Renderer Timed). flushed hall x .next) is-settled ∙ sym (chunk-whole f t k s b o); long = e .next .holds .long };
+          small = e .next .small;
+        };
         given = g .given
             ∙ (λ i. behind (y i) (flushed hall (is-settled i) .given) stride out) ∙ ap (λ (g : Channels). behind (w .ready) g stride out) (sym (chunk-given f t k s b o));
         ready = c ∙ adds-ready (w .ready) (ap (λ (x : Renderer Timed). x .pending .count) (g .next));

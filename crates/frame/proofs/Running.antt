@@ -103,7 +103,8 @@ pub record Running (b : List ℕ) (a : Args) (t : ℕ) (w : Rendering) (state ou
   pub small : smallBytes state ≡ smallBytes b
   pub going : Going hall block facts (decode b) a t (held (w .renderer) state) (w .ready) (w .meters) out
 
-pub opens : (w v : Rendering) (b : List ℕ) (a : Args) (l : Layout) → Accepted w b l a → Taken b a l → v ≡ record { renderer = openedBy (w .renderer) (a .rate); ready = 0; meters = unmet } → Running b a 0 v b (a .out)
+pub opens : (w v : Rendering) (b : List ℕ) (a : Args) (l : Layout) → Accepted w b l a → Taken b a l
+    → v ≡ record { renderer = openedBy (w .renderer) (a .rate); ready = 0; meters = unmet } → Running b a 0 v b (a .out)
 unfolding decode
 opens w v b a l h k e =
     record {
@@ -185,7 +186,12 @@ module _ (b : List ℕ) (a : Args) (l : Layout) (k : Taken b a l) (t : ℕ) (w :
             record {
               passes = record {
                 block = e .next .holds .long;
-                framed = record { room = omega arith; plain = pass-plain (a .pcm) 0 ((length (a .codes) + a .objects) * a .samples) (p .early .pass); span = turn-fits; short = let x = len .room in omega arith };
+                framed = record {
+                  room = omega arith;
+                  plain = pass-plain (a .pcm) 0 ((length (a .codes) + a .objects) * a .samples) (p .early .pass);
+                  span = turn-fits;
+                  short = let x = len .room in omega arith;
+                };
                 inputs = z .codes;
                 few = z .objects;
                 beds = r .meta .state .within .beds;
@@ -197,12 +203,14 @@ module _ (b : List ℕ) (a : Args) (l : Layout) (k : Taken b a l) (t : ℕ) (w :
               };
               some = len .some;
               rate = le-of-lt (rate-high (is-listed (s′ .rate) (ap (λ (x : State hall). listed (x .rate)) (e .next .holds .is) ∙ here .listed)));
-              room = λ x. roomy (e .ready) (g .whole) (w₁ .whole) (k .ranged .pending) (z .samples) turn-fits (g .pending) (ap (λ (x : State hall). x .pending .count) (e .next .holds .is) ∙ here .pending) x;
+              room = λ x. roomy (e .ready) (g .whole) (w₁ .whole) (k .ranged .pending) (z .samples) turn-fits (g .pending)
+                  (ap (λ (x : State hall). x .pending .count) (e .next .holds .is) ∙ here .pending) x;
               short = let m = w₁ .most in omega arith;
               output = omega arith;
             }
           where
-            roomy : w′ .ready ≡ w .ready → w .ready % 64 ≡ 0 → a .stride % 64 ≡ 0 → decode b .pending .count < 64 → a .samples ≤ a .stride → t + n ≤ a .samples → w .ready + w .renderer .pending ≡ decode b .pending .count + t → s′ .pending ≡ w .renderer .pending → s′ .pending + n ≡ 64 → w′ .ready + 64 ≤ a .stride
+            roomy : w′ .ready ≡ w .ready → w .ready % 64 ≡ 0 → a .stride % 64 ≡ 0 → decode b .pending .count < 64 → a .samples ≤ a .stride → t + n ≤ a .samples
+                → w .ready + w .renderer .pending ≡ decode b .pending .count + t → s′ .pending ≡ w .renderer .pending → s′ .pending + n ≡ 64 → w′ .ready + 64 ≤ a .stride
             roomy i x y z v u p q r = omega arith
 
         turn-of : (i : ℕ) → n ≡ suc i → Turn hall (frameOf hall a) i t met
@@ -211,7 +219,8 @@ module _ (b : List ℕ) (a : Args) (l : Layout) (k : Taken b a l) (t : ℕ) (w :
             let o = len .room in
             record {
               quiet = λ j x y. none-before j x (omega arith);
-              slot = subst (λ (x : State hall). started hall (x .meta) ≡ true → x .clock .phase + suc i ≤ 64) (e .next .holds .is) (subst (λ (m : ℕ). s′ .state .initialized ≡ true → s′ .clock .phase + m ≤ 64) q (len .slot));
+              slot = subst (λ (x : State hall). started hall (x .meta) ≡ true → x .clock .phase + suc i ≤ 64) (e .next .holds .is)
+                  (subst (λ (m : ℕ). s′ .state .initialized ≡ true → s′ .clock .phase + m ≤ 64) q (len .slot));
               room = subst (λ (x : State hall). x .pending .count + suc i ≤ 64) (e .next .holds .is) (omega arith);
             }
 
@@ -224,18 +233,26 @@ module _ (b : List ℕ) (a : Args) (l : Layout) (k : Taken b a l) (t : ℕ) (w :
             go (suc i) q p =
                 let f = frameOf hall a in
                 let fit = turn-fits in
-                let d = step hall block facts (decode b) a shapes (k .passed) (k .checked) t (held (w .renderer) state) (w .ready) (w .meters) out (h .going) more (k .ranged .pending) i (omega arith) (turn-of i q) in
+                let d = step hall block facts (decode b) a shapes (k .passed) (k .checked) t (held (w .renderer) state) (w .ready) (w .meters) out (h .going) more
+                (k .ranged .pending) i (omega arith) (turn-of i q) in
                 let G : State hall → ℕ → Meters → List ℕ → Type 0 = Going hall block facts (decode b) a (t + suc i) in
                 let C : State hall → After hall = chunk hall f (suc i) t in
                 let o₁ : ℕ → State hall → List ℕ = λ n x. behind n (C x .given) (a .stride) out in
-                let d₁ = subst (λ (x : State hall). G (C x .next) (readyAfter (w .ready) (C x .next .pending .count)) (meetsAll (w .meters) (C x .meters)) (o₁ (w .ready) x)) (sym (e .next .holds .is)) d in
+                let d₁ = subst (λ (x : State hall). G (C x .next) (readyAfter (w .ready) (C x .next .pending .count)) (meetsAll (w .meters) (C x .meters)) (o₁ (w .ready) x))
+                (sym (e .next .holds .is)) d in
                 let y = held s′ state′ in
-                let d₂ = subst (λ (x : State hall). G x (readyAfter (w .ready) (x .pending .count)) (meetsAll (w .meters) (C y .meters)) (o₁ (w .ready) y)) (sym (p .next .holds .is)) d₁ in
+                let d₂ = subst (λ (x : State hall). G x (readyAfter (w .ready) (x .pending .count)) (meetsAll (w .meters) (C y .meters)) (o₁ (w .ready) y))
+                (sym (p .next .holds .is)) d₁ in
                 let d₃ = subst (λ (x : ℕ). G (held (r .renderer) c) (readyAfter x (r .renderer .pending)) (meetsAll (w .meters) (C y .meters)) (o₁ x y)) (sym (e .ready)) d₂ in
                 let d₄ = subst (λ (x : ℕ). G (held (r .renderer) c) x (meetsAll (w .meters) (C y .meters)) (o₁ (w′ .ready) y)) (sym (p .ready)) d₃ in
                 let m : meetsAll (w .meters) (C y .meters) ≡ r .meters = sym (p .meters ∙ ap (λ (x : Meters). meetsAll x (C y .meters)) (e .meters)) in
                 let d₅ = subst (λ (x : Meters). G (held (r .renderer) c) (r .ready) x (o₁ (w′ .ready) y)) m d₄ in
-                record { long = p .next .holds .long; small = p .next .small ∙ e .next .small ∙ h .small; going = subst (G (held (r .renderer) c) (r .ready) (r .meters)) (sym (p .given)) d₅ }
+                record {
+                  long = p .next .holds .long;
+                  small = p .next .small ∙ e .next .small
+                      ∙ h .small;
+                  going = subst (G (held (r .renderer) c) (r .ready) (r .meters)) (sym (p .given)) d₅;
+                }
 
 -- a turn under way: the updates and the slot at t left w′ and state′, and n samples follow
 pub record Turning (b : List ℕ) (a : Args) (l : Layout) (t : ℕ) (w : Rendering) (state out : List ℕ) (end : ℕ) (w′ : Rendering) (state′ : List ℕ) (n : ℕ) : Type 0 where
@@ -246,7 +263,8 @@ pub record Turning (b : List ℕ) (a : Args) (l : Layout) (t : ℕ) (w : Renderi
   pub begun : Leads (slotted hall (updated hall t (sentOf (a .meta)) (held (w .renderer) state))) w state w′ state′
   pub count : n ≡ runLength (w′ .renderer .state .initialized) (w′ .renderer .clock .phase) (w′ .renderer .pending) (end - t)
 
-module _ {b : List ℕ} {a : Args} {l : Layout} {t : ℕ} {w : Rendering} {state out : List ℕ} {end : ℕ} {w′ : Rendering} {state′ : List ℕ} {n : ℕ} (u : Turning b a l t w state out end w′ state′ n) where
+module _ {b : List ℕ} {a : Args} {l : Layout} {t : ℕ} {w : Rendering} {state out : List ℕ} {end : ℕ} {w′ : Rendering} {state′ : List ℕ} {n : ℕ}
+    (u : Turning b a l t w state out end w′ state′ n) where
   abbrev s : Renderer714
   s = w′ .renderer
 
@@ -254,7 +272,8 @@ module _ {b : List ℕ} {a : Args} {l : Layout} {t : ℕ} {w : Rendering} {state
   len =
       let f = few b a l (u .taken) t w state out (u .running) (u .more) end (u .ends) w′ state′ (u .begun) in
       let x = end-above b a l (u .taken) t w state out (u .running) (u .more) end (u .ends) in
-      subst (RunLength (s .state .initialized) (s .clock .phase) (s .pending) (end - t)) (sym (u .count)) (run-length-is (s .state .initialized) (s .clock .phase) (s .pending) (end - t) (f .0) (f .1) (omega arith))
+      subst (RunLength (s .state .initialized) (s .clock .phase) (s .pending) (end - t)) (sym (u .count))
+      (run-length-is (s .state .initialized) (s .clock .phase) (s .pending) (end - t) (f .0) (f .1) (omega arith))
 
   pub turn-some : 0 < n
   turn-some = len .some
@@ -269,7 +288,8 @@ module _ {b : List ℕ} {a : Args} {l : Layout} {t : ℕ} {w : Rendering} {state
   turn-runs r c o p = turns b a l (u .taken) t w state out (u .running) (u .more) end (u .ends) w′ state′ (u .begun) n len r c o p
 
 -- ---- after the last sample
-pub rendered : (b : List ℕ) (a : Args) (t : ℕ) (w : Rendering) (state out : List ℕ) → Running b a t w state out → a .samples ≤ t → IsRendered (pushed hall (frameOf hall a) (decode b)) (a .stride) b (a .out) w state out
+pub rendered : (b : List ℕ) (a : Args) (t : ℕ) (w : Rendering) (state out : List ℕ) → Running b a t w state out → a .samples ≤ t
+    → IsRendered (pushed hall (frameOf hall a) (decode b)) (a .stride) b (a .out) w state out
 rendered b a t w state out h last =
     let e = ends hall block facts (decode b) a t (held (w .renderer) state) (w .ready) (w .meters) out (h .going) last in
     record { next = record { holds = record { is = e .0; long = h .long }; small = h .small }; given = e .1; ready = e .2; meters = e .3 }

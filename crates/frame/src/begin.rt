@@ -57,7 +57,8 @@ impl Rendering {
         at: StreamSample,
     ) -> Rendering
         requires { ⌜ (length (now state) ≡ size) × (at .0 ≡ self .renderer .clock .position .0) × WholeUpdate (now meta) u ⌝ }
-        ensures { λ r. ⌜ Leads (appliedAt hall (t .0) (record { offset = t .0; said = updateOf (now (meta .entry)) u }) (held (self .renderer) (now (state .entry)))) self (now (state .entry)) r (now (state .exit)) ⌝ }
+        ensures { λ r. ⌜ Leads (appliedAt hall (t .0) (record { offset = t .0; said = updateOf (now (meta .entry)) u }) (held (self .renderer) (now (state .entry)))) self
+            (now (state .entry)) r (now (state .exit)) ⌝ }
     {
         let before = self.renderer.state;
         let new = starts_slot(before.initialized, t);
@@ -121,7 +122,8 @@ impl Rendering {
         at: StreamSample,
     ) -> Rendering
         requires { ⌜ CanBegin (self .renderer) (now state) (now meta) l (t .0) (at .0) ⌝ }
-        ensures { λ r. ⌜ Leads (slotted hall (updated hall (t .0) (sentOf (now (meta .entry))) (held (self .renderer) (now (state .entry))))) self (now (state .entry)) r (now (state .exit)) ⌝ }
+        ensures { λ r. ⌜ Leads (slotted hall (updated hall (t .0) (sentOf (now (meta .entry))) (held (self .renderer) (now (state .entry))))) self (now (state .entry)) r
+            (now (state .exit)) ⌝ }
     {
         let next = self.apply_sent(state, meta, l, t, at);
         next.start_slot(state)

@@ -78,7 +78,9 @@ impl Rendering {
         k: usize,
     ) -> Rendering
         requires { ⌜ CanPass (self .renderer) (now state) (now pcm) (now codes) objects n (t .0) k ⌝ }
-        ensures { λ r. ⌜ ((rate : ℕ) (us : List Sent) → Leads (settledAt (frameWith rate us (now (codes .entry)) objects (now (pcm .entry)) n) (t .0) k (self .renderer) (now (state .entry))) self (now (state .entry)) r (now (state .exit))) ⌝ }
+        ensures { λ r. ⌜ ((rate : ℕ) (us : List Sent)
+            → Leads (settledAt (frameWith rate us (now (codes .entry)) objects (now (pcm .entry)) n) (t .0) k (self .renderer) (now (state .entry))) self (now (state .entry)) r
+            (now (state .exit))) ⌝ }
     {
         let mut rows = [0.0f32; areas::PLACE_COUNT];
         let m = self.renderer.state;

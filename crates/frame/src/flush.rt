@@ -38,7 +38,8 @@ impl Rendering {
     // Flush: the remainder as one shorter block.
     pub fn drain(self, state: &[u8], out: &mut [u8], stride: usize) -> Rendering
         requires { ⌜ CanGive self (now state) (now out) stride × (self .ready ≡ 0) × (self .meters ≡ unmet) ⌝ }
-        ensures { λ r. ⌜ IsDrained (flushed hall (held (self .renderer) (now (state .entry)))) (self .renderer .pending) stride (now (state .entry)) (now (out .entry)) r (now (out .exit)) ⌝ }
+        ensures { λ r. ⌜ IsDrained (flushed hall (held (self .renderer) (now (state .entry)))) (self .renderer .pending) stride (now (state .entry)) (now (out .entry)) r
+            (now (out .exit)) ⌝ }
     {
         self.give(state, out, stride)
     }

@@ -69,7 +69,9 @@ impl Rendering {
         n: Numbers,
     ) -> Rendering
         requires { ⌜ Accepted self (now state) l (argsWith (now pcm) (now meta) (now out) (now codes) n) ⌝ }
-        ensures { λ r. ⌜ IsRendered (pushed hall (frameOf hall (argsWith (now (pcm .entry)) (now (meta .entry)) (now (out .entry)) (now (codes .entry)) n)) (decode (now (state .entry)))) (n .stride) (now (state .entry)) (now (out .entry)) r (now (state .exit)) (now (out .exit)) ⌝ }
+        ensures { λ r. ⌜ IsRendered
+            (pushed hall (frameOf hall (argsWith (now (pcm .entry)) (now (meta .entry)) (now (out .entry)) (now (codes .entry)) n)) (decode (now (state .entry)))) (n .stride)
+            (now (state .entry)) (now (out .entry)) r (now (state .exit)) (now (out .exit)) ⌝ }
     {
         let rate = n.rate;
         let samples = n.samples as usize;

@@ -29,7 +29,9 @@ pub extern "C" fn hall_push(
     objects: u32,
     stride: u32,
 ) -> Answer
-    ensures { λ r. ⌜ Left (made hall block (push (argsOf (now (pcm .entry)) (now (meta .entry)) (now (out .entry)) (now (codes .entry)) rate samples objects stride)) (now (state .entry))) r (now (state .exit)) (now (out .exit)) ⌝ }
+    ensures { λ r. ⌜ Left
+        (made hall block (push (argsOf (now (pcm .entry)) (now (meta .entry)) (now (out .entry)) (now (codes .entry)) rate samples objects stride)) (now (state .entry))) r
+        (now (state .exit)) (now (out .exit)) ⌝ }
 {
     if !store::ranges::is_valid(state) {
         return answer::refusal(Refusal::Lent);

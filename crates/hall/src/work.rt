@@ -23,7 +23,8 @@ pub fn render(
     n: Numbers,
 ) -> Answer
     requires { ⌜ Cleared s (now state) l (argsWith (now pcm) (now meta) (now out) (now codes) n) ⌝ }
-    ensures { λ r. ⌜ Left (made hall block (push (argsWith (now (pcm .entry)) (now (meta .entry)) (now (out .entry)) (now (codes .entry)) n)) (now (state .entry))) r (now (state .exit)) (now (out .exit)) ⌝ }
+    ensures { λ r. ⌜ Left (made hall block (push (argsWith (now (pcm .entry)) (now (meta .entry)) (now (out .entry)) (now (codes .entry)) n)) (now (state .entry))) r
+        (now (state .exit)) (now (out .exit)) ⌝ }
 {
     let work = Rendering::of(s);
     let done = work.render(state, pcm, meta, out, codes, l, n);

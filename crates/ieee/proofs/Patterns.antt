@@ -137,7 +137,8 @@ module _ (b : ℕ) (below : b < 2139095040) (w : ℕ) (less : w < 2 ^ 32) where
       (λ t.
       let k : w < 2139095040 = omega (arith, leb→le w b t) in
       let f = pattern-f32 b below in
-      let i = bits-bounded (ofBits binary32 b) (ofBits binary32 w) f (ofBits-fits binary32 w) (number w k) .0 (omega (arith, leb→le w b t, pattern-kept b below, pattern-kept w k)) in
+      let i = bits-bounded (ofBits binary32 b) (ofBits binary32 w) f (ofBits-fits binary32 w) (number w k) .0 (omega (arith, leb→le w b t, pattern-kept b below, pattern-kept w k))
+      in
       sized (ofBits binary32 b) (ofBits binary32 w) f (pattern-f32 w k) (pattern-plus b below) (pattern-plus w k) (i .most))
       (λ t.
       subst (λ (n : ℕ). T (upTo (ofBits binary32 b) (ofBits binary32 n))) (sym (eqb→eq w 2147483648 t))

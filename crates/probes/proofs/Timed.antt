@@ -48,7 +48,8 @@ module _ (p : ℕ) (e : ElementRendererState) where
   element-fits : InRange p e → elementFits p e ≡ true
   unfolding elementFits scheduleFits
   element-fits h =
-      let each : scheduleFits (e .schedule) ≡ true = all-true (λ k. blockFits (getD (e .schedule) k noBlock)) 8 (λ b l. simp (le-leb _ _ (h .ramps .offsets b l), le-leb _ _ (h .ramps .ramps b l))) in
+      let each : scheduleFits (e .schedule) ≡ true = all-true (λ k. blockFits (getD (e .schedule) k noBlock)) 8
+      (λ b l. simp (le-leb _ _ (h .ramps .offsets b l), le-leb _ _ (h .ramps .ramps b l))) in
       simp (le-leb _ _ (h .blocks), each, le-leb _ _ (h .ramps .most), le-leb _ _ (h .ramps .least))
 
 -- ---- the state
@@ -73,4 +74,14 @@ module _ (p : ℕ) (s : MetadataRendererState) where
   pub within-fits : Within p s → stateFits p s ≡ true
   unfolding stateFits countsSuit
   within-fits h =
-      simp (le-leb _ _ (h .objects), le-leb _ _ (h .isf), le-leb _ _ (h .dynamic), le-leb _ _ (h .beds), le-leb _ _ (h .channels), le-leb _ _ (h .elements), le-leb _ _ (h .payload), element-fits p _ (h .states 0 (omega arith)), element-fits p _ (h .states 1 (omega arith)))
+      simp (
+        le-leb _ _ (h .objects),
+        le-leb _ _ (h .isf),
+        le-leb _ _ (h .dynamic),
+        le-leb _ _ (h .beds),
+        le-leb _ _ (h .channels),
+        le-leb _ _ (h .elements),
+        le-leb _ _ (h .payload),
+        element-fits p _ (h .states 0 (omega arith)),
+        element-fits p _ (h .states 1 (omega arith)),
+      )

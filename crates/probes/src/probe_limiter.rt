@@ -18,7 +18,8 @@ pub extern "C" fn probe_max_abs_slice(samples: &[f32]) -> f32
 // Where the output is no place for just these samples, nothing is done.
 #[no_mangle]
 pub extern "C" fn probe_scale_slice_into(samples: &[f32], gain: f32, out: &mut [u8])
-    ensures { λ _. ⌜ now (out .exit) ≡ cond (eqb (length (now (out .entry))) (4 * length (now (samples .entry)))) (withFloats (now (out .entry)) 0 (scaled gain (now (samples .entry)))) (now (out .entry)) ⌝ }
+    ensures { λ _. ⌜ now (out .exit) ≡ cond (eqb (length (now (out .entry))) (4 * length (now (samples .entry))))
+        (withFloats (now (out .entry)) 0 (scaled gain (now (samples .entry)))) (now (out .entry)) ⌝ }
 {
     if samples.len() <= out.len() / 4 {
         if out.len() == 4 * samples.len() {
@@ -38,7 +39,9 @@ pub extern "C" fn probe_apply_output_limiter_block(
     step: usize,
     to: usize,
 ) -> f32
-    ensures { λ r. ⌜ cond (hasRoom (now (places .entry)) samples rate (now (out .entry)) step to) (Given gain samples rate (now (places .entry)) step to (now (out .entry)) (withGain r gain samples (now (places .entry))) (now (out .exit))) ((r ≡ gain) × (now (out .exit) ≡ now (out .entry))) ⌝ }
+    ensures { λ r. ⌜ cond (hasRoom (now (places .entry)) samples rate (now (out .entry)) step to)
+        (Given gain samples rate (now (places .entry)) step to (now (out .entry)) (withGain r gain samples (now (places .entry))) (now (out .exit)))
+        ((r ≡ gain) × (now (out .exit) ≡ now (out .entry))) ⌝ }
 {
     if places.len() != 3072 {
         return gain;

@@ -10,7 +10,8 @@ ghost use Rattle.mixing.specs.Samples.{samples, allPass};
 
 #[no_mangle]
 pub extern "C" fn probe_mix_add_scaled(input: &[f32], output: &mut [f32], gain: f32)
-    ensures { λ _. ⌜ now (output .exit) ≡ cond (leb (length (now (input .entry))) (length (now (output .entry)))) (mixed (now (input .entry)) gain (now (output .entry))) (now (output .entry)) ⌝ }
+    ensures { λ _. ⌜ now (output .exit) ≡ cond (leb (length (now (input .entry))) (length (now (output .entry)))) (mixed (now (input .entry)) gain (now (output .entry)))
+        (now (output .entry)) ⌝ }
 {
     if input.len() <= output.len() {
         mixing::mix_add_scaled(input, output, gain);
@@ -19,7 +20,8 @@ pub extern "C" fn probe_mix_add_scaled(input: &[f32], output: &mut [f32], gain: 
 
 #[no_mangle]
 pub extern "C" fn probe_mix_full_channel(input: &[f32], output: &mut [f32], gain: f32)
-    ensures { λ _. ⌜ now (output .exit) ≡ cond (leb (length (now (input .entry))) (length (now (output .entry)))) (mixedFull (now (input .entry)) gain (now (output .entry))) (now (output .entry)) ⌝ }
+    ensures { λ _. ⌜ now (output .exit) ≡ cond (leb (length (now (input .entry))) (length (now (output .entry)))) (mixedFull (now (input .entry)) gain (now (output .entry)))
+        (now (output .entry)) ⌝ }
 {
     if input.len() <= output.len() {
         mixing::mix_full_channel(input, output, gain);
@@ -28,7 +30,8 @@ pub extern "C" fn probe_mix_full_channel(input: &[f32], output: &mut [f32], gain
 
 #[no_mangle]
 pub extern "C" fn probe_mix_segment(input: &[f32], output: &mut [f32], offset: usize, gain: f32)
-    ensures { λ _. ⌜ now (output .exit) ≡ cond (leb (offset + length (now (input .entry))) (length (now (output .entry)))) (onPart (mixedFull (now (input .entry)) gain) offset (length (now (input .entry))) (now (output .entry))) (now (output .entry)) ⌝ }
+    ensures { λ _. ⌜ now (output .exit) ≡ cond (leb (offset + length (now (input .entry))) (length (now (output .entry))))
+        (onPart (mixedFull (now (input .entry)) gain) offset (length (now (input .entry))) (now (output .entry))) (now (output .entry)) ⌝ }
 {
     if offset <= output.len() {
         if input.len() <= output.len() - offset {
@@ -50,7 +53,8 @@ pub extern "C" fn probe_samples_pass(pcm: &[u8], count: usize) -> bool
 // Samples that refusal 8 stops are not read either.
 #[no_mangle]
 pub extern "C" fn probe_read_row(pcm: &[u8], row: &mut [f32])
-    ensures { λ _. ⌜ now (row .exit) ≡ cond (leb (4 * length (now (row .entry))) (length (now (pcm .entry))) && allPass (now (pcm .entry)) 0 (length (now (row .entry)))) (samples (now (pcm .entry)) 0 (length (now (row .entry)))) (now (row .entry)) ⌝ }
+    ensures { λ _. ⌜ now (row .exit) ≡ cond (leb (4 * length (now (row .entry))) (length (now (pcm .entry))) && allPass (now (pcm .entry)) 0 (length (now (row .entry))))
+        (samples (now (pcm .entry)) 0 (length (now (row .entry)))) (now (row .entry)) ⌝ }
 {
     let count = row.len();
     if count <= pcm.len() / 4 {

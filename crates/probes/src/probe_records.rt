@@ -102,7 +102,8 @@ pub extern "C" fn probe_element_after(meta: &[u8], objects: usize, e: usize) -> 
 
 #[no_mangle]
 pub extern "C" fn probe_object_place(meta: &[u8], e: usize, o: usize, b: usize) -> usize
-    ensures { λ r. ⌜ r ≡ cond (hasRecord (now (meta .entry)) e && ltb o 32 && ltb b 8 && leb (blocks (now (meta .entry)) e) 8) (objectAt (now (meta .entry)) e (o * blocks (now (meta .entry)) e + b)) 0 ⌝ }
+    ensures { λ r. ⌜ r ≡ cond (hasRecord (now (meta .entry)) e && ltb o 32 && ltb b 8 && leb (blocks (now (meta .entry)) e) 8)
+        (objectAt (now (meta .entry)) e (o * blocks (now (meta .entry)) e + b)) 0 ⌝ }
 {
     if e >= meta.len() / 40 {
         return 0;
@@ -157,7 +158,8 @@ pub extern "C" fn probe_next_offset(meta: &[u8], t: FrameOffset, end: FrameOffse
 
 #[no_mangle]
 pub extern "C" fn probe_sent_at(meta: &[u8], t: FrameOffset, from: usize) -> usize
-    ensures { λ r. ⌜ cond (leb from (count (now (meta .entry)))) (FirstAt (λ i. offset (now (meta .entry)) (updateAt (now (meta .entry)) i)) (count (now (meta .entry))) (t .0) from r) (r ≡ 0) ⌝ }
+    ensures { λ r. ⌜ cond (leb from (count (now (meta .entry))))
+        (FirstAt (λ i. offset (now (meta .entry)) (updateAt (now (meta .entry)) i)) (count (now (meta .entry))) (t .0) from r) (r ≡ 0) ⌝ }
 {
     let l = records::layout::layout_of(meta);
     if from > l.count {

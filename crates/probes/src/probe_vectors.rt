@@ -124,7 +124,17 @@ pub extern "C" fn probe_update_source_position(
     depth: u8,
     here: Vec3,
 ) -> Placed
-    ensures { λ r. ⌜ r ≡ placed (record { valid = valid; differential = differential; anchor = anchorOf anchor; position = position; last = last; distance = maybeWhere present distance; screen = screen; depth = depthOf depth }) here ⌝ }
+    ensures { λ r. ⌜ r ≡ placed
+        (record {
+          valid = valid;
+          differential = differential;
+          anchor = anchorOf anchor;
+          position = position;
+          last = last;
+          distance = maybeWhere present distance;
+          screen = screen;
+          depth = depthOf depth;
+        }) here ⌝ }
 {
     let anchor = anchor_of(anchor);
     let distance = maybe_of(present, distance);

@@ -1,5 +1,5 @@
--- The object infos: what an object in a block says, by the format of formats/specs/Info; then the same from the bytes in which they stay, as the code reads them, which a reader may
--- skip. proofs/InfoFields: both are the same. Assumes nothing.
+-- The object infos: what an object in a block says, by the format of formats/specs/Info; then the same from the bytes in which they stay, as the code reads them, which a reader
+-- may skip. proofs/InfoFields: both are the same. Assumes nothing.
 use Prim.Native.Nat.{ℕ, _+_}
 use mathlib.Core.Bool.{Bool, cond}
 use mathlib.Core.List.{List}

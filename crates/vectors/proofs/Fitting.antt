@@ -69,7 +69,11 @@ moved-fits : (b : BlockPosition) → BlockFits b → PlacedFits (moved b)
 unfolding moved
 moved-fits b h =
     let p = next-position-fits b h in
-    record { target-fits = cubical-fits _ (anchored-fits (b .anchor) b _ p); position-fits = p; last-fits = chosen-fits (b .differential) (b .last) (b .position) (h .last-fits) (h .position-fits) }
+    record {
+      target-fits = cubical-fits _ (anchored-fits (b .anchor) b _ p);
+      position-fits = p;
+      last-fits = chosen-fits (b .differential) (b .last) (b .position) (h .last-fits) (h .position-fits);
+    }
 
 -- what a block leaves fits, and so does its target
 pub placed-fits : (b : BlockPosition) (here : Vec3) → BlockFits b → VecFits here → PlacedFits (placed b here)

@@ -18,7 +18,8 @@ returns-2 c =
     let mapped = c .before .before in
     let known = mapped .before .before in
     c .from-center .ensures
-    ∙ ap₂ (λ (l : Float) (i : Vec3). fromCenter (div binary32 l (known .distance .given .0 .0)) i) (c .before .vec-length .ensures ∙ ap vecLength (mapped .map-to-cube .ensures)) (mapped .map-to-cube .ensures)
+    ∙ ap₂ (λ (l : Float) (i : Vec3). fromCenter (div binary32 l (known .distance .given .0 .0)) i) (c .before .vec-length .ensures ∙ ap vecLength (mapped .map-to-cube .ensures))
+    (mapped .map-to-cube .ensures)
     ∙ sym (ap (roomAnchored (known .before .before .args .position)) (known .distance .given .1))
 
 pub room-anchored-position-spec : {M : Type 1} → statement M

@@ -12,11 +12,21 @@ returns c = c .kept .ensures ∙ rw (not-true (c .before .before .before .args .
 
 returns-2 : tie.Need-returns-2
 unfolding placed
-returns-2 c = c .moved .ensures ∙ rw (not-false (c .before .before .before .before .before .args .block .valid) (c .before .before .before .if1 .left), ← c .before .before .movable .ensures, c .before .if2 .taken)
+returns-2 c = c .moved .ensures
+    ∙ rw (
+      not-false (c .before .before .before .before .before .args .block .valid) (c .before .before .before .if1 .left),
+      ← c .before .before .movable .ensures,
+      c .before .if2 .taken,
+    )
 
 returns-3 : tie.Need-returns-3
 unfolding placed
-returns-3 c = c .kept2 .ensures ∙ rw (not-false (c .before .before .before .before .before .args .block .valid) (c .before .before .before .if1 .left), ← c .before .before .movable .ensures, c .before .if2 .left)
+returns-3 c = c .kept2 .ensures
+    ∙ rw (
+      not-false (c .before .before .before .before .before .args .block .valid) (c .before .before .before .if1 .left),
+      ← c .before .before .movable .ensures,
+      c .before .if2 .left,
+    )
 
 pub update-source-position-spec : {M : Type 1} → statement M
 update-source-position-spec =

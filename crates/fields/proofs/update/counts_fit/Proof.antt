@@ -14,10 +14,20 @@ returns-3 : tie.Need-returns-3
 returns-3 c = simp (le-leb _ _ (c .before .before .before .if1 .left), le-leb _ _ (rw (c .before .before .dynamic .ensures) at (c .before .if2 .left)), lt-leb _ _ (c .if3 .taken))
 
 returns-4 : tie.Need-returns-4
-returns-4 c = simp (le-leb _ _ (c .before .before .before .before .if1 .left), le-leb _ _ (rw (c .before .before .before .dynamic .ensures) at (c .before .before .if2 .left)), le-leb _ _ (c .before .if3 .left), lt-leb _ _ (c .if4 .taken))
+returns-4 c = simp (
+  le-leb _ _ (c .before .before .before .before .if1 .left),
+  le-leb _ _ (rw (c .before .before .before .dynamic .ensures) at (c .before .before .if2 .left)),
+  le-leb _ _ (c .before .if3 .left),
+  lt-leb _ _ (c .if4 .taken),
+)
 
 returns-5 : tie.Need-returns-5
-returns-5 c = simp (le-leb _ _ (c .before .before .before .before .if1 .left), le-leb _ _ (rw (c .before .before .before .dynamic .ensures) at (c .before .before .if2 .left)), le-leb _ _ (c .before .if3 .left), le-leb _ _ (c .if4 .left))
+returns-5 c = simp (
+  le-leb _ _ (c .before .before .before .before .if1 .left),
+  le-leb _ _ (rw (c .before .before .before .dynamic .ensures) at (c .before .before .if2 .left)),
+  le-leb _ _ (c .before .if3 .left),
+  le-leb _ _ (c .if4 .left),
+)
 
 pub counts-fit-spec : {M : Type 1} → statement M
 counts-fit-spec =

@@ -9,13 +9,15 @@ use Rattle.fields.proofs.update.header_at.Statement.{statement}
 use Rattle.fields.proofs.update.header_at.Tie as tie
 
 fields-same : (o : FrameOffset) {x a a′ b b′ d d′ e e′ : ℕ} → o .0 ≡ x → a ≡ a′ → b ≡ b′ → d ≡ d′ → e ≡ e′
-    → _≡_ {A = Header} (record { offset = o; objects = a; «bed_or_isf» = b; beds = d; elements = e }) (record { offset = record { 0 = x }; objects = a′; «bed_or_isf» = b′; beds = d′; elements = e′ })
+    → _≡_ {A = Header} (record { offset = o; objects = a; «bed_or_isf» = b; beds = d; elements = e })
+    (record { offset = record { 0 = x }; objects = a′; «bed_or_isf» = b′; beds = d′; elements = e′ })
 fields-same o p q r s t = cc (offset-is o p)
 
 returns : tie.Need-returns
 returns c =
     let b = c .before .before .before .before in
-    fields-same _ (b .offset-at .ensures) (c .before .before .before .byte-at .ensures .0) (c .before .before .byte-at2 .ensures .0) (c .before .byte-at3 .ensures .0) (c .byte-at4 .ensures .0)
+    fields-same _ (b .offset-at .ensures) (c .before .before .before .byte-at .ensures .0) (c .before .before .byte-at2 .ensures .0) (c .before .byte-at3 .ensures .0)
+    (c .byte-at4 .ensures .0)
 
 pub header-at-spec : {M : Type 1} → statement M
 header-at-spec =

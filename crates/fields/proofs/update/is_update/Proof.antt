@@ -16,15 +16,34 @@ returns-2 c = simp (eq-eqb _ _ (c .before .before .if1 .left), ne-eqb _ _ (c .if
 
 returns-3 : tie.Need-returns-3
 unfolding isUpdate
-returns-3 c = simp (eq-eqb _ _ (c .before .before .before .before .before .if1 .left), eq-eqb _ _ (c .before .before .before .if2 .left), sym (rw (c .before .before .header-at .ensures) at (c .before .counts-fit .ensures)) ∙ not-true _ (c .if3 .taken))
+returns-3 c = simp (
+  eq-eqb _ _ (c .before .before .before .before .before .if1 .left),
+  eq-eqb _ _ (c .before .before .before .if2 .left),
+  sym (rw (c .before .before .header-at .ensures) at (c .before .counts-fit .ensures)) ∙ not-true _ (c .if3 .taken),
+)
 
 returns-4 : tie.Need-returns-4
 unfolding isUpdate
-returns-4 c = let a = c .before .before in simp (eq-eqb _ _ (a .before .before .before .before .before .if1 .left), eq-eqb _ _ (a .before .before .before .if2 .left), sym (rw (a .before .before .header-at .ensures) at (a .before .counts-fit .ensures)) ∙ not-false _ (a .if3 .left), sym (rw (a .before .before .header-at .ensures) at (c .before .codes-fit .ensures)) ∙ not-true _ (c .if4 .taken))
+returns-4 c = let a = c .before .before in
+    simp (
+      eq-eqb _ _ (a .before .before .before .before .before .if1 .left),
+      eq-eqb _ _ (a .before .before .before .if2 .left),
+      sym (rw (a .before .before .header-at .ensures) at (a .before .counts-fit .ensures))
+          ∙ not-false _ (a .if3 .left),
+      sym (rw (a .before .before .header-at .ensures) at (c .before .codes-fit .ensures)) ∙ not-true _ (c .if4 .taken),
+    )
 
 returns-5 : tie.Need-returns-5
 unfolding isUpdate
-returns-5 c = let a = c .before .before .before in simp (eq-eqb _ _ (a .before .before .before .before .before .if1 .left), eq-eqb _ _ (a .before .before .before .if2 .left), sym (rw (a .before .before .header-at .ensures) at (a .before .counts-fit .ensures)) ∙ not-false _ (a .if3 .left), sym (rw (a .before .before .header-at .ensures) at (c .before .before .codes-fit .ensures)) ∙ not-false _ (c .before .if4 .left)) (c .zeros .ensures)
+returns-5 c = let a = c .before .before .before in
+    simp (
+      eq-eqb _ _ (a .before .before .before .before .before .if1 .left),
+      eq-eqb _ _ (a .before .before .before .if2 .left),
+      sym (rw (a .before .before .header-at .ensures) at (a .before .counts-fit .ensures))
+          ∙ not-false _ (a .if3 .left),
+      sym (rw (a .before .before .header-at .ensures) at (c .before .before .codes-fit .ensures)) ∙ not-false _ (c .before .if4 .left),
+    )
+    (c .zeros .ensures)
 
 pub is-update-spec : {M : Type 1} → statement M
 is-update-spec =

@@ -15,7 +15,8 @@ returns c =
     let u = c .before .before .before .apply-update in
     let r = c .restate in
     record {
-      next = one-applied (s .t .0) (updateOf (now (s .meta)) (s .u)) (s .self .renderer) (now (s .state)) (c .before .before .before .before .before .starts-slot .result) (s .at .0) (u .result .0) (u .last .1 .0) (r .result .renderer) (p .0) (search needs)
+      next = one-applied (s .t .0) (updateOf (now (s .meta)) (s .u)) (s .self .renderer) (now (s .state)) (c .before .before .before .before .before .starts-slot .result)
+          (s .at .0) (u .result .0) (u .last .1 .0) (r .result .renderer) (p .0) (search needs)
           (sym (c .before .before .before .before .before .starts-slot .ensures)) (p .1) (u .ensures) (ap (λ (w : Rendering). w .renderer) (r .ensures));
       ready = ap (λ (w : Rendering). w .ready) (r .ensures);
       meters = ap (λ (w : Rendering). w .meters) (r .ensures);

@@ -11,7 +11,8 @@ use Rattle.frame.proofs.Rendering.apply_sent.Statement.{statement}
 use Rattle.frame.proofs.Rendering.apply_sent.Tie as tie
 
 abbrev Inv-loop : tie.InvT-loop
-Inv-loop state₀ meta l t at first count next₀ i₀ state next i = Standing meta l (t .0) (at .0) (updated hall (t .0) (sentOf meta) (held (next₀ .renderer) state₀)) state₀ i (next .renderer) state × (next .ready ≡ next₀ .ready) × (next .meters ≡ next₀ .meters)
+Inv-loop state₀ meta l t at first count next₀ i₀ state next i = Standing meta l (t .0) (at .0) (updated hall (t .0) (sentOf meta) (held (next₀ .renderer) state₀)) state₀ i
+    (next .renderer) state × (next .ready ≡ next₀ .ready) × (next .meters ≡ next₀ .meters)
 
 abbrev μ-loop : tie.MeasureT-loop
 μ-loop state₀ meta l t at first count next₀ i₀ state next i = count - i
@@ -23,7 +24,8 @@ loop-holds : tie.Need-loop-holds Inv-loop μ-loop
 loop-holds c =
     let s = c .before .before .before .before .args in
     let p = c .before .before .before .before .pre in (
-      standing (now (s .meta)) (s .l) (s .t .0) (s .at .0) (updated hall (s .t .0) (sentOf (now (s .meta))) (held (s .self .renderer) (now (s .state)))) (now (s .state)) (p .2) 0 (c .sent-at .result) (s .self .renderer) (now (s .state)) (c .sent-at .ensures) (p .0) refl (p .1)
+      standing (now (s .meta)) (s .l) (s .t .0) (s .at .0) (updated hall (s .t .0) (sentOf (now (s .meta))) (held (s .self .renderer) (now (s .state)))) (now (s .state)) (p .2) 0
+          (c .sent-at .result) (s .self .renderer) (now (s .state)) (c .sent-at .ensures) (p .0) refl (p .1)
           (from-first (now (s .meta)) (s .l) (p .2) (s .t .0) (held (s .self .renderer) (now (s .state)))),
       refl,
       refl,
@@ -36,13 +38,20 @@ array-read-apply-one : tie.Need-array-read-apply-one Inv-loop μ-loop
 array-read-apply-one c = omega (arith, c .before .before .before .before .before .before .before .pre .3 .few, c .before .loop-test)
 
 apply-one-requires : tie.Need-apply-one-requires Inv-loop μ-loop
-apply-one-requires c κs = (c .before .before .loop .inv .0 .long, c .before .before .loop .inv .0 .here, c .before .before .before .before .before .before .before .pre .3 .all (c .before .before .loop .i) (omega (arith, c .before .loop-test)))
+apply-one-requires c κs = (
+  c .before .before .loop .inv .0 .long,
+  c .before .before .loop .inv .0 .here,
+  c .before .before .before .before .before .before .before .pre .3 .all (c .before .before .loop .i) (omega (arith, c .before .loop-test)),
+)
 
 add-sent-at : tie.Need-add-sent-at Inv-loop μ-loop
 add-sent-at c = omega (arith, c .before .before .before .before .before .before .before .before .before .before .pre .3 .few, c .before .before .before .before .loop-test)
 
 sent-at-requires-2 : tie.Need-sent-at-requires-2 Inv-loop μ-loop
-sent-at-requires-2 c κs = (omega (arith, c .before .before .before .before .before .before .before .before .before .before .pre .3 .few), omega (arith, c .before .before .before .before .loop-test))
+sent-at-requires-2 c κs = (
+  omega (arith, c .before .before .before .before .before .before .before .before .before .before .pre .3 .few),
+  omega (arith, c .before .before .before .before .loop-test),
+)
 
 loop-less : tie.Need-loop-less Inv-loop μ-loop
 loop-less c = omega (arith, c .sent-at2 .ensures .after, c .before .before .before .before .before .loop-test)
@@ -52,7 +61,9 @@ loop-again c =
     let s = c .before .before .before .before .before .before .before .before .before .before .before .args in
     let l = c .before .before .before .before .before .before .loop in
     let u = c .before .before .before .apply-one in (
-      goes-on (now (s .meta)) (s .l) (s .t .0) (s .at .0) (updated hall (s .t .0) (sentOf (now (s .meta))) (held (s .self .renderer) (now (s .state)))) (now (s .state)) (c .before .before .before .before .before .before .before .before .before .before .before .pre .2) (l .i) (c .sent-at2 .result) (l .next .renderer) (u .result .renderer) (l .state) (u .last .1 .0)
+      goes-on (now (s .meta)) (s .l) (s .t .0) (s .at .0) (updated hall (s .t .0) (sentOf (now (s .meta))) (held (s .self .renderer) (now (s .state)))) (now (s .state))
+          (c .before .before .before .before .before .before .before .before .before .before .before .pre .2) (l .i) (c .sent-at2 .result) (l .next .renderer) (u .result .renderer)
+          (l .state) (u .last .1 .0)
           (omega (arith, c .before .before .before .before .before .loop-test)) (l .inv .0) (u .ensures .next) (c .sent-at2 .ensures),
       u .ensures .ready ∙ l .inv .1,
       u .ensures .meters ∙ l .inv .2,
@@ -66,7 +77,8 @@ returns c =
     let s = c .before .before .before .before .before .before .args in
     let l = c .before .loop in
     record {
-      next = ends (now (s .meta)) (s .l) (s .t .0) (s .at .0) (updated hall (s .t .0) (sentOf (now (s .meta))) (held (s .self .renderer) (now (s .state)))) (now (s .state)) (c .before .before .before .before .before .before .pre .2) (l .i) (l .next .renderer) (l .state) (omega (arith, c .loop-test)) (l .inv .0);
+      next = ends (now (s .meta)) (s .l) (s .t .0) (s .at .0) (updated hall (s .t .0) (sentOf (now (s .meta))) (held (s .self .renderer) (now (s .state)))) (now (s .state))
+          (c .before .before .before .before .before .before .pre .2) (l .i) (l .next .renderer) (l .state) (omega (arith, c .loop-test)) (l .inv .0);
       ready = l .inv .1;
       meters = l .inv .2;
     }

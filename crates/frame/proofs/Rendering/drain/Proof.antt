@@ -24,7 +24,8 @@ returns c =
       next = g .next;
       given = g .given ∙ ap (λ (k : ℕ). behind k all (a .stride) (a .out .now)) z ∙ behind-written all (a .stride) (a .out .now);
       ready = g .ready ∙ (omega (arith, z));
-      meters = g .meters ∙ ap (λ (m : Meters). meetsAll m (flushed hall (held (a .self .renderer) (a .state .now)) .meters)) (c .before .before .before .before .before .before .pre .2);
+      meters = g .meters ∙ ap (λ (m : Meters). meetsAll m (flushed hall (held (a .self .renderer) (a .state .now)) .meters))
+          (c .before .before .before .before .before .before .pre .2);
     }
 
 pub drain-spec : {M : Type 1} → statement M

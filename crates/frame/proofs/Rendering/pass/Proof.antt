@@ -41,7 +41,8 @@ settles c rate us =
     let mx = c .before .before .before .before .before .before .before .before .mix in
     let at = c .before .before .before .before .before .before .before .before .before .before .index .ensures in
     held-settled (frame c rate us) (a .t .0) (a .k) s (a .state .now) (mixed (s .state) (a .codes .now) (a .objects) (a .pcm .now) (a .n))
-    (same-heard rate us (a .codes .now) (a .pcm .now) (a .objects) (a .n) s (a .state .now) (full (start c)) (start c .pre .dynamic)) (mx .last .1 .1 .0) (mx .result) (rw at at (mx .ensures))
+    (same-heard rate us (a .codes .now) (a .pcm .now) (a .objects) (a .n) s (a .state .now) (full (start c)) (start c .pre .dynamic)) (mx .last .1 .1 .0) (mx .result)
+    (rw at at (mx .ensures))
     (ly .lay .last .0) (ly .lay .ensures) (c .settle .ensures)
 
 returns : tie.Need-returns
@@ -56,7 +57,8 @@ cast-settle : tie.Need-cast-settle
 cast-settle c = let p = c .before .before .before .before .before .before .before .before .before .before .before .before .before .before .before .pre in omega (arith, p .pending)
 
 settle-requires : tie.Need-settle-requires
-settle-requires c κs = let p = c .before .before .before .before .before .before .before .before .before .before .before .before .before .before .before .pre in (omega (arith, p .phase, p .pending), p .start, p .position, p .pending)
+settle-requires c κs = let p = c .before .before .before .before .before .before .before .before .before .before .before .before .before .before .before .pre in
+    (omega (arith, p .phase, p .pending), p .start, p .position, p .pending)
 
 pub pass-spec : {M : Type 1} → statement M
 pass-spec =

@@ -16,7 +16,8 @@ use Rattle.refusals.specs.Found.{argsWith}
 use Rattle.store.specs.declared.renderer.Renderer714.{Renderer714}
 use Rattle.frame.specs.Held.{held, Leads}
 use Rattle.frame.proofs.Begins.{rests}
-use Rattle.frame.proofs.Running.{Taken, takes, starts-at, is-rate, Running, opens, can-begin, end-above, few, Turning, turn-some, turn-within, turn-passes, turn-runs, rendered}
+use Rattle.frame.proofs.Running.{Taken, takes, starts-at, is-rate, Running, opens, can-begin, end-above, few, Turning, turn-some, turn-within, turn-passes, turn-runs}
+use Rattle.frame.proofs.Running.{rendered}
 use Rattle.frame.proofs.Passing.{can-give, passes-on, passes-given}
 use Rattle.frame.proofs.Rendering.render.Statement.{statement}
 use Rattle.frame.proofs.Rendering.render.Tie as tie
@@ -33,13 +34,18 @@ abbrev μ-loop : tie.MeasureT-loop
 abbrev args : tie.After-start Inv-loop μ-loop → Args
 args c = let s = c .before .before .before .before .before .before .before .before .before .args in argsWith (now (s .pcm)) (now (s .meta)) (now (s .out)) (now (s .codes)) (s .n)
 
-taken : (c : tie.After-start Inv-loop μ-loop) → Taken (now (c .before .before .before .before .before .before .before .before .before .args .state)) (args c) (c .before .before .before .before .before .before .before .before .before .args .l)
+taken : (c : tie.After-start Inv-loop μ-loop)
+    → Taken (now (c .before .before .before .before .before .before .before .before .before .args .state)) (args c)
+    (c .before .before .before .before .before .before .before .before .before .args .l)
 taken c =
     let s = c .before .before .before .before .before .before .before .before .before in
-    takes (s .args .self) (now (s .args .state)) (args c) (s .args .l) (s .pre) (λ i. omega (arith, c .before .before .before .before .before .before .before .before .slice-known .given i)) (λ i. omega (arith, c .before .before .before .before .before .before .shared-slice-known2 .given i))
+    takes (s .args .self) (now (s .args .state)) (args c) (s .args .l) (s .pre)
+    (λ i. omega (arith, c .before .before .before .before .before .before .before .before .slice-known .given i))
+    (λ i. omega (arith, c .before .before .before .before .before .before .shared-slice-known2 .given i))
 
 -- the frame's first sample in the stream
-from : (c : tie.After-start Inv-loop μ-loop) → c .before .before .before .before .before .before .before .before .before .args .self .renderer .clock .position .0 ≡ Rattle.store.specs.Layout.decode (now (c .before .before .before .before .before .before .before .before .before .args .state)) .clock .position
+from : (c : tie.After-start Inv-loop μ-loop) → c .before .before .before .before .before .before .before .before .before .args .self .renderer .clock .position .0
+    ≡ Rattle.store.specs.Layout.decode (now (c .before .before .before .before .before .before .before .before .before .args .state)) .clock .position
 from c = let s = c .before .before .before .before .before .before .before .before .before in starts-at (s .args .self) (now (s .args .state)) (args c) (s .args .l) (s .pre)
 
 open-requires : tie.Need-open-requires Inv-loop μ-loop
@@ -48,8 +54,11 @@ open-requires c κs = let s = c .before .before .before .before .before .before 
 loop-holds : tie.Need-loop-holds Inv-loop μ-loop
 loop-holds c =
     let a = c .before .before in
-    let s = a .before .before .before .before .before .before .before .before .before in
-    (opens (s .args .self) (c .of .result) (now (s .args .state)) (args a) (s .args .l) (s .pre) (taken a) (c .of .ensures ∙ ap (λ (r : Renderer714). record { renderer = r; ready = 0; meters = unmet }) (c .before .«open» .ensures)), refl)
+    let s = a .before .before .before .before .before .before .before .before .before in (
+      opens (s .args .self) (c .of .result) (now (s .args .state)) (args a) (s .args .l) (s .pre) (taken a) (c .of .ensures
+          ∙ ap (λ (r : Renderer714). record { renderer = r; ready = 0; meters = unmet }) (c .before .«open» .ensures)),
+      refl,
+    )
 
 -- ---- a turn
 
@@ -69,17 +78,23 @@ begin-requires c κs =
     let s = a .before .before .before .before .before .before .before .before .before .args in
     let x = c .before .before .before .before .before .before .loop in
     let t = c .before .before .before .at in
-    can-begin (now (s .state)) (args a) (s .l) (taken a) (x .t .0) (x .work) (x .state) (x .out) (x .inv .0) (more (c .before .before .before .before)) (t .result .0) (t .ensures ∙ ap (λ (p : ℕ). p + x .t .0) (from a))
+    can-begin (now (s .state)) (args a) (s .l) (taken a) (x .t .0) (x .work) (x .state) (x .out) (x .inv .0) (more (c .before .before .before .before)) (t .result .0) (t .ensures
+    ∙ ap (λ (p : ℕ). p + x .t .0) (from a))
 
 begun : (c : tie.Joined2 Inv-loop μ-loop) → let x = c .before .before .before .before .before .loop in
-    Leads (slotted hall (updated hall (x .t .0) (sentOf (args (c .before .before .before .before .before .before .before .before) .meta)) (held (x .work .renderer) (x .state)))) (x .work) (x .state) (c .if2 .work) (c .if2 .state)
+    Leads (slotted hall (updated hall (x .t .0) (sentOf (args (c .before .before .before .before .before .before .before .before) .meta)) (held (x .work .renderer) (x .state))))
+    (x .work) (x .state) (c .if2 .work) (c .if2 .state)
 begun c =
     let a = c .before .before .before .before .before .before .before .before in
     let s = a .before .before .before .before .before .before .before .before .before .args in
     let x = c .before .before .before .before .before .loop in
     ⊎-elim (λ w. rw (w .5, w .6) (w .2 .ensures))
     (λ w. rw (w .1, w .2)
-    (record { next = rests (now (s .meta)) (s .l) (taken a .layout) (x .t .0) (x .work .renderer) (x .state) (x .inv .0 .long) (rw (w .0 .left) at (c .before .begins .ensures)); ready = refl; meters = refl }))
+    (record {
+      next = rests (now (s .meta)) (s .l) (taken a .layout) (x .t .0) (x .work .renderer) (x .state) (x .inv .0 .long) (rw (w .0 .left) at (c .before .begins .ensures));
+      ready = refl;
+      meters = refl;
+    }))
     (c .if2 .came)
 
 next-offset-requires : tie.Need-next-offset-requires Inv-loop μ-loop
@@ -87,7 +102,10 @@ next-offset-requires c κs = taken (c .before .before .before .before .before .b
 
 -- the next update or the frame's end
 ends : (c : tie.After-next-offset Inv-loop μ-loop) → let a = c .before .before .before .before .before .before .before .before .before in
-    c .next-offset .result .0 ≡ Rattle.records.specs.Order.nextOffset (Rattle.records.specs.Answers.offsetAt (a .before .before .before .before .before .before .before .before .before .args .l)) (a .before .before .before .before .before .before .before .before .before .args .l .count) (c .before .before .before .before .before .before .loop .t .0) (args a .samples)
+    c .next-offset .result .0
+    ≡ Rattle.records.specs.Order.nextOffset (Rattle.records.specs.Answers.offsetAt (a .before .before .before .before .before .before .before .before .before .args .l))
+    (a .before .before .before .before .before .before .before .before .before .args .l .count) (c .before .before .before .before .before .before .loop .t .0)
+    (args a .samples)
 ends c = let x = c .before .before .before .before .before .before .loop in rw (x .inv .1) at (c .next-offset .ensures)
 
 run-length-requires : tie.Need-run-length-requires Inv-loop μ-loop
@@ -101,8 +119,10 @@ run-length-requires c κs =
     let f = few (now (s .state)) (args a) (s .l) (taken a) (x .t .0) (x .work) (x .state) (x .out) (x .inv .0) l e (ends c) (y .if2 .work) (y .if2 .state) (begun y) in
     (f .0, f .1, le-of-lt (end-above (now (s .state)) (args a) (s .l) (taken a) (x .t .0) (x .work) (x .state) (x .out) (x .inv .0) l e (ends c)))
 
-turning : (c : tie.After-run-length Inv-loop μ-loop) → let a = c .before .before .before .before .before .before .before .before .before .before in let s = a .before .before .before .before .before .before .before .before .before .args in let x = c .before .before .before .before .before .before .before .loop in
-    Turning (now (s .state)) (args a) (s .l) (x .t .0) (x .work) (x .state) (x .out) (c .before .next-offset .result .0) (c .before .before .if2 .work) (c .before .before .if2 .state) (c .run-length .result)
+turning : (c : tie.After-run-length Inv-loop μ-loop) → let a = c .before .before .before .before .before .before .before .before .before .before in
+    let s = a .before .before .before .before .before .before .before .before .before .args in let x = c .before .before .before .before .before .before .before .loop in
+    Turning (now (s .state)) (args a) (s .l) (x .t .0) (x .work) (x .state) (x .out) (c .before .next-offset .result .0) (c .before .before .if2 .work)
+    (c .before .before .if2 .state) (c .run-length .result)
 turning c =
     record {
       taken = taken (c .before .before .before .before .before .before .before .before .before .before);
@@ -118,17 +138,34 @@ pass-requires c κs = turn-passes (turning (c .before)) .passes
 
 give-requires : tie.Need-give-requires Inv-loop μ-loop
 give-requires c κs =
-    let s = c .before .before .before .before .before .before .before .before .before .before .before .before .before .before .before .before .before .before .before .before .before .before .before .before .before .before .before .args in
-    can-give (frameOf hall (args (c .before .before .before .before .before .before .before .before .before .before .before .before .before .before .before .before .before .before))) (turn-passes (turning (c .before .before .before .before .before .before .before .before))) (c .before .before .before .before .before .before .pass .ensures (s .n .rate) (sentOf (now (s .meta)))) (c .before .before .if3 .taken)
+    let p = c .before .before .before .before .before .before in
+    let u = p .before .before in
+    let a = u .before .before .before .before .before .before .before .before .before .before in
+    let s = a .before .before .before .before .before .before .before .before .before .args in
+    can-give (frameOf hall (args a)) (turn-passes (turning u)) (p .pass .ensures (s .n .rate) (sentOf (now (s .meta)))) (c .before .before .if3 .taken)
 
 cast-plus : tie.Need-cast-plus Inv-loop μ-loop
-cast-plus c = omega (arith, taken (c .before .before .before .before .before .before .before .before .before .before .before .before .before .before .before .before) .samples, turn-within (turning (c .before .before .before .before .before .before)))
+cast-plus c = omega (
+  arith,
+  taken (c .before .before .before .before .before .before .before .before .before .before .before .before .before .before .before .before) .samples,
+  turn-within (turning (c .before .before .before .before .before .before)),
+)
 
 plus-requires : tie.Need-plus-requires Inv-loop μ-loop
-plus-requires c κs = omega (arith, taken (c .before .before .before .before .before .before .before .before .before .before .before .before .before .before .before .before) .samples, turn-within (turning (c .before .before .before .before .before .before)))
+plus-requires c κs =
+    omega (
+      arith,
+      taken (c .before .before .before .before .before .before .before .before .before .before .before .before .before .before .before .before) .samples,
+      turn-within (turning (c .before .before .before .before .before .before)),
+    )
 
 loop-less : tie.Need-loop-less Inv-loop μ-loop
-loop-less c = omega (arith, turn-some (turning (c .before .before .before .before .before .before .before)), turn-within (turning (c .before .before .before .before .before .before .before)), c .plus .ensures)
+loop-less c = omega (
+  arith,
+  turn-some (turning (c .before .before .before .before .before .before .before)),
+  turn-within (turning (c .before .before .before .before .before .before .before)),
+  c .plus .ensures,
+)
 
 loop-again : tie.Need-loop-again Inv-loop μ-loop
 loop-again c =
@@ -159,7 +196,8 @@ returns c =
     let a = c .before .before .before .before .before in
     let s = a .before .before .before .before .before .before .before .before .before .args in
     let x = c .before .before .loop in
-    rendered (now (s .state)) (args a) (x .t .0) (x .work) (x .state) (x .out) (x .inv .0) (ltb-false (x .t .0) (args a .samples) (sym (c .before .is-before .ensures) ∙ c .if1 .left))
+    rendered (now (s .state)) (args a) (x .t .0) (x .work) (x .state) (x .out) (x .inv .0)
+    (ltb-false (x .t .0) (args a .samples) (sym (c .before .is-before .ensures) ∙ c .if1 .left))
 
 pub render-spec : {M : Type 1} → statement M
 render-spec =

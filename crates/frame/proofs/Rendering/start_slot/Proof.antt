@@ -12,14 +12,22 @@ use Rattle.frame.proofs.Rendering.start_slot.Tie as tie
 returns : tie.Need-returns
 returns c =
     let s = c .before .before .before .before .args in
-    record { next = slot-rests (s .self .renderer) (now (s .state)) (c .before .before .before .before .pre .0) (rw (not-true (s .self .renderer .state .initialized) (c .if1 .taken))); ready = refl; meters = refl }
+    record {
+      next = slot-rests (s .self .renderer) (now (s .state)) (c .before .before .before .before .pre .0)
+          (rw (not-true (s .self .renderer .state .initialized) (c .if1 .taken)));
+      ready = refl;
+      meters = refl;
+    }
 
 returns-2 : tie.Need-returns-2
 returns-2 c =
     let s = c .before .before .before .before .before .before .before .args in
     record {
       next = slot-rests (s .self .renderer) (now (s .state)) (c .before .before .before .before .before .before .before .pre .0)
-          (rw (not-false (s .self .renderer .state .initialized) (c .before .before .before .if1 .left), ne-eqb (s .self .renderer .clock .phase) 0 (λ z. omega (arith, c .if2 .taken))));
+          (rw (
+            not-false (s .self .renderer .state .initialized) (c .before .before .before .if1 .left),
+            ne-eqb (s .self .renderer .clock .phase) 0 (λ z. omega (arith, c .if2 .taken)),
+          ));
       ready = refl;
       meters = refl;
     }
@@ -30,7 +38,9 @@ returns-3 c =
     let u = c .before .before .before .update-timeslot in
     let r = c .restate in
     record {
-      next = slot-starts (s .self .renderer) (now (s .state)) (u .result) (u .last .1 .0) (r .result .renderer) (c .before .before .before .before .before .before .before .before .before .before .before .before .before .pre .0) (search needs) (not-false (s .self .renderer .state .initialized) (c .before .before .before .before .before .before .before .before .before .if1 .left))
+      next = slot-starts (s .self .renderer) (now (s .state)) (u .result) (u .last .1 .0) (r .result .renderer)
+          (c .before .before .before .before .before .before .before .before .before .before .before .before .before .pre .0) (search needs)
+          (not-false (s .self .renderer .state .initialized) (c .before .before .before .before .before .before .before .before .before .if1 .left))
           (omega (arith, c .before .before .before .before .before .before .if2 .left)) (u .ensures) (ap (λ (w : Rendering). w .renderer) (r .ensures));
       ready = ap (λ (w : Rendering). w .ready) (r .ensures);
       meters = ap (λ (w : Rendering). w .meters) (r .ensures);

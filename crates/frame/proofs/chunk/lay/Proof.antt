@@ -9,7 +9,8 @@ returns c =
     let s = c .before .before .before .before .before .before in
     let a = s .args in
     let f = c .before .before .before .before .shared-slice-known .given in
-    lay-laid (a .rows .now) (a .pending) (a .k) (s .pre .2) (a .state .now) (c .before .before .append-rows .last .1 .0) (fit-all (a .rows .now) f) (s .pre .1) (s .pre .0) (c .before .before .append-rows .ensures)
+    lay-laid (a .rows .now) (a .pending) (a .k) (s .pre .2) (a .state .now) (c .before .before .append-rows .last .1 .0) (fit-all (a .rows .now) f) (s .pre .1) (s .pre .0)
+    (c .before .before .append-rows .ensures)
 
 pub lay-spec : {M : Type 1} → statement M
 lay-spec =

@@ -8,7 +8,8 @@ returns c =
     let u = c .before .before .before in
     let a = u .before .args in
     rw (← u .up-to .ensures)
-    (run-started (a .started) (a .phase) (a .pending) (u .up-to .result) (c .before .before .least .result) (c .least2 .result) (c .before .if1 .taken) (c .before .before .least .ensures) (c .least2 .ensures))
+    (run-started (a .started) (a .phase) (a .pending) (u .up-to .result) (c .before .before .least .result) (c .least2 .result) (c .before .if1 .taken)
+    (c .before .before .least .ensures) (c .least2 .ensures))
 
 returns-2 : tie.Need-returns-2
 returns-2 c =

@@ -20,13 +20,14 @@ returns : tie.Need-returns
 returns c =
     let e = c .before .before .before .before in
     let f = c .before .before .before .before .before .before .before .before .before .before .before in
-    let k = c .before .before .before .before .before .before .before .before .before .before .before .before .before .before .before .before .before .before .before in
+    let m = c .before .before .before .before .before .before .before .before .before .before .before .before .before .before .before .before .before in
+    let k = m .before .before in
     let a = k .before .args in
     let w = k .before .pre in
     let d = f .render .ensures in
     rendered-left (argsWith (a .pcm .now) (a .meta .now) (a .out .now) (a .codes .now) (a .n)) (a .state .now)
     (λ i. omega (arith, k .slice-known .given i))
-    (λ i. omega (arith, c .before .before .before .before .before .before .before .before .before .before .before .before .before .before .before .before .before .shared-slice-known2 .given i)) (w .loaded .valid) (w .clear)
+    (λ i. omega (arith, m .shared-slice-known2 .given i)) (w .loaded .valid) (w .clear)
     (f .render .result .renderer) (f .render .result .ready) (c .before .shown .result) (f .render .last .1 .0)
     (λ i. omega (arith, c .before .before .before .before .before .before .before .before .before .slice-known3 .given i)) (d .next .holds) (d .ready)
     (c .before .shown .ensures ∙ ap shown (d .meters))

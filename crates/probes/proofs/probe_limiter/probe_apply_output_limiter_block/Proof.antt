@@ -28,14 +28,26 @@ returns-5 c =
     let a = c .before .before .before .before .before .before .before .args in
     let h : 12 * a .step ≤ length (a .out .now) = omega arith in
     let k : a .step < a .to + 4 * a .samples = omega arith in
-    simp (eq-eqb _ _ (c .before .before .before .before .if1 .left), le-leb _ _ (c .before .before .before .if2 .left), le-leb _ _ (c .before .before .if3 .left), le-leb _ _ h, lt-leb _ _ k) (refl, refl)
+    simp (
+      eq-eqb _ _ (c .before .before .before .before .if1 .left),
+      le-leb _ _ (c .before .before .before .if2 .left),
+      le-leb _ _ (c .before .before .if3 .left),
+      le-leb _ _ h,
+      lt-leb _ _ k,
+    ) (refl, refl)
 
 returns-6 : tie.Need-returns-6
 returns-6 c =
     let a = c .before .before .before .before .before .before .before .before .args in
     let h : 12 * a .step ≤ length (a .out .now) = omega arith in
     let k : a .step < a .to + 4 * a .samples = omega arith in
-    simp (eq-eqb _ _ (c .before .before .before .before .before .if1 .left), le-leb _ _ (c .before .before .before .before .if2 .left), le-leb _ _ (c .before .before .before .if3 .left), le-leb _ _ h, lt-leb _ _ k) (refl, refl)
+    simp (
+      eq-eqb _ _ (c .before .before .before .before .before .if1 .left),
+      le-leb _ _ (c .before .before .before .before .if2 .left),
+      le-leb _ _ (c .before .before .before .if3 .left),
+      le-leb _ _ h,
+      lt-leb _ _ k,
+    ) (refl, refl)
 
 returns-7 : tie.Need-returns-7
 returns-7 c =
@@ -43,7 +55,13 @@ returns-7 c =
     let h : 12 * a .step ≤ length (a .out .now) = omega arith in
     let k : a .to + 4 * a .samples ≤ a .step = omega arith in
     let e = c .before .before .apply-output-limiter-block .ensures in
-    simp (eq-eqb _ _ (c .before .before .before .before .before .before .before .before .before .if1 .left), le-leb _ _ (c .before .before .before .before .before .before .before .before .if2 .left), le-leb _ _ (c .before .before .before .before .before .before .before .if3 .left), le-leb _ _ h, le-leb _ _ k)
+    simp (
+      eq-eqb _ _ (c .before .before .before .before .before .before .before .before .before .if1 .left),
+      le-leb _ _ (c .before .before .before .before .before .before .before .before .if2 .left),
+      le-leb _ _ (c .before .before .before .before .before .before .before .if3 .left),
+      le-leb _ _ h,
+      le-leb _ _ k,
+    )
     (record { gain = e .gain; meters = refl; samples = e .samples })
 
 pub probe-apply-output-limiter-block-spec : {M : Type 1} → statement M

@@ -11,10 +11,18 @@ returns-2 : tie.Need-returns-2
 returns-2 c = simp (lt-ltb _ _ (c .before .if1 .left), lt-leb _ _ (c .if2 .taken))
 
 returns-3 : tie.Need-returns-3
-returns-3 c = simp (lt-ltb _ _ (c .before .before .before .if1 .left), le-leb _ _ (c .before .before .if2 .left), lt-leb _ _ (rw (c .before .blocks-at .ensures .0) at (c .if3 .taken)))
+returns-3 c = simp (
+  lt-ltb _ _ (c .before .before .before .if1 .left),
+  le-leb _ _ (c .before .before .if2 .left),
+  lt-leb _ _ (rw (c .before .blocks-at .ensures .0) at (c .if3 .taken)),
+)
 
 returns-4 : tie.Need-returns-4
-returns-4 c = simp (lt-ltb _ _ (c .before .before .before .before .if1 .left), le-leb _ _ (c .before .before .before .if2 .left), le-leb _ _ (rw (c .before .before .blocks-at .ensures .0) at (c .before .if3 .left))) (c .element-after .ensures)
+returns-4 c = simp (
+  lt-ltb _ _ (c .before .before .before .before .if1 .left),
+  le-leb _ _ (c .before .before .before .if2 .left),
+  le-leb _ _ (rw (c .before .before .blocks-at .ensures .0) at (c .before .if3 .left)),
+) (c .element-after .ensures)
 
 pub probe-element-after-spec : {M : Type 1} → statement M
 probe-element-after-spec =

@@ -14,10 +14,20 @@ returns-3 : tie.Need-returns-3
 returns-3 c = simp (lt-ltb _ _ (c .before .before .if1 .left), lt-ltb _ _ (c .before .if2 .left), le-ltb _ _ (c .if3 .taken))
 
 returns-4 : tie.Need-returns-4
-returns-4 c = simp (lt-ltb _ _ (c .before .before .before .before .if1 .left), lt-ltb _ _ (c .before .before .before .if2 .left), lt-ltb _ _ (c .before .before .if3 .left), lt-leb _ _ (rw (c .before .blocks-at .ensures .0) at (c .if4 .taken)))
+returns-4 c = simp (
+  lt-ltb _ _ (c .before .before .before .before .if1 .left),
+  lt-ltb _ _ (c .before .before .before .if2 .left),
+  lt-ltb _ _ (c .before .before .if3 .left),
+  lt-leb _ _ (rw (c .before .blocks-at .ensures .0) at (c .if4 .taken)),
+)
 
 returns-5 : tie.Need-returns-5
-returns-5 c = simp (lt-ltb _ _ (c .before .before .before .before .before .if1 .left), lt-ltb _ _ (c .before .before .before .before .if2 .left), lt-ltb _ _ (c .before .before .before .if3 .left), le-leb _ _ (rw (c .before .before .blocks-at .ensures .0) at (c .before .if4 .left))) (c .object-place .ensures)
+returns-5 c = simp (
+  lt-ltb _ _ (c .before .before .before .before .before .if1 .left),
+  lt-ltb _ _ (c .before .before .before .before .if2 .left),
+  lt-ltb _ _ (c .before .before .before .if3 .left),
+  le-leb _ _ (rw (c .before .before .blocks-at .ensures .0) at (c .before .if4 .left)),
+) (c .object-place .ensures)
 
 pub probe-object-place-spec : {M : Type 1} → statement M
 probe-object-place-spec =

@@ -16,11 +16,21 @@ returns-2 c = simp (le-leb _ _ (c .before .before .before .if1 .left), sym (c .b
 
 returns-3 : tie.Need-returns-3
 unfolding elementFits
-returns-3 c = simp (le-leb _ _ (c .before .before .before .before .if1 .left), sym (c .before .before .schedule-fits .ensures) ∙ not-false _ (c .before .if2 .left), lt-leb _ _ (c .if3 .taken))
+returns-3 c = simp (
+  le-leb _ _ (c .before .before .before .before .if1 .left),
+  sym (c .before .before .schedule-fits .ensures)
+      ∙ not-false _ (c .before .if2 .left),
+  lt-leb _ _ (c .if3 .taken),
+)
 
 returns-4 : tie.Need-returns-4
 unfolding elementFits
-returns-4 c = simp (le-leb _ _ (c .before .before .before .before .if1 .left), sym (c .before .before .schedule-fits .ensures) ∙ not-false _ (c .before .if2 .left), le-leb _ _ (c .if3 .left))
+returns-4 c = simp (
+  le-leb _ _ (c .before .before .before .before .if1 .left),
+  sym (c .before .before .schedule-fits .ensures)
+      ∙ not-false _ (c .before .if2 .left),
+  le-leb _ _ (c .if3 .left),
+)
 
 pub element-fits-spec : {M : Type 1} → statement M
 element-fits-spec =

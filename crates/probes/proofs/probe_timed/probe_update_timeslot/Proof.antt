@@ -19,13 +19,23 @@ returns-2 c =
     simp (eq-eqb _ _ (c .before .if1 .left), lt-leb _ _ h) (record { state = refl; infos = refl })
 
 returns-3 : tie.Need-returns-3
-returns-3 c = simp (eq-eqb _ _ (c .before .before .before .if1 .left), le-leb _ _ (c .before .before .if2 .left), sym (c .before .state-fits .ensures) ∙ not-true _ (c .if3 .taken)) (record { state = refl; infos = refl })
+returns-3 c = simp (eq-eqb _ _ (c .before .before .before .if1 .left), le-leb _ _ (c .before .before .if2 .left), sym (c .before .state-fits .ensures) ∙ not-true _ (c .if3 .taken))
+    (record { state = refl; infos = refl })
 
 update-timeslot-requires : tie.Need-update-timeslot-requires
-update-timeslot-requires c κs = (omega arith, omega arith, within-later (c .before .before .before .before .before .before .args .start) 1099511627776 _ (omega arith) (fits-within _ _ (sym (c .before .before .state-fits .ensures) ∙ not-false _ (c .before .if3 .left))))
+update-timeslot-requires c κs = (
+  omega arith,
+  omega arith,
+  within-later (c .before .before .before .before .before .before .args .start) 1099511627776 _ (omega arith)
+      (fits-within _ _ (sym (c .before .before .state-fits .ensures) ∙ not-false _ (c .before .if3 .left))),
+)
 
 returns-4 : tie.Need-returns-4
-returns-4 c = simp (eq-eqb _ _ (c .before .before .before .before .before .before .before .if1 .left), le-leb _ _ (c .before .before .before .before .before .before .if2 .left), sym (c .before .before .before .before .before .state-fits .ensures) ∙ not-false _ (c .before .before .before .before .if3 .left)) (c .before .before .update-timeslot .ensures)
+returns-4 c = simp (
+  eq-eqb _ _ (c .before .before .before .before .before .before .before .if1 .left),
+  le-leb _ _ (c .before .before .before .before .before .before .if2 .left),
+  sym (c .before .before .before .before .before .state-fits .ensures) ∙ not-false _ (c .before .before .before .before .if3 .left),
+) (c .before .before .update-timeslot .ensures)
 
 pub probe-update-timeslot-spec : {M : Type 1} → statement M
 probe-update-timeslot-spec =

@@ -39,8 +39,11 @@ returns-2 c =
 loop-again : tie.Need-loop-again Inv-loop μ-loop
 loop-again c =
     let b = c .before .before .before .before .before .before .loop .b in
-    let x = getD (c .before .before .before .before .before .before .before .args .t1) b noBlock in
-    (search needs, all-more _ b (c .before .before .before .before .before .before .loop .inv .1) (simp (le-leb (x .offset) 2097152 (c .before .before .if1 .left), le-leb (x .ramp) 2097152 (c .if2 .left))))
+    let x = getD (c .before .before .before .before .before .before .before .args .t1) b noBlock in (
+      search needs,
+      all-more _ b (c .before .before .before .before .before .before .loop .inv .1)
+          (simp (le-leb (x .offset) 2097152 (c .before .before .if1 .left), le-leb (x .ramp) 2097152 (c .if2 .left))),
+    )
 
 returns-3 : tie.Need-returns-3 Inv-loop μ-loop
 unfolding scheduleFits

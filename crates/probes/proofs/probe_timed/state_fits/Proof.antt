@@ -14,21 +14,37 @@ returns c = simp (sym (c .before .counts-fit .ensures) ∙ not-true _ (c .if1 .t
 
 returns-2 : tie.Need-returns-2
 unfolding stateFits
-returns-2 c = simp (sym (c .before .before .before .before .counts-fit .ensures) ∙ not-false _ (c .before .before .before .if1 .left), sym (c .before .is-up-to .ensures) ∙ not-true _ (c .if2 .taken))
+returns-2 c = simp (
+  sym (c .before .before .before .before .counts-fit .ensures) ∙ not-false _ (c .before .before .before .if1 .left),
+  sym (c .before .is-up-to .ensures)
+      ∙ not-true _ (c .if2 .taken),
+)
 
 returns-3 : tie.Need-returns-3
 unfolding stateFits
 returns-3 c =
     let a = c .before .before .before .before .before .before .before .before .before .args in
     let first : elementFits (a .position) (elementOf (a .s) 0) ≡ false = sym (c .before .element-fits .ensures) ∙ not-true _ (c .if3 .taken) in
-    simp (sym (c .before .before .before .before .before .before .before .before .counts-fit .ensures) ∙ not-false _ (c .before .before .before .before .before .before .before .if1 .left), sym (c .before .before .before .before .before .is-up-to .ensures) ∙ not-false _ (c .before .before .before .before .if2 .left), first)
+    simp (
+      sym (c .before .before .before .before .before .before .before .before .counts-fit .ensures)
+          ∙ not-false _ (c .before .before .before .before .before .before .before .if1 .left),
+      sym (c .before .before .before .before .before .is-up-to .ensures)
+          ∙ not-false _ (c .before .before .before .before .if2 .left),
+      first,
+    )
 
 returns-4 : tie.Need-returns-4
 unfolding stateFits
 returns-4 c =
     let a = c .before .before .before .before .before .before .before .before .before .before .before .args in
     let first : elementFits (a .position) (elementOf (a .s) 0) ≡ true = sym (c .before .before .before .element-fits .ensures) ∙ not-false _ (c .before .before .if3 .left) in
-    simp (sym (c .before .before .before .before .before .before .before .before .before .before .counts-fit .ensures) ∙ not-false _ (c .before .before .before .before .before .before .before .before .before .if1 .left), sym (c .before .before .before .before .before .before .before .is-up-to .ensures) ∙ not-false _ (c .before .before .before .before .before .before .if2 .left), first) (c .element-fits2 .ensures)
+    simp (
+      sym (c .before .before .before .before .before .before .before .before .before .before .counts-fit .ensures)
+          ∙ not-false _ (c .before .before .before .before .before .before .before .before .before .if1 .left),
+      sym (c .before .before .before .before .before .before .before .is-up-to .ensures) ∙ not-false _ (c .before .before .before .before .before .before .if2 .left),
+      first,
+    )
+    (c .element-fits2 .ensures)
 
 pub state-fits-spec : {M : Type 1} → statement M
 state-fits-spec =

@@ -12,7 +12,16 @@ returns c =
     let anchor = distance .before in
     let a = anchor .before .args in
     c .update-source-position .ensures
-    ∙ (λ i. placed (record { valid = a .valid; differential = a .differential; anchor = anchor .anchor-of .ensures i; position = a .position; last = a .last; distance = distance .maybe-of .ensures i; screen = a .screen; depth = depth .depth-of .ensures i }) (a .here))
+    ∙ (λ i. placed (record {
+      valid = a .valid;
+      differential = a .differential;
+      anchor = anchor .anchor-of .ensures i;
+      position = a .position;
+      last = a .last;
+      distance = distance .maybe-of .ensures i;
+      screen = a .screen;
+      depth = depth .depth-of .ensures i;
+    }) (a .here))
 
 pub probe-update-source-position-spec : {M : Type 1} → statement M
 probe-update-source-position-spec =
