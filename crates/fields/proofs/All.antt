@@ -33,6 +33,10 @@ module _ (p : ℕ → Bool) where
   unfolding all
   all-more n a e = rw (add-one, a) e
 
+  pub all-next : (n : ℕ) → (all p n && p n) ≡ all p (n + 1)
+  unfolding all
+  all-next n = rw (add-one n)
+
   pub all-fails : (n i : ℕ) → i < n → p i ≡ false → all p n ≡ false
   unfolding all
   all-fails zero i h e = absurd (omega arith)

@@ -21,13 +21,7 @@ pub fn is_element(meta: &[u8], r: usize) -> bool
     ensures { λ b. ⌜ b ≡ isElement (now (meta .entry)) r ⌝ }
 {
     let at = 40 * r;
-    if meta[at] != 2 {
-        return false;
-    }
-    if meta[at + 1] > 8 {
-        return false;
-    }
-    zeros(meta, at + 2, 38)
+    (meta[at] == 2) & (meta[at + 1] <= 8) & zeros(meta, at + 2, 38)
 }
 
 // Whether record r is a block as laid out.
@@ -36,13 +30,7 @@ pub fn is_block(meta: &[u8], r: usize) -> bool
     ensures { λ b. ⌜ b ≡ isBlock (now (meta .entry)) r ⌝ }
 {
     let at = 40 * r;
-    if meta[at] != 3 {
-        return false;
-    }
-    if !zeros(meta, at + 1, 7) {
-        return false;
-    }
-    zeros(meta, at + 24, 16)
+    (meta[at] == 3) & zeros(meta, at + 1, 7) & zeros(meta, at + 24, 16)
 }
 
 // A block's record.

@@ -23,14 +23,13 @@ pub fn zeros(meta: &[u8], at: usize, n: usize) -> bool
     requires { ⌜ at + n ≤ length (now meta) ⌝ }
     ensures { λ r. ⌜ r ≡ zeroBytes (now (meta .entry)) at n ⌝ }
 {
+    let mut clear = true;
     let mut k = 0usize;
     while k < n {
-        if meta[at + k] != 0 {
-            return false;
-        }
+        clear = clear & (meta[at + k] == 0);
         k += 1;
     }
-    true
+    clear
 }
 
 // Whether the four bytes from `at` on are zero, by their word.

@@ -61,19 +61,11 @@ pub fn dynamic(objects: usize, bed_or_isf: usize) -> usize
 fn counts_fit(objects: usize, bed_or_isf: usize, beds: usize, elements: usize) -> bool
     ensures { λ r. ⌜ r ≡ countsFit objects «bed_or_isf» beds elements ⌝ }
 {
-    if objects > 32 {
-        return false;
-    }
-    if dynamic(objects, bed_or_isf) > 16 {
-        return false;
-    }
-    if beds > 18 {
-        return false;
-    }
-    if beds > objects {
-        return false;
-    }
-    elements <= 2
+    (objects <= 32)
+        & (dynamic(objects, bed_or_isf) <= 16)
+        & (beds <= 18)
+        & (beds <= objects)
+        & (elements <= 2)
 }
 
 // The largest byte that may stand at place k of the codes.
@@ -91,14 +83,13 @@ fn codes_fit(meta: &[u8], at: usize, beds: usize) -> bool
     requires { ⌜ at + 18 ≤ length (now meta) ⌝ }
     ensures { λ r. ⌜ r ≡ codesFit (now (meta .entry)) at beds ⌝ }
 {
+    let mut fit = true;
     let mut k = 0usize;
     while k < 18 {
-        if meta[at + k] > most_at(k, beds) {
-            return false;
-        }
+        fit = fit & (meta[at + k] <= most_at(k, beds));
         k += 1;
     }
-    true
+    fit
 }
 
 // Whether record r is an update as laid out.
@@ -107,18 +98,10 @@ pub fn is_update(meta: &[u8], r: usize) -> bool
     ensures { λ b. ⌜ b ≡ isUpdate (now (meta .entry)) r ⌝ }
 {
     let at = 40 * r;
-    if meta[at] != 1 {
-        return false;
-    }
-    if meta[at + 1] != 0 {
-        return false;
-    }
     let h = header_at(meta, r);
-    if !counts_fit(h.objects, h.bed_or_isf, h.beds, h.elements) {
-        return false;
-    }
-    if !codes_fit(meta, at + 8, h.beds) {
-        return false;
-    }
-    zeros(meta, at + 26, 14)
+    (meta[at] == 1)
+        & (meta[at + 1] == 0)
+        & counts_fit(h.objects, h.bed_or_isf, h.beds, h.elements)
+        & codes_fit(meta, at + 8, h.beds)
+        & zeros(meta, at + 26, 14)
 }

@@ -15,9 +15,10 @@ fields-same o p q r s t = cc (offset-is o p)
 
 returns : tie.Need-returns
 returns c =
-    let b = c .before .before .before .before in
-    fields-same _ (b .offset-at .ensures) (c .before .before .before .byte-at .ensures .0) (c .before .before .byte-at2 .ensures .0) (c .before .byte-at3 .ensures .0)
-    (c .byte-at4 .ensures .0)
+    let d = c .before in
+    let b = d .before in
+    let a = b .before in
+    fields-same _ (a .before .offset-at .ensures) (a .byte-at .ensures .0) (b .byte-at2 .ensures .0) (d .byte-at3 .ensures .0) (c .byte-at4 .ensures .0)
 
 pub header-at-spec : {M : Type 1} → statement M
 header-at-spec =
