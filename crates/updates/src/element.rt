@@ -130,10 +130,7 @@ fn next_tracks(tracks: [Track; 16], kept: bool) -> [Track; 16]
 fn is_kept(same: bool, blocks: usize, next: usize) -> bool
     ensures { λ r. ⌜ r ≡ isKept same blocks next ⌝ }
 {
-    if same {
-        return blocks == next;
-    }
-    false
+    same & (blocks == next)
 }
 
 // The element with the blocks of an update: kept, or new.

@@ -100,13 +100,7 @@ fn apply_elements(
 fn same_counts(elements: usize, given: usize, last: Counts, counts: Counts) -> bool
     ensures { λ r. ⌜ r ≡ (eqb elements given && eqb (last .objects) (counts .objects) && eqb (last .dynamic) (counts .dynamic)) ⌝ }
 {
-    if elements != given {
-        return false;
-    }
-    if last.objects != counts.objects {
-        return false;
-    }
-    last.dynamic == counts.dynamic
+    (elements == given) & (last.objects == counts.objects) & (last.dynamic == counts.dynamic)
 }
 
 // The timed state, as an update finds it and leaves it.
