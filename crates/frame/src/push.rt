@@ -11,7 +11,7 @@ ghost use Rattle.rules.specs.Calls.{frameOf};
 ghost use Rattle.store.specs.Layout.{decode};
 ghost use Rattle.theorem.specs.Instance.{hall};
 ghost use Rattle.frame.specs.Begin.{Rests};
-ghost use Rattle.refusals.specs.Found.{argsWith};
+ghost use Rattle.refusals.specs.Contracts.{argsWith};
 ghost use Rattle.frame.specs.Turns.{lesser, runLength, Accepted, IsRendered};
 use crate::Rendering;
 use clock::FrameOffset;

@@ -1,7 +1,7 @@
 // What an entry answers. An enum does not cross the C boundary, so a refusal's number and counts do.
 ghost use mathlib.Core.Path.{_≡_};
 ghost use Rattle.rules.specs.Calls.{refused, nothing, cleared};
-ghost use Rattle.refusals.specs.Found.{foundOf};
+ghost use Rattle.refusals.specs.RefusalNumbers.{foundOf};
 ghost use Rattle.hall.specs.Answers.{readyOf, bare, codeOf, codeOfFound};
 use limiter::meters::Meters;
 use refusals::Refusal;

@@ -3,7 +3,7 @@ ghost use Rattle.rules.specs.Calls.{push, flush};
 ghost use Rattle.rules.specs.Block.{made};
 ghost use Rattle.theorem.specs.Instance.{hall, block};
 ghost use Rattle.hall.specs.Answers.{Waiting, Cleared, Left};
-ghost use Rattle.refusals.specs.Found.{argsWith};
+ghost use Rattle.refusals.specs.Contracts.{argsWith};
 use crate::answer;
 use crate::answer::Answer;
 use frame::Rendering;

@@ -8,12 +8,12 @@ use types.Run.{OneOf, miss}
 use denote.Enum.Declared.{tagOf}
 use Rattle.rules.specs.Refusals.{clear}
 use Rattle.refusals.proofs.Refusal as refusal
-use Rattle.refusals.specs.Found.{foundOf}
+use Rattle.refusals.specs.RefusalNumbers.{foundOf}
 use Rattle.refusals.specs.declared.Refusal.{Refusal}
 use Rattle.refusals.specs.declared.Refusal.the-variants.{Clear, Lent, Sizes, Rate, StreamEnd, Records, Ranges, Samples}
 use Rattle.refusals.specs.declared.Refusal.the-variants.{SampleRateChanged, MissingOamd, ObjectCountMismatch}
 use Rattle.refusals.specs.declared.Refusal.the-variants.{UnsupportedSampleCount, BedChannelCountMismatch, UnsupportedBedChannel}
-use Rattle.refusals.specs.Told.{isNone, isClear}
+use Rattle.refusals.specs.Contracts.{isNone, isClear}
 
 abbrev others : List ℕ
 others = 1 ∷ 2 ∷ 3 ∷ 4 ∷ 5 ∷ 6 ∷ 7 ∷ 8 ∷ 9 ∷ 10 ∷ 11 ∷ 12 ∷ 13 ∷ []

@@ -1,18 +1,25 @@
--- The first that stops: what a refusal that stops, or does not, leaves of those after it. Assumes nothing.
+-- The first that stops: what a refusal, or a test, that stops or does not leaves of those after it. Assumes nothing.
 use Prim.Native.Nat.{ℕ, _+_, _<_, _≤_}
 use mathlib.Core.Path.{_≡_, refl, sym, ap, _∙_}
-use mathlib.Core.Bool.{Bool, true, false}
+use mathlib.Core.Bool.{Bool, true, false, not}
 use mathlib.Core.List.{List}
 use lib.ListN.{length, getD, drop, drop-of-length-le}
 use lib.Seq.{drop-cons}
 use native.Mathlib.Numerals.{add-one}
 use native.Mathlib.Omega.{arith}
-use borrow.Author.Tests.{ne-eqb}
+use borrow.Author.Tests.{ne-eqb, not-true, not-false}
 use Rattle.beds.specs.Matching.{counted}
-use Rattle.rules.specs.Refusals.{Found, clear, stop, _then_, unless, bedFound, bedsFound}
-use Rattle.refusals.specs.Found.{foundOf}
+use Rattle.rules.specs.Refusals.{Found, clear, stop, _then_, unless, every, bedFound, bedsFound}
+use Rattle.refusals.specs.RefusalNumbers.{foundOf}
 use Rattle.refusals.specs.declared.Refusal.{Refusal}
-use Rattle.refusals.specs.Told.{isNone, isClear}
+use Rattle.refusals.specs.Contracts.{isNone, isClear}
+
+-- a test that the code makes and that fails, or does not
+pub failed : {b r : Bool} → r ≡ b → not r ≡ true → b ≡ false
+failed {b} {r} e t = sym e ∙ not-true r t
+
+pub passed : {b r : Bool} → r ≡ b → not r ≡ false → b ≡ true
+passed {b} {r} e t = sym e ∙ not-false r t
 
 pub stops : (f x : Found) → isNone f ≡ false → (f then x) ≡ f
 stops clear x e = absurd (let z : _≡_ {A = ℕ} 0 1 = cc in omega arith)
@@ -46,7 +53,8 @@ module _ (r : Refusal) (f x all : Found) (is : foundOf r ≡ f) (rest : (f then 
 -- ---- the beds in order
 
 module _ (beds codes : List ℕ) where
-  pub beds-step : (i : ℕ) → i < length beds → bedsFound beds codes (drop i beds) ≡ (bedFound beds codes (getD beds i 0) then bedsFound beds codes (drop (i + 1) beds))
+  pub beds-step : (i : ℕ) → i < length beds →
+      bedsFound beds codes (drop i beds) ≡ (bedFound beds codes (getD beds i 0) then bedsFound beds codes (drop (i + 1) beds))
   beds-step i l = rw (drop-cons beds i 0, add-one)
 
   pub beds-end : (i : ℕ) → length beds ≤ i → bedsFound beds codes (drop i beds) ≡ clear
@@ -71,9 +79,11 @@ module _ (t : Bool) (n a b : ℕ) (x : Found) where
   pub unless-passes : t ≡ true → x ≡ (unless t n a b then x)
   unless-passes e = rw e
 
-module _ (t : Bool) (n a b : ℕ) where
-  pub last-stops : t ≡ false → stop n a b ≡ unless t n a b
-  last-stops e = rw e
+-- ---- a test along a list
 
-  pub last-passes : t ≡ true → clear ≡ unless t n a b
-  last-passes e = rw e
+module _ (f : ℕ → Bool) (s : List ℕ) (i : ℕ) (h : i < length s) where
+  pub every-stops : f (getD s i 0) ≡ false → every f (drop i s) ≡ false
+  every-stops e = rw (drop-cons s i 0 h, e)
+
+  pub every-goes-on : f (getD s i 0) ≡ true → every f (drop i s) ≡ every f (drop (i + 1) s)
+  every-goes-on e = rw (drop-cons s i 0 h, e, add-one)

@@ -1,8 +1,8 @@
-pub mod Cleared
 pub mod First
-pub mod Tests
-pub mod Codes
+pub mod Cleared
+pub mod LowestFirst
 pub mod Sent
 pub mod Walks
-pub mod Parts
+pub mod LaterInOrder
 pub mod Loaded
+pub mod Theorems

@@ -18,11 +18,12 @@ use Rattle.updates.specs.Said.{updateOf}
 use Rattle.updates.specs.Applied.{codesGiven}
 use Rattle.theorem.specs.Instance as theorem
 use Rattle.theorem.proofs.Shapes.{each-same, codes-are}
-use Rattle.refusals.specs.Found.{foundOf}
+use Rattle.refusals.specs.RefusalNumbers.{foundOf}
 use Rattle.refusals.specs.declared.Refusal.{Refusal}
 use Rattle.refusals.specs.declared.Refusal.the-variants.{Clear}
 use Rattle.refusals.specs.declared.present.Present.{Present}
-use Rattle.refusals.specs.Told.{toldOf, saidShape, presentShape, IsAfter, IsEleven, matched, isClear}
+use Rattle.refusals.specs.PresentShape.{toldOf, saidShape, presentShape}
+use Rattle.refusals.specs.Contracts.{IsAfter, IsEleven, matched, isClear}
 use Rattle.refusals.proofs.First.{chain-stops, chain-passes}
 
 -- the first n of a list, by their places
@@ -69,7 +70,8 @@ module _ (m : List ℕ) (n t : ℕ) where
   abbrev pub CountsFrom : ℕ → Type 0
   CountsFrom i = (codes : List ℕ) → countsAt (toldOf m) n codes t (drop i (toldOf m)) ≡ countsAt (toldOf m) n codes t (toldOf m)
 
-  counts-step : (i : ℕ) → i < count m → CountsFrom i → (codes : List ℕ) → (refusedAt i then countsAt (toldOf m) n codes t (drop (i + 1) (toldOf m))) ≡ countsAt (toldOf m) n codes t (toldOf m)
+  counts-step : (i : ℕ) → i < count m → CountsFrom i → (codes : List ℕ) →
+      (refusedAt i then countsAt (toldOf m) n codes t (drop (i + 1) (toldOf m))) ≡ countsAt (toldOf m) n codes t (toldOf m)
   counts-step i l h codes = ap (countsAt (toldOf m) n codes t) (sym (told-from m i l)) ∙ h codes
 
   module _ (r : Refusal) (i : ℕ) (l : i < count m) (h : CountsFrom i) (is : foundOf r ≡ refusedAt i) where
@@ -87,9 +89,11 @@ module _ (m : List ℕ) (n t : ℕ) where
 module _ (m : List ℕ) (t : ℕ) (p : Present) where
   -- q is the shape before update i
   abbrev pub ShapeFrom : ℕ → Present → Type 0
-  ShapeFrom i q = (n : ℕ) (codes : List ℕ) → shapeAt (toldOf m) n codes t (drop i (toldOf m)) (presentShape q) ≡ shapeAt (toldOf m) n codes t (toldOf m) (presentShape p)
+  ShapeFrom i q = (n : ℕ) (codes : List ℕ) →
+      shapeAt (toldOf m) n codes t (drop i (toldOf m)) (presentShape q) ≡ shapeAt (toldOf m) n codes t (toldOf m) (presentShape p)
 
-  pub shape-go : (i : ℕ) (q r : Present) → i < count m → ShapeFrom i q → presentShape r ≡ cond (eqb (told m i .offset) t) (told m i .shape) (presentShape q) → ShapeFrom (i + 1) r
+  pub shape-go : (i : ℕ) (q r : Present) → i < count m → ShapeFrom i q →
+      presentShape r ≡ cond (eqb (told m i .offset) t) (told m i .shape) (presentShape q) → ShapeFrom (i + 1) r
   shape-go i q r l h e n codes =
       ap (shapeAt (toldOf m) n codes t (drop (i + 1) (toldOf m))) e
       ∙ ap (λ (us : List Announced). shapeAt (toldOf m) n codes t us (presentShape q)) (sym (told-from m i l)) ∙ h n codes
@@ -99,7 +103,8 @@ module _ (m : List ℕ) (t : ℕ) (p : Present) where
 
 -- ---- what is read of an update's record
 
-pub said-present : (m : List ℕ) (u d n : ℕ) (cs zs : List ℕ) → d ≡ objects m u - bedOrIsf m u → n ≡ beds m u → n ≤ 18 → cs ≡ codesGiven (updateOf m u) zs → length zs ≡ 18 →
+pub said-present : (m : List ℕ) (u d n : ℕ) (cs zs : List ℕ) →
+    d ≡ objects m u - bedOrIsf m u → n ≡ beds m u → n ≤ 18 → cs ≡ codesGiven (updateOf m u) zs → length zs ≡ 18 →
     presentShape (record { started = true; objects = d; beds = n; codes = cs }) ≡ saidShape m u
 said-present m u d n cs zs a b few e long =
     let most : beds m u ≤ 18 = rw b at few in

@@ -1,2 +1,3 @@
-pub mod Found
-pub mod Told
+pub mod RefusalNumbers
+pub mod PresentShape
+pub mod Contracts

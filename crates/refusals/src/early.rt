@@ -5,7 +5,7 @@ ghost use Prim.Native.Nat.{_*_, _≤_};
 ghost use lib.Dec.{leb};
 ghost use Rattle.records.specs.Laid.{laidOut};
 ghost use Rattle.rules.specs.Refusals as rules;
-ghost use Rattle.refusals.specs.Found.{argsWith, IsEarly};
+ghost use Rattle.refusals.specs.Contracts.{argsWith, IsEarly};
 use crate::Numbers;
 use crate::Refusal;
 use clock::StreamSample;
@@ -14,16 +14,7 @@ use clock::StreamSample;
 pub fn room(stride: u32, bytes: usize) -> bool
     ensures { λ r. ⌜ r ≡ rules.room stride bytes ⌝ }
 {
-    if stride % 64 != 0 {
-        return false;
-    }
-    if stride < 64 {
-        return false;
-    }
-    if stride > 1536 {
-        return false;
-    }
-    48 * (stride as usize) <= bytes
+    (stride % 64 == 0) & (64 <= stride) & (stride <= 1536) & (48 * (stride as usize) <= bytes)
 }
 
 // Whether each bed code is listed.

@@ -11,9 +11,9 @@ ghost use lib.ListN.{length};
 ghost use Rattle.records.specs.Answers.{IsLayout};
 ghost use Rattle.updates.specs.WholeRecords.{WholeUpdates};
 ghost use Rattle.rules.specs.Refusals.{_then_, unless, walk, later};
-ghost use Rattle.refusals.specs.Found.{foundOf};
+ghost use Rattle.refusals.specs.RefusalNumbers.{foundOf};
 ghost use Rattle.theorem.specs.Instance.{shapeOf};
-ghost use Rattle.refusals.specs.Told.{toldOf, presentShape};
+ghost use Rattle.refusals.specs.PresentShape.{toldOf, presentShape};
 use crate::Numbers;
 use crate::Refusal;
 use crate::checks::beds_refusal;
@@ -29,23 +29,14 @@ use records::layout::Layout;
 use records::order::next_offset;
 use timed::state::MetadataRendererState;
 
-fn either(a: bool, b: bool) -> bool
-    ensures { λ r. ⌜ r ≡ (a || b) ⌝ }
-{
-    if a {
-        return true;
-    }
-    b
-}
-
 // 9 and 10.
 fn start_refusal(rate_before: u32, rate: u32, started: bool, updates: usize) -> Refusal
     ensures { λ r. ⌜ foundOf r ≡ (unless (eqb «rate_before» 0 || eqb «rate_before» rate) 9 «rate_before» rate then unless (started || not (eqb updates 0)) 10 0 0) ⌝ }
 {
-    if !either(rate_before == 0, rate_before == rate) {
+    if !((rate_before == 0) | (rate_before == rate)) {
         return Refusal::SampleRateChanged(rate_before, rate);
     }
-    if !either(started, updates != 0) {
+    if !(started | (updates != 0)) {
         return Refusal::MissingOamd;
     }
     Refusal::Clear

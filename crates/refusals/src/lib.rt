@@ -9,7 +9,7 @@ mod present;
 
 ghost use Prim.Native.Nat.{_≤_};
 ghost use Rattle.records.specs.Answers.{IsLayout};
-ghost use Rattle.refusals.specs.Found.{argsWith, IsFound};
+ghost use Rattle.refusals.specs.Contracts.{argsWith, IsFound};
 use records::layout::Layout;
 use store::renderer::Renderer714;
 

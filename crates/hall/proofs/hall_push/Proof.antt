@@ -3,7 +3,7 @@ use mathlib.Core.Path.{refl, sym, ap, _∙_}
 use native.Mathlib.Omega.{arith}
 use borrow.Author.Tests.{not-true, not-false}
 use Rattle.rules.specs.Calls.{push}
-use Rattle.refusals.specs.Found.{foundOf}
+use Rattle.refusals.specs.RefusalNumbers.{foundOf}
 use Rattle.rules.specs.Refusals.{argsOf}
 use Rattle.hall.proofs.Laws.{leaves-as, wrong, refused-push}
 use Rattle.refusals.proofs.Cleared.{not-clear}

@@ -8,7 +8,8 @@ use Rattle.rules.specs.Refusals.{early, later, _then_, Found}
 use Rattle.rules.specs.Samples.{State}
 use Rattle.rules.specs.Calls.{announced}
 use Rattle.rules.proofs.Judged.{is-early, is-sized}
-use Rattle.refusals.specs.Found.{foundOf, argsWith}
+use Rattle.refusals.specs.RefusalNumbers.{foundOf}
+use Rattle.refusals.specs.Contracts.{argsWith}
 use Rattle.store.specs.Layout.{assembled, decode}
 use Rattle.updates.proofs.Passed.{passes-all}
 use Rattle.theorem.specs.Instance.{hall}
@@ -35,7 +36,8 @@ refusal-requires-2 c κs =
     let w = e .before .before .before .before .pre in
     let out = replicate {A = ℕ} (a .bytes) 0 in
     let args = argsWith (a .pcm .now) (a .meta .now) out (a .codes .now) (a .n) in
-    let x = is-early hall (assembled (a .s) [] (λ k. [])) args (sym (e .refusal .ensures out (length-replicate (a .bytes) 0) (assembled (a .s) [] (λ k. [])) refl) ∙ ap foundOf (c .before .enum-told .given .1)) in
+    let t = assembled (a .s) [] (λ k. []) in
+    let x = is-early hall t args (sym (e .refusal .ensures out (length-replicate (a .bytes) 0) t refl) ∙ ap foundOf (c .before .enum-told .given .1)) in
     let whole = passes-all (a .meta .now) (x .laidOut) (x .inRange) (λ k. omega (arith, e .before .before .shared-slice-known2 .given k)) (a .l) (w .2) in
     (w .2, whole, is-sized args (x .sized) .codes, w .0, w .1)
 
@@ -44,7 +46,8 @@ returns-2 c b out e l =
     let f = c .before .before .before .before in
     let a = f .before .before .before .before .args in
     let args = argsWith (a .pcm .now) (a .meta .now) out (a .codes .now) (a .n) in
-    let at : State hall → Found = λ r. later (announced hall (hall .updates (args .meta))) (args .objects) (args .codes) (args .samples) (args .rate) (r .rate) (hall .shape (r .meta)) in
+    let us = announced hall (hall .updates (args .meta)) in
+    let at : State hall → Found = λ r. later us (args .objects) (args .codes) (args .samples) (args .rate) (r .rate) (hall .shape (r .meta)) in
     then-second (early hall (decode b) args) (at (decode b)) (foundOf (c .refusal2 .result))
     (sym (f .refusal .ensures out l (decode b) (sym (ap (λ (r : State hall). r .clock .position) (loaded b (a .s) e)))) ∙ ap foundOf (c .before .before .enum-told .given .1))
     (c .refusal2 .ensures ∙ ap at (loaded b (a .s) e))

@@ -12,7 +12,7 @@ use Rattle.rules.specs.Refusals.{Args, argsOf}
 use Rattle.rules.specs.Calls.{frameOf}
 use Rattle.rules.specs.Samples.{updated, slotted}
 use Rattle.theorem.specs.Instance.{sentOf, hall}
-use Rattle.refusals.specs.Found.{argsWith}
+use Rattle.refusals.specs.Contracts.{argsWith}
 use Rattle.store.specs.declared.renderer.Renderer714.{Renderer714}
 use Rattle.frame.specs.Held.{held, Leads}
 use Rattle.frame.proofs.Begins.{rests}

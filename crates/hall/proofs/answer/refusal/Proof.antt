@@ -1,6 +1,6 @@
 -- `refusal`: each case has its number.
 use mathlib.Core.Path.{_≡_, sym, ap, _∙_}
-use Rattle.refusals.specs.Found.{foundOf}
+use Rattle.refusals.specs.RefusalNumbers.{foundOf}
 use Rattle.refusals.specs.declared.Refusal.{Refusal}
 use Rattle.hall.specs.declared.answer.Answer.{Answer}
 use Rattle.hall.specs.Answers.{codeOfFound}

@@ -11,7 +11,8 @@ use Rattle.refusals.proofs.checks.bed_refusal.Tie as tie
 returns : tie.Need-returns
 returns c =
     let s = c .before .before .before .before .before .args in
-    ap (λ (n : ℕ). stop 13 n 0) (c .count-matching2 .ensures) ∙ bed-missing (now (s .beds)) (now (s .codes)) (s .code) (sym (c .before .before .count-matching .ensures) ∙ c .before .if1 .taken)
+    ap (λ (n : ℕ). stop 13 n 0) (c .count-matching2 .ensures)
+    ∙ bed-missing (now (s .beds)) (now (s .codes)) (s .code) (sym (c .before .before .count-matching .ensures) ∙ c .before .if1 .taken)
 
 returns-2 : tie.Need-returns-2
 returns-2 c =

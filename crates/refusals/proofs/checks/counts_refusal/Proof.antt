@@ -1,11 +1,11 @@
 -- `checks::counts_refusal`: nothing was found before update i. Assumes nothing.
 use Prim.Native.Nat.{_-_, _<_, _≤_}
-use mathlib.Core.Path.{_≡_, refl, sym, _∙_}
+use mathlib.Core.Path.{_≡_, refl}
 use native.Mathlib.Omega.{arith}
-use borrow.Author.Tests.{not-true, not-false}
 use denote.Ref.{now}
 use Rattle.records.specs.Laid.{count}
-use Rattle.refusals.specs.Found.{foundOf}
+use Rattle.refusals.specs.RefusalNumbers.{foundOf}
+use Rattle.refusals.proofs.First.{failed, passed}
 use Rattle.refusals.proofs.Sent.{refusedAt, CountsFrom, counts-stop, counts-go, counts-end}
 use Rattle.refusals.proofs.checks.counts_refusal.Statement.{statement}
 use Rattle.refusals.proofs.checks.counts_refusal.Tie as tie
@@ -19,48 +19,50 @@ abbrev μ-loop : tie.MeasureT-loop
 loop-holds : tie.Need-loop-holds Inv-loop μ-loop
 loop-holds c = (omega arith, λ codes. refl)
 
-mul-x : tie.Need-mul-x Inv-loop μ-loop
-mul-x c = omega (arith, c .before .before .before .before .before .pre .1 .few)
+-- ---- update i of a turn
 
-array-copy-out-x : tie.Need-array-copy-out-x Inv-loop μ-loop
-array-copy-out-x c = omega (arith, c .before .before .before .before .before .pre .1 .few)
+abbrev start : tie.In-loop Inv-loop μ-loop → tie.Start Inv-loop μ-loop
+start c = c .before .before .before .before .before
 
-mul-update-refusal : tie.Need-mul-update-refusal Inv-loop μ-loop
-mul-update-refusal c = omega (arith, c .before .before .before .before .before .before .pre .1 .few)
+few : (c : tie.In-loop Inv-loop μ-loop) → c .before .loop .i < 16
+few c = omega (arith, start c .pre .1 .few, c .loop-test)
 
-array-read-update-refusal : tie.Need-array-read-update-refusal Inv-loop μ-loop
-array-read-update-refusal c = omega (arith, c .before .before .before .before .before .before .pre .1 .few)
+one : (c : tie.In-loop Inv-loop μ-loop) → c .before .loop .i < count (now (start c .args .meta))
+one c = omega (arith, c .loop-test, start c .pre .0 .counted)
+
+-- 11 for it
+eleven : (c : tie.After-update-refusal Inv-loop μ-loop) →
+    let l = c .before .before .before in
+    let s = start l .args in
+    foundOf (c .update-refusal .result) ≡ refusedAt (now (s .meta)) (s .objects) (s .t .0) (l .before .loop .i)
+eleven c =
+    let x = c .before in
+    let l = x .before .before in
+    let g = start l .pre .0 in
+    rw (← g .offsets (l .before .loop .i) (one l), ← g .firsts (l .before .loop .i) (one l), ← x .is .ensures) (c .update-refusal .ensures)
+
+-- ---- the needs
 
 update-refusal-requires : tie.Need-update-refusal-requires Inv-loop μ-loop
-update-refusal-requires c κs = let l = c .before .before in l .before .before .before .before .before .pre .1 .all (l .before .loop .i) (omega (arith, l .loop-test))
+update-refusal-requires c κs = let l = c .before .before in start l .pre .1 .all (l .before .loop .i) (omega (arith, l .loop-test))
 
 returns : tie.Need-returns Inv-loop μ-loop
 returns c =
-    let i = c .before .before .before in
-    let l = i .before .before .before .loop in
-    let s = i .before .before .before .before .before .before .before in
-    let m = now (s .args .meta) in
-    let r = c .before .before .update-refusal in
-    let h : l .i < count m = omega (arith, i .before .before .loop-test, s .pre .0 .counted) in
-    let is : foundOf (r .result) ≡ refusedAt m (s .args .objects) (s .args .t .0) (l .i) = rw (← s .pre .0 .offsets (l .i) h, ← s .pre .0 .firsts (l .i) h, ← i .is .ensures) (r .ensures) in
-    counts-stop m (s .args .objects) (s .args .t .0) (r .result) (l .i) h (l .inv .1) is (sym (c .before .is-clear .ensures) ∙ not-true _ (c .if1 .taken))
-
-add-i : tie.Need-add-i Inv-loop μ-loop
-add-i c = omega (arith, c .before .before .before .before .before .before .before .before .before .before .pre .1 .few)
-
-loop-less : tie.Need-loop-less Inv-loop μ-loop
-loop-less c = omega (arith, c .before .before .before .before .before .loop-test)
+    let r = c .before .before in
+    let l = r .before .before .before in
+    let s = start l .args in
+    counts-stop (now (s .meta)) (s .objects) (s .t .0) (r .update-refusal .result) (l .before .loop .i) (one l) (l .before .loop .inv .1) (eleven r)
+    (failed (c .before .is-clear .ensures) (c .if1 .taken))
 
 loop-again : tie.Need-loop-again Inv-loop μ-loop
 loop-again c =
-    let i = c .before .before .before in
-    let l = i .before .before .before .loop in
-    let s = i .before .before .before .before .before .before .before in
-    let m = now (s .args .meta) in
-    let r = c .before .before .update-refusal in
-    let h : l .i < count m = omega (arith, i .before .before .loop-test, s .pre .0 .counted) in
-    let is : foundOf (r .result) ≡ refusedAt m (s .args .objects) (s .args .t .0) (l .i) = rw (← s .pre .0 .offsets (l .i) h, ← s .pre .0 .firsts (l .i) h, ← i .is .ensures) (r .ensures) in
-    (omega (arith, i .before .before .loop-test), counts-go m (s .args .objects) (s .args .t .0) (r .result) (l .i) h (l .inv .1) is (sym (c .before .is-clear .ensures) ∙ not-false _ (c .if1 .left)))
+    let r = c .before .before in
+    let l = r .before .before .before in
+    let s = start l .args in (
+      omega (arith, l .loop-test),
+      counts-go (now (s .meta)) (s .objects) (s .t .0) (r .update-refusal .result) (l .before .loop .i) (one l) (l .before .loop .inv .1) (eleven r)
+          (passed (c .before .is-clear .ensures) (c .if1 .left)),
+    )
 
 returns-2 : tie.Need-returns-2 Inv-loop μ-loop
 returns-2 c =
@@ -74,15 +76,12 @@ counts-refusal-spec =
     Inv-loop
     μ-loop
     loop-holds
-    mul-x
-    array-copy-out-x
-    mul-update-refusal
-    array-read-update-refusal
+    (λ c. let h = few c in omega arith) (λ c. few c)
+    (λ c. let h = few (c .before) in omega arith) (λ c. few (c .before))
     (λ c κs. tt)
     update-refusal-requires
     (λ c κs. tt)
     returns
-    add-i
-    loop-less
+    (λ c. omega (arith, few (c .before .before .before .before .before))) (λ c. omega (arith, c .before .before .before .before .before .loop-test))
     loop-again
     returns-2)

@@ -7,7 +7,7 @@ use native.Mathlib.Omega.{arith}
 use borrow.Author.Needs.{needs}
 use borrow.Author.Tests.{le-leb, lt-leb}
 use Rattle.rules.specs.Refusals.{every}
-use Rattle.refusals.proofs.Codes.{every-stops, every-goes-on}
+use Rattle.refusals.proofs.First.{every-stops, every-goes-on}
 use Rattle.refusals.proofs.early.codes_listed.Statement.{statement}
 use Rattle.refusals.proofs.early.codes_listed.Tie as tie
 

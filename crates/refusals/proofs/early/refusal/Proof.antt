@@ -5,8 +5,9 @@ use mathlib.Core.List.{List}
 use lib.ListN.{length, take}
 use borrow.Author.Needs.{needs}
 use Rattle.rules.specs.Refusals.{Args, room}
-use Rattle.refusals.specs.Found.{argsWith}
-use Rattle.refusals.proofs.Tests.{failed, passed, Test, Hold, more, tests, refuses, refuses-none, pcm-samples}
+use Rattle.refusals.specs.Contracts.{argsWith}
+use Rattle.refusals.proofs.First.{failed, passed}
+use Rattle.refusals.proofs.LowestFirst.{Test, Hold, more, tests, refuses, refuses-none, pcm-samples}
 use Rattle.refusals.proofs.early.refusal.Statement.{statement}
 use Rattle.refusals.proofs.early.refusal.Tie as tie
 
@@ -97,7 +98,8 @@ returns-8 : tie.Need-returns-8
 returns-8 c out q r p =
     let s = from-6 (c .before .before .before) in
     let h = held-6 (c .before .before) out q in
-    refuses-none (s .args .position .0) r p (given s out) (more (testsOf s out) 6 h (pcm-samples (given s out) (h .1 .0) ∙ passed (c .before .samples-pass .ensures) (c .if7 .left)))
+    let last = pcm-samples (given s out) (h .1 .0) ∙ passed (c .before .samples-pass .ensures) (c .if7 .left) in
+    refuses-none (s .args .position .0) r p (given s out) (more (testsOf s out) 6 h last)
 
 pub refusal-spec : {M : Type 1} → statement M
 refusal-spec =

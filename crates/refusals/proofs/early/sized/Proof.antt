@@ -6,7 +6,7 @@ use lib.ListN.{length}
 use borrow.Author.Needs.{needs}
 use borrow.Author.Tests.{eq-eqb, ne-eqb, le-leb, lt-leb}
 use Rattle.rules.specs.Refusals.{every}
-use Rattle.refusals.proofs.Tests.{failed, passed}
+use Rattle.refusals.proofs.First.{failed, passed}
 use Rattle.refusals.proofs.early.sized.Statement.{statement}
 use Rattle.refusals.proofs.early.sized.Tie as tie
 

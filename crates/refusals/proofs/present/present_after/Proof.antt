@@ -17,44 +17,40 @@ abbrev μ-loop : tie.MeasureT-loop
 loop-holds : tie.Need-loop-holds Inv-loop μ-loop
 loop-holds c = (omega arith, λ n codes. refl, c .before .before .before .pre .2)
 
-mul-x : tie.Need-mul-x Inv-loop μ-loop
-mul-x c = omega (arith, c .before .before .before .before .before .pre .1 .few)
+-- ---- update i of a turn
 
-array-copy-out-x : tie.Need-array-copy-out-x Inv-loop μ-loop
-array-copy-out-x c = omega (arith, c .before .before .before .before .before .pre .1 .few)
+abbrev start : tie.In-loop Inv-loop μ-loop → tie.Start Inv-loop μ-loop
+start c = c .before .before .before .before .before
 
-mul-present-next : tie.Need-mul-present-next Inv-loop μ-loop
-mul-present-next c = omega (arith, c .before .before .before .before .before .before .pre .1 .few)
+few : (c : tie.In-loop Inv-loop μ-loop) → c .before .loop .i < 16
+few c = omega (arith, start c .pre .1 .few, c .loop-test)
 
-array-read-present-next : tie.Need-array-read-present-next Inv-loop μ-loop
-array-read-present-next c = omega (arith, c .before .before .before .before .before .before .pre .1 .few)
+one : (c : tie.In-loop Inv-loop μ-loop) → c .before .loop .i < count (now (start c .args .meta))
+one c = omega (arith, c .loop-test, start c .pre .0 .counted)
+
+-- ---- the needs
 
 present-next-requires : tie.Need-present-next-requires Inv-loop μ-loop
-present-next-requires c κs = let l = c .before .before in (l .before .before .before .before .before .pre .1 .all (l .before .loop .i) (omega (arith, l .loop-test)), l .before .loop .inv .2)
-
-add-i : tie.Need-add-i Inv-loop μ-loop
-add-i c = omega (arith, c .before .before .before .before .before .before .before .before .pre .1 .few)
-
-loop-less : tie.Need-loop-less Inv-loop μ-loop
-loop-less c = omega (arith, c .before .before .before .loop-test)
+present-next-requires c κs = let l = c .before .before in (start l .pre .1 .all (l .before .loop .i) (omega (arith, l .loop-test)), l .before .loop .inv .2)
 
 loop-again : tie.Need-loop-again Inv-loop μ-loop
 loop-again c =
-    let i = c .before in
-    let l = i .before .before .before .loop in
-    let s = i .before .before .before .before .before .before .before in
-    let m = now (s .args .meta) in
-    let h : l .i < count m = omega (arith, i .before .before .loop-test, s .pre .0 .counted) in (
-      omega (arith, i .before .before .loop-test),
-      shape-go m (s .args .t .0) (s .args .p) (l .i) (l .present) (c .present-next .result) h (l .inv .1)
-          (rw (← s .pre .0 .offsets (l .i) h, ← s .pre .0 .firsts (l .i) h, ← i .is .ensures) (c .present-next .ensures .0)),
+    let x = c .before in
+    let l = x .before .before in
+    let i = l .before .loop .i in
+    let s = start l .args in
+    let g = start l .pre .0 in (
+      omega (arith, l .loop-test),
+      shape-go (now (s .meta)) (s .t .0) (s .p) i (l .before .loop .present) (c .present-next .result) (one l) (l .before .loop .inv .1)
+          (rw (← g .offsets i (one l), ← g .firsts i (one l), ← x .is .ensures) (c .present-next .ensures .0)),
       c .present-next .ensures .1,
     )
 
 returns : tie.Need-returns Inv-loop μ-loop
 returns c =
+    let l = c .before .loop in
     let s = c .before .before .before .before .before in
-    shape-end (now (s .args .meta)) (s .args .t .0) (s .args .p) (c .before .loop .i) (c .before .loop .present) (omega (arith, s .pre .0 .counted)) (c .before .loop .inv .2) (c .before .loop .inv .1)
+    shape-end (now (s .args .meta)) (s .args .t .0) (s .args .p) (l .i) (l .present) (omega (arith, s .pre .0 .counted)) (l .inv .2) (l .inv .1)
 
 pub present-after-spec : {M : Type 1} → statement M
 present-after-spec =
@@ -63,13 +59,10 @@ present-after-spec =
     Inv-loop
     μ-loop
     loop-holds
-    mul-x
-    array-copy-out-x
-    mul-present-next
-    array-read-present-next
+    (λ c. let h = few c in omega arith) (λ c. few c)
+    (λ c. let h = few (c .before) in omega arith) (λ c. few (c .before))
     (λ c κs. tt)
     present-next-requires
-    add-i
-    loop-less
+    (λ c. omega (arith, few (c .before .before .before))) (λ c. omega (arith, c .before .before .before .loop-test))
     loop-again
     returns)

@@ -1,12 +1,12 @@
 -- The lowest number first: what tests in a row find, and what a test's answer says. Assumes nothing.
 use Prim.Native.Nat.{ℕ, zero, suc, _+_, _*_, _/_}
 use mathlib.Core.Path.{_≡_, refl, sym, ap, _∙_, subst}
-use mathlib.Core.Bool.{Bool, true, false, not, _&&_}
+use mathlib.Core.Bool.{Bool, true, false, _&&_}
 use mathlib.Core.List.{List, [], _∷_}
 use lib.Dec.{T, eqb, leb}
 use lib.ListN.{length, getD, take}
 use native.Mathlib.Omega.{arith}
-use borrow.Author.Tests.{eqb-true, not-true, not-false}
+use borrow.Author.Tests.{eqb-true}
 use Rattle.ieee.specs.Bounds.{All}
 use Rattle.fields.proofs.All.{and-left, and-right}
 use Rattle.records.specs.Laid.{laidOut}
@@ -15,13 +15,6 @@ use Rattle.mixing.specs.Samples.{allPass}
 use Rattle.rules.specs.Samples.{State}
 use Rattle.rules.specs.Refusals.{Args, Found, clear, stop, unless, _then_, every, room, sized, listed, early}
 use Rattle.theorem.specs.Instance.{hall}
-
--- a test that the code makes and that fails, or does not
-pub failed : {b r : Bool} → r ≡ b → not r ≡ true → b ≡ false
-failed {b} {r} e t = sym e ∙ not-true r t
-
-pub passed : {b r : Bool} → r ≡ b → not r ≡ false → b ≡ true
-passed {b} {r} e t = sym e ∙ not-false r t
 
 -- ---- tests in a row
 
@@ -82,7 +75,8 @@ module _ (position : ℕ) (r : State hall) (p : r .clock .position ≡ position)
   early-is = rw (then-none (unless (allPass (a .pcm) 0 ((length (a .codes) + a .objects) * a .samples)) 8 0 0), p)
 
   -- the first k tests hold and the next one does not
-  pub refuses : (k : ℕ) → Hold (take k (tests position a)) → at (tests position a) k .holds ≡ false → stop (at (tests position a) k .number) 0 0 ≡ early hall r a
+  pub refuses : (k : ℕ) → Hold (take k (tests position a)) → at (tests position a) k .holds ≡ false →
+      stop (at (tests position a) k .number) 0 0 ≡ early hall r a
   refuses k h e = stops (tests position a) k h e ∙ early-is
 
   pub refuses-none : Hold (tests position a) → clear ≡ early hall r a
