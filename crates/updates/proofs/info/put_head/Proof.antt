@@ -12,9 +12,5 @@ pub put-head-spec : {M : Type 1} → statement M
 put-head-spec =
     tie.close
     (tie.spec
-    (λ c κs. search needs) (λ c. search needs)
-    (λ c κs. search needs) (λ c. search needs)
-    (λ c κs. search needs) (λ c. search needs)
-    (λ c κs. search needs) (λ c. search needs)
-    (λ c κs. search needs) (λ c. search needs)
-    returns)
+    (λ c κs. search needs) (λ c. search needs) (λ c κs. search needs) (λ c. search needs) (λ c κs. search needs) (λ c. search needs) (λ c κs. search needs)
+    (λ c. search needs) (λ c κs. search needs) (λ c. search needs) returns)
