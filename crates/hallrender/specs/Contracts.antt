@@ -1,40 +1,16 @@
 -- A reader may skip this file: what each function leaves, by how long a text it answers. Assumes nothing.
 use Prim.Native.Nat.{ℕ, zero, suc, _+_}
 use mathlib.Core.Path.{_≡_}
-use mathlib.Core.Bool.{true, false, cond, _&&_}
+use mathlib.Core.Bool.{true, false, _&&_}
 use mathlib.Core.List.{List}
-use lib.Dec.{eqb}
 use lib.ListN.{length}
-use Rattle.rules.specs.Calls.{Call}
-use Rattle.rules.specs.Block.{made}
-use Rattle.theorem.specs.Instance.{hall, block}
-use Rattle.hall.specs.declared.answer.Answer.{Answer}
 use Rattle.framing.specs.Framing.{isFrame, isPlain, isBody, metadataBytes, pcmBytes}
-use Rattle.listing.specs.Text.{readyText, refusedText, noneText, resetText}
-use Rattle.listing.specs.Contracts.{Told}
-use Rattle.hallrender.specs.Text.{textOf}
-use Rattle.hallrender.specs.Asked.{outAfter, pushOf, callOf, isCall}
+use Rattle.calls.specs.Asked.{pushOf, callOf, isCall}
+use Rattle.calls.specs.Contracts.{Called}
 
 -- 1,200 metadata records and 968 of PCM; the PCM of 34 channels; twelve channels of 256 samples; `ready N` with up to 20 digits, and 256 lines
 abbrev pub Rooms : List ℕ → List ℕ → List ℕ → List ℕ → Type 0
 Rooms body pcm out text = (length body ≡ 86720) × (length pcm ≡ 34816) × (length out ≡ 12288) × (length text ≡ 27675)
-
--- the text of an entry's answer
-unfoldable pub textOfCode : Answer → List ℕ → List ℕ
-textOfCode a out =
-    cond (eqb (a .kind) 0) (readyText (a .ready) out)
-    (cond (eqb (a .kind) 1) (refusedText (a .number) (a .first) (a .second))
-    (cond (eqb (a .kind) 2) noneText resetText))
-
--- the text of a call's answer, where the call left `out`
-abbrev pub textAfter : Call → List ℕ → List ℕ → List ℕ
-textAfter c b out = textOf (made hall block c b .answer) out
-
--- the block b and the output o became these by one call, and the n bytes at the front of `text` are the text of its answer
-pub record Called (c : Call) (b o state out : List ℕ) (n : ℕ) (text : List ℕ) : Type 0 where
-  pub block : state ≡ made hall block c b .state
-  pub output : out ≡ outAfter c b o
-  pub said : Told n text (textAfter c b out)
 
 -- no call was made
 pub record Kept (b o state out : List ℕ) : Type 0 where

@@ -1,3 +1,2 @@
-pub mod Text
-pub mod Asked
+pub mod Run
 pub mod Contracts

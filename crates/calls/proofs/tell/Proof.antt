@@ -1,9 +1,9 @@
 -- `tell`: each kind has its text. Assumes nothing.
 use borrow.Author.Tests.{ne-eqb}
-use Rattle.hallrender.specs.Contracts.{textOfCode}
+use Rattle.calls.specs.Contracts.{textOfCode}
 use borrow.Author.Needs.{needs}
-use Rattle.hallrender.proofs.tell.Statement.{statement}
-use Rattle.hallrender.proofs.tell.Tie as tie
+use Rattle.calls.proofs.tell.Statement.{statement}
+use Rattle.calls.proofs.tell.Tie as tie
 
 returns : tie.Need-returns
 unfolding textOfCode
