@@ -16,7 +16,7 @@ use Rattle.records.specs.Laid.{count, updateAt}
 use Rattle.records.specs.Answers.{IsLayout, offsetAt}
 use Rattle.records.specs.Order.{nextOffset}
 use Rattle.records.specs.declared.layout.Layout.{Layout}
-use Rattle.records.proofs.Times.{next-within, next-above, next-least}
+use Rattle.records.proofs.Theorems.{next-within, next-above, next-least}
 use Rattle.updates.specs.WholeRecords.{WholeUpdates}
 use Rattle.updates.specs.Applied.{applied}
 use Rattle.updates.proofs.Passed.{passes-all}

@@ -12,7 +12,7 @@ use native.Mathlib.Omega.{arith}
 use Rattle.fields.specs.Update.{offset, objects, bedOrIsf, beds, code}
 use Rattle.records.specs.Runs.{each}
 use Rattle.records.specs.Laid.{count, updateAt}
-use Rattle.records.proofs.Each.{each-length, each-at}
+use Rattle.records.proofs.Theorems.{each-length, each-at}
 use Rattle.rules.specs.Refusals.{Found, clear, _then_, Announced, countsAt, shapeAt}
 use Rattle.updates.specs.Said.{updateOf}
 use Rattle.updates.specs.Applied.{codesGiven}

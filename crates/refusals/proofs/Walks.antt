@@ -12,7 +12,7 @@ use Rattle.records.specs.Laid.{count, updateAt}
 use Rattle.records.specs.Answers.{offsetAt, IsLayout}
 use Rattle.records.specs.Order.{nextOffset}
 use Rattle.records.specs.declared.layout.Layout.{Layout}
-use Rattle.records.proofs.Times.{next-within, next-above, next-least}
+use Rattle.records.proofs.Theorems.{next-within, next-above, next-least}
 use Rattle.rules.specs.Leaves.{Shape}
 use Rattle.rules.specs.Refusals.{Found, clear, _then_, Announced, countsAt, shapeAt, mixes, walk}
 use Rattle.theorem.proofs.Checked.{each-all}

@@ -26,8 +26,7 @@ use Rattle.fields.proofs.All.{and-left, and-right, all-at}
 use Rattle.records.specs.Runs.{each}
 use Rattle.records.specs.Laid.{laidOut, count, updateAt, elementAt, objectAt}
 use Rattle.records.specs.Ranges.{inRange}
-use Rattle.records.proofs.Reached.{whole-records, update-whole, update-is, element-whole, object-is}
-use Rattle.records.proofs.Meant.{all-within}
+use Rattle.records.proofs.Theorems.{whole-records, update-whole, update-is, element-whole, object-is, all-within}
 use Rattle.updates.specs.Stored.{headOf}
 use Rattle.updates.specs.WholeRecords.{WholeUpdate}
 use Rattle.updates.proofs.Passed.{passes}

@@ -6,7 +6,7 @@ use mathlib.Core.List.{List, _∷_, map}
 use lib.ListN.{length, getD}
 use native.Mathlib.Omega.{arith}
 use Rattle.records.specs.Runs.{each}
-use Rattle.records.proofs.Each.{each-length}
+use Rattle.records.proofs.Theorems.{each-length}
 use Rattle.timed.specs.State.{Timed}
 use Rattle.updates.specs.Said.{Update}
 use Rattle.updates.specs.Applied.{codesGiven, applied}

@@ -16,9 +16,7 @@ use Rattle.records.specs.Laid.{blockAt, elementAt, updateAt, laidOut, count}
 use Rattle.records.specs.Ranges.{inRange}
 use Rattle.records.specs.Answers.{IsLayout}
 use Rattle.records.specs.declared.layout.Layout.{Layout}
-use Rattle.records.proofs.Within.{element-within}
-use Rattle.records.proofs.Reached.{whole-records, update-whole, update-is, update-place, update-counts, element-whole, blocks-few}
-use Rattle.records.proofs.Meant.{all-within}
+use Rattle.records.proofs.Theorems.{element-within, whole-records, update-whole, update-is, update-place, update-counts, element-whole, blocks-few, all-within}
 use Rattle.updates.specs.WholeRecords.{WholeElement, WholeUpdate, WholeUpdates}
 
 module _ (m : List ℕ) (laid : laidOut m ≡ true) (fit : inRange m ≡ true) (bytes : Bytes m) (i : ℕ) (one : i < count m) where

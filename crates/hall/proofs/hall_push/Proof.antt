@@ -6,7 +6,7 @@ use Rattle.rules.specs.Calls.{push}
 use Rattle.refusals.specs.RefusalNumbers.{foundOf}
 use Rattle.rules.specs.Refusals.{argsOf}
 use Rattle.hall.proofs.Laws.{leaves-as, wrong, refused-push}
-use Rattle.refusals.proofs.Cleared.{not-clear}
+use Rattle.refusals.proofs.Theorems.{not-clear}
 use Rattle.hall.proofs.Known.{valid-long, loaded-ranged}
 use borrow.Author.Needs.{needs}
 use Rattle.hall.proofs.hall_push.Statement.{statement}

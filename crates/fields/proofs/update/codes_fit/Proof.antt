@@ -26,10 +26,11 @@ loop-again c =
     let l = c .before .before .before in
     let a = l .before .before .args in
     let m = a .meta .now in
-    let k = l .loop .k in
-    (search needs,
-    ap₂ (λ (b : Bool) (n : ℕ). b && leb (getD m (a .at + k) 0) n) (l .loop .inv .1) (c .most-at .ensures)
-    ∙ all-next (λ j. leb (getD m (a .at + j) 0) (mostAt j (a .beds))) k)
+    let k = l .loop .k in (
+      search needs,
+      ap₂ (λ (b : Bool) (n : ℕ). b && leb (getD m (a .at + k) 0) n) (l .loop .inv .1) (c .most-at .ensures)
+          ∙ all-next (λ j. leb (getD m (a .at + j) 0) (mostAt j (a .beds))) k,
+    )
 
 returns : tie.Need-returns Inv-loop μ-loop
 unfolding codesFit

@@ -5,7 +5,7 @@ use Rattle.fields.specs.Update.{offset}
 use Rattle.records.specs.Laid.{updateAt, count}
 use Rattle.records.specs.Order.{nextOffset}
 use Rattle.records.specs.Answers.{offsetAt}
-use Rattle.records.proofs.Times.{next-same}
+use Rattle.records.proofs.Theorems.{next-same}
 use borrow.Author.Needs.{needs}
 use Rattle.probes.proofs.probe_records.probe_next_offset.Statement.{statement}
 use Rattle.probes.proofs.probe_records.probe_next_offset.Tie as tie

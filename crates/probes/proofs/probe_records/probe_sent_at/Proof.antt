@@ -7,7 +7,7 @@ use Rattle.fields.specs.Update.{offset}
 use Rattle.records.specs.Laid.{updateAt, count}
 use Rattle.records.specs.Order.{FirstAt}
 use Rattle.records.specs.Answers.{offsetAt}
-use Rattle.records.proofs.Times.{first-same}
+use Rattle.records.proofs.Theorems.{first-same}
 use Rattle.probes.proofs.probe_records.probe_sent_at.Statement.{statement}
 use Rattle.probes.proofs.probe_records.probe_sent_at.Tie as tie
 

@@ -6,7 +6,7 @@ use native.Mathlib.Numerals.{unary-clauses}
 use borrow.Author.Tests.{ltb-true, ltb-false}
 use denote.Ref.{now}
 use Rattle.records.specs.Answers.{offsetAt}
-use Rattle.records.proofs.Times.{next-within, next-above}
+use Rattle.records.proofs.Theorems.{next-within, next-above}
 use Rattle.rules.specs.Leaves.{Shape}
 use Rattle.rules.specs.Refusals.{Found, walk, _then_}
 use Rattle.refusals.specs.RefusalNumbers.{foundOf}
