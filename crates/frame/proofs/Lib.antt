@@ -4,7 +4,7 @@ pub mod Counted
 pub mod Going
 pub mod Given
 pub mod Laying
-pub mod Passing
+pub mod ChunkOnBlock
 pub mod Changed
 pub mod Begins
 pub mod Opening

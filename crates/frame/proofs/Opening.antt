@@ -5,7 +5,7 @@ use mathlib.Core.Path.{_≡_, refl, ap, _∙_}
 use mathlib.Core.Bool.{Bool, true, false, cond}
 use lib.Dec.{ltb}
 use borrow.Author.Tests.{ltb-true, ltb-false}
-use Rattle.frame.specs.Turns.{lesser, runLength}
+use Rattle.frame.specs.Loop.{lesser, runLength}
 
 -- ---- the length of a turn
 

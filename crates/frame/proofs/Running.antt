@@ -40,8 +40,8 @@ use Rattle.frame.specs.Chunk.{chunk}
 use Rattle.frame.specs.Out.{behind}
 use Rattle.frame.specs.Begin.{CanBegin}
 use Rattle.frame.specs.Pass.{readyAfter, Passes}
-use Rattle.frame.proofs.Passing.{Passable}
-use Rattle.frame.specs.Turns.{runLength, Accepted, IsRendered}
+use Rattle.frame.proofs.ChunkOnBlock.{Passable}
+use Rattle.frame.specs.Loop.{runLength, Accepted, IsRendered}
 use Rattle.frame.proofs.Begins.{ranged-starts}
 use Rattle.frame.proofs.Chunks.{NoneAt, Turn}
 use Rattle.frame.proofs.Going.{Shaped, Going, Begun, begun, step, starts, ends}

@@ -1,7 +1,7 @@
 pub mod Held
 pub mod Chunk
 pub mod Out
-pub mod Turns
+pub mod Loop
 pub mod Begin
 pub mod Give
 pub mod Pass

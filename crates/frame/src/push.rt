@@ -12,7 +12,7 @@ ghost use Rattle.store.specs.Layout.{decode};
 ghost use Rattle.theorem.specs.Instance.{hall};
 ghost use Rattle.frame.specs.Begin.{Rests};
 ghost use Rattle.refusals.specs.Contracts.{argsWith};
-ghost use Rattle.frame.specs.Turns.{lesser, runLength, Accepted, IsRendered};
+ghost use Rattle.frame.specs.Loop.{lesser, runLength, Accepted, IsRendered};
 use crate::Rendering;
 use clock::FrameOffset;
 use clock::START;

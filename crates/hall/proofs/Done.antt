@@ -32,7 +32,7 @@ use Rattle.frame.specs.Held.{held, IsHeld}
 use Rattle.hall.specs.declared.answer.Answer.{Answer}
 use Rattle.hall.specs.Answers.{Left, readyOf}
 use Rattle.frame.specs.Give.{CanGive}
-use Rattle.hall.proofs.Laws.{leaves-as, accepted, flushes}
+use Rattle.hall.proofs.WaysOut.{leaves-as, accepted, flushes}
 use Rattle.refusals.proofs.Theorems.{loaded}
 use Rattle.hall.proofs.Known.{valid-long, loaded-pending, loaded-ranged, saved}
 

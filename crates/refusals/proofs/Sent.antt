@@ -17,7 +17,7 @@ use Rattle.rules.specs.Refusals.{Found, clear, _then_, Announced, countsAt, sha
 use Rattle.updates.specs.Said.{updateOf}
 use Rattle.updates.specs.Applied.{codesGiven}
 use Rattle.theorem.specs.Instance as theorem
-use Rattle.theorem.proofs.Shapes.{each-same, codes-are}
+use Rattle.theorem.proofs.TimedShapes.{each-same, codes-are}
 use Rattle.refusals.specs.RefusalNumbers.{foundOf}
 use Rattle.refusals.specs.declared.Refusal.{Refusal}
 use Rattle.refusals.specs.declared.Refusal.the-variants.{Clear}

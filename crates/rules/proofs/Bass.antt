@@ -30,8 +30,8 @@ use Rattle.rules.specs.Samples.{State}
 use Rattle.rules.specs.Refusals.{Args, Found, clear, unless, _then_, every, room, sized, listed, later}
 use Rattle.rules.specs.Calls.{announced, found}
 use Rattle.rules.specs.Promises.{Replaced, withPcm}
-use Rattle.rules.proofs.Facts.{InHall}
-use Rattle.rules.proofs.Terms.{object-no-bass}
+use Rattle.rules.proofs.Owed.{InHall}
+use Rattle.rules.proofs.TermBounds.{object-no-bass}
 use Rattle.rules.proofs.Judged.{is-passed}
 
 -- ---- an object adds nothing on channel 3

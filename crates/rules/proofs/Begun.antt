@@ -12,8 +12,8 @@ use Rattle.rules.specs.Samples.{State, appliedAt, updated}
 use Rattle.rules.specs.Refusals.{Args}
 use Rattle.rules.specs.Block.{Layout}
 use Rattle.rules.specs.Promises.{upTo, begun}
-use Rattle.rules.proofs.Lists.{either}
-use Rattle.rules.proofs.Facts.{Facts}
+use Rattle.rules.proofs.EachOf.{either}
+use Rattle.rules.proofs.Owed.{Facts}
 
 -- ---- tests
 crossed : (a b x y : Bool) → ((a || x) || (b || y)) ≡ ((a || b) || (x || y))

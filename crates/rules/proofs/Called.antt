@@ -22,9 +22,9 @@ use Rattle.rules.specs.Refusals.{Args, Found, clear, stop, room}
 use Rattle.rules.specs.Calls.{Call, push, flush, reset, refused, rendered, nothing, cleared, given, metersOf, frameOf, found, Result, asked, drained, step}
 use Rattle.rules.specs.Block.{Layout, Outcome, left, outOf, strideOf}
 use Rattle.rules.specs.Demand3.{ready, GivenOut, Lent}
-use Rattle.rules.proofs.Facts.{Facts}
+use Rattle.rules.proofs.Owed.{Facts}
 use Rattle.rules.proofs.Judged.{is-passed, is-roomy, samples-fit}
-use Rattle.rules.proofs.Kept.{Steady, Good, Rest, fresh-rest}
+use Rattle.rules.proofs.Invariant.{Steady, Good, Rest, fresh-rest}
 use Rattle.rules.proofs.Frames.{pushed-fine, flushed-fine}
 use Rattle.rules.proofs.Written.{bits-words, written-reads, written-beside, written-past, written-tame, length-written}
 

@@ -14,10 +14,10 @@ use Rattle.rules.specs.Leaves.{Leaves}
 use Rattle.rules.specs.Samples.{State, idle}
 use Rattle.rules.specs.Block.{Layout}
 use Rattle.rules.specs.Demand3.{nine, Clean}
-use Rattle.rules.proofs.Lists.{all-map}
-use Rattle.rules.proofs.Facts.{Facts}
-use Rattle.rules.proofs.Sums.{Most}
-use Rattle.rules.proofs.Kept.{Steady, Rest}
+use Rattle.rules.proofs.EachOf.{all-map}
+use Rattle.rules.proofs.Owed.{Facts}
+use Rattle.rules.proofs.ChannelBound.{Most}
+use Rattle.rules.proofs.Invariant.{Steady, Rest}
 use Rattle.rules.proofs.Ringing.{Fed}
 
 calm-nine : {X : ℕ} (f : BiquadLowpassState) → Calm X f → All F32 (nine f)

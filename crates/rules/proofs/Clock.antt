@@ -9,7 +9,7 @@ use lib.Dec.{eqb}
 use Rattle.rules.specs.Leaves.{Leaves, started}
 use Rattle.rules.specs.Mix.{Moment}
 use Rattle.rules.specs.Samples.{State, restarted, ticked, appliedAt, updated, slotted, passed}
-use Rattle.rules.proofs.Lists.{either, both}
+use Rattle.rules.proofs.EachOf.{either, both}
 
 module _ (L : Leaves) where
   -- updates leave all but the slot and the timed state

@@ -15,8 +15,8 @@ use Rattle.rules.specs.Promises.{CallHolds, AllHold}
 use Rattle.rules.specs.Ringing.{fedSince, AllRing}
 use Rattle.rules.specs.Block.{Layout, outOf, strideOf, left, finalOn, Seen, asSeen, seenOn, told}
 use Rattle.rules.specs.Demand3.{GivenOut, AllClean, Lent, AllLent, AllGivenOut, Demand3, EveryList}
-use Rattle.rules.proofs.Facts.{Facts, InRanges}
-use Rattle.rules.proofs.Kept.{Rest, fresh-rest}
+use Rattle.rules.proofs.Owed.{Facts, InRanges}
+use Rattle.rules.proofs.Invariant.{Rest, fresh-rest}
 use Rattle.rules.proofs.Ranged.{fresh-ranged}
 use Rattle.rules.proofs.Called.{called}
 use Rattle.rules.proofs.Keeps.{step-ranged}
@@ -26,7 +26,7 @@ use Rattle.rules.proofs.Ringing.{Fed, fresh-fed, call-rings, step-fed}
 use Rattle.rules.proofs.Clean as kept
 use Rattle.rules.proofs.Flushes.{flush-holds}
 use Rattle.rules.proofs.Erased.{forgotten, same}
-use Rattle.rules.proofs.Blocks.{erased, erased-left, reset-block, made-is, made-state, same-seen}
+use Rattle.rules.proofs.StateBlocks.{erased, erased-left, reset-block, made-is, made-state, same-seen}
 
 module _ (L : Leaves) (B : Layout L) (F : Facts L B) where
   -- what holds of a renderer between calls, xs having been fed to its low-pass

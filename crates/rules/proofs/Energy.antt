@@ -16,7 +16,7 @@ use Rattle.rules.specs.Parts.{0·0}
 use Rattle.rules.specs.Leaves.{Source}
 use Rattle.rules.specs.Mix.{objectTerms}
 use Rattle.rules.specs.Promises.{Squares}
-use Rattle.rules.proofs.Facts.{InHall}
+use Rattle.rules.proofs.Owed.{InHall}
 
 -- the eleven channels that are not 3
 eleven : {k : ℕ} → List·Memᴰ k fullRange → (k < 12) × (k ≡ 3 → ⊥)

@@ -13,8 +13,8 @@ use Rattle.rules.specs.Refusals.{room}
 use Rattle.rules.specs.Calls.{flush, drained, step}
 use Rattle.rules.specs.Promises.{FlushHolds}
 use Rattle.rules.specs.Block.{Layout}
-use Rattle.rules.proofs.Facts.{Facts}
-use Rattle.rules.proofs.Kept.{Rest}
+use Rattle.rules.proofs.Owed.{Facts}
+use Rattle.rules.proofs.Invariant.{Rest}
 use Rattle.rules.proofs.Frames.{flushed-fine}
 use Rattle.rules.proofs.Called.{waiting-good}
 

@@ -18,13 +18,13 @@ use Rattle.rules.specs.Sounds.{AllMetered}
 use Rattle.rules.specs.Refusals.{Args}
 use Rattle.rules.specs.Calls.{frameOf}
 use Rattle.rules.specs.Block.{Layout}
-use Rattle.rules.proofs.Lists.{all-map, all-take, all-append, length-map}
-use Rattle.rules.proofs.Facts.{Facts}
+use Rattle.rules.proofs.EachOf.{all-map, all-take, all-append, length-map}
+use Rattle.rules.proofs.Owed.{Facts}
 use Rattle.rules.proofs.Judged.{Passed, is-listed, sample-in, samples-in}
 use Rattle.rules.proofs.Limited.{limited-tame, limited-metered, meters-kept, gain-kept, length-limited}
 use Rattle.rules.proofs.Metered.{one-metered, metered-joined}
 use Rattle.rules.proofs.Clock.{untouched}
-use Rattle.rules.proofs.Kept.{Admitted, Good, Rest, Fine, before-good, opened-good, moment-hearable, passed-fine}
+use Rattle.rules.proofs.Invariant.{Admitted, Good, Rest, Fine, before-good, opened-good, moment-hearable, passed-fine}
 
 module _ (L : Leaves) (B : Layout L) (F : Facts L B) where
   -- an accepted push's frame

@@ -15,7 +15,7 @@ use Rattle.limiter.specs.declared.meters.Meters.{Meters}
 use Rattle.rules.specs.Parts.{0·0, Channels, twelve, joined}
 use Rattle.rules.specs.Samples.{limited, metered}
 use Rattle.rules.specs.Sounds.{AllMetered}
-use Rattle.rules.proofs.Lists.{all-at}
+use Rattle.rules.proofs.EachOf.{all-at}
 
 -- a block of at most 64 samples a channel
 pub one-metered : (g : Float) (f : Channels) → ((c : ℕ) → c < 12 → length (limited g f c) ≤ 64)

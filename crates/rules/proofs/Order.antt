@@ -16,7 +16,7 @@ use Rattle.rules.specs.Leaves.{Leaves, Shape}
 use Rattle.rules.specs.Samples.{State, appliedAt, updated}
 use Rattle.rules.specs.Refusals.{Found, clear, _then_, Announced, objectsMatch, countsAt, shapeAt}
 use Rattle.rules.specs.Sounds.{appliedAll}
-use Rattle.rules.proofs.Lists.{all-append}
+use Rattle.rules.proofs.EachOf.{all-append}
 
 module _ {A : Type 0} (offset : A → ℕ) where
   -- ---- those at one sample

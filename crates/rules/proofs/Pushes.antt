@@ -20,16 +20,16 @@ use Rattle.rules.specs.Calls.{frameOf, found, asked}
 use Rattle.rules.specs.Sounds.{silent, before, met, momentAt, whole}
 use Rattle.rules.specs.Promises.{nobody, Replaced, withPcm, objectHeard, begun, Matched, AtSample, PushHolds}
 use Rattle.rules.specs.Block.{Layout}
-use Rattle.rules.proofs.Lists.{all-at}
-use Rattle.rules.proofs.Facts.{InHall, Facts}
+use Rattle.rules.proofs.EachOf.{all-at}
+use Rattle.rules.proofs.Owed.{InHall, Facts}
 use Rattle.rules.proofs.Judged.{Passed, is-passed, then-clear, unless-clear}
-use Rattle.rules.proofs.Kept.{Good, Rest, Admitted, Fine, opened-good}
+use Rattle.rules.proofs.Invariant.{Good, Rest, Admitted, Fine, opened-good}
 use Rattle.rules.proofs.Frames.{admitted, pushed-fine}
 use Rattle.rules.proofs.Clock.{Alike, alike-self, met-alike, passed-alike}
 use Rattle.rules.proofs.Moments.{momentOf, moments-count, next-at, moment-at}
 use Rattle.rules.proofs.Order.{updated-in-order}
 use Rattle.rules.proofs.Sounding.{moment-is, hearable-at, line, sounds-at, enters-at}
-use Rattle.rules.proofs.Shapes.{started-at, objects-there, beds-there}
+use Rattle.rules.proofs.PushShapes.{started-at, objects-there, beds-there}
 use Rattle.rules.proofs.Quiet as silence
 use Rattle.rules.proofs.Quiet.{Hush}
 use Rattle.rules.proofs.Bass.{same-bass, row-before, still-clear}

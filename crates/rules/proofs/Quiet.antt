@@ -19,12 +19,12 @@ use Rattle.rules.specs.Calls.{frameOf}
 use Rattle.rules.specs.Sounds.{before, met, momentAt, soundAt}
 use Rattle.rules.specs.Promises.{begun}
 use Rattle.rules.specs.Block.{Layout}
-use Rattle.rules.proofs.Lists.{either, neither}
-use Rattle.rules.proofs.Facts.{Facts}
+use Rattle.rules.proofs.EachOf.{either, neither}
+use Rattle.rules.proofs.Owed.{Facts}
 use Rattle.rules.proofs.Judged.{Passed}
-use Rattle.rules.proofs.Kept.{Good, Admitted}
+use Rattle.rules.proofs.Invariant.{Good, Admitted}
 use Rattle.rules.proofs.Begun as begins
-use Rattle.rules.proofs.Shapes.{inv, started-at}
+use Rattle.rules.proofs.PushShapes.{inv, started-at}
 use Rattle.rules.proofs.Sounding.{good-at, moment-is, enters-at}
 
 new-still : (rate : ℕ) → Still (new rate)

@@ -28,11 +28,11 @@ use Rattle.rules.specs.Sounds.{silent, before, momentAt}
 use Rattle.rules.specs.Ringing.{fedSince, Rings, CallRings}
 use Rattle.rules.specs.Block.{Layout}
 use Rattle.rules.specs.Demand3.{Lent}
-use Rattle.rules.proofs.Lists.{all-append, length-map}
-use Rattle.rules.proofs.Facts.{Facts}
-use Rattle.rules.proofs.Kept.{Admitted, Rest}
+use Rattle.rules.proofs.EachOf.{all-append, length-map}
+use Rattle.rules.proofs.Owed.{Facts}
+use Rattle.rules.proofs.Invariant.{Admitted, Rest}
 use Rattle.rules.proofs.Moments.{moments-count}
-use Rattle.rules.proofs.Sums.{heard-bounded}
+use Rattle.rules.proofs.ChannelBound.{heard-bounded}
 use Rattle.rules.proofs.Sounding.{hearable-at, line, enters-at}
 use Rattle.rules.proofs.Pushes as pushes
 

@@ -22,11 +22,11 @@ use Rattle.rules.specs.Refusals.{Args}
 use Rattle.rules.specs.Calls.{frameOf}
 use Rattle.rules.specs.Sounds.{nthBlock, gainBefore, limitedBlocks, blocksMetered, before, met, momentAt, soundAt, sounds}
 use Rattle.rules.specs.Block.{Layout}
-use Rattle.rules.proofs.Lists.{length-map, either}
-use Rattle.rules.proofs.Facts.{Facts}
-use Rattle.rules.proofs.Sums.{most-range, Hearable, heard-bounded}
+use Rattle.rules.proofs.EachOf.{length-map, either}
+use Rattle.rules.proofs.Owed.{Facts}
+use Rattle.rules.proofs.ChannelBound.{most-range, Hearable, heard-bounded}
 use Rattle.rules.proofs.Clock.{untouched}
-use Rattle.rules.proofs.Kept.{Good, Admitted, before-good, moment-hearable}
+use Rattle.rules.proofs.Invariant.{Good, Admitted, before-good, moment-hearable}
 use Rattle.rules.proofs.Frames.{framed-fine}
 use Rattle.rules.proofs.Moments.{momentOf, next-at, given-at, meters-at, moment-at}
 use Rattle.rules.proofs.Blockwise.{Same, same-limited, same-gain, same-metered, behind, gain-behind, blocks-behind, metered-behind, laid-behind}

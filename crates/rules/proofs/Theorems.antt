@@ -1,7 +1,7 @@
 -- What others may cite of this crate, a line each. Assumes nothing.
 
 -- demand 3 for every list of calls, and that a call leaves a valid block, from what the timed state, the metadata and the block owe
-pub use Rattle.rules.proofs.Facts.{Mixable, Facts}
+pub use Rattle.rules.proofs.Owed.{Mixable, Facts}
 pub use Rattle.rules.proofs.Demand3.{every-list}
 pub use Rattle.rules.proofs.Keeps.{keeps}
 -- a push that no reason speaks against is accepted, and what an accepted one passed
@@ -13,8 +13,8 @@ pub use Rattle.rules.proofs.Unused.{numberOf, never-seven}
 pub use Rattle.rules.proofs.Ranged.{R, updated-ranged, slotted-ranged, framed-ranged, opened-ranged, pushed-ranged, flushed-ranged}
 -- what updates and a slot leave alone, and the shape that they give
 pub use Rattle.rules.proofs.Clock.{untouched}
-pub use Rattle.rules.proofs.Shapes.{Matches, matches-on, judged, updated-shape, slotted-shape}
+pub use Rattle.rules.proofs.PushShapes.{Matches, matches-on, judged, updated-shape, slotted-shape}
 -- lengths, and an output's word read back
 pub use Rattle.rules.proofs.Limited.{length-limited}
-pub use Rattle.rules.proofs.Lists.{all-append, length-map, length-laid}
+pub use Rattle.rules.proofs.EachOf.{all-append, length-map, length-laid}
 pub use Rattle.rules.proofs.Written.{written-reads}

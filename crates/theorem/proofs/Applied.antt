@@ -39,7 +39,7 @@ use Rattle.store.proofs.Tables.{and-in}
 use lib.Ieee.Fits.{and-l, and-r}
 use Rattle.theorem.specs.Instance.{Sent}
 use Rattle.theorem.proofs.Sound.{SourceSound, InfosSound, Sound, Within}
-use Rattle.theorem.proofs.Infos.{Said, Table, Fit, objects-kept}
+use Rattle.theorem.proofs.InfosWritten.{Said, Table, Fit, objects-kept}
 use Rattle.theorem.proofs.Checked.{Checked, SoundSaid, RangedSaid, whole, codes, info-ranged, info-sound}
 
 -- ---- the infos, in the forms of `Sound` and of `Within`

@@ -34,7 +34,7 @@ use Rattle.store.specs.Ranges.{headValid}
 use Rattle.store.proofs.Tables.{and-in}
 use Rattle.theorem.specs.Instance.{Sent, sentAt, sentOf}
 use Rattle.theorem.proofs.Sound.{UpTo}
-use Rattle.theorem.proofs.Infos.{Said, Fit}
+use Rattle.theorem.proofs.InfosWritten.{Said, Fit}
 
 -- it is one of the updates of metadata that refusals 5 and 6 let pass
 pub record Checked (s : Sent) : Type 0 where

@@ -12,11 +12,11 @@ use Rattle.theorem.specs.Instance.{hall, block}
 use Rattle.theorem.proofs.Sound.{Sound, Within}
 use Rattle.theorem.proofs.Checked.{Checked, checked}
 use Rattle.theorem.proofs.Applied.{sound-apply, within-apply}
-use Rattle.theorem.proofs.Shapes.{mixable, shape-apply, shape-slot, shape-objects, shape-beds}
+use Rattle.theorem.proofs.TimedShapes.{mixable, shape-apply, shape-slot, shape-objects, shape-beds}
 use Rattle.theorem.proofs.SlotSound.{sound-slot}
 use Rattle.theorem.proofs.SlotWithin.{within-slot}
 use Rattle.theorem.proofs.Blank.{sound-blank, within-blank, within-later}
-use Rattle.theorem.proofs.Blocks.{size-of, valid-of, back-of, decoded-of}
+use Rattle.theorem.proofs.BlockRanges.{size-of, valid-of, back-of, decoded-of}
 
 -- what the rules take from the crates `timed`, `updates`, `records` and `store`
 unfoldable pub facts : Facts hall block

@@ -5,12 +5,12 @@ pub mod SlotObjects
 pub mod SlotState
 pub mod SlotSound
 pub mod SlotWithin
-pub mod Infos
+pub mod InfosWritten
 pub mod Checked
 pub mod Applied
-pub mod Shapes
+pub mod TimedShapes
 pub mod Blank
-pub mod Blocks
+pub mod BlockRanges
 pub mod Demand3
 pub mod Heard
 pub mod Players

@@ -8,10 +8,10 @@ pub use Rattle.theorem.proofs.Heard.{meters-show}
 pub use Rattle.theorem.proofs.Marked.{table}
 -- what a valid block holds is within its ranges, and what a push or a flush leaves of it
 pub use Rattle.theorem.proofs.Sound.{Within}
-pub use Rattle.theorem.proofs.Blocks.{ranged, decoded-of}
+pub use Rattle.theorem.proofs.BlockRanges.{ranged, decoded-of}
 pub use Rattle.theorem.proofs.Demand3.{pushed-within, flushed-within}
 unfoldable pub use Rattle.theorem.proofs.Demand3.{facts}
 -- the shape that an update and a slot give, and the codes and updates of metadata
-pub use Rattle.theorem.proofs.Shapes.{shape-apply, shape-slot, each-same, codes-are}
+pub use Rattle.theorem.proofs.TimedShapes.{shape-apply, shape-slot, each-same, codes-are}
 pub use Rattle.theorem.proofs.Checked.{each-all}
 pub use Rattle.theorem.proofs.Applied.{codes-long}

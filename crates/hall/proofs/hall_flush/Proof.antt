@@ -2,7 +2,7 @@
 use mathlib.Core.Path.{refl, sym, _∙_}
 use borrow.Author.Tests.{eq-eqb, not-true, not-false}
 use Rattle.rules.specs.Calls.{flush}
-use Rattle.hall.proofs.Laws.{leaves-as, wrong, no-room, nothing-waits}
+use Rattle.hall.proofs.WaysOut.{leaves-as, wrong, no-room, nothing-waits}
 use Rattle.hall.proofs.Known.{valid-long, pos-of, loaded-pending}
 use borrow.Author.Needs.{needs}
 use Rattle.hall.proofs.hall_flush.Statement.{statement}

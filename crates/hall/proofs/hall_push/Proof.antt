@@ -5,7 +5,7 @@ use borrow.Author.Tests.{not-true, not-false}
 use Rattle.rules.specs.Calls.{push}
 use Rattle.refusals.specs.RefusalNumbers.{foundOf}
 use Rattle.rules.specs.Refusals.{argsOf}
-use Rattle.hall.proofs.Laws.{leaves-as, wrong, refused-push}
+use Rattle.hall.proofs.WaysOut.{leaves-as, wrong, refused-push}
 use Rattle.refusals.proofs.Theorems.{not-clear}
 use Rattle.hall.proofs.Known.{valid-long, loaded-ranged}
 use borrow.Author.Needs.{needs}

@@ -4,7 +4,7 @@ use borrow.Author.Tests.{eq-eqb, ne-eqb}
 use Rattle.rules.specs.Calls.{reset}
 use Rattle.rules.specs.Block.{Outcome}
 use Rattle.hall.specs.Answers.{codeOf}
-use Rattle.hall.proofs.Laws.{wrong, resets}
+use Rattle.hall.proofs.WaysOut.{wrong, resets}
 use borrow.Author.Needs.{needs}
 use Rattle.hall.proofs.hall_reset.Statement.{statement}
 use Rattle.hall.proofs.hall_reset.Tie as tie

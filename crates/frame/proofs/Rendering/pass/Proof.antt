@@ -9,7 +9,7 @@ use Rattle.rules.specs.Samples.{Frame}
 use Rattle.theorem.specs.Instance.{Sent}
 use Rattle.frame.specs.Held.{held}
 use Rattle.frame.specs.Pass.{frameWith, settledAt}
-use Rattle.frame.proofs.Passing.{Full, mixed, same-heard, held-settled}
+use Rattle.frame.proofs.ChunkOnBlock.{Full, mixed, same-heard, held-settled}
 use Rattle.frame.proofs.Rendering.pass.Statement.{statement}
 use Rattle.frame.proofs.Rendering.pass.Tie as tie
 

@@ -18,7 +18,7 @@ use Rattle.frame.specs.Held.{held, Leads}
 use Rattle.frame.proofs.Begins.{rests}
 use Rattle.frame.proofs.Running.{Taken, takes, starts-at, is-rate, Running, opens, can-begin, end-above, few, Turning, turn-some, turn-within, turn-passes, turn-runs}
 use Rattle.frame.proofs.Running.{rendered}
-use Rattle.frame.proofs.Passing.{can-give, passes-on, passes-given}
+use Rattle.frame.proofs.ChunkOnBlock.{can-give, passes-on, passes-given}
 use Rattle.frame.proofs.Rendering.render.Statement.{statement}
 use Rattle.frame.proofs.Rendering.render.Tie as tie
 

@@ -1,7 +1,7 @@
 -- `mix`: beds and objects where there are any. Assumes nothing.
 use borrow.Author.Needs.{needs}
 use lib.ListN.{length}
-use Rattle.frame.proofs.Passing.{count-within, framed-within}
+use Rattle.frame.proofs.ChunkOnBlock.{count-within, framed-within}
 use Rattle.frame.proofs.chunk.mix.Statement.{statement}
 use Rattle.frame.proofs.chunk.mix.Tie as tie
 

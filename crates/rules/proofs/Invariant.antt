@@ -27,9 +27,9 @@ use Rattle.rules.specs.Mix.{sampleAt, Moment, heard, fed}
 use Rattle.rules.specs.Samples.{Frame, State, fresh, limited, metered, row, appliedAt, updated, slotted, moment, After, passed, opened}
 use Rattle.rules.specs.Sounds.{AllMetered}
 use Rattle.rules.specs.Block.{Layout}
-use Rattle.rules.proofs.Lists.{either, all-laid, length-laid, all-same, all-map, length-map, zeros-long, few-left}
-use Rattle.rules.proofs.Facts.{Mixable, Facts}
-use Rattle.rules.proofs.Sums.{Most, most-range, Hearable, heard-bounded}
+use Rattle.rules.proofs.EachOf.{either, all-laid, length-laid, all-same, all-map, length-map, zeros-long, few-left}
+use Rattle.rules.proofs.Owed.{Mixable, Facts}
+use Rattle.rules.proofs.ChannelBound.{Most, most-range, Hearable, heard-bounded}
 use Rattle.rules.proofs.Limited.{limited-tame, limited-metered, meters-kept, gain-kept, length-limited}
 use Rattle.rules.proofs.Metered.{one-metered}
 

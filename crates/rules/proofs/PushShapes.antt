@@ -24,10 +24,10 @@ use Rattle.rules.specs.Calls.{announced, frameOf}
 use Rattle.rules.specs.Sounds as sounds
 use Rattle.rules.specs.Promises.{Matched, begun}
 use Rattle.rules.specs.Block.{Layout}
-use Rattle.rules.proofs.Lists.{either}
-use Rattle.rules.proofs.Facts.{Facts}
+use Rattle.rules.proofs.EachOf.{either}
+use Rattle.rules.proofs.Owed.{Facts}
 use Rattle.rules.proofs.Judged.{then-clear, unless-clear, Passed}
-use Rattle.rules.proofs.Kept.{Good, Admitted, updated-good, before-good}
+use Rattle.rules.proofs.Invariant.{Good, Admitted, updated-good, before-good}
 use Rattle.rules.proofs.Frames.{sampled-fine}
 use Rattle.rules.proofs.Begun.{at, before, begins, updated-started}
 use Rattle.rules.proofs.Moments.{along}

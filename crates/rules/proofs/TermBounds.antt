@@ -22,8 +22,8 @@ use Rattle.panning.proofs.Theorems.{pans714, no-bass}
 use Rattle.panning.proofs.Tables.{gain8}
 use Rattle.rules.specs.Leaves.{Source}
 use Rattle.rules.specs.Mix.{objectTerms, objectAdds}
-use Rattle.rules.proofs.Lists.{either}
-use Rattle.rules.proofs.Facts.{InHall}
+use Rattle.rules.proofs.EachOf.{either}
+use Rattle.rules.proofs.Owed.{InHall}
 
 -- ---- sizes
 pub eight-bounded : (x : Float) → T (between 0·0 8·0 x) → Bounded (8 * One) x

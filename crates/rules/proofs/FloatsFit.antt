@@ -20,7 +20,7 @@ use Rattle.rules.specs.Parts.{0·0, 1·0, laid}
 use Rattle.rules.specs.Mix.{Moment, bedsOn, objectsOn, heard}
 use Rattle.rules.specs.Samples.{row}
 use Rattle.rules.specs.Ranges.{Fits, FilterFits}
-use Rattle.rules.proofs.Lists.{either}
+use Rattle.rules.proofs.EachOf.{either}
 
 pub zero-fits : Fits 0·0
 unfolding fits

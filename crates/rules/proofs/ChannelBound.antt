@@ -32,9 +32,9 @@ use Rattle.panning.specs.Speakers.{pan714}
 use Rattle.rules.specs.Parts.{0·0}
 use Rattle.rules.specs.Leaves.{Source, Bed}
 use Rattle.rules.specs.Mix.{Moment, objectAdds, addsOf, scaledBy, fedBy, bedsOn, objectsOn, heard}
-use Rattle.rules.proofs.Lists.{either, all-append}
-use Rattle.rules.proofs.Facts.{InHall, Mixable}
-use Rattle.rules.proofs.Terms.{eight-bounded, Modest, panned-modest, object-modest}
+use Rattle.rules.proofs.EachOf.{either, all-append}
+use Rattle.rules.proofs.Owed.{InHall, Mixable}
+use Rattle.rules.proofs.TermBounds.{eight-bounded, Modest, panned-modest, object-modest}
 
 abbrev Small : sums.Addend → Type 0
 Small t = AddendWithin 16 8 t
