@@ -98,7 +98,7 @@ fn track(w: &Words, at: usize) -> Track
 // ---- tables
 
 fn codes(w: &Words, at: usize) -> [u8; 18]
-    requires { ⌜ at + 18 ≤ smallWidth ⌝ }
+    requires { ⌜ at + array 18 (u8To 17) .width ≤ smallWidth ⌝ }
     ensures { λ r. ⌜ r ≡ array 18 (u8To 17) .get (now (w .entry)) at ⌝ }
 {
     let mut a = [0u8; 18];
@@ -111,7 +111,7 @@ fn codes(w: &Words, at: usize) -> [u8; 18]
 }
 
 fn gains(w: &Words, at: usize) -> [f32; 18]
-    requires { ⌜ at + 18 ≤ smallWidth ⌝ }
+    requires { ⌜ at + array 18 format.float .width ≤ smallWidth ⌝ }
     ensures { λ r. ⌜ r ≡ array 18 format.float .get (now (w .entry)) at ⌝ }
 {
     let mut a = [0.0f32; 18];

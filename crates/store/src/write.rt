@@ -129,7 +129,7 @@ fn basics_words(x: Renderer714) -> [u32; places::BASICS]
 // ---- tables
 
 fn put_codes(s: &mut [u8], at: usize, xs: [u8; 18])
-    requires { ⌜ at + 72 ≤ length (now s) ⌝ }
+    requires { ⌜ at + 4 * array 18 (u8To 17) .width ≤ length (now s) ⌝ }
     ensures { λ _. ⌜ now (s .exit) ≡ withWords (now (s .entry)) at (array 18 (u8To 17) .put xs) ⌝ }
 {
     let mut i = 0usize;
@@ -140,7 +140,7 @@ fn put_codes(s: &mut [u8], at: usize, xs: [u8; 18])
 }
 
 fn put_gains(s: &mut [u8], at: usize, xs: [f32; 18])
-    requires { ⌜ at + 72 ≤ length (now s) ⌝ }
+    requires { ⌜ at + 4 * array 18 float .width ≤ length (now s) ⌝ }
     ensures { λ _. ⌜ now (s .exit) ≡ withWords (now (s .entry)) at (array 18 float .put xs) ⌝ }
 {
     formats::put_floats(s, at, &xs);
