@@ -1,14 +1,14 @@
--- Tests of a float by its bits. From 0 on, floats are in the order of their bits, but for -0.0, which is at both zeros' place; and a float that is not 0 equals one pattern only.
+-- Tests of a float by its bits: from 0 on floats are in the order of their bits, but for -0.0, which compares as 0; and a float that is not 0 equals that of one pattern only.
 -- Assumes nothing.
 use mathlib.Core.Path.{_≡_, refl, sym, ap, _∙_, subst}
 use mathlib.Core.Logic.{_⊎_, inl, inr}
 use mathlib.Core.Bool.{Bool, true, false, not, _&&_, _||_, cond}
 use Prim.Native.Nat.{ℕ, _+_, _%_, _^_, _≤_, _<_}
 use native.Mathlib.Omega.{arith}
-use borrow.Author.Tests.{eqb-true, le-ltb}
+use borrow.Author.Tests.{le-ltb}
 use lib.Dec.{T, eqb, leb, leb→le, le→leb, eqb→eq}
 use lib.IntN.{pos}
-use lib.Ieee.{Float, nan, inf, fin, binary32, size, fits, isNan, nanBits, toBits, ofBits, lt, le, eq}
+use lib.Ieee.{Float, nan, inf, fin, binary32, size, fits, isNan, toBits, ofBits, lt, le, eq}
 use lib.Ieee.Bits.{ofBits-toBits, toBits-ofBits, ofBits-fits, nanBits-is, nanBits-above}
 use lib.Ieee.Fits.{and-i, and-l, and-r, eq→eqb}
 use lib.Ieee.Scale.{finite}
@@ -101,7 +101,7 @@ sized y x f g s t h =
     (→le 0·0 x zero-f32 g (omega (arith, unsigned-P x t, unsigned-N x t, zero-mag)))
     (→le x y g f (omega (arith, unsigned-P x t, unsigned-N x t, unsigned-P y s, unsigned-N y s)))
 
--- the bits of the float that is 0 below 0
+-- -0.0
 minus-zero : (y : Float) → F32 y → sign y ≡ false → T (upTo y (ofBits binary32 2147483648))
 unfolding ofBits
 minus-zero y f s =
