@@ -21,8 +21,7 @@ use Rattle.formats.specs.Format.{puts}
 use Rattle.store.specs.Bytes.{bytesOf}
 use Rattle.store.specs.Fields.{smallWords}
 use Rattle.store.specs.Places.{limiterGainAt, remainingIn, firstAt, secondAt, infosAt}
-use Rattle.store.specs.Fresh.{still, noBlocks, blank, freshRenderer}
-use Rattle.store.specs.Layout.{size, small, placeRows, encode}
+use Rattle.store.specs.Layout.{size, small, placeRows, encode, still, noBlocks, blank, freshRenderer}
 use Rattle.store.specs.Filled.{marked, filled}
 use Rattle.store.specs.Ranges.{leastFlags, headValid, headsValid}
 use Rattle.store.specs.Ranged.{Single, Singles, SourceSingles, TrackSingles, ElementRanged, StateRanged, InfosRanged, PlacesRanged, BlockRanged}

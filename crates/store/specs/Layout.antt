@@ -1,21 +1,22 @@
 -- The state block, from a renderer and to one. Document 01: "the renderer's state is a block of fixed length". It is 26,960 bytes: the small part's words (1,360), the object
 -- infos as they are (22,528), 12 rows of 64 places for pending samples (3,072). What is added later stands behind these. Assumes nothing.
 use Prim.Native.Nat.{ℕ, zero, suc, _+_, _*_}
-use mathlib.Core.Bool.{cond}
+use mathlib.Core.Bool.{false, cond}
 use mathlib.Core.List.{List, [], _++_}
 use lib.Dec.{ltb}
-use lib.ListN.{take, drop}
+use lib.ListN.{take, drop, replicate}
 use Rattle.words.specs.Words.{wordsAt}
 use Rattle.formats.specs.Areas.{infosBytes, rowCount, rowPlaces, rowBytes}
+use Rattle.vectors.specs.declared.Vec3.{Vec3}
+use Rattle.timed.specs.Slot.{middle}
 use Rattle.timed.specs.State.{Timed}
-use Rattle.rules.specs.Parts.{Places}
-use Rattle.rules.specs.Samples.{Renderer}
+use Rattle.timed.specs.declared.state.ElementRendererState.{ElementRendererState}
+use Rattle.rules.specs.Parts.{0·0, 1·0, Places, zeros}
+use Rattle.rules.specs.Samples.{Renderer, idle}
 use Rattle.store.specs.declared.renderer.Renderer714.{Renderer714}
 use Rattle.store.specs.Bytes.{bytesOf}
 use Rattle.store.specs.Fields.{clockOf, clockFrom, smallWords, smallOf}
 pub use Rattle.store.specs.Places.{smallWidth, infosAt, placesAt, size}
-pub use Rattle.store.specs.Fresh.{still, noBlocks, freshRenderer}
-unfoldable pub use Rattle.store.specs.Fresh.{blank}
 
 -- ---- a renderer's parts
 
@@ -55,3 +56,49 @@ placeRows (suc n) c p = bytesOf (p c) ++ placeRows n (suc c) p
 unfoldable pub encode : Renderer Timed → List ℕ
 unfolding smallWords bytesOf placeRows
 encode r = bytesOf (smallWords (small r)) ++ (r .meta .infos ++ placeRows rowCount 0 (r .pending .places))
+
+-- ---- a new renderer: "A new renderer is a block that reset has filled." No rate, the limiter's gain 1.0, all else 0
+
+abbrev pub still : Vec3
+still = record { x = 0·0; y = 0·0; z = 0·0 }
+
+abbrev pub noBlocks : ElementRendererState
+noBlocks =
+    record {
+      blocks = 0;
+      flags = 0;
+      remaining = middle;
+      schedule = replicate 8 (record { offset = 0; ramp = 0; used = false });
+      tracks = replicate 16 (record { now = false; future = still });
+    }
+
+-- the timed state before any update
+unfoldable pub blank : Timed
+blank =
+    record {
+      state = record {
+        initialized = false;
+        payload = record { 0 = 0 };
+        objects = 0;
+        isf = 0;
+        beds = 0;
+        elements = 0;
+        codes = replicate 18 0;
+        gains = replicate 18 0·0;
+        states = replicate 2 noBlocks;
+        sources = replicate 16 (record { gain = 0·0; size = 0·0; place = still; placed = false });
+      };
+      infos = replicate infosBytes 0;
+    }
+
+-- `freshRenderer` of the rules, with `blank`; `encode-fresh` of proofs/Fresh: its block is what reset fills
+abbrev pub freshRenderer : Renderer Timed
+freshRenderer =
+    record {
+      rate = 0;
+      clock = record { position = 0; phase = 0; start = 0 };
+      limiter = record { gain = 1·0 };
+      filter = idle;
+      meta = blank;
+      pending = record { count = 0; places = zeros };
+    }
