@@ -1,4 +1,4 @@
--- Before a chunk: what is asked there, and the small part that updates and slots leave. Assumes nothing.
+-- A reader may skip this file: before a chunk: what is asked there, and the small part that updates and slots leave. Assumes nothing.
 use Prim.Native.Nat.{ℕ, _≤_}
 use mathlib.Core.Path.{_≡_}
 use mathlib.Core.Bool.{Bool, false, cond, _&&_}

@@ -1,4 +1,4 @@
--- A chunk: samples within which no update falls and no slot starts; a slot, a limiter block or the frame may end with it. Assumes nothing.
+-- A reader may skip this file: a chunk: samples within which no update falls and no slot starts; a slot, a limiter block or the frame may end with it. Assumes nothing.
 use Prim.Native.Nat.{ℕ, zero, suc}
 use mathlib.Core.List.{List, [], _∷_}
 use Rattle.rules.specs.Leaves.{Leaves}

@@ -1,4 +1,4 @@
--- The pending samples given out as one block. Assumes nothing.
+-- A reader may skip this file: the pending samples given out as one block. Assumes nothing.
 use Prim.Native.Nat.{ℕ, _+_, _*_, _≤_}
 use mathlib.Core.Path.{_≡_}
 use mathlib.Core.List.{List}

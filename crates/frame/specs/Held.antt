@@ -1,4 +1,4 @@
--- The renderer that a call works on: its small part by value, infos and places still in the state block. Assumes nothing.
+-- A reader may skip this file: the renderer that a call works on: its small part by value, infos and places still in the state block. Assumes nothing.
 use Prim.Native.Nat.{ℕ}
 use mathlib.Core.Path.{_≡_}
 use mathlib.Core.List.{List}

@@ -1,4 +1,4 @@
--- The frame's loop: the samples of a turn, what a push that no refusal turned away hands to it, and what it leaves. Assumes nothing.
+-- A reader may skip this file: the frame's loop: the samples of a turn, what a push that no refusal turned away hands to it, and what it leaves. Assumes nothing.
 use Prim.Native.Nat.{ℕ, _-_}
 use mathlib.Core.Path.{_≡_}
 use mathlib.Core.Bool.{Bool, true, cond}

@@ -1,4 +1,4 @@
--- The output while a frame is rendered: a block goes behind those before it. Assumes nothing.
+-- A reader may skip this file: the output while a frame is rendered: a block goes behind those before it. Assumes nothing.
 use Prim.Native.Nat.{ℕ, zero, suc, _+_, _*_}
 use mathlib.Core.List.{List, map}
 use lib.Ieee.{binary32, toBits}

@@ -1,4 +1,4 @@
--- A chunk of a frame on a state block: what it asks and what it leaves. Assumes nothing.
+-- A reader may skip this file: a chunk of a frame on a state block: what it asks and what it leaves. Assumes nothing.
 use Prim.Native.Nat.{ℕ, _+_, _-_, _*_, _≤_}
 use mathlib.Core.Path.{_≡_}
 use mathlib.Core.Bool.{true, cond}

@@ -1,4 +1,4 @@
--- Routes and places as the numbers that the probes give. Assumes nothing.
+-- A reader may skip this file: routes and places as the numbers that the probes give. Assumes nothing.
 use Prim.Native.Nat.{ℕ}
 use Rattle.beds.specs.declared.Route.{Route}
 use Rattle.beds.specs.declared.Route.the-variants.{Bass, Folded, Direct, Unsupported}

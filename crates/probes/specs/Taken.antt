@@ -1,5 +1,5 @@
--- Which arguments a probe takes, as a test, and the zeros that it answers for others. A probe's contract is `cond test rule otherwise`, with the leaf's rule; a slice that is
--- lent to be written stays as it was where the test fails. Assumes nothing.
+-- A reader may skip this file: which arguments a probe takes, as a test, and the zeros that it answers for others. A probe's contract is `cond test rule otherwise`, with the
+-- leaf's rule; a slice that is lent to be written stays as it was where the test fails. Assumes nothing.
 use Prim.Native.Nat.{ℕ, _+_, _*_, _/_}
 use mathlib.Core.Bool.{Bool, false, _&&_}
 use mathlib.Core.List.{List}

@@ -1,5 +1,5 @@
--- The slot and the update that the probes run, for any state, infos and metadata: where the test holds, the leaf's rule, else nothing. A state is tested for the ranges of
--- `Within`, of the timed state: `fits-within` and `within-fits` of proofs/Timed say that the test is just that. Assumes nothing.
+-- A reader may skip this file: the slot and the update that the probes run, for any state, infos and metadata: where the test holds, the leaf's rule, else nothing. A state is
+-- tested for the ranges of `Within`, of the timed state: `fits-within` and `within-fits` of proofs/Timed say that the test is just that. Assumes nothing.
 use Prim.Native.Nat.{ℕ, _+_, _-_, _*_}
 use mathlib.Core.Bool.{Bool, _&&_, cond}
 use mathlib.Core.List.{List}
