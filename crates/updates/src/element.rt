@@ -33,60 +33,54 @@ pub struct Counts {
     pub dynamic: usize,
 }
 
-// Object o in each of n blocks; the infos are those from `first` on.
-fn put_object(
-    infos: &mut [u8],
-    meta: &[u8],
-    p: usize,
-    n: usize,
-    first: usize,
-    o: usize,
+// An element that is sent: its record, how many blocks it has, and whether its infos start afresh.
+struct Sent {
+    place: usize,
+    blocks: usize,
     fresh: bool,
-    bed: bool,
-)
+}
+
+// Object o in each block; the infos are those from `first` on.
+fn put_object(infos: &mut [u8], meta: &[u8], sent: Sent, first: usize, o: usize, bed: bool)
     requires { ⌜
         (length (now infos) ≡ allBytes)
-        × (n ≡ blocks (now meta) p)
-        × (n ≤ mostBlocks)
+        × (sent .blocks ≡ blocks (now meta) (sent .place))
+        × (sent .blocks ≤ mostBlocks)
         × (first + mostBlocks ≤ allInfos)
         × (o ≤ mostObjects)
-        × (40 * p + 40 ≤ length (now meta))
-        × ((b : ℕ) → b < n → 40 * objectAt (now meta) p (o * blocks (now meta) p + b) + 40 ≤ length (now meta))
+        × (40 * sent .place + 40 ≤ length (now meta))
+        × ((b : ℕ) → b < sent .blocks → 40 * objectAt (now meta) (sent .place) (o * blocks (now meta) (sent .place) + b) + 40 ≤ length (now meta))
         ⌝ }
-    ensures { λ _. ⌜ now (infos .exit) ≡ objectStored fresh bed (elementSaid (now (meta .entry)) p) first o (now (infos .entry)) ⌝ }
+    ensures { λ _. ⌜ now (infos .exit) ≡ objectStored (sent .fresh) bed (elementSaid (now (meta .entry)) (sent .place)) first o (now (infos .entry)) ⌝ }
 {
+    let p = sent.place;
+    let n = sent.blocks;
     let mut b = 0usize;
     while b < n {
         let i = info_at(meta, object_place(meta, p, o, b));
-        put_info(infos, INFO_BYTES * (first + b), i, fresh, bed);
+        put_info(infos, INFO_BYTES * (first + b), i, sent.fresh, bed);
         b += 1;
     }
 }
 
-// Each object in each of n blocks.
-fn put_objects(
-    infos: &mut [u8],
-    meta: &[u8],
-    p: usize,
-    n: usize,
-    first: usize,
-    counts: Counts,
-    fresh: bool,
-)
+// Each object in each block.
+fn put_objects(infos: &mut [u8], meta: &[u8], sent: Sent, first: usize, counts: Counts)
     requires { ⌜
         (length (now infos) ≡ allBytes)
-        × (n ≡ blocks (now meta) p)
+        × (sent .blocks ≡ blocks (now meta) (sent .place))
         × (first + elementInfos ≤ allInfos)
         × (counts .objects ≤ mostObjects)
-        × WholeElement (now meta) (counts .objects) p
+        × WholeElement (now meta) (counts .objects) (sent .place)
         ⌝ }
-    ensures { λ _. ⌜ now (infos .exit) ≡ objectsStored fresh (counts .isf) (elementSaid (now (meta .entry)) p) first (counts .objects) (now (infos .entry)) ⌝ }
+    ensures { λ _. ⌜
+        now (infos .exit) ≡ objectsStored (sent .fresh) (counts .isf) (elementSaid (now (meta .entry)) (sent .place)) first (counts .objects) (now (infos .entry))
+        ⌝ }
 {
     let objects = counts.objects;
     let isf = counts.isf;
     let mut o = 0usize;
     while o < objects {
-        put_object(infos, meta, p, n, first + BLOCKS * o, o, fresh, o < isf);
+        put_object(infos, meta, sent, first + BLOCKS * o, o, o < isf);
         o += 1;
     }
 }
@@ -182,6 +176,11 @@ pub fn apply_element(
 {
     let n = blocks_at(meta, p);
     let kept = is_kept(same, element.blocks, n);
-    put_objects(infos, meta, p, n, first, counts, !kept);
+    let sent = Sent {
+        place: p,
+        blocks: n,
+        fresh: !kept,
+    };
+    put_objects(infos, meta, sent, first, counts);
     next_element(element, meta, p, n, counts, kept)
 }

@@ -11,11 +11,11 @@ use Rattle.updates.proofs.element.put_object.Statement.{statement}
 use Rattle.updates.proofs.element.put_object.Tie as tie
 
 abbrev Inv-loop : tie.InvT-loop
-Inv-loop infos₀ meta p n first o fresh bed b₀ infos b =
-    (b ≤ n) × (length infos ≡ 22528) × Leads (infoGiven fresh bed (elementSaid meta p) first o) n infos₀ b infos
+Inv-loop infos₀ meta sent first o bed p n b₀ infos b =
+    (b ≤ n) × (length infos ≡ 22528) × Leads (infoGiven (sent .fresh) bed (elementSaid meta p) first o) n infos₀ b infos
 
 abbrev μ-loop : tie.MeasureT-loop
-μ-loop infos₀ meta p n first o fresh bed b₀ infos b = n - b
+μ-loop infos₀ meta sent first o bed p n b₀ infos b = n - b
 
 loop-holds : tie.Need-loop-holds Inv-loop μ-loop
 loop-holds c = (search needs, search needs, leads)

@@ -14,11 +14,11 @@ use Rattle.updates.proofs.element.put_objects.Statement.{statement}
 use Rattle.updates.proofs.element.put_objects.Tie as tie
 
 abbrev Inv-loop : tie.InvT-loop
-Inv-loop infos₀ meta p n first fresh objects isf o₀ infos o =
-    (o ≤ objects) × (length infos ≡ 22528) × Leads (objectGiven fresh isf (elementSaid meta p) first) objects infos₀ o infos
+Inv-loop infos₀ meta sent first objects isf o₀ infos o =
+    (o ≤ objects) × (length infos ≡ 22528) × Leads (objectGiven (sent .fresh) isf (elementSaid meta (sent .place)) first) objects infos₀ o infos
 
 abbrev μ-loop : tie.MeasureT-loop
-μ-loop infos₀ meta p n first fresh objects isf o₀ infos o = objects - o
+μ-loop infos₀ meta sent first objects isf o₀ infos o = objects - o
 
 loop-holds : tie.Need-loop-holds Inv-loop μ-loop
 loop-holds c = (search needs, search needs, leads)
@@ -35,7 +35,7 @@ put-object-requires c κs =
       omega arith,
       omega arith,
       omega (arith, w .given .within),
-      λ b i. omega (arith, cell-below (l .o) (s .counts .objects) b (blocks (now (s .meta)) (s .p)) (omega arith) (omega arith), w .within),
+      λ b i. omega (arith, cell-below (l .o) (s .counts .objects) b (blocks (now (s .meta)) (s .sent .place)) (omega arith) (omega arith), w .within),
     )
 
 loop-again : tie.Need-loop-again Inv-loop μ-loop
