@@ -18,6 +18,8 @@ pub use Rattle.formats.proofs.Loops.{room, gets-filled, gets-full, stor
 pub use Rattle.formats.proofs.Loops.{all-same, all-any, all-both, most}
 -- the heads of infos are valid exactly if the infos pass the test of their format
 pub use Rattle.formats.proofs.Heads.{heads-format}
+-- an entry of an array, an array of words; the formats of infos and places have the laws, and a row of places is the words of its bytes
+pub use Rattle.formats.proofs.Entries.{entry-read, no-entry, words-got, words-put, lawful-infos, lawful-places, row-got, no-row-got}
 -- both of two tests
 pub use Rattle.formats.proofs.Loops.{and-true, and-false, and-assoc}
 pub use Rattle.formats.proofs.Places.{and-in}

@@ -60,6 +60,10 @@ u32To limit = oneWord (λ n. n) (λ n. n) (λ n. leb n limit) (λ n. n ≤ limit
 abbrev pub u32Below : ℕ → Format ℕ
 u32Below bound = oneWord (λ n. n) (λ n. n) (λ n. ltb n bound) (λ n. n < bound) (λ n. Unit {0})
 
+-- a u32 of any bits
+abbrev pub u32Any : Format ℕ
+u32Any = u32To 4294967295
+
 -- a usize from 0 to a limit
 abbrev pub usizeTo : ℕ → Format ℕ
 usizeTo limit = oneWord low (λ n. n) (λ n. leb n limit) (λ n. n ≤ limit) (λ n. Unit {0})

@@ -1,17 +1,14 @@
 -- The infos of a block, lent and changed: the small part's bytes and the places stay. Assumes nothing.
-use Prim.Native.Nat.{ℕ, _+_, _*_}
+use Prim.Native.Nat.{ℕ}
 use mathlib.Core.Path.{_≡_, sym, ap, _∙_}
-use mathlib.Core.Bool.{cond}
-use mathlib.Core.List.{List, [], _++_}
+use mathlib.Core.List.{List, _++_}
 use native.Mathlib.Omega.{arith}
-use lib.Dec.{ltb}
 use lib.ListN.{length, take, drop, length-append, length-drop}
 use lib.Seq.{length-take-le, take-at, drop-at, drop-drop}
 use borrow.Rule.Slice.PartMut.{take-put}
-use Rattle.words.specs.Words.{wordsAt}
 use Rattle.store.specs.declared.renderer.Renderer714.{Renderer714}
 use Rattle.store.specs.Layout.{size, assembled, infosOf, placesOf}
-use Rattle.store.proofs.Bytes.{words-drop}
+use Rattle.store.proofs.Theorems.{places-beside}
 use Rattle.frame.specs.Held.{held, smallBytes}
 
 -- a block with other infos
@@ -39,10 +36,8 @@ module _ (b is : List ℕ) (whole : length b ≡ size) (long : length is ≡ 225
   past : drop 23888 (changed b is) ≡ drop 23888 b
   past = sym (drop-drop 22528 1360 (changed b is)) ∙ rw rest (drop-at is (drop 22528 (drop 1360 b)) 22528 long ∙ drop-drop 22528 1360 b)
 
-  changed-place : (c : ℕ) → placesOf (changed b is) c ≡ placesOf b c
-  changed-place c =
-      ap (λ (ws : List ℕ). cond (ltb c 12) ws [])
-      (words-drop (changed b is) 23888 (256 * c) 64 ∙ ap (λ (s : List ℕ). wordsAt s (256 * c) 64) past ∙ sym (words-drop b 23888 (256 * c) 64))
+  changed-places : placesOf (changed b is) ≡ placesOf b
+  changed-places = places-beside b (changed b is) past
 
   pub changed-held : (s : Renderer714) → held s (changed b is) ≡ assembled s is (placesOf b)
-  changed-held s = λ i. assembled s (changed-infos i) (λ c. changed-place c i)
+  changed-held s = λ i. assembled s (changed-infos i) (changed-places i)

@@ -5,12 +5,11 @@ use mathlib.Core.List.{List, []}
 use Prim.Native.Nat.{ℕ, _+_, _-_, _*_, _<_, _≤_}
 use native.Mathlib.Nat.{add-zero}
 use native.Mathlib.Omega.{arith}
-use borrow.Author.Tests.{ltb-true, lt-leb, ne-eqb}
+use borrow.Author.Tests.{ltb-true, ltb-false, lt-leb, ne-eqb}
 use lib.Dec.{leb, ltb}
 use lib.ListN.{length, getD, take, drop, length-map}
 use lib.Seq.{take-all, length-take-le}
 use lib.Ieee.{Float, binary32, ofBits, nan}
-use Rattle.words.specs.Words.{wordsAt}
 use Rattle.lowpass.specs.declared.BiquadLowpassState.{BiquadLowpassState}
 use Rattle.timed.specs.Objects.{noSource}
 use Rattle.timed.specs.declared.state.MetadataRendererState.{MetadataRendererState}
@@ -25,7 +24,7 @@ use Rattle.theorem.specs.Instance.{Sent, hall}
 use Rattle.store.specs.declared.renderer.Renderer714.{Renderer714}
 use Rattle.store.specs.Layout.{assembled, infosOf, placesOf}
 use Rattle.store.specs.Steps.{settledBy}
-use Rattle.store.proofs.Decoded.{words-long}
+use Rattle.store.proofs.Theorems.{places-row, no-places, words-long}
 use Rattle.render.specs.declared.Span.{Span}
 use Rattle.render.specs.Run.{Framed, bedWith, bedsOf, plainSource, sourcesOf, momentOf, sceneAt, filterAfter, rowRun, Passed}
 use Rattle.render.proofs.Theorems.{fewer, beds-each, sources-each, filter-as, run-as}
@@ -113,9 +112,9 @@ module _ (f : Frame Sent) (t k : ℕ) (s : Renderer714) (b : List ℕ) where
   chunk-unmet e = rw e refl
 
   -- a whole block is `flushed`
-  places-short : (c : ℕ) (q : Bool) → ltb c 12 ≡ q → length (cond q (wordsAt b (23888 + 256 * c) 64) []) ≤ 64
-  places-short c true e = rw (words-long b (23888 + 256 * c) 64) (omega arith)
-  places-short c false e = omega arith
+  places-short : (c : ℕ) (q : Bool) → ltb c 12 ≡ q → length (placesOf b c) ≤ 64
+  places-short c true e = rw (places-row b c (ltb-true c 12 e), words-long b (23888 + 256 * c) 64) (omega arith)
+  places-short c false e = rw (no-places b c (ltb-false c 12 e)) (omega arith)
 
   rows-whole : (λ c. take 64 (floats rows c)) ≡ floats rows
   rows-whole =
@@ -153,11 +152,10 @@ module _ (f : Frame Sent) (t k : ℕ) (s : Renderer714) (b : List ℕ) where
   module _ (m : ℕ → Moment) (same : (t c : ℕ) → heard (m t) c ≡ heard (at t) c) (ys : List Float) (low : BiquadLowpassState) (p : Passed m (s .filter) t k ys low) (b' : List ℕ)
       (l : Laid ys (s .pending) k b b') where
     rows-laid : (c : ℕ) (q : Bool) → ltb c 12 ≡ q
-        → laid (s .pending) (take k (drop (64 * c) ys)) (cond q (wordsAt b (23888 + 256 * c) 64) [])
-        ≡ laid (s .pending) (rowRun at (s .filter) c t k) (cond q (wordsAt b (23888 + 256 * c) 64) [])
-    rows-laid c true e =
-        ap (λ (xs : List Float). laid (s .pending) xs (wordsAt b (23888 + 256 * c) 64)) (p .columns c (ltb-true c 12 e) ∙ run-as m at same (s .filter) c t k)
-    rows-laid c false e = laid-nil (s .pending) (take k (drop (64 * c) ys)) ∙ sym (laid-nil (s .pending) (rowRun at (s .filter) c t k))
+        → laid (s .pending) (take k (drop (64 * c) ys)) (placesOf b c) ≡ laid (s .pending) (rowRun at (s .filter) c t k) (placesOf b c)
+    rows-laid c true e = ap (λ (xs : List Float). laid (s .pending) xs (placesOf b c)) (p .columns c (ltb-true c 12 e) ∙ run-as m at same (s .filter) c t k)
+    rows-laid c false e =
+        rw (no-places b c (ltb-false c 12 e)) (laid-nil (s .pending) (take k (drop (64 * c) ys)) ∙ sym (laid-nil (s .pending) (rowRun at (s .filter) c t k)))
 
     pub held-settled : {r : Renderer714} → r ≡ settledBy s low k → held r b' ≡ settled
     held-settled e =

@@ -4,7 +4,6 @@ use mathlib.Core.List.{List, [], _∷_, map}
 use Prim.Native.Nat.{ℕ, zero, suc, _+_, _-_, _*_, _<_, _≤_}
 use native.Mathlib.Nat.{not-suc-le-zero, le-of-suc-le-suc}
 use native.Mathlib.Omega.{arith}
-use borrow.Author.Tests.{lt-ltb}
 use lib.ListN.{length, take, drop, length-drop}
 use lib.Seq.{take-all}
 use lib.Ieee.{Float, binary32, ofBits, toBits}
@@ -20,7 +19,7 @@ use Rattle.rules.specs.Block.{writtenFrom, written}
 use Rattle.store.specs.declared.renderer.Renderer714.{Renderer714}
 use Rattle.store.specs.Layout.{size, placesOf}
 use Rattle.store.specs.Steps.{emptiedBy}
-use Rattle.store.proofs.Bytes.{words-drop}
+use Rattle.store.proofs.Theorems.{places-row, words-drop}
 use Rattle.frame.specs.declared.Rendering.{Rendering}
 use Rattle.frame.specs.Held.{held}
 use Rattle.frame.specs.Out.{behindFrom, behind}
@@ -110,7 +109,7 @@ waiting-at n b h l c m =
     ∙ floats-words (drop 23888 b) (256 * c) n
     ∙ ap (map (ofBits binary32)) (sym (words-drop b 23888 (256 * c) n))
     ∙ sym (floats-take b (23888 + 256 * c) n 64 h)
-    ∙ (let q = lt-ltb c 12 m in rw q refl)
+    ∙ ap (λ (ws : List ℕ). take n (map (ofBits binary32) ws)) (sym (places-row b c m))
 
 -- what `give` leaves
 pub gave : (w : Rendering) (b out : List ℕ) (stride : ℕ) {l : Limited} {r : Rendering} {out' : List ℕ} → length b ≡ size → w .renderer .pending ≤ 64

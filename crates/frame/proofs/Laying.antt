@@ -1,10 +1,10 @@
 -- Rows laid into the places of a state block: the small part's bytes and the infos stay, and each channel's 64 places are `laid`. Assumes nothing.
 use mathlib.Core.Path.{_≡_, refl, sym, ap, fun-ext, _∙_}
-use mathlib.Core.Bool.{Bool, true, false, cond}
+use mathlib.Core.Bool.{Bool, true, false}
 use mathlib.Core.List.{List, [], _∷_, _++_, append-nil}
 use Prim.Native.Nat.{ℕ, zero, suc, _+_, _-_, _*_, _≤_}
 use native.Mathlib.Omega.{arith}
-use borrow.Author.Tests.{ltb-true}
+use borrow.Author.Tests.{ltb-true, ltb-false}
 use borrow.Rule.Slice.PartMut.{putMid}
 use lib.Dec.{T, ltb}
 use lib.ListN.{length, getD, set, take, drop, length-set, length-drop, length-append, take-append-drop, drop-of-length-le}
@@ -13,8 +13,8 @@ use lib.Ieee.{Float, nan, binary32, fits, toBits}
 use Rattle.words.specs.Words.{wordsAt}
 use Rattle.limiter.specs.Places.{channels, withChannels}
 use Rattle.rules.specs.Parts.{laid}
-use Rattle.store.specs.Layout.{size, infosOf}
-use Rattle.store.proofs.Bytes.{words-drop}
+use Rattle.store.specs.Layout.{size, infosOf, placesOf}
+use Rattle.store.proofs.Theorems.{places-row, no-places, words-drop}
 use Rattle.render.proofs.Theorems.{Fit, append-laid, length-channels}
 use Rattle.frame.specs.Held.{smallBytes}
 use Rattle.frame.specs.Pass.{Laid}
@@ -86,14 +86,18 @@ module _ (rows : List Float) (pending k : ℕ) (short : pending + k ≤ 64) (b n
   unfolding front
   put-infos = infos-front front back front-long ∙ sym (infos-front front (drop 23888 b) front-long) ∙ ap infosOf (take-append-drop 23888 b)
 
-  put-place : (c : ℕ) (q : Bool) → ltb c 12 ≡ q
-      → cond q (wordsAt (front ++ back) (23888 + 256 * c) 64) [] ≡ laid pending (take k (drop (64 * c) rows)) (cond q (wordsAt b (23888 + 256 * c) 64) [])
+  put-place : (c : ℕ) (q : Bool) → ltb c 12 ≡ q → placesOf (front ++ back) c ≡ laid pending (take k (drop (64 * c) rows)) (placesOf b c)
   unfolding back
   put-place c true e =
-      words-back front back (256 * c) 64 front-long
-      ∙ append-laid k pending short rows (drop 23888 b) fit rest-long lr c (ltb-true c 12 e)
-      ∙ ap (laid pending (take k (drop (64 * c) rows))) (sym (words-drop b 23888 (256 * c) 64))
-  put-place c false e = sym (laid-nil pending (take k (drop (64 * c) rows)))
+      let l = ltb-true c 12 e in
+      places-row (front ++ back) c l
+      ∙ words-back front back (256 * c) 64 front-long
+      ∙ append-laid k pending short rows (drop 23888 b) fit rest-long lr c l
+      ∙ ap (laid pending (take k (drop (64 * c) rows))) (sym (words-drop b 23888 (256 * c) 64) ∙ sym (places-row b c l))
+  put-place c false e =
+      let l = ltb-false c 12 e in
+      no-places (front ++ back) c l
+      ∙ sym (laid-nil pending (take k (drop (64 * c) rows))) ∙ ap (laid pending (take k (drop (64 * c) rows))) (sym (no-places b c l))
 
   pub lay-laid : Laid rows pending k b (putMid 23888 (length b - 23888) b new)
   lay-laid = rw put (record { long = put-long; small = put-small; infos = put-infos; places = fun-ext (λ c. put-place c (ltb c 12) refl) })

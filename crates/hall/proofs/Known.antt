@@ -14,7 +14,7 @@ use Rattle.rules.specs.Ranges.{Ranged}
 use Rattle.rules.proofs.Theorems.{and-true}
 use Rattle.store.specs.declared.renderer.Renderer714.{Renderer714}
 use Rattle.store.specs.Fields.{smallWords, smallOf}
-use Rattle.store.specs.Layout.{size, small, placeRows, infosOf, decode, encode}
+use Rattle.store.specs.Layout.{size, small, placeBytes, infosOf, decode, encode}
 use Rattle.store.specs.Ranges.{valid, smallValid, headsValid}
 use Rattle.store.proofs.Back.{small-long}
 use Rattle.store.proofs.Rows.{rows-of}
@@ -46,4 +46,4 @@ saved b r s bs h g =
     let e : s ≡ small r = ap small (h .is) in
     ap (λ (x : Renderer714). withWords b 0 (smallWords x)) e
     ∙ saved-encode b r (h .long) (small-long (small r) (small-full r (ranged r g))) (ap (λ (x : Renderer Timed). x .meta .infos) (h .is))
-    (sym (rows-of b bs (h .long)) ∙ ap (λ (x : Renderer Timed). placeRows 12 0 (x .pending .places)) (h .is))
+    (sym (rows-of b bs (h .long)) ∙ ap (λ (x : Renderer Timed). placeBytes (x .pending .places)) (h .is))

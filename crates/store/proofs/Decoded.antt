@@ -4,7 +4,7 @@ use mathlib.Core.Bool.{Bool, true, not, _||_, _&&_}
 use mathlib.Core.List.{List, [], _∷_}
 use Prim.Native.Nat.{ℕ, zero, suc, _+_, _-_, _*_, _<_, _≤_}
 use native.Mathlib.Omega.{arith}
-use borrow.Author.Tests.{lt-ltb, le-ltb, eq-eqb}
+use borrow.Author.Tests.{eq-eqb}
 use lib.Dec.{T, eqb, leb, eqb→eq, leb→le, lit≤}
 use lib.ListN.{length, getD, take, drop, length-drop}
 use lib.Seq.{getD-drop, length-take-le}
@@ -23,6 +23,7 @@ use Rattle.store.specs.Fields.{elementFormat, smallOf}
 use Rattle.store.specs.Layout.{smallWidth, infosAt, placesAt, size, assembled, infosOf, placesOf, decode}
 use Rattle.store.specs.Ranges.{clockIn, countsIn, elementRelated, leastFlags, smallPart, smallValid, headsValid, valid}
 use Rattle.store.specs.Ranged.{ElementRanged, StateRanged, InfosRanged, PlacesRanged, BlockRanged}
+use Rattle.store.proofs.PendingRows.{places-row, no-places}
 use Rattle.store.proofs.Back.{lawful-small-part}
 
 all-out : {A : Type 0} (P : A → Type 0) (d : A) (xs : List A) → All P xs → (i : ℕ) → i < length xs → P (getD xs i d)
@@ -173,9 +174,9 @@ module _ (b : List ℕ) (bs : Bytes b) (v : T (valid b)) where
   places-ranged : PlacesRanged (placesOf b)
   places-ranged =
       record {
-        lengths = λ c l. rw (lt-ltb c rowCount l) (words-long b (placesAt + rowBytes * c) rowPlaces);
-        words = λ c l. rw (lt-ltb c rowCount l) (run-small b (placesAt + rowBytes * c) rowPlaces bs);
-        none = λ c l. rw (le-ltb c rowCount l) refl;
+        lengths = λ c l. rw (places-row b c l) (words-long b (placesAt + rowBytes * c) rowPlaces);
+        words = λ c l. rw (places-row b c l) (run-small b (placesAt + rowBytes * c) rowPlaces bs);
+        none = no-places b;
       }
 
   pub decode-ranged : BlockRanged (decode b)

@@ -21,10 +21,11 @@ use Rattle.formats.specs.Format.{puts}
 use Rattle.store.specs.Bytes.{bytesOf}
 use Rattle.store.specs.Fields.{smallWords}
 use Rattle.store.specs.Places.{limiterGainAt, remainingIn, firstAt, secondAt, infosAt}
-use Rattle.store.specs.Layout.{size, small, placeRows, encode, still, noBlocks, blank, freshRenderer}
+use Rattle.store.specs.Layout.{size, small, placeBytes, encode, still, noBlocks, blank, freshRenderer}
 use Rattle.store.specs.Filled.{marked, filled}
 use Rattle.store.specs.Ranges.{leastFlags, headValid, headsValid}
 use Rattle.store.specs.Ranged.{Single, Singles, SourceSingles, TrackSingles, ElementRanged, StateRanged, InfosRanged, PlacesRanged, BlockRanged}
+use Rattle.store.proofs.PendingRows.{rowsBytes, place-bytes}
 use Rattle.store.proofs.Bytes.{written-front}
 use Rattle.formats.proofs.Theorems.{and-in}
 
@@ -168,8 +169,8 @@ unfolding bytesOf withNumber
 bytes-zero zero = refl
 bytes-zero (suc n) = ap (λ (t : List ℕ). 0 ∷ 0 ∷ 0 ∷ 0 ∷ t) (bytes-zero n) ∙ ap (λ (k : ℕ). replicate k 0) (let e : suc (suc (suc (suc (4 * n)))) ≡ 4 * suc n = omega arith in e)
 
-zero-rows : (n k : ℕ) → n + k ≤ rowCount → placeRows n k zeros ≡ replicate (n * rowBytes) 0
-unfolding placeRows
+zero-rows : (n k : ℕ) → n + k ≤ rowCount → rowsBytes n k zeros ≡ replicate (n * rowBytes) 0
+unfolding rowsBytes
 zero-rows zero k l = refl
 zero-rows (suc n) k l =
     let z : zeros k ≡ replicate rowPlaces 0 = let m : k < rowCount = omega arith in rw (lt-ltb k rowCount m) refl in
@@ -192,8 +193,11 @@ small-fresh : bytesOf (smallWords (small freshRenderer)) ≡ marked (replicate i
 unfolding bytesOf smallWords puts blank withNumber toBits
 small-fresh = refl
 
-tail-fresh : (n m : ℕ) → n ≡ infosBytes → m ≡ rowCount → replicate n 0 ++ placeRows m 0 zeros ≡ replicate (n + m * rowBytes) 0
-tail-fresh n m e f = ap (λ (t : List ℕ). replicate n 0 ++ t) (zero-rows m 0 (omega arith)) ∙ replicate-append-replicate n (m * rowBytes) 0
+tail-fresh : (n m : ℕ) → n ≡ infosBytes → m ≡ rowCount → replicate n 0 ++ placeBytes zeros ≡ replicate (n + m * rowBytes) 0
+tail-fresh n m e f =
+    ap (λ (t : List ℕ). replicate n 0 ++ t)
+    (place-bytes zeros (places-fresh .lengths) ∙ ap (λ (k : ℕ). rowsBytes k 0 zeros) (sym f) ∙ zero-rows m 0 (omega arith))
+    ∙ replicate-append-replicate n (m * rowBytes) 0
 
 pub encode-fresh : encode freshRenderer ≡ filled
 unfolding encode blank filled

@@ -19,14 +19,15 @@ use Rattle.timed.specs.declared.state.ElementRendererState.{ElementRendererStat
 use Rattle.timed.specs.declared.state.MetadataRendererState.{MetadataRendererState}
 use Rattle.rules.specs.Parts.{Places}
 use Rattle.rules.specs.Samples.{Renderer}
-use Rattle.formats.specs.Areas.{infosBytes, rowCount, rowPlaces, rowBytes}
+use Rattle.formats.specs.Areas.{infosBytes, rowCount, rowPlaces, placesFormat, rowBytes}
 use Rattle.store.specs.Bytes.{bytesOf}
 use Rattle.store.specs.Singles.{Brief}
 use Rattle.store.specs.Fields.{elementFormat, stateFormat, smallWords, smallOf}
-use Rattle.store.specs.Layout.{smallWidth, infosAt, placesAt, size, small, assembled, infosOf, placesOf, decode, placeRows, encode}
+use Rattle.store.specs.Layout.{smallWidth, infosAt, placesAt, size, small, assembled, infosOf, placesOf, decode, rowsFrom, placeBytes, encode}
 use Rattle.store.specs.Ranges.{clockIn, countsIn, leastFlags, related, elementRelated}
 use Rattle.store.specs.Ranged.{ElementRanged, StateRanged, PlacesRanged, BlockRanged}
 use Rattle.store.proofs.Bytes.{words-drop, bytes-length, bytes-bytes, bytes-back, stored}
+use Rattle.store.proofs.PendingRows.{places-row, no-places, rowsBytes, place-bytes}
 use Rattle.store.proofs.Back.{SmallFull, small-long, small-words, small-back}
 
 -- ---- what is in range fits its words
@@ -107,22 +108,22 @@ module _ (p : Places) (h : PlacesRanged p) where
   row-long : (c : ℕ) → c < rowCount → length (bytesOf (p c)) ≡ rowBytes
   row-long c l = bytes-length (p c) ∙ ap (λ (n : ℕ). 4 * n) (h .lengths c l)
 
-  rows-long : (n k : ℕ) → n + k ≤ rowCount → length (placeRows n k p) ≡ n * rowBytes
-  unfolding placeRows
+  rows-long : (n k : ℕ) → n + k ≤ rowCount → length (rowsBytes n k p) ≡ n * rowBytes
+  unfolding rowsBytes
   rows-long zero k l = refl
   rows-long (suc n) k l =
-      length-append (bytesOf (p k)) (placeRows n (suc k) p) ∙ (let a = row-long k (omega arith) in let b = rows-long n (suc k) (omega arith) in omega arith)
+      length-append (bytesOf (p k)) (rowsBytes n (suc k) p) ∙ (let a = row-long k (omega arith) in let b = rows-long n (suc k) (omega arith) in omega arith)
 
-  rows-back : (n k c : ℕ) → n + k ≤ rowCount → c < n → wordsAt (placeRows n k p) (rowBytes * c) rowPlaces ≡ p (k + c)
-  unfolding placeRows
+  rows-back : (n k c : ℕ) → n + k ≤ rowCount → c < n → wordsAt (rowsBytes n k p) (rowBytes * c) rowPlaces ≡ p (k + c)
+  unfolding rowsBytes
   rows-back zero k c l m = absurd (omega arith)
   rows-back (suc n) k zero l m =
-      ap (λ (w : ℕ). wordsAt (bytesOf (p k) ++ placeRows n (suc k) p) 0 w) (sym (h .lengths k (omega arith)))
-      ∙ bytes-back (p k) (placeRows n (suc k) p) (h .words k (omega arith)) ∙ ap p (sym (add-zero k))
+      ap (λ (w : ℕ). wordsAt (bytesOf (p k) ++ rowsBytes n (suc k) p) 0 w) (sym (h .lengths k (omega arith)))
+      ∙ bytes-back (p k) (rowsBytes n (suc k) p) (h .words k (omega arith)) ∙ ap p (sym (add-zero k))
   rows-back (suc n) k (suc c) l m =
       let e : rowBytes * suc c ≡ rowBytes + rowBytes * c = omega arith in
       let f : suc k + c ≡ k + suc c = omega arith in
-      let rest = placeRows n (suc k) p in
+      let rest = rowsBytes n (suc k) p in
       rw (e, words-drop (bytesOf (p k) ++ rest) rowBytes (rowBytes * c) rowPlaces, drop-at (bytesOf (p k)) rest rowBytes (row-long k (omega arith)))
       (rows-back n (suc k) c (omega arith) (omega arith) ∙ ap p f)
 
@@ -133,7 +134,7 @@ module _ (r : Renderer Timed) (h : BlockRanged r) where
   W = smallWords (small r)
 
   abbrev R : List ℕ
-  R = placeRows rowCount 0 (r .pending .places)
+  R = placeBytes (r .pending .places)
 
   front-long : length (bytesOf W) ≡ infosAt
   front-long = bytes-length W ∙ ap (λ (n : ℕ). 4 * n) (small-long (small r) (small-full r h))
@@ -159,9 +160,11 @@ module _ (r : Renderer Timed) (h : BlockRanged r) where
       by : (b : Bool) → ltb c rowCount ≡ b → placesOf (encode r) c ≡ r .pending .places c
       by true e =
           let l = ltb-true c rowCount e in
-          rw (e, words-drop (encode r) placesAt (rowBytes * c) rowPlaces, rows-at)
-          (rows-back (r .pending .places) (h .places) rowCount 0 c (lit≤ tt) l ∙ ap (r .pending .places) (zero-add c))
-      by false e = rw e (sym (h .places .none c (ltb-false c rowCount e)))
+          places-row (encode r) c l
+          ∙ words-drop (encode r) placesAt (rowBytes * c) rowPlaces
+          ∙ ap (λ (s : List ℕ). wordsAt s (rowBytes * c) rowPlaces) (rows-at ∙ place-bytes (r .pending .places) (h .places .lengths))
+          ∙ rows-back (r .pending .places) (h .places) rowCount 0 c (lit≤ tt) l ∙ ap (r .pending .places) (zero-add c)
+      by false e = let l = ltb-false c rowCount e in no-places (encode r) c l ∙ sym (h .places .none c l)
 
   pub decode-encode : decode (encode r) ≡ r
   unfolding decode
@@ -172,7 +175,8 @@ module _ (r : Renderer Timed) (h : BlockRanged r) where
   encode-long =
       length-append (bytesOf W) (r .meta .infos ++ R)
       ∙ ap₂ (λ (m n : ℕ). m + n) front-long
-      (length-append (r .meta .infos) R ∙ ap₂ (λ (m n : ℕ). m + n) (h .infos .length) (rows-long (r .pending .places) (h .places) rowCount 0 (lit≤ tt)))
+      (length-append (r .meta .infos) R ∙ ap₂ (λ (m n : ℕ). m + n) (h .infos .length)
+      (ap length (place-bytes (r .pending .places) (h .places .lengths)) ∙ rows-long (r .pending .places) (h .places) rowCount 0 (lit≤ tt)))
 
 -- ---- bytes
 
@@ -181,26 +185,21 @@ bytes-append [] b p q i = q i
 bytes-append (x ∷ a) b p q zero = p 0
 bytes-append (x ∷ a) b p q (suc i) = bytes-append a b (λ j. p (suc j)) q i
 
-rows-bytes : (p : Places) (n k : ℕ) → Bytes (placeRows n k p)
-unfolding placeRows
-rows-bytes p zero k = bytes-bytes []
-rows-bytes p (suc n) k = bytes-append (bytesOf (p k)) (placeRows n (suc k) p) (bytes-bytes (p k)) (rows-bytes p n (suc k))
-
 pub encode-bytes : (r : Renderer Timed) → Bytes (r .meta .infos) → Bytes (encode r)
-unfolding encode
+unfolding encode placeBytes
 encode-bytes r h =
-    bytes-append (bytesOf (smallWords (small r))) (r .meta .infos ++ placeRows rowCount 0 (r .pending .places)) (bytes-bytes (smallWords (small r)))
-    (bytes-append (r .meta .infos) (placeRows rowCount 0 (r .pending .places)) h (rows-bytes (r .pending .places) 12 0))
+    bytes-append (bytesOf (smallWords (small r))) (r .meta .infos ++ placeBytes (r .pending .places)) (bytes-bytes (smallWords (small r)))
+    (bytes-append (r .meta .infos) (placeBytes (r .pending .places)) h (bytes-bytes (placesFormat .put (rowsFrom rowCount 0 (r .pending .places)))))
 
 -- ---- a block that was saved
 
 -- the small part of r stored into a block that has r's infos and places
 pub saved-encode : (b : List ℕ) (r : Renderer Timed) → length b ≡ size → length (smallWords (small r)) ≡ smallWidth → infosOf b ≡ r .meta .infos
-    → drop placesAt b ≡ placeRows rowCount 0 (r .pending .places)
+    → drop placesAt b ≡ placeBytes (r .pending .places)
     → withWords b 0 (smallWords (small r)) ≡ encode r
 unfolding encode
 saved-encode b r l n i p =
     let w = smallWords (small r) in
-    let t : drop infosAt b ≡ r .meta .infos ++ placeRows rowCount 0 (r .pending .places) =
+    let t : drop infosAt b ≡ r .meta .infos ++ placeBytes (r .pending .places) =
     sym (take-append-drop infosBytes (drop infosAt b)) ∙ ap₂ (λ (x y : List ℕ). x ++ y) i (drop-drop infosBytes infosAt b ∙ p) in
     stored w b (omega arith) ∙ ap (λ (k : ℕ). bytesOf w ++ drop (4 * k) b) n ∙ ap (λ (x : List ℕ). bytesOf w ++ x) t

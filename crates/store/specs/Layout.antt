@@ -1,12 +1,11 @@
 -- The state block, from a renderer and to one. Document 01: "the renderer's state is a block of fixed length". It is 26,960 bytes: the small part's words (1,360), the object
 -- infos as they are (22,528), 12 rows of 64 places for pending samples (3,072). What is added later stands behind these. Assumes nothing.
 use Prim.Native.Nat.{ℕ, zero, suc, _+_, _*_}
-use mathlib.Core.Bool.{false, cond}
-use mathlib.Core.List.{List, [], _++_}
-use lib.Dec.{ltb}
-use lib.ListN.{take, drop, replicate}
+use mathlib.Core.Bool.{false}
+use mathlib.Core.List.{List, [], _∷_, _++_}
+use lib.ListN.{getD, take, drop, replicate}
 use Rattle.words.specs.Words.{wordsAt}
-use Rattle.formats.specs.Areas.{infosBytes, rowCount, rowPlaces, rowBytes}
+use Rattle.formats.specs.Areas.{infosBytes, rowCount, placesFormat, placeCount}
 use Rattle.vectors.specs.declared.Vec3.{Vec3}
 use Rattle.timed.specs.Slot.{middle}
 use Rattle.timed.specs.State.{Timed}
@@ -40,22 +39,26 @@ assembled s is ps =
 abbrev pub infosOf : List ℕ → List ℕ
 infosOf b = take infosBytes (drop infosAt b)
 
+-- a row for each channel; there is none past the last
 abbrev pub placesOf : List ℕ → Places
-placesOf b c = cond (ltb c rowCount) (wordsAt b (placesAt + rowBytes * c) rowPlaces) []
+placesOf b c = getD (placesFormat .get (wordsAt b placesAt placeCount) 0) c []
 
 unfoldable pub decode : List ℕ → Renderer Timed
 unfolding smallOf
 decode b = assembled (smallOf (wordsAt b 0 smallWidth)) (infosOf b) (placesOf b)
 
 -- n rows from row c on
-unfoldable pub placeRows : ℕ → ℕ → Places → List ℕ
-unfolding bytesOf
-placeRows zero c p = []
-placeRows (suc n) c p = bytesOf (p c) ++ placeRows n (suc c) p
+unfoldable pub rowsFrom : ℕ → ℕ → Places → List (List ℕ)
+rowsFrom zero c p = []
+rowsFrom (suc n) c p = p c ∷ rowsFrom n (suc c) p
+
+unfoldable pub placeBytes : Places → List ℕ
+unfolding bytesOf rowsFrom
+placeBytes p = bytesOf (placesFormat .put (rowsFrom rowCount 0 p))
 
 unfoldable pub encode : Renderer Timed → List ℕ
-unfolding smallWords bytesOf placeRows
-encode r = bytesOf (smallWords (small r)) ++ (r .meta .infos ++ placeRows rowCount 0 (r .pending .places))
+unfolding smallWords bytesOf placeBytes
+encode r = bytesOf (smallWords (small r)) ++ (r .meta .infos ++ placeBytes (r .pending .places))
 
 -- ---- a new renderer: "A new renderer is a block that reset has filled." No rate, the limiter's gain 1.0, all else 0
 
