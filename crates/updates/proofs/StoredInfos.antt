@@ -40,7 +40,7 @@ three s at x y z =
     let two = twice at (at + 8) (one s at x) (one a (at + 4) y) (omega arith) (omega arith) (omega arith) (omega arith) in
     twice at (at + 12) two (one b (at + 8) z) (omega arith) (omega arith) (omega arith) (omega arith)
 
-cleared-stored : (fresh : Bool) (at : ℕ) (s : List ℕ) → Stored s (cleared fresh at s) at (at + 24)
+pub cleared-stored : (fresh : Bool) (at : ℕ) (s : List ℕ) → Stored s (cleared fresh at s) at (at + 24)
 unfolding cleared
 cleared-stored true at s =
     twice at (at + 24) (three s at 0 0 0) (three (withThree s at 0 0 0) (at + 12) 0 0 0) (omega arith) (omega arith) (omega arith) (omega arith)

@@ -10,5 +10,7 @@ pub use Rattle.updates.proofs.Elements.{flags-enough}
 pub use Rattle.updates.proofs.Elements.{turned-at, element-at}
 -- metadata that refusals 5 and 6 let pass is as an applied update asks
 pub use Rattle.updates.proofs.Passed.{passes, passes-all}
+-- the format of an info reads back what an update writes of a record's words
+pub use Rattle.updates.proofs.InfoWritten.{info-written, info-words}
 -- what a written info, or those of an object or of an element, leave of the others
 pub use Rattle.updates.proofs.StoredInfos.{Stored, one, twice, three, head-stored, place-stored, places-stored, info-stored, object-stored, objects-stored}

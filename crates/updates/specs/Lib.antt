@@ -1,6 +1,7 @@
 pub mod WholeRecords
 pub mod Said
 pub mod Stored
+pub mod InfoAfter
 pub mod Applied
 pub mod Contracts
 pub mod Lifted
