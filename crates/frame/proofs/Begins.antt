@@ -26,6 +26,7 @@ use Rattle.store.specs.declared.renderer.Renderer714.{Renderer714}
 use Rattle.store.specs.Layout.{size, assembled, infosOf, placesOf}
 use Rattle.theorem.specs.Instance.{Sent, hall, sentAt, sentOf}
 use Rattle.theorem.proofs.Theorems.{Within}
+use Rattle.formats.specs.Areas.{infosBytes}
 use Rattle.frame.specs.Held.{held, smallBytes, IsHeld, IsNext}
 use Rattle.store.specs.Steps.{withState}
 use Rattle.frame.specs.Begin.{restated, CanStart, Rests}
@@ -46,7 +47,7 @@ module _ (t : ℕ) (u : Update) (s : Renderer714) (b : List ℕ) where
   by-start false m e f = rw (e, f)
 
   pub one-applied :
-      (new : Bool) (at : ℕ) (m : MetadataRendererState) (is : List ℕ) (r : Renderer714) → length b ≡ size → length is ≡ 22528 → (not (s .state .initialized) || eqb t 0) ≡ new
+      (new : Bool) (at : ℕ) (m : MetadataRendererState) (is : List ℕ) (r : Renderer714) → length b ≡ size → length is ≡ infosBytes → (not (s .state .initialized) || eqb t 0) ≡ new
       → at ≡ s .clock .position .0 →
       IsTimed (updates.applied at u before) m is → r ≡ restated new s m → IsNext (appliedAt hall t (sent t u) (held s b)) b r (changed b is)
   one-applied new at m is r whole long e here h q =
@@ -69,7 +70,7 @@ module _ (s : Renderer714) (b : List ℕ) where
   slot-rests whole e = record { holds = record { is = by-slot false _ e refl; long = whole }; small = refl }
 
   pub slot-starts :
-      (m : MetadataRendererState) (is : List ℕ) (r : Renderer714) → length b ≡ size → length is ≡ 22528 → s .state .initialized ≡ true → s .clock .phase ≡ 0 →
+      (m : MetadataRendererState) (is : List ℕ) (r : Renderer714) → length b ≡ size → length is ≡ infosBytes → s .state .initialized ≡ true → s .clock .phase ≡ 0 →
       IsTimed (slotAt (s .clock .start .0) (record { state = s .state; infos = infosOf b })) m is → r ≡ withState s m → IsNext (slotted hall (held s b)) b r (changed b is)
   slot-starts m is r whole long e z h q =
       record {

@@ -7,20 +7,21 @@ use lib.ListN.{length, take, drop, length-append, length-drop}
 use lib.Seq.{length-take-le, take-at, drop-at, drop-drop}
 use borrow.Rule.Slice.PartMut.{take-put}
 use Rattle.store.specs.declared.renderer.Renderer714.{Renderer714}
-use Rattle.store.specs.Layout.{size, assembled, infosOf, placesOf}
+use Rattle.store.specs.Layout.{infosAt, placesAt, size, assembled, infosOf, placesOf}
 use Rattle.store.proofs.Theorems.{places-beside}
+use Rattle.formats.specs.Areas.{infosBytes}
 use Rattle.frame.specs.Held.{held, smallBytes}
 
 -- a block with other infos
 abbrev pub changed : List ℕ → List ℕ → List ℕ
-changed b is = take 1360 b ++ (is ++ drop 22528 (drop 1360 b))
+changed b is = take infosAt b ++ (is ++ drop infosBytes (drop infosAt b))
 
-module _ (b is : List ℕ) (whole : length b ≡ size) (long : length is ≡ 22528) where
-  front : length (take 1360 b) ≡ 1360
-  front = length-take-le 1360 b (omega arith)
+module _ (b is : List ℕ) (whole : length b ≡ size) (long : length is ≡ infosBytes) where
+  front : length (take infosAt b) ≡ infosAt
+  front = length-take-le infosAt b (omega arith)
 
-  rest : drop 1360 (changed b is) ≡ is ++ drop 22528 (drop 1360 b)
-  rest = drop-at (take 1360 b) (is ++ drop 22528 (drop 1360 b)) 1360 front
+  rest : drop infosAt (changed b is) ≡ is ++ drop infosBytes (drop infosAt b)
+  rest = drop-at (take infosAt b) (is ++ drop infosBytes (drop infosAt b)) infosAt front
 
   pub changed-long : length (changed b is) ≡ size
   changed-long =
@@ -28,13 +29,13 @@ module _ (b is : List ℕ) (whole : length b ≡ size) (long : length is ≡ 225
       rw (length-append, length-append, length-drop, length-drop) (omega arith)
 
   pub changed-small : smallBytes (changed b is) ≡ smallBytes b
-  changed-small = take-put 1360 22528 b is (omega arith)
+  changed-small = take-put infosAt infosBytes b is (omega arith)
 
   changed-infos : infosOf (changed b is) ≡ is
-  changed-infos = rw rest (take-at is (drop 22528 (drop 1360 b)) 22528 long)
+  changed-infos = rw rest (take-at is (drop infosBytes (drop infosAt b)) infosBytes long)
 
-  past : drop 23888 (changed b is) ≡ drop 23888 b
-  past = sym (drop-drop 22528 1360 (changed b is)) ∙ rw rest (drop-at is (drop 22528 (drop 1360 b)) 22528 long ∙ drop-drop 22528 1360 b)
+  past : drop placesAt (changed b is) ≡ drop placesAt b
+  past = sym (drop-drop infosBytes infosAt (changed b is)) ∙ rw rest (drop-at is (drop infosBytes (drop infosAt b)) infosBytes long ∙ drop-drop infosBytes infosAt b)
 
   changed-places : placesOf (changed b is) ≡ placesOf b
   changed-places = places-beside b (changed b is) past

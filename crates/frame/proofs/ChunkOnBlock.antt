@@ -22,7 +22,7 @@ use Rattle.rules.specs.Samples.{Frame, Renderer, moment, metered, flushed, gain
 use Rattle.timed.specs.State.{Timed}
 use Rattle.theorem.specs.Instance.{Sent, hall}
 use Rattle.store.specs.declared.renderer.Renderer714.{Renderer714}
-use Rattle.store.specs.Layout.{assembled, infosOf, placesOf}
+use Rattle.store.specs.Layout.{placesAt, assembled, infosOf, placesOf}
 use Rattle.store.specs.Steps.{settledBy}
 use Rattle.store.proofs.Theorems.{places-row, no-places, words-long}
 use Rattle.render.specs.declared.Span.{Span}
@@ -113,7 +113,7 @@ module _ (f : Frame Sent) (t k : ℕ) (s : Renderer714) (b : List ℕ) where
 
   -- a whole block is `flushed`
   places-short : (c : ℕ) (q : Bool) → ltb c 12 ≡ q → length (placesOf b c) ≤ 64
-  places-short c true e = rw (places-row b c (ltb-true c 12 e), words-long b (23888 + 256 * c) 64) (omega arith)
+  places-short c true e = rw (places-row b c (ltb-true c 12 e), words-long b (placesAt + 256 * c) 64) (omega arith)
   places-short c false e = rw (no-places b c (ltb-false c 12 e)) (omega arith)
 
   rows-whole : (λ c. take 64 (floats rows c)) ≡ floats rows

@@ -17,7 +17,7 @@ use Rattle.rules.specs.Parts.{Channels, none, twelve, floats}
 use Rattle.rules.specs.Samples.{limited, metered, gainAfter, flushed}
 use Rattle.rules.specs.Block.{writtenFrom, written}
 use Rattle.store.specs.declared.renderer.Renderer714.{Renderer714}
-use Rattle.store.specs.Layout.{size, placesOf}
+use Rattle.store.specs.Layout.{placesAt, size, placesOf}
 use Rattle.store.specs.Steps.{emptiedBy}
 use Rattle.store.proofs.Theorems.{places-row, words-drop}
 use Rattle.frame.specs.declared.Rendering.{Rendering}
@@ -101,27 +101,27 @@ module _ (f : Channels) (s : List ℕ) (n : ℕ) (e : (c : ℕ) → c < 12 → f
 waiting : ℕ → List ℕ → Channels
 waiting n b c = take n (floats (placesOf b) c)
 
-waiting-at : (n : ℕ) (b : List ℕ) → n ≤ 64 → length b ≡ size → (c : ℕ) → c < 12 → floatsAt (take (length b - 23888) (drop 23888 b)) (256 * c) n ≡ waiting n b c
+waiting-at : (n : ℕ) (b : List ℕ) → n ≤ 64 → length b ≡ size → (c : ℕ) → c < 12 → floatsAt (take (length b - placesAt) (drop placesAt b)) (256 * c) n ≡ waiting n b c
 unfolding waiting
 waiting-at n b h l c m =
-    let d : length (drop 23888 b) ≤ length b - 23888 = rw length-drop (omega arith) in
-    ap (λ (s : List ℕ). floatsAt s (256 * c) n) (take-all (length b - 23888) (drop 23888 b) d)
-    ∙ floats-words (drop 23888 b) (256 * c) n
-    ∙ ap (map (ofBits binary32)) (sym (words-drop b 23888 (256 * c) n))
-    ∙ sym (floats-take b (23888 + 256 * c) n 64 h)
+    let d : length (drop placesAt b) ≤ length b - placesAt = rw length-drop (omega arith) in
+    ap (λ (s : List ℕ). floatsAt s (256 * c) n) (take-all (length b - placesAt) (drop placesAt b) d)
+    ∙ floats-words (drop placesAt b) (256 * c) n
+    ∙ ap (map (ofBits binary32)) (sym (words-drop b placesAt (256 * c) n))
+    ∙ sym (floats-take b (placesAt + 256 * c) n 64 h)
     ∙ ap (λ (ws : List ℕ). take n (map (ofBits binary32) ws)) (sym (places-row b c m))
 
 -- what `give` leaves
 pub gave : (w : Rendering) (b out : List ℕ) (stride : ℕ) {l : Limited} {r : Rendering} {out' : List ℕ} → length b ≡ size → w .renderer .pending ≤ 64
     → r .renderer ≡ emptiedBy (w .renderer) (l .limiter) → r .ready ≡ w .ready + w .renderer .pending → r .meters ≡ meets (w .meters) (l .meters)
-    → Given (w .renderer .limiter .gain) (w .renderer .pending) (w .renderer .rate) (take (length b - 23888) (drop 23888 b)) (4 * stride) (4 * w .ready) out l out'
+    → Given (w .renderer .limiter .gain) (w .renderer .pending) (w .renderer .rate) (take (length b - placesAt) (drop placesAt b)) (4 * stride) (4 * w .ready) out l out'
     → Gave w b stride out r out'
 unfolding flushed waiting
 gave w b out stride l m p n o given =
     let s = w .renderer in
     let e = waiting-at (s .pending) b m l in
     let f = waiting (s .pending) b in
-    let part = take (length b - 23888) (drop 23888 b) in
+    let part = take (length b - placesAt) (drop placesAt b) in
     record {
       next = ap (λ (r : Renderer714). held r b) (p ∙ ap (λ (g : Float). emptiedBy s (record { gain = g })) (gain-after f part (s .pending) e stride (w .ready) given));
       given = given-behind f part (s .pending) e stride (w .ready) given;

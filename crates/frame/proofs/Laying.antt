@@ -13,9 +13,10 @@ use lib.Ieee.{Float, nan, binary32, fits, toBits}
 use Rattle.words.specs.Words.{wordsAt}
 use Rattle.limiter.specs.Places.{channels, withChannels}
 use Rattle.rules.specs.Parts.{laid}
-use Rattle.store.specs.Layout.{size, infosOf, placesOf}
+use Rattle.store.specs.Layout.{infosAt, placesAt, size, infosOf, placesOf}
 use Rattle.store.proofs.Theorems.{places-row, no-places, words-drop}
 use Rattle.render.proofs.Theorems.{Fit, append-laid, length-channels}
+use Rattle.formats.specs.Areas.{infosBytes}
 use Rattle.frame.specs.Held.{smallBytes}
 use Rattle.frame.specs.Pass.{Laid}
 
@@ -35,56 +36,56 @@ pub fit-all : (xs : List Float) → ((i : ℕ) → T (fits binary32 (getD xs i n
 fit-all [] h = tt
 fit-all (x ∷ xs) h = (h zero, fit-all xs (λ i. h (suc i)))
 
--- ---- a block whose first 23,888 bytes stay
+-- ---- a block that stays up to its places
 
-infos-front : (p x : List ℕ) → length p ≡ 23888 → infosOf (p ++ x) ≡ infosOf p
+infos-front : (p x : List ℕ) → length p ≡ placesAt → infosOf (p ++ x) ≡ infosOf p
 infos-front p x l =
-    let d : 22528 ≤ length (drop 1360 p) = rw length-drop (omega arith) in
-    ap (take 22528) (drop-append-le 1360 p x (omega arith)) ∙ take-append-le 22528 (drop 1360 p) x d
+    let d : infosBytes ≤ length (drop infosAt p) = rw length-drop (omega arith) in
+    ap (take infosBytes) (drop-append-le infosAt p x (omega arith)) ∙ take-append-le infosBytes (drop infosAt p) x d
 
-words-back : (p x : List ℕ) (at n : ℕ) → length p ≡ 23888 → wordsAt (p ++ x) (23888 + at) n ≡ wordsAt x at n
-words-back p x at n l = words-drop (p ++ x) 23888 at n ∙ ap (λ (s : List ℕ). wordsAt s at n) (drop-at p x 23888 l)
+words-back : (p x : List ℕ) (at n : ℕ) → length p ≡ placesAt → wordsAt (p ++ x) (placesAt + at) n ≡ wordsAt x at n
+words-back p x at n l = words-drop (p ++ x) placesAt at n ∙ ap (λ (s : List ℕ). wordsAt s at n) (drop-at p x placesAt l)
 
 module _ (rows : List Float) (pending k : ℕ) (short : pending + k ≤ 64) (b new : List ℕ) (fit : Fit rows) (lr : length rows ≡ 768) (l : length b ≡ size)
-    (p : new ≡ withChannels (channels 12 k rows) 256 (4 * pending) (take (length b - 23888) (drop 23888 b))) where
+    (p : new ≡ withChannels (channels 12 k rows) 256 (4 * pending) (take (length b - placesAt) (drop placesAt b))) where
   front : List ℕ
-  front = take 23888 b
+  front = take placesAt b
 
   back : List ℕ
-  back = withChannels (channels 12 k rows) 256 (4 * pending) (drop 23888 b)
+  back = withChannels (channels 12 k rows) 256 (4 * pending) (drop placesAt b)
 
-  front-long : length front ≡ 23888
+  front-long : length front ≡ placesAt
   unfolding front
-  front-long = length-take-le 23888 b (omega arith)
+  front-long = length-take-le placesAt b (omega arith)
 
-  rest-long : length (drop 23888 b) ≡ 3072
-  rest-long = length-drop 23888 b ∙ omega arith
+  rest-long : length (drop placesAt b) ≡ 3072
+  rest-long = length-drop placesAt b ∙ omega arith
 
-  put : putMid 23888 (length b - 23888) b new ≡ front ++ back
+  put : putMid placesAt (length b - placesAt) b new ≡ front ++ back
   unfolding front back
   put =
       let d = rest-long in
-      let o : length (drop 23888 b) ≤ length b - 23888 = omega arith in
-      ap (λ (t : List ℕ). take 23888 b ++ (new ++ t)) (drop-of-length-le (drop 23888 b) o)
-      ∙ ap (λ (t : List ℕ). take 23888 b ++ t) (append-nil new ∙ p ∙ ap (withChannels (channels 12 k rows) 256 (4 * pending)) (take-all (length b - 23888) (drop 23888 b) o))
+      let o : length (drop placesAt b) ≤ length b - placesAt = omega arith in
+      ap (λ (t : List ℕ). take placesAt b ++ (new ++ t)) (drop-of-length-le (drop placesAt b) o)
+      ∙ ap (λ (t : List ℕ). take placesAt b ++ t) (append-nil new ∙ p ∙ ap (withChannels (channels 12 k rows) 256 (4 * pending)) (take-all (length b - placesAt) (drop placesAt b) o))
 
   put-long : length (front ++ back) ≡ size
   unfolding front back
   put-long =
       let d = rest-long in
       let f = front-long in
-      let e = length-channels (channels 12 k rows) (4 * pending) (drop 23888 b) in
-      length-append (take 23888 b) (withChannels (channels 12 k rows) 256 (4 * pending) (drop 23888 b)) ∙ omega arith
+      let e = length-channels (channels 12 k rows) (4 * pending) (drop placesAt b) in
+      length-append (take placesAt b) (withChannels (channels 12 k rows) 256 (4 * pending) (drop placesAt b)) ∙ omega arith
 
   put-small : smallBytes (front ++ back) ≡ smallBytes b
   unfolding front
   put-small =
       let f = front-long in
-      take-append-le 1360 front back (omega arith) ∙ sym (take-append-le 1360 front (drop 23888 b) (omega arith)) ∙ ap smallBytes (take-append-drop 23888 b)
+      take-append-le infosAt front back (omega arith) ∙ sym (take-append-le infosAt front (drop placesAt b) (omega arith)) ∙ ap smallBytes (take-append-drop placesAt b)
 
   put-infos : infosOf (front ++ back) ≡ infosOf b
   unfolding front
-  put-infos = infos-front front back front-long ∙ sym (infos-front front (drop 23888 b) front-long) ∙ ap infosOf (take-append-drop 23888 b)
+  put-infos = infos-front front back front-long ∙ sym (infos-front front (drop placesAt b) front-long) ∙ ap infosOf (take-append-drop placesAt b)
 
   put-place : (c : ℕ) (q : Bool) → ltb c 12 ≡ q → placesOf (front ++ back) c ≡ laid pending (take k (drop (64 * c) rows)) (placesOf b c)
   unfolding back
@@ -92,12 +93,12 @@ module _ (rows : List Float) (pending k : ℕ) (short : pending + k ≤ 64) (b n
       let l = ltb-true c 12 e in
       places-row (front ++ back) c l
       ∙ words-back front back (256 * c) 64 front-long
-      ∙ append-laid k pending short rows (drop 23888 b) fit rest-long lr c l
-      ∙ ap (laid pending (take k (drop (64 * c) rows))) (sym (words-drop b 23888 (256 * c) 64) ∙ sym (places-row b c l))
+      ∙ append-laid k pending short rows (drop placesAt b) fit rest-long lr c l
+      ∙ ap (laid pending (take k (drop (64 * c) rows))) (sym (words-drop b placesAt (256 * c) 64) ∙ sym (places-row b c l))
   put-place c false e =
       let l = ltb-false c 12 e in
       no-places (front ++ back) c l
       ∙ sym (laid-nil pending (take k (drop (64 * c) rows))) ∙ ap (laid pending (take k (drop (64 * c) rows))) (sym (no-places b c l))
 
-  pub lay-laid : Laid rows pending k b (putMid 23888 (length b - 23888) b new)
+  pub lay-laid : Laid rows pending k b (putMid placesAt (length b - placesAt) b new)
   lay-laid = rw put (record { long = put-long; small = put-small; infos = put-infos; places = fun-ext (λ c. put-place c (ltb c 12) refl) })

@@ -30,7 +30,7 @@ use Rattle.rules.specs.Calls.{frameOf}
 use Rattle.rules.proofs.Theorems.{Passed, is-passed, and-true, is-roomy, is-listed, rate-high, is-sized, samples-fit, R}
 use Rattle.store.specs.declared.renderer.Renderer714.{Renderer714}
 use Rattle.store.specs.Steps.{openedBy}
-use Rattle.store.specs.Layout.{size, infosOf, decode}
+use Rattle.store.specs.Layout.{smallWidth, size, infosOf, decode}
 use Rattle.store.specs.Ranges.{smallValid, headsValid, valid}
 use Rattle.theorem.specs.Instance.{hall, block, sentAt, sentOf}
 use Rattle.theorem.proofs.Theorems.{each-all, codes-long, shape-apply, shape-slot, facts}
@@ -63,8 +63,8 @@ shapes =
 valid-long : (b : List ℕ) → valid b ≡ true → length b ≡ size
 unfolding valid
 valid-long b e =
-    let x = and-true (eqb (length b) size && smallValid (wordsAt b 0 340)) (headsValid (infosOf b) 0 512) e in
-    eqb-true (length b) size (and-true (eqb (length b) size) (smallValid (wordsAt b 0 340)) (x .0) .0)
+    let x = and-true (eqb (length b) size && smallValid (wordsAt b 0 smallWidth)) (headsValid (infosOf b) 0 512) e in
+    eqb-true (length b) size (and-true (eqb (length b) size) (smallValid (wordsAt b 0 smallWidth)) (x .0) .0)
 
 pub record Taken (b : List ℕ) (a : Args) (l : Layout) : Type 0 where
   pub passed : Passed hall (decode b) a

@@ -6,7 +6,7 @@ use lib.ListN.{length, take}
 use Rattle.timed.specs.State.{Timed}
 use Rattle.rules.specs.Samples.{Renderer}
 use Rattle.store.specs.declared.renderer.Renderer714.{Renderer714}
-use Rattle.store.specs.Layout.{size, assembled, infosOf, placesOf}
+use Rattle.store.specs.Layout.{infosAt, size, assembled, infosOf, placesOf}
 use Rattle.frame.specs.declared.Rendering.{Rendering}
 
 -- `decode b` is `held` of b's own small part
@@ -18,9 +18,9 @@ pub record IsHeld (r : Renderer Timed) (s : Renderer714) (b : List ℕ) : Type 0
   pub is : held s b ≡ r
   pub long : length b ≡ size
 
--- the first 1,360 bytes of a block, where its small part stands between calls
+-- the first bytes of a block, where its small part stands between calls
 abbrev pub smallBytes : List ℕ → List ℕ
-smallBytes b = take 1360 b
+smallBytes b = take infosAt b
 
 -- the block b₀ became b: s and b hold r, and the small part's bytes are as they were. With r's infos and places that is all of b
 pub record IsNext (r : Renderer Timed) (b₀ : List ℕ) (s : Renderer714) (b : List ℕ) : Type 0 where

@@ -14,7 +14,7 @@ use Rattle.rules.specs.Samples.{After}
 use Rattle.rules.specs.Calls.{found}
 use Rattle.rules.specs.Block.{written}
 use Rattle.store.specs.Fields.{smallOf}
-use Rattle.store.specs.Layout.{decode}
+use Rattle.store.specs.Layout.{smallWidth, decode}
 use Rattle.store.specs.Ranges.{valid}
 use Rattle.theorem.specs.Instance.{hall}
 use Rattle.frame.specs.declared.Rendering.{Rendering}
@@ -33,7 +33,7 @@ runLength started phase pending left = cond started (lesser (64 - phase) (lesser
 
 -- w has the small part of the valid block b and nothing in the output, l is the metadata's layout, and the push is not refused
 pub record Accepted (w : Rendering) (b : List ℕ) (l : Layout) (a : Args) : Type 0 where
-  pub small : w .renderer ≡ smallOf (wordsAt b 0 340)
+  pub small : w .renderer ≡ smallOf (wordsAt b 0 smallWidth)
   pub none : w .ready ≡ 0
   pub valid : valid b ≡ true
   pub clear : found hall (decode b) a ≡ clear

@@ -24,7 +24,7 @@ use Rattle.rules.specs.Block.{written, made}
 use Rattle.rules.proofs.Theorems.{is-passed, is-listed, rate-high, is-roomy, length-limited}
 use Rattle.store.specs.declared.renderer.Renderer714.{Renderer714}
 use Rattle.store.specs.Fields.{smallWords, smallOf}
-use Rattle.store.specs.Layout.{decode}
+use Rattle.store.specs.Layout.{smallWidth, decode}
 use Rattle.store.specs.Ranges.{valid}
 use Rattle.theorem.specs.Instance.{hall, block}
 use Rattle.theorem.proofs.Theorems.{Within, decoded-of, pushed-within, flushed-within}
@@ -62,7 +62,7 @@ flushed-long r g =
     ∙ length-take-le (r .pending .count) (floats (r .pending .places) 0) (let l = g .long 0 (omega arith) in let p = g .pending in
     let m = length-map (r .pending .places 0) (ofBits binary32) in omega arith)
 
-module _ (b : List ℕ) (s : Renderer714) (e : s ≡ smallOf (wordsAt b 0 340)) (bytes : Bytes b) (v : valid b ≡ true) (out : List ℕ) (stride : ℕ)
+module _ (b : List ℕ) (s : Renderer714) (e : s ≡ smallOf (wordsAt b 0 smallWidth)) (bytes : Bytes b) (v : valid b ≡ true) (out : List ℕ) (stride : ℕ)
     (k : room stride (length out) ≡ true) where
   pub can-give : CanGive (record { renderer = s; ready = 0; meters = unmet }) b out stride
   can-give =

@@ -14,7 +14,7 @@ use Rattle.rules.specs.Ranges.{Ranged}
 use Rattle.rules.proofs.Theorems.{and-true}
 use Rattle.store.specs.declared.renderer.Renderer714.{Renderer714}
 use Rattle.store.specs.Fields.{smallWords, smallOf}
-use Rattle.store.specs.Layout.{size, small, placeBytes, infosOf, decode, encode}
+use Rattle.store.specs.Layout.{smallWidth, size, small, placeBytes, infosOf, decode, encode}
 use Rattle.store.specs.Ranges.{valid, smallValid, headsValid}
 use Rattle.store.proofs.Back.{small-long}
 use Rattle.store.proofs.Rows.{rows-of}
@@ -27,13 +27,13 @@ use Rattle.frame.specs.Held.{held, IsHeld}
 pub valid-long : (b : List ℕ) → valid b ≡ true → length b ≡ size
 unfolding valid
 valid-long b v = eqb-true (length b) size
-    (and-true (eqb (length b) size) (smallValid (wordsAt b 0 340)) (and-true (eqb (length b) size && smallValid (wordsAt b 0 340)) (headsValid (infosOf b) 0 512) v .0) .0)
+    (and-true (eqb (length b) size) (smallValid (wordsAt b 0 smallWidth)) (and-true (eqb (length b) size && smallValid (wordsAt b 0 smallWidth)) (headsValid (infosOf b) 0 512) v .0) .0)
 
 pub pos-of : (n : ℕ) → (n ≡ 0 → ⊥) → 0 < n
 pos-of zero h = absurd (h refl)
 pos-of (suc n) h = omega arith
 
-module _ (b : List ℕ) (s : Renderer714) (e : s ≡ smallOf (wordsAt b 0 340)) where
+module _ (b : List ℕ) (s : Renderer714) (e : s ≡ smallOf (wordsAt b 0 smallWidth)) where
   pub loaded-pending : decode b .pending .count ≡ s .pending
   loaded-pending = sym (ap (λ (r : Renderer Timed). r .pending .count) (loaded b s e))
 

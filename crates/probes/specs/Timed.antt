@@ -8,6 +8,7 @@ use lib.ListN.{length, getD}
 use Rattle.fields.specs.Bytes.{all}
 use Rattle.records.specs.Laid.{updateAt, laidOut, count}
 use Rattle.records.specs.Ranges.{inRange}
+use Rattle.timed.specs.InfoSizes.{allBytes}
 use Rattle.timed.specs.Slot.{middle, noBlock}
 use Rattle.timed.specs.State.{Timed, elementOf, slotAt}
 use Rattle.timed.specs.declared.state.BlockState.{BlockState}
@@ -44,9 +45,9 @@ stateFits position s =
 
 -- ---- the slot and the update
 
--- 512 infos of 44 bytes
+-- all infos
 abbrev pub hasInfos : Timed → Bool
-hasInfos t = eqb (length (t .infos)) 22528
+hasInfos t = eqb (length (t .infos)) allBytes
 
 abbrev pub slotIf : ℕ → Timed → Timed
 slotIf start t = cond (hasInfos t && leb start lastPosition && stateFits start (t .state)) (slotAt start t) t

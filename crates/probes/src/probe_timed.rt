@@ -1,13 +1,17 @@
-// The timed state crosses by value, the infos as bytes. Where the state is not within its ranges, the infos are not 22,528 bytes or the metadata is refused, nothing is done.
+// The timed state crosses by value, the infos as bytes. Where the state is not within its ranges, the infos are not all there or the metadata is refused, nothing is done.
 ghost use mathlib.Core.Path.{_≡_};
 ghost use Prim.Native.Nat.{_≤_};
 ghost use Rattle.timed.specs.Contracts.{IsTimed};
 ghost use Rattle.probes.specs.Timed.{scheduleFits, elementFits, countsSuit, stateFits, slotIf, updateIf};
 use clock::StreamSample;
+use timed::infos::ELEMENT_INFOS;
+use timed::infos::INFO_BYTES;
 use timed::state;
 use timed::state::BlockState;
 use timed::state::ElementRendererState;
 use timed::state::MetadataRendererState;
+
+const INFOS_BYTES: usize = 2 * ELEMENT_INFOS * INFO_BYTES;
 
 fn schedule_fits(schedule: [BlockState; 8]) -> bool
     ensures { λ r. ⌜ r ≡ scheduleFits schedule ⌝ }
@@ -93,7 +97,7 @@ pub extern "C" fn probe_update_timeslot(
 ) -> MetadataRendererState
     ensures { λ r. ⌜ IsTimed (slotIf start (record { state = s; infos = now (infos .entry) })) r (now (infos .exit)) ⌝ }
 {
-    if infos.len() != 22528 {
+    if infos.len() != INFOS_BYTES {
         return s;
     }
     if start > 1099511627776 {
@@ -115,7 +119,7 @@ pub extern "C" fn probe_apply_update(
 ) -> MetadataRendererState
     ensures { λ r. ⌜ IsTimed (updateIf (now (meta .entry)) i at (record { state = s; infos = now (infos .entry) })) r (now (infos .exit)) ⌝ }
 {
-    if infos.len() != 22528 {
+    if infos.len() != INFOS_BYTES {
         return s;
     }
     let l = records::layout::layout_of(meta);

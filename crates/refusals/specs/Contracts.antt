@@ -11,7 +11,7 @@ use Rattle.rules.specs.Refusals.{Args, Found, clear, stop, unless, argsOf, earl
 use Rattle.rules.specs.Calls.{found}
 use Rattle.store.specs.declared.renderer.Renderer714.{Renderer714}
 use Rattle.store.specs.Fields.{smallOf}
-use Rattle.store.specs.Layout.{decode}
+use Rattle.store.specs.Layout.{smallWidth, decode}
 use Rattle.theorem.specs.Instance.{hall}
 use Rattle.refusals.specs.RefusalNumbers.{foundOf}
 use Rattle.refusals.specs.PresentShape.{toldOf, presentShape}
@@ -35,7 +35,7 @@ IsEarly position bytes args r = (out : List ℕ) → length out ≡ bytes → (t
 
 -- r is the first of 1 to 14 on each block whose small part s is
 abbrev pub IsFound : Renderer714 → ℕ → (List ℕ → Args) → Refusal → Type 0
-IsFound s bytes args r = (b out : List ℕ) → s ≡ smallOf (wordsAt b 0 340) → length out ≡ bytes → foundOf r ≡ found hall (decode b) (args out)
+IsFound s bytes args r = (b out : List ℕ) → s ≡ smallOf (wordsAt b 0 smallWidth) → length out ≡ bytes → foundOf r ≡ found hall (decode b) (args out)
 
 -- r is p after the updates at t, whatever objects and inputs the push has
 pub record IsAfter (m : List ℕ) (t : ℕ) (p r : Present) : Type 0 where
