@@ -1,21 +1,21 @@
 -- Nothing overflows: a bound of the format on the exact result bounds the rounded one, since rounding is monotone. No error is counted. `Bounded b x`: x is finite and of size
 -- at most b units. Assumes nothing.
-use mathlib.Core.Path.{_≡_, sym, ap, _∙_, subst}
+use mathlib.Core.Path.{_≡_, refl, sym, ap, _∙_, subst}
 use mathlib.Core.Logic.{_⊎_, _↔_, inl, inr}
-use mathlib.Core.Bool.{true, false, _&&_}
+use mathlib.Core.Bool.{Bool, true, false, _&&_, _||_}
 use Prim.Native.Nat.{ℕ, suc, _+_, _*_, _^_, _≤_, _<_}
-use native.Mathlib.Nat.{le-trans, le-of-eq, zero-lt-suc, mul-assoc, mul-le-mul}
+use native.Mathlib.Nat.{le-refl, le-trans, le-of-eq, zero-lt-suc, mul-assoc, mul-le-mul}
 use native.Mathlib.Omega.{arith}
 use lib.Dec.{T}
 use lib.Ieee.{Float, nan, inf, fin, binary32, fits, neg, add, mul, lt, le, eq}
 use lib.Ieee.Fits.{and-i, and-l, and-r}
 pub use Rattle.ieee.specs.Bounds.{Bounded}
-use Rattle.ieee.proofs.Grid.{OnGrid, grid-at}
+use Rattle.ieee.proofs.Grid.{OnGrid, grid-at, grid-zero}
 use Rattle.ieee.proofs.Value.{One, one-pos, Top, F32, mag, P, N}
-use Rattle.ieee.proofs.Constants.{0·0, zero-f32, zero-mag}
+use Rattle.ieee.proofs.Constants.{0·0, zero-f32, zero-mag, top-pos}
 use Rattle.ieee.proofs.Ops.{Rounds, small, add-rounds, mul-rounds, neg-f32, neg-P, neg-N}
 use Rattle.ieee.proofs.Signed.{at-most, minus-at-most, mag-is, one-sided}
-use Rattle.ieee.proofs.Compare.{→le, le→}
+use Rattle.ieee.proofs.Compare.{→le, le→, →eq, eq→}
 
 pub bounded-by : {a b : ℕ} {x : Float} → a ≤ b → Bounded a x → Bounded b x
 bounded-by h k = record { f32 = k .f32; most = le-trans (k .most) h }
@@ -91,3 +91,30 @@ module _ (b j : ℕ) {u : ℕ} (is : 2 ^ j ≡ u) where
     where
       one-more : (n w : ℕ) → n * w + w ≤ suc n * w
       one-more n w = omega arith
+
+-- ---- a product of which one factor is a zero is a zero
+
+bounded-zero : (x : Float) → F32 x → T (eq x 0·0) → Bounded 0 x
+bounded-zero x f t =
+    let e = eq→ x 0·0 f zero-f32 t in
+    elim (one-sided x) [
+      | inl p ↦ record { f32 = f; most = omega (arith, mag-is x, mag-is 0·0, zero-mag, e, p) }
+      | inr n ↦ record { f32 = f; most = omega (arith, mag-is x, mag-is 0·0, zero-mag, e, n) }
+    ]
+
+zero-bounds : (x : Float) → Bounded 0 x → T (eq x 0·0)
+zero-bounds x h = →eq x 0·0 (h .f32) zero-f32 (omega (arith, mag-is x, mag-is 0·0, zero-mag, h .most))
+
+pub product-zero : (x y : Float) → F32 x → F32 y → T (eq x 0·0 || eq y 0·0) → T (eq (mul binary32 x y) 0·0)
+product-zero x y f g t = go (eq x 0·0) refl
+  where
+    whole : (z : Float) → F32 z → Bounded (mag z) z
+    whole z k = record { f32 = k; most = le-refl (mag z) }
+
+    go : (b : Bool) → eq x 0·0 ≡ b → T (eq (mul binary32 x y) 0·0)
+    go true e =
+        let z = bounded-zero x f (subst T (sym e) tt) in
+        zero-bounds (mul binary32 x y) (mul-bounded {a = 0} {b = mag y} grid-zero top-pos (omega arith) z (whole y g))
+    go false e =
+        let z = bounded-zero y g (subst (λ (b : Bool). T (b || eq y 0·0)) e t) in
+        zero-bounds (mul binary32 x y) (mul-bounded {a = mag x} {b = 0} grid-zero top-pos (omega arith) (whole x f) z)

@@ -36,6 +36,8 @@ pub use Rattle.ieee.proofs.Signed.{near, near-whole, near-ulp}
 pub use Rattle.ieee.proofs.Error.{root-near}
 -- nothing overflows and sizes stay bounded; `next-bounded`: one term more of a sum
 pub use Rattle.ieee.proofs.Bound.{bounded-by, zero-bounded, rounds-bounded, add-bounded, mul-bounded, next-bounded}
+-- a product with a zero is a zero, of either sign
+pub use Rattle.ieee.proofs.Bound.{product-zero}
 -- the bits of an f32 by its size, and its size by the bits
 pub use Rattle.ieee.proofs.Bits.{to-bits, no-sign, of-size, Read, read-size}
 -- a test on the bits, or two comparisons, say that a size is bounded, both ways
