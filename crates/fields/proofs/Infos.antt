@@ -17,11 +17,11 @@ use Rattle.fields.proofs.All.{and-left, and-right}
 module _ (m : List ℕ) (r : ℕ) (object : isObject m r ≡ true) where
   flags-few : byte m r 2 ≤ 63
   unfolding isObject
-  flags-few = leb-true _ _ (and-right (eqb (kind m r) 4 && leb (byte m r 1) 2) _ (and-left _ _ (and-left _ _ (and-left _ _ object))))
+  flags-few = leb-true _ _ (and-right (eqb (kind m r) 4 && leb (byte m r 1) 2) _ (and-left _ _ (and-left _ _ object)))
 
   anchor-listed : byte m r 1 ≤ 2
   unfolding isObject
-  anchor-listed = leb-true _ _ (and-right (eqb (kind m r) 4) _ (and-left _ _ (and-left _ _ (and-left _ _ (and-left _ _ object)))))
+  anchor-listed = leb-true _ _ (and-right (eqb (kind m r) 4) _ (and-left _ _ (and-left _ _ (and-left _ _ object))))
 
   plain : objectFrom (headSaid m r) (storedInfo m r) ≡ objectOf m r
   unfolding floatAt maybeOf positionOf

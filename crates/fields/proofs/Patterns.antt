@@ -12,7 +12,7 @@ use Rattle.ieee.specs.Numbers.{8·0}
 use Rattle.ieee.proofs.Theorems.{bits-same}
 use Rattle.vectors.specs.declared.Maybe.the-variants.{Absent, Value}
 use Rattle.vectors.specs.Head.{has}
-use Rattle.fields.specs.Object.{depthCode, maybeOf, absentOr}
+use Rattle.fields.specs.Object.{depthCode, maybeOf, fromZeroTo, absentOr}
 
 pub eight-bits : ofBits binary32 0x41000000 ≡ 8·0
 unfolding ofBits
@@ -24,13 +24,13 @@ float-bits m at = refl
 
 -- absent, or from 0 to the float y of the bits `most`
 pub range-by-bits : (most : ℕ) (y : Float) → ofBits binary32 most ≡ y → (m : List ℕ) (flags bit at : ℕ)
-    → (not (has flags bit) || absentOr (ofBits binary32 most) (Value (ofBits binary32 (word m at)))) ≡ absentOr y (maybeOf m flags bit at)
+    → (not (has flags bit) || fromZeroTo (ofBits binary32 most) (ofBits binary32 (word m at))) ≡ absentOr y (maybeOf m flags bit at)
 unfolding maybeOf floatAt
 range-by-bits most y e m flags bit at =
     let x = ofBits binary32 (word m at) in
-    ap (λ (z : Float). not (has flags bit) || absentOr z (Value x)) e ∙ present (has flags bit) y x
+    ap (λ (z : Float). not (has flags bit) || fromZeroTo z x) e ∙ present (has flags bit) y x
   where
-    present : (h : Bool) (most x : Float) → (not h || absentOr most (Value x)) ≡ absentOr most (cond h (Value x) Absent)
+    present : (h : Bool) (most x : Float) → (not h || fromZeroTo most x) ≡ absentOr most (cond h (Value x) Absent)
     present true most x = refl
     present false most x = refl
 

@@ -26,6 +26,7 @@ storedInfo m r =
       x = word m (40 * r + 8);
       y = word m (40 * r + 12);
       z = word m (40 * r + 16);
+      send = word m (40 * r + 36);
     }
 
 -- the object of an info, by its head
@@ -44,6 +45,7 @@ objectFrom h i =
       size = valueOf (h .flags) 32 (i .size);
       screen = ofBits binary32 (i .screen);
       depth = h .depth;
+      send = ofBits binary32 (i .send);
     }
 
 abbrev pub objectOfInfo : Info → Object

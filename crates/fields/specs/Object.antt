@@ -1,5 +1,6 @@
 -- "4, object in a block: 1 anchor (0 room, 1 screen, 2 speaker); 2 flags (1 position valid, 2 differential, 4 gain, 8 position, 16 distance, 32 size
--- present); f32 at 4 gain, 8, 12, 16 position, 20 distance, 24 size, 28 screen factor, 32 depth factor. An absent value is zero." Assumes nothing.
+-- present); f32 at 4 gain, 8, 12, 16 position, 20 distance, 24 size, 28 screen factor, 32 depth factor. An absent value is zero."
+-- Document 02, R-3: "Bytes 36 to 39 of an object record become its send, an f32 from 0 to 1." It is always there. Assumes nothing.
 use Prim.Native.Nat.{ℕ, _+_, _*_}
 use mathlib.Core.Bool.{Bool, true, false, _&&_, _||_, cond}
 use mathlib.Core.List.{List}
@@ -28,7 +29,7 @@ valuesFit m at flags =
 -- record r is an object in a block as laid out
 unfoldable pub isObject : List ℕ → ℕ → Bool
 isObject m r =
-    eqb (kind m r) 4 && leb (byte m r 1) 2 && leb (byte m r 2) 63 && eqb (byte m r 3) 0 && valuesFit m (40 * r) (byte m r 2) && zeroBytes m (40 * r + 36) 4
+    eqb (kind m r) 4 && leb (byte m r 1) 2 && leb (byte m r 2) 63 && eqb (byte m r 3) 0 && valuesFit m (40 * r) (byte m r 2)
 
 -- ---- its meaning
 
@@ -48,6 +49,7 @@ pub record Object : Type 0 where
   pub size : Maybe
   pub screen : Float
   pub depth : ℕ
+  pub send : Float
 
 -- the value at a place that is present with `bit`
 unfoldable pub maybeOf : List ℕ → ℕ → ℕ → ℕ → Maybe
@@ -76,15 +78,20 @@ objectOf m r =
       size = maybeOf m (byte m r 2) 32 (40 * r + 24);
       screen = floatAt m (40 * r + 28);
       depth = depthCode (floatAt m (40 * r + 32));
+      send = floatAt m (40 * r + 36);
     }
 
 -- ---- refusal 6 does not arise
 
--- absent, or from 0 to `most`
+-- from 0 to `most`; NaN is outside
+abbrev pub fromZeroTo : Float → Float → Bool
+fromZeroTo most x = le (fin false 0 (pos 0)) x && le x most
+
 abbrev pub absentOr : Float → Maybe → Bool
 absentOr most Absent = true
-absentOr most (Value x) = le (fin false 0 (pos 0)) x && le x most
+absentOr most (Value x) = fromZeroTo most x
 
--- "a present gain outside 0 to 8, a size outside 0 to 1 (NaN is outside) .. a depth factor not one of the four"
+-- "a present gain outside 0 to 8, a size outside 0 to 1 (NaN is outside) .. a depth factor not one of the four"; R-3: "a send outside its range, NaN included, is refusal 6"
 abbrev pub objectInRange : Object → Bool
-objectInRange o = absentOr (fin false 1 (pos 3)) (o .gain) && absentOr (fin false 1 (pos 0)) (o .size) && ltb (o .depth) 4
+objectInRange o =
+    absentOr (fin false 1 (pos 3)) (o .gain) && absentOr (fin false 1 (pos 0)) (o .size) && ltb (o .depth) 4 && fromZeroTo (fin false 1 (pos 0)) (o .send)

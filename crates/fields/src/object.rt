@@ -4,8 +4,7 @@ ghost use Prim.Native.Nat.{_+_, _*_, _<_, _≤_};
 ghost use lib.ListN.{length};
 ghost use lib.Ieee.{binary32, ofBits};
 ghost use Rattle.vectors.specs.Head.{headWord};
-ghost use Rattle.vectors.specs.declared.Maybe.the-variants.{Value};
-ghost use Rattle.fields.specs.Object.{valueFits, valuesFit, isObject, depthCode, objectOf, absentOr, objectInRange};
+ghost use Rattle.fields.specs.Object.{valueFits, valuesFit, isObject, depthCode, objectOf, fromZeroTo, objectInRange};
 ghost use Rattle.fields.specs.Infos.{storedInfo};
 use crate::bytes::has;
 use crate::bytes::zero_word;
@@ -49,13 +48,12 @@ pub fn is_object(meta: &[u8], r: usize) -> bool
         & (flags <= 63)
         & (meta[at + 3] == 0)
         & values_fit(meta, at, flags)
-        & zero_word(meta, at + 36)
 }
 
 // Whether the float of the bits w is from 0 to the one of the bits `most`: from 0 on floats are in the order of their bits, and -0.0 is no less than 0.
 fn up_to(most: u32, w: u32) -> bool
     requires { ⌜ most < 2139095040 ⌝ }
-    ensures { λ r. ⌜ r ≡ absentOr (ofBits binary32 most) (Value (ofBits binary32 w)) ⌝ }
+    ensures { λ r. ⌜ r ≡ fromZeroTo (ofBits binary32 most) (ofBits binary32 w) ⌝ }
 {
     (w <= most) | (w == 0x8000_0000)
 }
@@ -79,7 +77,7 @@ fn depth_of(w: u32) -> u8
     4
 }
 
-// Whether gain, size and depth factor of the object at r are within their ranges, with no branch.
+// Whether gain, size, depth factor and send of the object at r are within their ranges, with no branch.
 pub fn object_in_range(meta: &[u8], r: usize) -> bool
     requires { ⌜ 40 * r + 40 ≤ length (now meta) ⌝ }
     ensures { λ b. ⌜ b ≡ objectInRange (objectOf (now (meta .entry)) r) ⌝ }
@@ -89,7 +87,8 @@ pub fn object_in_range(meta: &[u8], r: usize) -> bool
     let gain = up_to(0x4100_0000, words::u32_at(meta, at + 4));
     let size = up_to(0x3f80_0000, words::u32_at(meta, at + 24));
     let depth = depth_of(words::u32_at(meta, at + 32));
-    (!has(flags, 4) | gain) & (!has(flags, 32) | size) & (depth < 4)
+    let send = up_to(0x3f80_0000, words::u32_at(meta, at + 36));
+    (!has(flags, 4) | gain) & (!has(flags, 32) | size) & (depth < 4) & send
 }
 
 // What the record says as the state block keeps it: head (flags + 256 anchor + 65,536 depth) and bits.
@@ -103,6 +102,7 @@ pub struct Info {
     pub x: u32,
     pub y: u32,
     pub z: u32,
+    pub send: u32,
 }
 
 // The word of a head.
@@ -127,5 +127,6 @@ pub fn info_at(meta: &[u8], r: usize) -> Info
         x: words::u32_at(meta, at + 8),
         y: words::u32_at(meta, at + 12),
         z: words::u32_at(meta, at + 16),
+        send: words::u32_at(meta, at + 36),
     }
 }

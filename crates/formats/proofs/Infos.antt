@@ -67,12 +67,12 @@ pub lawful-info : Lawful infoFormat
 lawful-info =
     let f = lawful-float in
     lawful-ranged InfoIn _
-    (λ i h. (h .head, (h .gain, (h .size, (h .distance, (h .screen, (h .position, h .last)))))))
-    (λ i (head, (gain, (size, (distance, (screen, (position, last)))))).
-    record { head = head; gain = gain; size = size; distance = distance; screen = screen; position = position; last = last })
+    (λ i h. (h .head, (h .gain, (h .size, (h .distance, (h .screen, (h .position, (h .last, h .send))))))))
+    (λ i (head, (gain, (size, (distance, (screen, (position, (last, send))))))).
+    record { head = head; gain = gain; size = size; distance = distance; screen = screen; position = position; last = last; send = send })
     (lawful-struct _ _ _ (λ i. refl) (λ y. refl)
     (lawful-pair infoHead _ lawful-info-head (lawful-pair float _ f (lawful-pair float _ f (lawful-pair float _ f (lawful-pair float _ f
-    (lawful-pair vecFormat vecFormat lawful-vec lawful-vec)))))))
+    (lawful-pair vecFormat _ lawful-vec (lawful-pair vecFormat float lawful-vec f))))))))
 
 -- the test of n infos is that of their heads
 pub infos-test : (w : List ℕ) (n at : ℕ) → array n infoFormat .test w at ≡ allAt (λ a. headValid (getD w a 0)) (infoFormat .width) n at

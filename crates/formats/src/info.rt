@@ -11,5 +11,7 @@ pub const POSITION: usize = SCREEN + 4;
 
 pub const LAST: usize = POSITION + 12;
 
+pub const SEND: usize = LAST + 12;
+
 // The bytes of an info.
-pub const BYTES: usize = LAST + 12;
+pub const BYTES: usize = SEND + 4;

@@ -15,7 +15,7 @@ use Rattle.records.specs.declared.layout.Layout.{Layout}
 use Rattle.records.specs.Answers.{IsLayout}
 use Rattle.store.specs.declared.renderer.Renderer714.{Renderer714}
 use Rattle.store.specs.Fields.{smallOf}
-use Rattle.store.specs.Layout.{decode}
+use Rattle.store.specs.Layout.{smallWidth, decode}
 use Rattle.store.specs.Ranges.{valid}
 use Rattle.theorem.specs.Instance.{hall}
 use Rattle.hall.specs.declared.answer.Answer.{Answer}
@@ -37,7 +37,7 @@ codeOf cleared = bare 3 0 0 0
 
 -- the interface's number: it steps with every change of the block's layout or of a signature
 abbrev pub version : ℕ
-version = 2
+version = 3
 
 -- what stopped a push, as an answer; nothing stops with 0
 abbrev pub codeOfFound : Found → Answer
@@ -54,7 +54,7 @@ pub record Left (o : Outcome) (r : Answer) (state out : List ℕ) : Type 0 where
 
 -- s is the small part of the valid block b
 pub record Loaded (s : Renderer714) (b : List ℕ) : Type 0 where
-  pub small : s ≡ smallOf (wordsAt b 0 340)
+  pub small : s ≡ smallOf (wordsAt b 0 smallWidth)
   pub valid : valid b ≡ true
 
 -- no refusal turned the push away, and l is the metadata's layout

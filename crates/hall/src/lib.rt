@@ -14,7 +14,10 @@ use refusals::Refusal;
 pub mod answer;
 mod work;
 
-const VERSION: u32 = 2;
+const VERSION: u32 = 3;
+
+// The bytes of a state block.
+pub const STATE_BYTES: usize = store::SIZE;
 
 // Renders a frame: beds (one code each), then objects, `samples` of each channel in `pcm`. What is ready goes to `out`, channel c from place c x `stride` on.
 #[no_mangle]
@@ -86,7 +89,7 @@ pub extern "C" fn hall_reset(state: &mut [u8]) -> Answer
 pub extern "C" fn hall_state_size() -> usize
     ensures { λ r. ⌜ r ≡ size ⌝ }
 {
-    store::SIZE
+    STATE_BYTES
 }
 
 // The version of this interface: it steps with every change of the block's layout or of a signature.

@@ -110,7 +110,7 @@ fn run(state: &mut [u8], body: &mut [u8], pcm: &mut [u8], out: &mut [u8], text: 
 }
 
 fn main() {
-    let mut state = [0u8; 26960];
+    let mut state = [0u8; hall::STATE_BYTES];
     let mut body = [0u8; 86720];
     let mut pcm = [0u8; 34816];
     let mut out = [0u8; 12288];

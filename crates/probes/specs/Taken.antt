@@ -52,4 +52,4 @@ abbrev pub zeroBlock : Block
 zeroBlock = record { offset = pos 0; ramp = pos 0 }
 
 abbrev pub zeroInfo : Info
-zeroInfo = record { head = 0; gain = 0; size = 0; distance = 0; screen = 0; x = 0; y = 0; z = 0 }
+zeroInfo = record { head = 0; gain = 0; size = 0; distance = 0; screen = 0; x = 0; y = 0; z = 0; send = 0 }

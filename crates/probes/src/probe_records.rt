@@ -144,6 +144,7 @@ pub extern "C" fn probe_info(meta: &[u8], r: usize) -> Info
             x: 0,
             y: 0,
             z: 0,
+            send: 0,
         };
     }
     fields::object::info_at(meta, r)

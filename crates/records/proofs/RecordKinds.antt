@@ -70,4 +70,4 @@ module _ (m : List ℕ) (whole : length m % 40 ≡ 0) (r : ℕ) where
 
   pub object-kind : isObject m r ≡ true → kind m r ≡ 4
   unfolding isObject
-  object-kind e = eqb-true (kind m r) 4 (and-left _ _ (and-left _ _ (and-left _ _ (and-left _ _ (and-left _ _ e)))))
+  object-kind e = eqb-true (kind m r) 4 (and-left _ _ (and-left _ _ (and-left _ _ (and-left _ _ e))))

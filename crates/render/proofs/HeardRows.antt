@@ -17,7 +17,7 @@ use Rattle.beds.specs.Matching.{matching}
 use Rattle.panning.specs.Terms.{Term, onChannel}
 use Rattle.rules.specs.Parts.{0·0}
 use Rattle.rules.specs.Leaves.{Source, Bed}
-use Rattle.rules.specs.Mix.{objectTerms, addsOf, sampleAt, samplesAt, scaledBy, fedBy, bedsOn, objectsOn, Moment, heard}
+use Rattle.rules.specs.Mix.{addedTerms, addsOf, sampleAt, samplesAt, scaledBy, fedBy, bedsOn, objectsOn, Moment, heard}
 use Rattle.render.specs.MixedRows.{mixedTerms}
 use Rattle.render.specs.declared.Span.{Span}
 use Rattle.render.specs.MixedSources.{bedTerms, channelStart, channelRow, mixedFound, mixedBeds, mixedObjects}
@@ -88,9 +88,9 @@ module _ (pcm : List ℕ) (s : Span) (short : s .count ≤ 64) where
   adds-objects : (j : ℕ) (ss : List Source) (os : List Float) → length os ≡ 768 → Adds k (λ c i. objectsOn c ss (own (length ss) j i)) os (mixedObjects pcm s j ss os)
   adds-objects j [] os h = adds-none k os h
   adds-objects j (o ∷ ss) os h =
-      let mid = mixedTerms (channelRow pcm s j) (objectTerms o) os in
-      let a = adds-row j (objectTerms o) os h in
-      adds-then k (λ c i. scaledOn c (objectTerms o) (input i j)) (λ c i. objectsOn c ss (own (length ss) (suc j) i)) os mid
+      let mid = mixedTerms (channelRow pcm s j) (addedTerms o) os in
+      let a = adds-row j (addedTerms o) os h in
+      adds-then k (λ c i. scaledOn c (addedTerms o) (input i j)) (λ c i. objectsOn c ss (own (length ss) (suc j) i)) os mid
       (mixedObjects pcm s (suc j) ss mid) a (adds-objects (suc j) ss mid (a .whole))
 
   -- ---- rows of +0.0, then the beds, then the objects

@@ -17,7 +17,7 @@ use Rattle.panning.specs.Terms.{Term, term}
 use Rattle.panning.specs.Speakers.{terms714}
 use Rattle.rules.specs.Parts.{0·0}
 use Rattle.rules.specs.Leaves.{Source, Bed}
-use Rattle.rules.specs.Mix.{objectTerms}
+use Rattle.rules.specs.Mix.{addedTerms}
 use Rattle.render.specs.declared.Span.{Span}
 use Rattle.render.specs.MixedRows.{mixedTerms}
 
@@ -56,4 +56,4 @@ module _ (pcm : List ℕ) (s : Span) where
   -- the first of the objects is channel i
   abbrev pub mixedObjects : ℕ → List Source → List Float → List Float
   mixedObjects i [] os = os
-  mixedObjects i (o ∷ os) rows = mixedObjects (suc i) os (mixedTerms (channelRow i) (objectTerms o) rows)
+  mixedObjects i (o ∷ os) rows = mixedObjects (suc i) os (mixedTerms (channelRow i) (addedTerms o) rows)

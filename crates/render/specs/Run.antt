@@ -48,7 +48,7 @@ abbrev pub bedsOf : ℕ → List ℕ → List Float → List Bed
 bedsOf m cs gs = zipped (take m cs) (take m gs)
 
 abbrev pub plainSource : DynamicSourceState → Source
-plainSource d = record { gain = d .gain; size = d .size; place = d .place }
+plainSource d = record { gain = d .gain; size = d .size; place = d .place; send = d .send }
 
 -- the first m of a table of objects
 abbrev pub sourcesOf : ℕ → List DynamicSourceState → List Source

@@ -1,4 +1,3 @@
-pub mod Opened
 pub mod Quick
 pub mod Same
 pub mod Table

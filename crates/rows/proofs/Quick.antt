@@ -15,7 +15,7 @@ use Rattle.panning.specs.Terms.{Term, onChannel}
 use Rattle.timed.specs.State.{Timed}
 use Rattle.rules.specs.Parts.{0·0, Channels, Places, none as silent, joined, laid}
 use Rattle.rules.specs.Leaves.{Source, Bed, started}
-use Rattle.rules.specs.Mix.{addsOf, objectTerms, sampleAt, Moment}
+use Rattle.rules.specs.Mix.{addsOf, addedTerms, sampleAt, Moment}
 use Rattle.rules.specs.Samples as rules
 use Rattle.rules.specs.Samples.{Frame, State, After, opened, updated, slotted, sampled, moment, closing}
 use Rattle.rules.specs.Refusals.{Args, Found, clear, stop}
@@ -23,7 +23,7 @@ use Rattle.rules.specs.Calls.{Call, push, flush, reset, Answer, refused, render
 use Rattle.rules.specs.Block.{written, outOf, strideOf}
 use Rattle.theorem.specs.Instance.{hall, Sent}
 use Rattle.rows.specs.Rows.{Said, refusal, ready, none, renewed, samplesOn, Row, startingAt, calls}
-use Rattle.rows.proofs.Opened.{everything}
+use Rattle.theorem.proofs.Opened.{everything}
 
 -- ---- a function whose first n values are worked out once; d is any value
 
@@ -85,7 +85,7 @@ bedFeeds c (b ∷ bs) codes = fedFrom (addsOf b c) (matching (b .code) codes) ++
 
 unfoldable pub allTerms : List Source → List (List Term)
 allTerms [] = []
-allTerms (s ∷ ss) = objectTerms s ∷ allTerms ss
+allTerms (s ∷ ss) = addedTerms s ∷ allTerms ss
 
 -- objects by their terms; the frame has k rows for them, of which i is the first
 unfoldable pub objectFeeds : ℕ → List (List Term) → ℕ → ℕ → List Feed

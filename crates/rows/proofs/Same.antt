@@ -21,7 +21,7 @@ use Rattle.panning.specs.Terms.{onChannel}
 use Rattle.timed.specs.State.{Timed}
 use Rattle.rules.specs.Parts.{0·0, Channels, Places}
 use Rattle.rules.specs.Leaves.{Source, Bed, started}
-use Rattle.rules.specs.Mix.{addsOf, objectTerms, objectAdds, sampleAt, samplesAt, scaledBy, fedBy, bedsOn, objectsOn, heard}
+use Rattle.rules.specs.Mix.{addsOf, addedTerms, objectAdds, sampleAt, samplesAt, scaledBy, fedBy, bedsOn, objectsOn, heard}
 use Rattle.rules.specs.Samples.{Frame, State, After, opened, updated, slotted, moment, sampled, framed, pushed}
 use Rattle.rules.specs.Refusals.{Args, Found, clear, stop}
 use Rattle.rules.specs.Calls as rules
@@ -99,7 +99,7 @@ scaled-objects pcm n t c [] k i = refl
 scaled-objects pcm n t c (s ∷ ss) zero i = refl
 scaled-objects pcm n t c (s ∷ ss) (suc k) i =
     let xs : ℕ → Float = λ i. sampleAt pcm n i t in
-    scaled-then xs (feeds i (onChannel c (objectTerms s))) (objectFeeds c (allTerms ss) k (suc i))
+    scaled-then xs (feeds i (onChannel c (addedTerms s))) (objectFeeds c (allTerms ss) k (suc i))
     ∙ ap₂ _++_ (scaled-feeds xs i (objectAdds s c)) (scaled-objects pcm n t c ss k (suc i))
 
 abbrev summed : (ℕ → List Feed) → (ℕ → Float) → ℕ → Float

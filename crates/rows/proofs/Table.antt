@@ -6,7 +6,7 @@ use Rattle.rules.proofs.Theorems.{all-append}
 use Rattle.rows.specs.Rows.{Said, Row, Holds, says, seen}
 use Rattle.rows.specs.Notation.{concat}
 use Rattle.rows.specs.Lists.{refusals, outputs, block-rows, bed-rows, object-rows, updates, slots, groups, rows}
-use Rattle.rows.proofs.Opened.{everything}
+use Rattle.theorem.proofs.Opened.{everything}
 use Rattle.rows.proofs.Quick.{plainly, quickly}
 use Rattle.rows.proofs.Same.{plainly-is, quickly-is}
 

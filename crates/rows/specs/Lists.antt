@@ -71,7 +71,7 @@ values =
     ∷ ofBed (spoilt 121 3 (update 0 (0 ∷ []) 0 (element (blockFrom 0 0 ∷ []) (object ∷ []) ∷ [])) ∷ []) ⇒ refusal 5 0 0
     ∷ ofBed (spoilt 122 64 (update 0 (0 ∷ []) 0 (element (blockFrom 0 0 ∷ []) (object ∷ []) ∷ [])) ∷ []) ⇒ refusal 5 0 0
     ∷ ofBed (spoilt 140 1 (update 0 (0 ∷ []) 0 (element (blockFrom 0 0 ∷ []) (object ∷ []) ∷ [])) ∷ []) ⇒ refusal 5 0 0
-    ∷ ofBed (spoilt 156 1 (update 0 (0 ∷ []) 0 (element (blockFrom 0 0 ∷ []) (object ∷ []) ∷ [])) ∷ []) ⇒ refusal 5 0 0
+    ∷ ofBed (spoilt 123 1 (update 0 (0 ∷ []) 0 (element (blockFrom 0 0 ∷ []) (object ∷ []) ∷ [])) ∷ []) ⇒ refusal 5 0 0
     ∷ [])
 
 -- 6: gain above 8, below 0, NaN; size above 1; offset, ramp, depth; the last passes
@@ -86,6 +86,17 @@ ranges =
     ∷ ofBed (update 0 (0 ∷ []) 0 (element (blockFrom 0 (minus 1048577) ∷ []) (object ∷ []) ∷ []) ∷ []) ⇒ refusal 6 0 0
     ∷ ofBed (update 0 (0 ∷ []) 0 (element (blockFrom 0 0 ∷ []) (depth 0x3f400000 object ∷ []) ∷ []) ∷ []) ⇒ refusal 6 0 0
     ∷ ofBed (update 0 (0 ∷ []) 0 (element (blockFrom 0 0 ∷ []) (withSize 0x3f800000 (gain 0x41000000 object) ∷ []) ∷ []) ∷ []) ⇒ ready []
+    ∷ [])
+
+-- 6: a bed's send above 1, below 0, NaN; -0.0 and 1 pass
+abbrev pub send-ranges : Row
+send-ranges =
+    asRow
+    (ofBed (spoilt 159 63 (spoilt 158 128 (spoilt 156 1 (update 0 (0 ∷ []) 0 (element (blockFrom 0 0 ∷ []) (object ∷ []) ∷ [])))) ∷ []) ⇒ refusal 6 0 0
+    ∷ ofBed (spoilt 159 128 (spoilt 156 1 (update 0 (0 ∷ []) 0 (element (blockFrom 0 0 ∷ []) (object ∷ []) ∷ []))) ∷ []) ⇒ refusal 6 0 0
+    ∷ ofBed (spoilt 159 127 (spoilt 158 192 (update 0 (0 ∷ []) 0 (element (blockFrom 0 0 ∷ []) (object ∷ []) ∷ []))) ∷ []) ⇒ refusal 6 0 0
+    ∷ ofBed (spoilt 159 128 (update 0 (0 ∷ []) 0 (element (blockFrom 0 0 ∷ []) (object ∷ []) ∷ [])) ∷ []) ⇒ ready []
+    ∷ ofBed (spoilt 159 63 (spoilt 158 128 (update 0 (0 ∷ []) 0 (element (blockFrom 0 0 ∷ []) (object ∷ []) ∷ []))) ∷ []) ⇒ ready []
     ∷ [])
 
 -- 5 before 6
@@ -176,8 +187,8 @@ rear-centre =
 
 abbrev pub refusals : List Row
 refusals =
-    no-room ∷ too-many ∷ rates ∷ end-of-stream ∷ counts ∷ values ∷ ranges ∷ both ∷ bad-samples ∷ lowest-first ∷ rate-changed ∷ no-update ∷ objects-differ ∷ no-samples ∷ no-input ∷
-    rear-centre ∷ []
+    no-room ∷ too-many ∷ rates ∷ end-of-stream ∷ counts ∷ values ∷ ranges ∷ send-ranges ∷ both ∷ bad-samples ∷ lowest-first ∷ rate-changed ∷ no-update ∷ objects-differ ∷
+    no-samples ∷ no-input ∷ rear-centre ∷ []
 
 -- ---- outputs
 
@@ -543,6 +554,38 @@ new-element =
     (0 ∷ 0x3e02b16e ∷ 0 ∷ 0 ∷ 0 ∷ 0 ∷ 0x3d32d332 ∷ 0x3e061e64 ∷ 0x3ddb03d6 ∷ 0x3ea442df ∷ 0 ∷ 0x3e285fb9 ∷ []) ∷ [])
     ∷ [])
 
+-- an object alone on the bass feed; its send stays without a block, and ends with one
+abbrev pub sent-alone : Row
+sent-alone =
+    asRow
+    (ofObject (spoilt 239 63 (update 0 [] 1 (atOnce 0 (gain 0x3f000000 (at 0x3dcccccd 0x3e4ccccd 0x3dcccccd) ∷ []) ∷ [])) ∷ []) ⇒ ready []
+    ∷ ofObject [] ⇒ ready []
+    ∷ ofObject (update 0 [] 1 (atOnce 0 (gain 0x3f000000 (at 0x3dcccccd 0x3e4ccccd 0x3dcccccd) ∷ []) ∷ []) ∷ []) ⇒ ready []
+    ∷ flushAt 64 ⇒ ready ((0x3e92c43e ∷ 0 ∷ 0 ∷ 0x36ffe85f ∷ 0 ∷ 0 ∷ 0x3e292ec5 ∷ 0x3d6193b1 ∷ 0x3dd93924 ∷ 0x3d10d0c2 ∷ 0 ∷ 0 ∷ []) ∷
+    (0x3e92c43e ∷ 0 ∷ 0 ∷ 0x381f3b53 ∷ 0 ∷ 0 ∷ 0x3e292ec5 ∷ 0x3d6193b1 ∷ 0x3dd93924 ∷ 0x3d10d0c2 ∷ 0 ∷ 0 ∷ []) ∷
+    (0x3e92c43e ∷ 0 ∷ 0 ∷ 0x38bdcd94 ∷ 0 ∷ 0 ∷ 0x3e292ec5 ∷ 0x3d6193b1 ∷ 0x3dd93924 ∷ 0x3d10d0c2 ∷ 0 ∷ 0 ∷ []) ∷ [])
+    ∷ [])
+
+-- a bass bed and an object, the bed's own send without effect; other objects start at 0
+abbrev pub sent-with-a-bed : Row
+sent-with-a-bed =
+    asRow
+    (sent 1 (3 ∷ []) 1 (0x3e800000 ∷ 0x3f000000 ∷ []) (spoilt 319 63 (spoilt 318 64 (spoilt 239 63 (spoilt 238 128 (update 0 (3 ∷ []) 1 (atOnce 0 (object ∷
+    at 0x3dcccccd 0x3e4ccccd 0x3dcccccd ∷ []) ∷ []))))) ∷ []) ⇒ ready []
+    ∷ sent 1 [] 2 (0x3f000000 ∷ 0x3e800000 ∷ []) (update 0 [] 2 [] ∷ []) ⇒ ready []
+    ∷ flushAt 64 ⇒ ready ((0x3eae85ce ∷ 0 ∷ 0 ∷ 0x37a44d56 ∷ 0 ∷ 0 ∷ 0x3e492d97 ∷ 0x3d861e64 ∷ 0x3e0126e5 ∷ 0x3d2c33dc ∷ 0 ∷ 0 ∷ []) ∷
+    (0 ∷ 0 ∷ 0x3eb85aa6 ∷ 0x38a363c1 ∷ 0 ∷ 0 ∷ 0x3ebb6fc6 ∷ 0x3ebb6fc6 ∷ 0 ∷ 0 ∷ 0 ∷ 0 ∷ []) ∷ [])
+    ∷ [])
+
+-- an object behind two bass beds that cancel each other
+abbrev pub sent-last : Row
+sent-last =
+    asRow
+    (sent 1 (3 ∷ 17 ∷ []) 1 (0x41800000 ∷ 0xc1800000 ∷ 0x3a83126f ∷ []) (spoilt 399 63 (spoilt 398 128 (update 0 (3 ∷ 17 ∷ []) 1 (atOnce 0 (object ∷ object ∷
+    at 0x3dcccccd 0x3e4ccccd 0x3dcccccd ∷ []) ∷ []))) ∷ []) ⇒ ready []
+    ∷ flushAt 64 ⇒ ready ((0x3a32b613 ∷ 0 ∷ 0 ∷ 0x333944dd ∷ 0 ∷ 0 ∷ 0x39ce01a1 ∷ 0x3909566b ∷ 0x39844068 ∷ 0x38b055e0 ∷ 0 ∷ 0 ∷ []) ∷ [])
+    ∷ [])
+
 -- an object becomes a bed, and then an object again: each time all start afresh, stored positions too
 abbrev pub lifted : Row
 lifted =
@@ -559,7 +602,7 @@ lifted =
 abbrev pub updates : List Row
 updates =
     offset-0 ∷ new-slot ∷ mid-frame ∷ leading-silence ∷ dropped ∷ in-order ∷ two-elements ∷ below-0 ∷ differences ∷ another-number ∷ kept-element ∷ no-flag ∷ new-element ∷
-    lifted ∷ []
+    sent-alone ∷ sent-with-a-bed ∷ sent-last ∷ lifted ∷ []
 
 -- ---- slots
 

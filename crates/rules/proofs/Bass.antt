@@ -1,44 +1,58 @@
--- No object is in the bass feed: with the row of an object replaced, an accepted push is accepted, and the same number is fed at each sample. Assumes nothing beyond `Facts`.
+-- An object whose gain or send is zero is not in the bass feed: with its row replaced, an accepted push is accepted, and the same number is fed. Assumes nothing beyond `Facts`.
 use mathlib.Core.Path.{_≡_, refl, sym, ap, ap₂, _∙_, subst}
-use mathlib.Core.Logic.{inl, inr}
+use mathlib.Core.Logic.{_⊎_, inl, inr}
 use mathlib.Core.Bool.{Bool, true, not, _&&_, _||_}
 use mathlib.Core.List.{List, [], _∷_, _++_}
 use Prim.Native.Nat.{ℕ, zero, suc, _+_, _-_, _*_, _≤_, _<_}
 use native.Mathlib.Nat.{mul-le-mul-right}
 use native.Mathlib.Omega.{arith}
-use lib.Dec.{eqb, leb}
-use lib.ListN.{length}
+use lib.Dec.{T, eqb, leb}
+use lib.ListN.{length, getD}
 use lib.Ieee.{Float, binary32, ofBits}
 use lib.Ieee.Bits.{is-true}
 use Rattle.ieee.specs.Bounds.{All}
 use Rattle.words.specs.Words.{word, floatAt}
 use Rattle.words.proofs.Beside.{Kept, reads-before, reads-past}
 use Rattle.mixing.specs.Sums as sums
-use Rattle.mixing.specs.Sums.{total}
+use Rattle.mixing.specs.Sums.{plus, total}
 use Rattle.mixing.specs.Samples.{passes, allPass}
-use Rattle.mixing.proofs.Passes.{pass-at}
+use Rattle.mixing.proofs.Theorems.{pass-at, total-append}
 use Rattle.ieee.proofs.Grid.{le-or-lt}
 use Rattle.beds.specs.declared.Found as matched
 use Rattle.beds.specs.declared.Found.the-variants.{At, Nothing}
 use Rattle.beds.specs.Matching.{matching}
 use Rattle.beds.proofs.Matches.{Judged, judged}
-use Rattle.panning.specs.Terms.{Term}
 use Rattle.rules.specs.Parts.{0·0}
 use Rattle.rules.specs.Leaves.{Leaves, Source, Bed}
-use Rattle.rules.specs.Mix.{Moment, addsOf, sampleAt, scaledBy, fedBy, bedsOn, objectsOn, heard, fed}
+use Rattle.rules.specs.Mix.{Moment, sendOf, addsOf, sampleAt, samplesAt, scaledBy, fedBy, bedsOn, objectsOn, heard, fed, fedByBeds}
 use Rattle.rules.specs.Samples.{State}
 use Rattle.rules.specs.Refusals.{Args, Found, clear, unless, _then_, every, room, sized, listed, later}
 use Rattle.rules.specs.Calls.{announced, found}
-use Rattle.rules.specs.Promises.{Replaced, withPcm}
+use Rattle.rules.specs.Promises.{nobody, unsent, Replaced, withPcm}
 use Rattle.rules.proofs.Owed.{InHall}
-use Rattle.rules.proofs.TermBounds.{object-no-bass}
+use Rattle.rules.proofs.Sends.{sent-alone, not-added}
 use Rattle.rules.proofs.Judged.{is-passed}
 
--- ---- an object adds nothing on channel 3
-no-objects : (ss : List Source) (own : List Float) → All InHall ss → objectsOn 3 ss own ≡ []
-no-objects [] own h = refl
-no-objects (s ∷ ss) [] h = refl
-no-objects (s ∷ ss) (x ∷ own) h = ap (λ (ks : List Float). scaledBy ks x ++ objectsOn 3 ss own) (object-no-bass s (h .0)) ∙ no-objects ss own (h .1)
+-- ---- samples of objects that are the same but for those that are not sent
+abbrev pub SameSent : List Source → List Float → List Float → Type 0
+SameSent [] xs ys = Unit {0}
+SameSent (s ∷ ss) [] [] = Unit {0}
+SameSent (s ∷ ss) [] (y ∷ ys) = ⊥
+SameSent (s ∷ ss) (x ∷ xs) [] = ⊥
+SameSent (s ∷ ss) (x ∷ xs) (y ∷ ys) = ((x ≡ y) ⊎ T (unsent s)) × SameSent ss xs ys
+
+-- one more object
+plus-same : (s : Source) → InHall s → (b x y : Float) → (x ≡ y) ⊎ T (unsent s) → plus b (record { coef = sendOf s; sample = x }) ≡ plus b (record { coef = sendOf s; sample = y })
+plus-same s h b x y (inl e) = ap (λ (x : Float). plus b (record { coef = sendOf s; sample = x })) e
+plus-same s h b x y (inr z) = not-added s h z b x ∙ sym (not-added s h z b y)
+
+same-sent : (ss : List Source) (xs ys : List Float) (b : Float) → All InHall ss → SameSent ss xs ys → total b (objectsOn 3 ss xs) ≡ total b (objectsOn 3 ss ys)
+same-sent [] xs ys b h e = refl
+same-sent (s ∷ ss) [] [] b h e = refl
+same-sent (s ∷ ss) [] (y ∷ ys) b h e = absurd e
+same-sent (s ∷ ss) (x ∷ xs) [] b h e = absurd e
+same-sent (s ∷ ss) (x ∷ xs) (y ∷ ys) b h e =
+    rw (sent-alone s (h .0), plus-same s (h .0) b x y (e .0)) (same-sent ss xs ys (plus b (record { coef = sendOf s; sample = y })) (h .1) (e .1))
 
 -- ---- beds read the rows below their number
 same-fed : (ks : List Float) (code : ℕ) (codes : List ℕ) (f : matched.Found) (x y : ℕ → Float) → Judged code codes f → ((i : ℕ) → i < length codes → x i ≡ y i)
@@ -51,19 +65,25 @@ same-beds [] codes x y h = refl
 same-beds (b ∷ bs) codes x y h =
     ap₂ (λ (s t : List sums.Addend). s ++ t) (same-fed (addsOf b 3) (b .code) codes (matching (b .code) codes) x y (judged (b .code) codes) h) (same-beds bs codes x y h)
 
--- two moments with the same sources and the same samples of beds
+-- two moments with the same sources, the same samples of beds and of the objects that are sent
 pub record Akin (m n : Moment) : Type 0 where
   pub beds : m .beds ≡ n .beds
   pub objects : m .objects ≡ n .objects
   pub codes : m .codes ≡ n .codes
   pub inputs : (i : ℕ) → i < length (m .codes) → m .inputs i ≡ n .inputs i
+  pub own : SameSent (m .objects) (m .own) (n .own)
 
 pub same-bass : (m n : Moment) → Akin m n → All InHall (m .objects) → fed m ≡ fed n
 unfolding heard
 same-bass m n a h =
-    ap₂ (λ (s t : List sums.Addend). total 0·0 (s ++ t))
-    (same-beds (m .beds) (m .codes) (m .inputs) (n .inputs) (a .inputs) ∙ ap₂ (λ (bs : List Bed) (cs : List ℕ). bedsOn 3 bs cs (n .inputs)) (a .beds) (a .codes))
-    (no-objects (m .objects) (m .own) h ∙ sym (no-objects (n .objects) (n .own) (subst (All InHall) (a .objects) h)))
+    let os = objectsOn 3 (m .objects) (m .own) in
+    let ps = objectsOn 3 (n .objects) (n .own) in
+    let beds = same-beds (m .beds) (m .codes) (m .inputs) (n .inputs) (a .inputs) ∙ ap₂ (λ (bs : List Bed) (cs : List ℕ). bedsOn 3 bs cs (n .inputs)) (a .beds) (a .codes) in
+    total-append (bedsOn 3 (m .beds) (m .codes) (m .inputs)) os 0·0
+    ∙ ap (λ (ts : List sums.Addend). total (total 0·0 ts) os) beds
+    ∙ same-sent (m .objects) (m .own) (n .own) (fedByBeds n) h (a .own)
+    ∙ ap (λ (ss : List Source). total (fedByBeds n) (objectsOn 3 ss (n .own))) (a .objects)
+    ∙ sym (total-append (bedsOn 3 (n .beds) (n .codes) (n .inputs)) ps 0·0)
 
 -- ---- the PCM with a row replaced
 module _ (n j : ℕ) (pcm qcm : List ℕ) (p : Replaced n j pcm qcm) where
@@ -76,6 +96,29 @@ module _ (n j : ℕ) (pcm qcm : List ℕ) (p : Replaced n j pcm qcm) where
   row-before i t h l =
       let m : suc i * n ≤ j * n = mul-le-mul-right n h in
       ap (ofBits binary32) (reads-before kept (4 * (i * n + t)) 4 (omega arith))
+
+  -- rows past it
+  row-past : (i t : ℕ) → j < i → t < n → sampleAt qcm n i t ≡ sampleAt pcm n i t
+  unfolding floatAt
+  row-past i t h l =
+      let m : suc j * n ≤ i * n = mul-le-mul-right n h in
+      ap (ofBits binary32) (reads-past kept (4 * (i * n + t)) 4 (omega arith))
+
+  -- the rows of objects from i on, where that of an object that is not sent is replaced
+  pub same-own : (t : ℕ) → t < n → (ss : List Source) (k i : ℕ) → ((d : ℕ) → i + d ≡ j → T (unsent (getD ss d nobody)))
+      → SameSent ss (samplesAt pcm n k i t) (samplesAt qcm n k i t)
+  same-own t l [] k i h = tt
+  same-own t l (s ∷ ss) zero i h = tt
+  same-own t l (s ∷ ss) (suc k) i h = (first, same-own t l ss k (suc i) (λ d e. h (suc d) (omega (arith, e))))
+    where
+      first : (sampleAt pcm n i t ≡ sampleAt qcm n i t) ⊎ T (unsent s)
+      first = elim (le-or-lt j i) [
+        | inr u ↦ inl (sym (row-before i t u l))
+        | inl u ↦ elim (le-or-lt i j) [
+          | inr v ↦ inl (sym (row-past i t v l))
+          | inl v ↦ inr (h 0 (omega arith))
+        ]
+      ]
 
   all-pass : (s : List ℕ) (at k : ℕ) → ((i : ℕ) → i < k → passes (word s (at + 4 * i)) ≡ true) → allPass s at k ≡ true
   all-pass s at zero h = refl

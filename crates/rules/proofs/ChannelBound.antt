@@ -34,7 +34,8 @@ use Rattle.rules.specs.Leaves.{Source, Bed}
 use Rattle.rules.specs.Mix.{Moment, objectAdds, addsOf, scaledBy, fedBy, bedsOn, objectsOn, heard}
 use Rattle.rules.proofs.EachOf.{either, all-append}
 use Rattle.rules.proofs.Owed.{InHall, Mixable}
-use Rattle.rules.proofs.TermBounds.{eight-bounded, Modest, panned-modest, object-modest}
+use Rattle.rules.proofs.TermBounds.{eight-bounded, Modest, panned-modest}
+use Rattle.rules.proofs.Sends.{object-modest}
 
 abbrev Small : sums.Addend → Type 0
 Small t = AddendWithin 16 8 t

@@ -1,6 +1,7 @@
 pub mod EachOf
 pub mod Owed
 pub mod TermBounds
+pub mod Sends
 pub mod ChannelBound
 pub mod Judged
 pub mod Limited

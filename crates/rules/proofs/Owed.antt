@@ -15,11 +15,12 @@ use Rattle.rules.specs.Samples.{State}
 use Rattle.rules.specs.Ranges.{Ranged}
 use Rattle.rules.specs.Block.{Layout}
 
--- a gain from 0 to 8, a size from 0 to 1, a place of f32 values
+-- a gain from 0 to 8, a size from 0 to 1, a place of f32 values, a send from 0 to 1
 pub record InHall (s : Source) : Type 0 where
   pub gain : T (between 0·0 8·0 (s .gain))
   pub size : T (between 0·0 1·0 (s .size))
   pub place : Position (s .place)
+  pub send : T (between 0·0 1·0 (s .send))
 
 -- at most 18 beds, each with a gain from 0 to 8, and at most 16 objects
 pub record Mixable (bs : List Bed) (ss : List Source) : Type 0 where
@@ -32,7 +33,7 @@ pub record Facts (L : Leaves) (B : Layout L) : Type 1 where
   -- what refusals 5 and 6 leave of each update
   pub Checked : L .Update → Type 0
   pub checked : (meta : List ℕ) → Bytes meta → L .laidOut meta ≡ true → L .inRange meta ≡ true → All Checked (L .updates meta)
-  -- a timed state that such updates made from the blank one: gains from 0 to 8 and sizes from 0 to 1
+  -- a timed state that such updates made from the blank one: gains from 0 to 8, sizes and sends from 0 to 1
   pub Sound : L .Meta → Type 0
   pub sound-blank : Sound (L .blank)
   pub sound-apply : (n : ℕ) (u : L .Update) (m : L .Meta) → Checked u → Sound m → Sound (L .apply n u m)

@@ -7,8 +7,8 @@ use Prim.Native.Nat.{ℕ, zero, suc, _+_, _*_, _/_, _%_, _<_}
 use native.Mathlib.Nat.{le-trans, le-of-eq, le-refl}
 use native.Mathlib.Omega.{arith}
 use borrow.Author.Tests.{eqb-true}
-use lib.Dec.{eqb}
-use lib.ListN.{length, List·getD-eq-default}
+use lib.Dec.{T, eqb}
+use lib.ListN.{length, getD, List·getD-eq-default}
 use Rattle.ieee.specs.Bounds.{All}
 use Rattle.words.specs.Words.{Bytes}
 use Rattle.ieee.proofs.Grid.{le-or-lt}
@@ -18,7 +18,7 @@ use Rattle.rules.specs.Samples.{Frame, State, slotted, updated, sampled,
 use Rattle.rules.specs.Refusals.{Args, Found, clear, unless}
 use Rattle.rules.specs.Calls.{frameOf, found, asked}
 use Rattle.rules.specs.Sounds.{silent, before, met, momentAt, whole}
-use Rattle.rules.specs.Promises.{nobody, Replaced, withPcm, objectHeard, begun, Matched, AtSample, PushHolds}
+use Rattle.rules.specs.Promises.{nobody, unsent, Replaced, withPcm, objectHeard, begun, Matched, AtSample, PushHolds}
 use Rattle.rules.specs.Block.{Layout}
 use Rattle.rules.proofs.EachOf.{all-at}
 use Rattle.rules.proofs.Owed.{InHall, Facts}
@@ -32,7 +32,8 @@ use Rattle.rules.proofs.Sounding.{moment-is, hearable-at, line, sounds-
 use Rattle.rules.proofs.PushShapes.{started-at, objects-there, beds-there}
 use Rattle.rules.proofs.Quiet as silence
 use Rattle.rules.proofs.Quiet.{Hush}
-use Rattle.rules.proofs.Bass.{same-bass, row-before, still-clear}
+use Rattle.rules.proofs.Sends.{sent-alone, send-zero}
+use Rattle.rules.proofs.Bass.{same-bass, row-before, same-own, still-clear}
 use Rattle.rules.proofs.Energy.{squared, stilled}
 
 -- whole blocks and the remainder
@@ -130,9 +131,9 @@ module _ (L : Leaves) (B : Layout L) (F : Facts L B) (r : State L) (a : Args) (b
         (passed-alike L (momentOf L f t s) (momentOf L g t u) (slotted L (updated L t (f .updates) s)) (slotted L (updated L t (f .updates) u))
         (met-alike L t (f .updates) s u (alike t))))
 
-    fed-same : (t : ℕ) → t < a .samples → fed (momentAt L r (withPcm qcm a) t) ≡ fed (momentAt L r a t)
+    fed-same : (t : ℕ) → t < a .samples → T (unsent (objectHeard L r a t j)) → fed (momentAt L r (withPcm qcm a) t) ≡ fed (momentAt L r a t)
     unfolding pushed
-    fed-same t h =
+    fed-same t h z =
         let s = framed L f t 0 start .next in
         let u = framed L g t 0 start .next in
         let q = met-alike L t (f .updates) s u (alike t) .meta in
@@ -145,6 +146,9 @@ module _ (L : Leaves) (B : Layout L) (F : Facts L B) (r : State L) (a : Args) (b
           objects = λ z. cond (started L (q z)) (L .objects (q z)) [];
           codes = refl;
           inputs = λ c l. sym (row-before (a .samples) (length (a .codes) + j) (a .pcm) qcm p c t (omega arith) h);
+          own = same-own (a .samples) (length (a .codes) + j) (a .pcm) qcm p t h (momentOf L f t s .objects) (a .objects) (length (a .codes))
+              (λ d e. subst (λ (k : ℕ). T (unsent (getD (momentOf L f t s .objects) k nobody))) (let q : j ≡ d = omega (arith, e) in q)
+              (subst (λ (x : Moment). T (unsent (getD (x .objects) j nobody))) here z));
         })
         (subst (λ (x : Moment). All InHall (x .objects)) here i))
         ∙ ap fed (sym here)
@@ -167,7 +171,9 @@ module _ (L : Leaves) (B : Layout L) (F : Facts L B) (r : State L) (a : Args) (b
         rest = i .waits;
         moments = count;
         samples = at-sample hush;
-        bass = λ t j h l z qcm p. (still-clear L r a (length (a .codes) + j) qcm p e, fed-same j qcm p t h);
+        bass = λ t j h l z qcm p. (still-clear L r a (length (a .codes) + j) qcm p e, fed-same j qcm p t h z);
+        sends = λ t j h. sent-alone (objectHeard L r a t j) (in-hall t j h);
+        alone = λ t z. send-zero (momentAt L r a t) (hall t) z;
         squares = λ t j h z. squared (objectHeard L r a t j) (in-hall t j h) z;
         still = λ t j h z. stilled (objectHeard L r a t j) (in-hall t j h) z;
       }

@@ -1,4 +1,4 @@
--- What panning adds on a channel: at most 19 coefficients, each finite and at most 8, and none on channel 3. Assumes nothing.
+-- What panning adds on a channel: at most 19 coefficients, each finite and at most 8. Assumes nothing.
 use mathlib.Core.Path.{_≡_, refl}
 use mathlib.Core.Bool.{Bool, true, false, cond}
 use mathlib.Core.List.{List, [], _∷_, List·Memᴰ·head, List·Memᴰ·tail}
@@ -18,12 +18,9 @@ use Rattle.panning.specs.Table.{Position, between, 8·0}
 use Rattle.panning.specs.Terms.{Term, panned, audible, paired, spread, onChannel}
 use Rattle.panning.specs.Speakers.{fullRange, panned714, terms714, pan714}
 use Rattle.panning.specs.Facts.{Each}
-use Rattle.panning.proofs.Theorems.{pans714, no-bass}
+use Rattle.panning.proofs.Theorems.{pans714}
 use Rattle.panning.proofs.Tables.{gain8}
-use Rattle.rules.specs.Leaves.{Source}
-use Rattle.rules.specs.Mix.{objectTerms, objectAdds}
 use Rattle.rules.proofs.EachOf.{either}
-use Rattle.rules.proofs.Owed.{InHall}
 
 -- ---- sizes
 pub eight-bounded : (x : Float) → T (between 0·0 8·0 x) → Bounded (8 * One) x
@@ -88,13 +85,3 @@ panned-modest p q g s h k c =
       small =
           on-all (Bounded (8 * One)) c (terms714 p g s) (λ t m. eight-bounded (t .coefficient) (pans714 p q .bounded g s h k t m));
     }
-
--- ---- an object
-module _ (s : Source) (h : InHall s) where
-  pub object-modest : (c : ℕ) → Modest (objectAdds s c)
-  unfolding objectTerms
-  object-modest c = panned-modest (s .place) (h .place) (s .gain) (s .size) (h .gain) (h .size) c
-
-  pub object-no-bass : objectAdds s 3 ≡ []
-  unfolding objectTerms
-  object-no-bass = no-bass (s .place) (h .place) (s .gain) (s .size)

@@ -5,11 +5,12 @@ use mathlib.Core.List.{List}
 use lib.Ieee.{Float}
 use Rattle.vectors.specs.declared.Vec3.{Vec3}
 
--- a dynamic object: gain, size, and the place where it is panned
+-- a dynamic object: gain, size, the place where it is panned, and its send to the bass feed
 pub record Source : Type 0 where
   pub gain : Float
   pub size : Float
   pub place : Vec3
+  pub send : Float
 
 -- a bed channel of the last applied update
 pub record Bed : Type 0 where

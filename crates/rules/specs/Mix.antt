@@ -1,7 +1,8 @@
--- The twelve sums at one sample. Document 01, item 6: "Sums in the source's order": beds, then objects, each in order. Assumes nothing.
+-- The twelve sums at one sample. Document 01, item 6: "Sums in the source's order": beds, then objects, each in order. Document 02, R-3: "Each object then adds sample × (gain ×
+-- send) to channel 3 before the filter, after all beds and in object order." Assumes nothing.
 use Prim.Native.Nat.{ℕ, zero, suc, _+_, _*_}
 use mathlib.Core.List.{List, [], _∷_, _++_}
-use lib.Ieee.{Float}
+use lib.Ieee.{Float, binary32, mul}
 use Rattle.words.specs.Words.{floatAt}
 use Rattle.mixing.specs.Sums as sums
 use Rattle.mixing.specs.Sums.{total}
@@ -9,19 +10,27 @@ use Rattle.beds.specs.declared.Found.{Found}
 use Rattle.beds.specs.declared.Found.the-variants.{At, Nothing}
 use Rattle.beds.specs.Matching.{matching}
 use Rattle.beds.specs.Terms.{bedAdds}
-use Rattle.panning.specs.Terms.{Term, onChannel}
+use Rattle.panning.specs.Terms.{Term, term, onChannel}
 use Rattle.panning.specs.Speakers.{terms714, pan714}
 use Rattle.rules.specs.Parts.{0·0}
 use Rattle.rules.specs.Leaves.{Source, Bed}
 
 -- ---- coefficients
 
--- the terms of an object, in the order of addition, and its coefficients on channel c
+-- the terms of an object as it is panned, in the order of addition
 unfoldable pub objectTerms : Source → List Term
 objectTerms s = terms714 (s .place) (s .gain) (s .size)
 
+-- "(gain × send)"
+abbrev pub sendOf : Source → Float
+sendOf s = mul binary32 (s .gain) (s .send)
+
+-- all that it adds: these, and its send on channel 3; its coefficients on channel c
+abbrev pub addedTerms : Source → List Term
+addedTerms s = objectTerms s ++ (term 3 (sendOf s) ∷ [])
+
 abbrev pub objectAdds : Source → ℕ → List Float
-objectAdds s c = onChannel c (objectTerms s)
+objectAdds s c = onChannel c (addedTerms s)
 
 -- the coefficients of a bed on channel c: document 01, item 3. One that is panned has size 0.
 abbrev pub addsOf : Bed → ℕ → List Float
@@ -73,6 +82,9 @@ pub record Moment : Type 0 where
 unfoldable pub heard : Moment → ℕ → Float
 heard m c = total 0·0 (bedsOn c (m .beds) (m .codes) (m .inputs) ++ objectsOn c (m .objects) (m .own))
 
--- what enters the low-pass
+-- what enters the low-pass, and the beds' part of it
 abbrev pub fed : Moment → Float
 fed m = heard m 3
+
+abbrev pub fedByBeds : Moment → Float
+fedByBeds m = total 0·0 (bedsOn 3 (m .beds) (m .codes) (m .inputs))

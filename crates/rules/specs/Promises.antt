@@ -18,7 +18,7 @@ use Rattle.panning.specs.Speakers.{fullRange}
 use Rattle.panning.specs.Table.{between, 8·0}
 use Rattle.rules.specs.Parts.{0·0}
 use Rattle.rules.specs.Leaves.{Leaves, Source, Bed, started}
-use Rattle.rules.specs.Mix.{objectTerms, objectAdds, sampleAt, samplesAt, fed}
+use Rattle.rules.specs.Mix.{objectTerms, sendOf, objectAdds, sampleAt, samplesAt, fed, fedByBeds}
 use Rattle.rules.specs.Samples.{State, fresh, limited, metered, gainAfter, slotted, pushed, waiting}
 use Rattle.rules.specs.Refusals.{Args, clear, stop, room}
 use Rattle.rules.specs.Calls.{Call, push, flush, reset, refused, rendered, nothing, cleared, given, frameOf, found, answered, Result, step}
@@ -28,9 +28,13 @@ use Rattle.rules.specs.Sounds.{gainBefore, limitedBlocks, blocksMetered,
 -- ---- an object
 
 abbrev pub nobody : Source
-nobody = record { gain = 0·0; size = 0·0; place = record { x = 0·0; y = 0·0; z = 0·0 } }
+nobody = record { gain = 0·0; size = 0·0; place = record { x = 0·0; y = 0·0; z = 0·0 }; send = 0·0 }
 
--- "the exact squares of its eleven coefficients add up to its gain g within g × 2^-20 + 2^-140": its terms are all that it adds anywhere; each is finite and from 0 to 8, on one of
+-- R-3: "an object whose gain or send is zero"
+abbrev pub unsent : Source → Bool
+unsent s = eq (s .gain) 0·0 || eq (s .send) 0·0
+
+-- "the exact squares of its eleven coefficients add up to its gain g within g × 2^-20 + 2^-140": its terms are all that it adds besides its send; each is finite and from 0 to 8, on one of
 -- the eleven channels that are not 3, and no two are on one channel
 pub record Squares (s : Source) : Type 0 where
   pub channels : Each (λ t. (t .channel < 12) × (t .channel ≡ 3 → ⊥)) (objectTerms s)
@@ -118,9 +122,13 @@ module _ (L : Leaves) where
     -- a moment for each sample
     pub moments : length (pushed L (frameOf L a) r .moments) ≡ a .samples
     pub samples : (t : ℕ) → t < a .samples → AtSample r a t
-    -- "each object of size zero puts nothing into the bass feed": with its row of the PCM replaced by any that refusal 8 lets pass, the push is accepted and the same number is fed
-    pub bass : (t j : ℕ) → t < a .samples → j < a .objects → T (eq (objectHeard r a t j .size) 0·0) → (qcm : List ℕ) → Replaced (a .samples) (length (a .codes) + j) (a .pcm) qcm
+    -- R-3, the bass feed: "it gets nothing from an object whose gain or send is zero, whatever its size": with its row of the PCM replaced by any that refusal 8 lets pass, the
+    -- push is accepted and the same number is fed
+    pub bass : (t j : ℕ) → t < a .samples → j < a .objects → T (unsent (objectHeard r a t j)) → (qcm : List ℕ) → Replaced (a .samples) (length (a .codes) + j) (a .pcm) qcm
         → (found L r (withPcm qcm a) ≡ clear) × (fed (momentAt L r (withPcm qcm a) t) ≡ fed (momentAt L r a t))
+    -- "sample × (gain × send)" is all that an object adds there; where none is sent, the beds alone are fed, as in the Rust
+    pub sends : (t j : ℕ) → j < length (momentAt L r a t .objects) → objectAdds (objectHeard r a t j) 3 ≡ sendOf (objectHeard r a t j) ∷ []
+    pub alone : (t : ℕ) → All (λ (s : Source). T (unsent s)) (momentAt L r a t .objects) → fed (momentAt L r a t) ≡ fedByBeds (momentAt L r a t)
     -- objects that are there and of size zero: the squares; "at gain 0 the coefficients are zero", at any size
     pub squares : (t j : ℕ) → j < length (momentAt L r a t .objects) → T (eq (objectHeard r a t j .size) 0·0) → Squares (objectHeard r a t j)
     pub still : (t j : ℕ) → j < length (momentAt L r a t .objects) → T (eq (objectHeard r a t j .gain) 0·0) → objectTerms (objectHeard r a t j) ≡ []

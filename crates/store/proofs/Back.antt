@@ -27,9 +27,10 @@ use Rattle.store.specs.Ranges.{related, smallPart}
 
 pub lawful-source : Lawful sourceFormat
 lawful-source =
-    lawful-ranged SourceSingles _ (λ s h. (h .gain, (h .size, (h .place, tt)))) (λ s h. record { gain = h .0; size = h .1 .0; place = h .1 .1 .0 })
+    lawful-ranged SourceSingles _ (λ s h. (h .gain, (h .size, (h .place, (tt, h .send)))))
+    (λ s h. record { gain = h .0; size = h .1 .0; place = h .1 .1 .0; send = h .1 .1 .1 .1 })
     (lawful-struct _ _ _ (λ s. refl) (λ y. refl)
-    (lawful-pair float (float ⊗ vecFormat ⊗ flag) lawful-float (lawful-pair float (vecFormat ⊗ flag) lawful-float (lawful-pair vecFormat flag lawful-vec lawful-flag))))
+    (lawful-pair float _ lawful-float (lawful-pair float _ lawful-float (lawful-pair vecFormat _ lawful-vec (lawful-pair flag float lawful-flag lawful-float)))))
 
 pub lawful-block : Lawful blockFormat
 lawful-block =

@@ -127,7 +127,8 @@ state-fresh =
       beds = all-same Single 18 0·0 zero-single;
       sources = refl;
       objects =
-          all-same SourceSingles 16 (record { gain = 0·0; size = 0·0; place = still; placed = false }) (record { gain = zero-single; size = zero-single; place = still-singles });
+          all-same SourceSingles 16 (record { gain = 0·0; size = 0·0; place = still; placed = false; send = 0·0 })
+          (record { gain = zero-single; size = zero-single; place = still-singles; send = zero-single });
       states = refl;
       elements = λ i l.
           subst (ElementRanged (leastFlags i (blank .state))) (sym (element-fresh i l))

@@ -33,7 +33,7 @@ module _ (w : List ℕ) where
   codes-test = all-same 1 (u8To 17 .test w) (col 0 17) (λ a. place 17 (omega arith))
 
   pub sources-test : (n at : ℕ) → allAt (sourceFormat .test w) (sourceFormat .width) n at ≡ allAt (col placedIn 1) (sourceFormat .width) n at
-  sources-test = all-same (sourceFormat .width) (sourceFormat .test w) (col placedIn 1) (λ a. place 1 (omega arith))
+  sources-test = all-same (sourceFormat .width) (sourceFormat .test w) (col placedIn 1) (λ a. and-true _ true refl ∙ place 1 (omega arith))
 
   pub tracks-test : (n at : ℕ) → allAt (trackFormat .test w) (trackFormat .width) n at ≡ allAt (col 0 1) (trackFormat .width) n at
   tracks-test = all-same (trackFormat .width) (trackFormat .test w) (col 0 1) (λ a. and-true (leb (getD w a 0) 1) true refl ∙ place 1 (omega arith))

@@ -32,9 +32,9 @@ abbrev pub sourceFormat : Format DynamicSourceState
 sourceFormat =
     ranged SourceSingles
     (struct
-    (λ s. (s .gain, (s .size, (s .place, s .placed))))
-    (λ (gain, (size, (place, placed))). record { gain = gain; size = size; place = place; placed = placed })
-    (float ⊗ float ⊗ vecFormat ⊗ flag))
+    (λ s. (s .gain, (s .size, (s .place, (s .placed, s .send)))))
+    (λ (gain, (size, (place, (placed, send)))). record { gain = gain; size = size; place = place; placed = placed; send = send })
+    (float ⊗ float ⊗ vecFormat ⊗ flag ⊗ float))
 
 -- a block: offset and ramp, each plus 2^20, and whether it was applied; "an offset or ramp outside ±1,048,576" is refused in a frame, and "other fields as in frames"
 abbrev pub blockFormat : Format BlockState

@@ -1,5 +1,5 @@
--- The state block, from a renderer and to one. Document 01: "the renderer's state is a block of fixed length". It is 26,960 bytes: the small part's words (1,360), the object
--- infos as they are (22,528), 12 rows of 64 places for pending samples (3,072). What is added later stands behind these. Assumes nothing.
+-- The state block, from a renderer and to one. Document 01: "the renderer's state is a block of fixed length". It is 29,072 bytes: the small part's words (1,424), the object
+-- infos as they are (24,576), 12 rows of 64 places for pending samples (3,072). What is added later stands behind these. Assumes nothing.
 use Prim.Native.Nat.{ℕ, zero, suc, _+_, _*_}
 use mathlib.Core.Bool.{false}
 use mathlib.Core.List.{List, [], _∷_, _++_}
@@ -89,7 +89,7 @@ blank =
         codes = replicate 18 0;
         gains = replicate 18 0·0;
         states = replicate 2 noBlocks;
-        sources = replicate 16 (record { gain = 0·0; size = 0·0; place = still; placed = false });
+        sources = replicate 16 (record { gain = 0·0; size = 0·0; place = still; placed = false; send = 0·0 });
       };
       infos = replicate infosBytes 0;
     }

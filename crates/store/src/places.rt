@@ -1,10 +1,12 @@
 // Widths in words, and where each field of the small part stands: at the place before it plus that field's width.
 pub const VEC: usize = 3;
 
-// Whether a source is placed, in its words.
+// Whether a source is placed, and its send, in its words.
 pub const PLACED: usize = 2 + VEC;
 
-pub const SOURCE: usize = PLACED + 1;
+pub const SEND: usize = PLACED + 1;
+
+pub const SOURCE: usize = SEND + 1;
 
 pub const BLOCK: usize = 3;
 

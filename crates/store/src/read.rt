@@ -64,11 +64,13 @@ fn source(w: &Words, at: usize) -> DynamicSourceState
     let size = at + 1;
     let place = size + 1;
     let placed = place + places::VEC;
+    let send = placed + 1;
     DynamicSourceState {
         gain: float(w, at),
         size: float(w, size),
         place: vec(w, place),
         placed: w[placed] == 1,
+        send: float(w, send),
     }
 }
 

@@ -51,6 +51,7 @@ fn source_words(x: DynamicSourceState) -> [u32; places::SOURCE]
         words::bits_of(place.y),
         words::bits_of(place.z),
         formats::bit(x.placed),
+        words::bits_of(x.send),
     ]
 }
 

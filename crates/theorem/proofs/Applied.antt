@@ -37,6 +37,7 @@ use Rattle.store.specs.Ranges.{headValid, headsValid}
 use Rattle.store.specs.Ranged.{Single, Singles, SourceSingles, TrackSingles, InfosRanged}
 use Rattle.store.proofs.Tables.{and-in}
 use lib.Ieee.Fits.{and-l, and-r}
+use Rattle.timed.specs.InfoSizes.{infoBytes}
 use Rattle.theorem.specs.Instance.{Sent}
 use Rattle.theorem.proofs.Sound.{SourceSound, InfosSound, Sound, Within}
 use Rattle.theorem.proofs.InfosWritten.{Said, Table, Fit, objects-kept}
@@ -46,33 +47,33 @@ use Rattle.theorem.proofs.Checked.{Checked, SoundSaid, RangedSaid, whol
 
 pub sound-table : (is : List ℕ) → InfosSound is → Table SoundSaid is
 unfolding maybeAt floatAt
-sound-table is h = record { long = h .long; bytes = h .bytes; each = λ k l. (h .gain k l, h .size k l) }
+sound-table is h = record { long = h .long; bytes = h .bytes; each = λ k l. (h .gain k l, h .size k l, h .send k l) }
 
 pub table-sound : (is : List ℕ) → Table SoundSaid is → InfosSound is
 unfolding maybeAt floatAt
-table-sound is h = record { long = h .long; bytes = h .bytes; gain = λ k l. h .each k l .0; size = λ k l. h .each k l .1 }
+table-sound is h = record { long = h .long; bytes = h .bytes; gain = λ k l. h .each k l .0; size = λ k l. h .each k l .1; send = λ k l. h .each k l .2 }
 
-heads-out : (is : List ℕ) (n at : ℕ) → T (headsValid is at n) → (k : ℕ) → k < n → T (headValid (word is (at + 44 * k)))
+heads-out : (is : List ℕ) (n at : ℕ) → T (headsValid is at n) → (k : ℕ) → k < n → T (headValid (word is (at + infoBytes * k)))
 unfolding headsValid
 heads-out is zero at h k l = absurd (omega arith)
-heads-out is (suc n) at h zero l = subst (λ (j : ℕ). T (headValid (word is j))) (let e : at ≡ at + 44 * 0 = omega arith in e)
-    (and-l (headValid (word is at)) (headsValid is (at + 44) n) h)
+heads-out is (suc n) at h zero l = subst (λ (j : ℕ). T (headValid (word is j))) (let e : at ≡ at + infoBytes * 0 = omega arith in e)
+    (and-l (headValid (word is at)) (headsValid is (at + infoBytes) n) h)
 heads-out is (suc n) at h (suc k) l =
-    subst (λ (j : ℕ). T (headValid (word is j))) (let e : at + 44 + 44 * k ≡ at + 44 * suc k = omega arith in e)
-    (heads-out is n (at + 44) (and-r (headValid (word is at)) (headsValid is (at + 44) n) h) k (omega arith))
+    subst (λ (j : ℕ). T (headValid (word is j))) (let e : at + infoBytes + infoBytes * k ≡ at + infoBytes * suc k = omega arith in e)
+    (heads-out is n (at + infoBytes) (and-r (headValid (word is at)) (headsValid is (at + infoBytes) n) h) k (omega arith))
 
-heads-in : (is : List ℕ) (n at : ℕ) → ((k : ℕ) → k < n → T (headValid (word is (at + 44 * k)))) → T (headsValid is at n)
+heads-in : (is : List ℕ) (n at : ℕ) → ((k : ℕ) → k < n → T (headValid (word is (at + infoBytes * k)))) → T (headsValid is at n)
 unfolding headsValid
 heads-in is zero at h = tt
 heads-in is (suc n) at h =
-    and-in (headValid (word is at)) (headsValid is (at + 44) n) (subst (λ (j : ℕ). T (headValid (word is j))) (let e : at + 44 * 0 ≡ at = omega arith in e) (h 0 (omega arith)))
-    (heads-in is n (at + 44) (λ k l. subst (λ (j : ℕ). T (headValid (word is j))) (let e : at + 44 * suc k ≡ at + 44 + 44 * k = omega arith in e) (h (suc k) (omega arith))))
+    and-in (headValid (word is at)) (headsValid is (at + infoBytes) n) (subst (λ (j : ℕ). T (headValid (word is j))) (let e : at + infoBytes * 0 ≡ at = omega arith in e) (h 0 (omega arith)))
+    (heads-in is n (at + infoBytes) (λ k l. subst (λ (j : ℕ). T (headValid (word is j))) (let e : at + infoBytes * suc k ≡ at + infoBytes + infoBytes * k = omega arith in e) (h (suc k) (omega arith))))
 
 ranged-table : (is : List ℕ) → InfosRanged is → Table RangedSaid is
 ranged-table is h = record {
   long = h .length;
   bytes = h .bytes;
-  each = λ k l. subst (λ (j : ℕ). T (headValid (word is j))) (zero-add (44 * k)) (heads-out is 512 0 (h .heads) k l);
+  each = λ k l. subst (λ (j : ℕ). T (headValid (word is j))) (zero-add (infoBytes * k)) (heads-out is 512 0 (h .heads) k l);
 }
 
 table-ranged : (is : List ℕ) → Table RangedSaid is → InfosRanged is
@@ -80,7 +81,7 @@ table-ranged is h = record {
   length = h .long;
   bytes = h .bytes;
   heads = heads-in is 512 0
-      (λ k l. subst (λ (j : ℕ). T (headValid (word is j))) (sym (zero-add (44 * k))) (h .each k l));
+      (λ k l. subst (λ (j : ℕ). T (headValid (word is j))) (sym (zero-add (infoBytes * k))) (h .each k l));
 }
 
 -- ---- lists
@@ -208,10 +209,10 @@ unfolding nextSources
 sources-next P n n′ ss h k = cond-keeps P (eqb n n′) ss (replicate 16 newSource) (λ _. h) (λ _. k)
 
 new-sound : SourceSound newSource
-new-sound = record { gain = start-gain; size = start-size; place = origin }
+new-sound = record { gain = start-gain; size = start-size; place = origin; send = start-size }
 
 new-singles : SourceSingles newSource
-new-singles = record { gain = start-fits; size = zero-fits; place = origin-singles }
+new-singles = record { gain = start-fits; size = zero-fits; place = origin-singles; send = zero-fits }
 
 -- ---- the update
 

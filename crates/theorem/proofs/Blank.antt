@@ -4,7 +4,7 @@ use mathlib.Core.Path.{_≡_, refl, sym, ap₂, _∙_, subst}
 use mathlib.Core.Bool.{false}
 use lib.Dec.{T, lit≤, lit<}
 use lib.ListN.{length, getD, replicate, length-replicate, getD-replicate}
-use lib.Ieee.{Float, nan, fits, binary32, le}
+use lib.Ieee.{Float, nan, fits, binary32, le, ofBits}
 use native.Mathlib.Omega.{arith}
 use Rattle.words.specs.Words.{Bytes, number}
 use Rattle.panning.specs.Choice.{0·0, 1·0}
@@ -16,6 +16,7 @@ use Rattle.timed.specs.declared.state.ElementRendererState.{ElementRendererStat
 use Rattle.timed.proofs.Theorems as timed′
 use Rattle.store.specs.Layout.{still, noBlocks, blank}
 use Rattle.store.proofs.Fresh.{fresh-ranged}
+use Rattle.timed.specs.InfoSizes.{infoBytes, allBytes, sendByte}
 use Rattle.theorem.proofs.Sound.{SourceSound, InfosSound, Sound, Within}
 use Rattle.theorem.proofs.Checked.{SoundSaid}
 use Rattle.theorem.proofs.Applied.{table-sound}
@@ -33,16 +34,17 @@ unfolding number
 zero-number n at zero = refl
 zero-number n at (suc k) = ap₂ (λ (x b : ℕ). x + b * 256 ^ k) (zero-number n at k) (same-at n (at + k)) ∙ omega arith
 
-nothing-said : (h g z : ℕ) → h ≡ 0 → SoundSaid h g z
-nothing-said h g z e = subst (λ (x : ℕ). SoundSaid x g z) (sym e) (tt, tt)
+nothing-said : (h g z d : ℕ) → h ≡ 0 → d ≡ 0 → SoundSaid h g z d
+unfolding between fits le ofBits
+nothing-said h g z d e f = rw (e, f) (tt, tt, tt)
 
-infos-blank : (n : ℕ) → n ≡ 22528 → InfosSound (replicate n 0)
+infos-blank : (n : ℕ) → n ≡ allBytes → InfosSound (replicate n 0)
 infos-blank n e =
     table-sound (replicate n 0)
     (record {
       long = length-replicate {A = ℕ} n 0 ∙ e;
       bytes = zero-bytes n;
-      each = λ k l. nothing-said _ _ _ (zero-number n (44 * k) 4);
+      each = λ k l. nothing-said _ _ _ _ (zero-number n (infoBytes * k) 4) (zero-number n (infoBytes * k + sendByte) 4);
     })
 
 zero-gain : T (between 0·0 8·0 0·0)
@@ -72,12 +74,12 @@ sound-blank =
       codes = refl;
       states = refl;
       gains = λ k l. subst (λ (x : Float). T (between 0·0 8·0 x)) (sym (getD-replicate 18 k 0·0 nan l)) zero-gain;
-      sources = λ d l. subst SourceSound (sym (getD-replicate 16 d (record { gain = 0·0; size = 0·0; place = still; placed = false }) noSource l))
-          (record { gain = zero-gain; size = zero-size; place = still-fits });
+      sources = λ d l. subst SourceSound (sym (getD-replicate 16 d (record { gain = 0·0; size = 0·0; place = still; placed = false; send = 0·0 }) noSource l))
+          (record { gain = zero-gain; size = zero-size; place = still-fits; send = zero-size });
       tracks = λ e l. subst (λ (x : ElementRendererState). length (x .tracks) ≡ 16) (sym (element-blank e l)) refl;
       targets = λ e d l q. subst (λ (x : ElementRendererState). Position (getD (x .tracks) d noTrack .future)) (sym (element-blank e l))
           (subst (λ (t : Track). Position (t .future)) (sym (getD-replicate 16 d (record { now = false; future = still }) noTrack q)) still-fits);
-      infos = infos-blank 22528 refl;
+      infos = infos-blank allBytes refl;
     }
 
 pub within-blank : Within 0 blank

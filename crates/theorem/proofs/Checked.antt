@@ -14,7 +14,7 @@ use Rattle.words.specs.Words.{Bytes, word, floatAt}
 use Rattle.words.proofs.Small.{number-small}
 use Rattle.vectors.specs.declared.Maybe.{Maybe}
 use Rattle.vectors.specs.declared.Maybe.the-variants.{Absent, Value}
-use Rattle.panning.specs.Choice.{1·0}
+use Rattle.panning.specs.Choice.{0·0, 1·0}
 use Rattle.panning.specs.Table.{between, 8·0}
 use Rattle.fields.specs.Bytes.{byte, kind, has}
 use Rattle.fields.specs.Update.{objects, bedOrIsf, beds, elements, code, countsFit, mostAt, codesFit, isUpdate}
@@ -60,10 +60,10 @@ abbrev pub valueIn : ℕ → ℕ → ℕ → Maybe
 valueIn head bit w = cond (has head bit) (Value (ofBits binary32 w)) Absent
 
 abbrev pub SoundSaid : Said
-SoundSaid h g z = UpTo 8·0 (valueIn h 4 g) × UpTo 1·0 (valueIn h 32 z)
+SoundSaid h g z d = UpTo 8·0 (valueIn h 4 g) × UpTo 1·0 (valueIn h 32 z) × T (between 0·0 1·0 (ofBits binary32 d))
 
 abbrev pub RangedSaid : Said
-RangedSaid h g z = T (headValid h)
+RangedSaid h g z d = T (headValid h)
 
 t-of : (b : Bool) → b ≡ true → T b
 t-of true e = tt
@@ -136,30 +136,44 @@ module _ (m : List ℕ) (bytes : Bytes m) (laid : laidOut m ≡ true) (fit : inR
 
     flags-few : byte m r 2 ≤ 63
     unfolding isObject
-    flags-few = leb-true _ _ (and-right (eqb (kind m r) 4 && leb (byte m r 1) 2) _ (and-left _ _ (and-left _ _ (and-left _ _ object))))
+    flags-few = leb-true _ _ (and-right (eqb (kind m r) 4 && leb (byte m r 1) 2) _ (and-left _ _ (and-left _ _ object)))
 
     anchor-listed : byte m r 1 ≤ 2
     unfolding isObject
-    anchor-listed = leb-true _ _ (and-right (eqb (kind m r) 4) _ (and-left _ _ (and-left _ _ (and-left _ _ (and-left _ _ object)))))
+    anchor-listed = leb-true _ _ (and-right (eqb (kind m r) 4) _ (and-left _ _ (and-left _ _ (and-left _ _ object))))
 
     depth-listed : depthCode (floatAt m (40 * r + 32)) < 4
-    depth-listed = ltb-true _ _ (and-right (absentOr 8·0 (objectOf m r .gain) && absentOr 1·0 (objectOf m r .size)) _ inside)
+    depth-listed = ltb-true _ _ (and-right (absentOr 8·0 (objectOf m r .gain) && absentOr 1·0 (objectOf m r .size)) _ (and-left _ _ inside))
 
     head-is : (bed : Bool) → HeadOf (byte m r 2) (depthCode (floatAt m (40 * r + 32))) (headOf bed (storedInfo m r))
     head-is bed = bed-head bed (byte m r 2) (byte m r 1) (depthCode (floatAt m (40 * r + 32))) (storedInfo m r) flags-few anchor-listed depth-listed refl
 
     gain-in : UpTo 8·0 (cond (has (byte m r 2) 4) (Value (ofBits binary32 (word m (40 * r + 4)))) Absent)
     unfolding maybeOf floatAt
-    gain-in = up-to 8·0 (has (byte m r 2) 4) (word m (40 * r + 4)) (and-left (absentOr 8·0 (objectOf m r .gain)) _ (and-left _ _ inside))
+    gain-in = up-to 8·0 (has (byte m r 2) 4) (word m (40 * r + 4)) (and-left (absentOr 8·0 (objectOf m r .gain)) _ (and-left _ _ (and-left _ _ inside)))
 
     size-in : UpTo 1·0 (cond (has (byte m r 2) 32) (Value (ofBits binary32 (word m (40 * r + 24)))) Absent)
     unfolding maybeOf floatAt
-    size-in = up-to 1·0 (has (byte m r 2) 32) (word m (40 * r + 24)) (and-right (absentOr 8·0 (objectOf m r .gain)) _ (and-left _ _ inside))
+    size-in = up-to 1·0 (has (byte m r 2) 32) (word m (40 * r + 24)) (and-right (absentOr 8·0 (objectOf m r .gain)) _ (and-left _ _ (and-left _ _ inside)))
 
-    pub fit-for : (P : Said) (bed : Bool) → P (headOf bed (storedInfo m r)) (storedInfo m r .gain) (storedInfo m r .size) → Fit P bed (storedInfo m r)
+    send-in : T (between 0·0 1·0 (ofBits binary32 (word m (40 * r + 36))))
+    unfolding floatAt between
+    send-in = and-in (fits binary32 (ofBits binary32 (word m (40 * r + 36)))) _ (ofBits-fits binary32 (word m (40 * r + 36)))
+        (t-of _ (and-right (absentOr 8·0 (objectOf m r .gain) && absentOr 1·0 (objectOf m r .size) && ltb (objectOf m r .depth) 4) _ inside))
+
+    abbrev saidOf : Said → Bool → Type 0
+    saidOf P bed = P (headOf bed (storedInfo m r)) (storedInfo m r .gain) (storedInfo m r .size) (storedInfo m r .send)
+
+    pub fit-for : (P : Said) (bed : Bool) → saidOf P bed → Fit P bed (storedInfo m r)
     fit-for P bed p =
         let h = head-is bed .less in
-        record { head = omega arith; gain = number-small m (40 * r + 4) 4 bytes; size = number-small m (40 * r + 24) 4 bytes; holds = p }
+        record {
+          head = omega arith;
+          gain = number-small m (40 * r + 4) 4 bytes;
+          size = number-small m (40 * r + 24) 4 bytes;
+          send = number-small m (40 * r + 36) 4 bytes;
+          holds = p;
+        }
 
     pub info-ranged : (bed : Bool) → Fit RangedSaid bed (storedInfo m r)
     info-ranged bed = fit-for RangedSaid bed (head-valid (byte m r 2) (depthCode (floatAt m (40 * r + 32))) (headOf bed (storedInfo m r)) flags-few (head-is bed))
@@ -171,4 +185,5 @@ module _ (m : List ℕ) (bytes : Bytes m) (laid : laidOut m ≡ true) (fit : inR
         fit-for SoundSaid bed (
           subst (λ (k : ℕ). UpTo 8·0 (cond (eqb k 1) (Value (ofBits binary32 (word m (40 * r + 4)))) Absent)) (sym (h .gain)) gain-in,
           subst (λ (k : ℕ). UpTo 1·0 (cond (eqb k 1) (Value (ofBits binary32 (word m (40 * r + 24)))) Absent)) (sym (h .size)) size-in,
+          send-in,
         )

@@ -1,51 +1,25 @@
 -- Two lists of calls that are heard, so that neither silence nor refusing every call meets the statement, nor one that drops all beds or all objects: a push of one sample of a
--- front left bed or of one object, and a flush. A third whose meters show a peak above 1 and a gain below 1. Assumes nothing.
-use Prim.Native.Nat.{ℕ, zero, suc, _<_}
+-- front left bed or of one object, and a flush. A third whose meters show a peak above 1 and a gain below 1; a fourth in which an object alone is heard on channel 3. Assumes
+-- nothing.
+use Prim.Native.Nat.{ℕ, zero, suc}
 use mathlib.Core.Path.{_≡_, refl, sym, subst}
 use mathlib.Core.Bool.{Bool, true, _&&_}
-use mathlib.Core.List.{List, [], _∷_}
-use lib.Count.{trailingZeros}
+use mathlib.Core.List.{List, [], _∷_, _++_}
 use lib.Dec.{T, ltb, ltb→lt, lit<}
 use lib.ListN.{length, getD, replicate}
-use lib.Ieee.{isNan, lt, le, eq, ne, add, sub, mul, div, neg, sum, round, units, odd, size, climb, span, ofInt, ofBits, ofFields, toBits, nanBits}
+use lib.Ieee.{lt}
 use lib.Ieee.Fits.{and-l, and-r}
-use Rattle.words.specs.Words.{Bytes, floatAt, number, withNumber}
-use Rattle.ieee.specs.Units.{mag}
-use Rattle.ieee.specs.Small.{absolute, larger, smaller}
-use Rattle.roots.specs.Root.{root, rootUnits, floorRoot, digits}
-use Rattle.angles.specs.Angle.{down, numeratorAt, partial, w0}
-use Rattle.angles.specs.Filter.{coefficientsOf}
-use Rattle.angles.specs.FiveTerms.{cosine, sine}
-use Rattle.lowpass.specs.Lowpass.{new}
-use Rattle.limiter.specs.Limiter.{lowered, blockPeak}
-use Rattle.limiter.specs.Meters.{shown}
-use Rattle.beds.specs.Routes.{routeOf}
-use Rattle.beds.specs.Terms.{bedAdds}
-use Rattle.beds.specs.Matching.{firstOf, matching}
-use Rattle.panning.specs.Choice.{keep, everyOf, orList, first, below, above, level, end, flank, layer, rowAmong, side, corner}
-use Rattle.panning.specs.Choice as choice
-use Rattle.panning.specs.Terms as terms
-use Rattle.panning.specs.Terms.{ratio, ahead, across, rowWeight, coefficient, innerGain, extra, panned, audible, paired, onChannel}
-use Rattle.panning.specs.Speakers.{positions714, hall714}
-use Rattle.fields.specs.Bytes.{all}
-use Rattle.fields.specs.Update.{codesFit, isUpdate}
-use Rattle.records.specs.Runs.{some, last, each}
-use Rattle.records.specs.Laid.{isWholeUpdate, isUpdates, updateAt, elementAt, laidOut, count}
-use Rattle.records.specs.Ranges.{recordInRange, inRange}
-use Rattle.timed.specs.Turns.{times}
-use Rattle.timed.specs.State.{slotAt}
-use Rattle.updates.specs.Applied.{nextSources, nextGains, codesGiven, elementsApplied, applied}
-use Rattle.store.specs.Layout.{blank}
+use Rattle.words.specs.Words.{Bytes, floatAt}
 use Rattle.rules.specs.Parts.{0·0, 1·0}
-use Rattle.rules.specs.Mix.{heard, objectTerms}
-use Rattle.rules.specs.Samples.{fresh, pushed, flushed}
+use Rattle.rules.specs.Samples.{fresh}
 use Rattle.rules.specs.Refusals.{Args, clear}
 use Rattle.rules.specs.Calls.{Call, push, flush, reset, nothing, metersOf, found}
-use Rattle.rules.specs.Block.{written, made, Seen, seenOn, told}
+use Rattle.rules.specs.Block.{made, Seen, seenOn, told}
 use Rattle.rules.specs.Demand3.{AllLent}
 use Rattle.theorem.specs.Instance.{hall, block}
 use Rattle.theorem.proofs.Blank.{zero-bytes}
 use Rattle.theorem.proofs.Demand3.{demand3}
+use Rattle.theorem.proofs.Opened.{everything}
 
 -- ---- the calls
 
@@ -76,10 +50,26 @@ loudBed = frame four oneBed (0 ∷ []) 0
 abbrev pub object : Args
 object = frame half (1 ∷ 0 ∷ 0 ∷ 0 ∷ 1 ∷ replicate 35 0) [] 1
 
+-- one dynamic object, and an element of two blocks: that with the offset 0 makes it one to take, that with the offset -1 is applied at once. No ramp, the depth factor 1, the
+-- send 1.
+abbrev blockFrom : List ℕ → List ℕ
+blockFrom offset = (3 ∷ replicate 7 0) ++ (offset ++ replicate 24 0)
+
+abbrev sentFully : List ℕ
+sentFully = (4 ∷ replicate 31 0) ++ (0 ∷ 0 ∷ 128 ∷ 63 ∷ 0 ∷ 0 ∷ 128 ∷ 63 ∷ [])
+
+abbrev sentUpdate : List ℕ
+sentUpdate =
+    (1 ∷ 0 ∷ 0 ∷ 0 ∷ 1 ∷ 0 ∷ 0 ∷ 1 ∷ replicate 32 0) ++ ((2 ∷ 2 ∷ replicate 38 0)
+    ++ (blockFrom (replicate 8 0) ++ (blockFrom (replicate 8 255) ++ (sentFully ++ sentFully))))
+
+abbrev pub sentObject : Args
+sentObject = frame half sentUpdate [] 1
+
 abbrev pub unseen : Seen hall block
 unseen = record { answer = nothing; out = [] }
 
--- ---- by the rules: the push is accepted, and the flush writes more than 0 into the first place of channel 0, or of channel 2
+-- ---- by the rules: the push is accepted, and the flush writes more than 0 into the first place of channel 0, of channel 2, or of channel 3
 
 abbrev pub Above0 : ℕ → Seen hall block → Type 0
 Above0 at s = T (lt 0·0 (floatAt (s .out) at))
@@ -92,32 +82,28 @@ abbrev Told : Args → (Seen hall block → Type 0) → Type 0
 Told f Q = Q (getD (told hall block (fresh hall) (calls f)) 1 unseen)
 
 accepted-bed : found hall (fresh hall) bed ≡ clear
-unfolding laidOut isUpdates isWholeUpdate isUpdate codesFit all some last count updateAt elementAt inRange recordInRange each times number blank le neg ofBits
+unfolding everything
 accepted-bed = refl
 
 accepted-object : found hall (fresh hall) object ≡ clear
-unfolding laidOut isUpdates isWholeUpdate isUpdate codesFit all some last count updateAt elementAt inRange recordInRange each times number blank le neg ofBits
+unfolding everything
 accepted-object = refl
 
 told-bed : Told bed (Above0 0)
-unfolding laidOut isUpdates isWholeUpdate isUpdate codesFit all some last count updateAt elementAt inRange recordInRange each times number blank pushed flushed written applied
-    elementsApplied codesGiven nextGains nextSources slotAt heard bedAdds routeOf firstOf matching new coefficientsOf w0 cosine sine partial numeratorAt down lowered blockPeak
-    absolute larger floatAt withNumber lt le eq add sub mul div neg sum round units odd size climb span ofInt ofBits ofFields toBits nanBits
+unfolding everything
 told-bed = tt
 
 told-loud : Told loudBed Reduced
-unfolding laidOut isUpdates isWholeUpdate isUpdate codesFit all some last count updateAt elementAt inRange recordInRange each times number blank pushed flushed written applied
-    elementsApplied codesGiven nextGains nextSources slotAt heard bedAdds routeOf firstOf matching new coefficientsOf w0 cosine sine partial numeratorAt down lowered blockPeak
-    absolute larger floatAt withNumber lt le eq add sub mul div neg sum round units odd size climb span ofInt ofBits ofFields toBits nanBits smaller shown isNan
+unfolding everything
 told-loud = tt
 
 told-object : Told object (Above0 512)
-unfolding laidOut isUpdates isWholeUpdate isUpdate codesFit all some last count updateAt elementAt inRange recordInRange each times number blank pushed flushed written applied
-    elementsApplied codesGiven nextGains nextSources slotAt heard bedAdds routeOf firstOf matching new coefficientsOf w0 cosine sine partial numeratorAt down lowered blockPeak
-    absolute larger floatAt withNumber lt le eq add sub mul div neg sum round units odd size climb span ofInt ofBits ofFields toBits nanBits objectTerms onChannel positions714
-    hall714 keep everyOf orList first choice.outermost below above level end flank layer rowAmong side corner ratio terms.up ahead across rowWeight coefficient innerGain extra
-    panned audible paired root rootUnits floorRoot digits mag ne trailingZeros
+unfolding everything
 told-object = tt
+
+told-sent : Told sentObject (Above0 768)
+unfolding everything
+told-sent = tt
 
 -- ---- what is lent is bytes
 
@@ -150,6 +136,10 @@ heard-of = sees bed (Above0 0) (lent half oneBed (0 ∷ []) 0 tt tt tt) told-bed
 
 pub heard-of-object : Hears object 512
 heard-of-object = sees object (Above0 512) (lent half (object .meta) [] 1 tt tt tt) told-object
+
+-- R-3: "Mixers want a spaceship to shake the floor": an object alone, on channel 3
+pub send-heard : Hears sentObject 768
+send-heard = sees sentObject (Above0 768) (lent half sentUpdate [] 1 tt tt tt) told-sent
 
 -- R-2: "Hall technicians want the meter to show what the limiter met"
 pub meters-show : Sees loudBed Reduced

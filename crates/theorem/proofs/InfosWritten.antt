@@ -1,4 +1,4 @@
--- An update writes infos of which each has its head, gain and size as asked; the others stay. Assumes nothing.
+-- An update writes infos of which each has its head, gain, size and send as asked; the others stay. Assumes nothing.
 use Prim.Native.Nat.{ℕ, _+_, _*_, _^_, _≤_, _<_}
 use mathlib.Core.Path.{_≡_, refl, _∙_}
 use mathlib.Core.Bool.{Bool, true, false}
@@ -14,24 +14,29 @@ use Rattle.words.proofs.Numbers.{length-kept}
 use Rattle.fields.specs.declared.object.Info.{Info}
 use Rattle.timed.proofs.Theorems.{times-in}
 use Rattle.updates.specs.Said.{Element}
-use Rattle.updates.specs.Stored.{headOf, withHead, withInfo, infoGiven, objectStored, objectGiven, objectsStored}
+use Rattle.updates.specs.Stored.{headOf, cleared, withPlace, withHead, withInfo, infoGiven, objectStored, objectGiven, objectsStored}
 use Rattle.updates.proofs.Theorems.{Stored, one, twice, places-stored}
+use Rattle.timed.specs.InfoSizes.{infoBytes, allBytes, positionByte, sendByte}
 
--- what is said of an info by its head, gain and size
+-- what is said of an info by its head, gain, size and send
 abbrev pub Said : Type 1
-Said = ℕ → ℕ → ℕ → Type 0
+Said = ℕ → ℕ → ℕ → ℕ → Type 0
+
+abbrev pub saidAt : Said → List ℕ → ℕ → Type 0
+saidAt P is at = P (word is at) (word is (at + 4)) (word is (at + 8)) (word is (at + sendByte))
 
 pub record Table (P : Said) (is : List ℕ) : Type 0 where
-  pub long : length is ≡ 22528
+  pub long : length is ≡ allBytes
   pub bytes : Bytes is
-  pub each : (k : ℕ) → k < 512 → P (word is (44 * k)) (word is (44 * k + 4)) (word is (44 * k + 8))
+  pub each : (k : ℕ) → k < 512 → saidAt P is (infoBytes * k)
 
 -- an info that may be written
 pub record Fit (P : Said) (bed : Bool) (i : Info) : Type 0 where
   pub head : headOf bed i < 256 ^ 4
   pub gain : i .gain < 256 ^ 4
   pub size : i .size < 256 ^ 4
-  pub holds : P (headOf bed i) (i .gain) (i .size)
+  pub send : i .send < 256 ^ 4
+  pub holds : P (headOf bed i) (i .gain) (i .size) (i .send)
 
 -- ---- an info
 
@@ -42,7 +47,7 @@ record Heads (s t : List ℕ) (at hi h g z : ℕ) : Type 0 where
   gain : word t (at + 4) ≡ g
   size : word t (at + 8) ≡ z
 
-heads : (h : ℕ) (i : Info) (at : ℕ) (s : List ℕ) → at + 44 ≤ length s → h < 256 ^ 4 → i .gain < 256 ^ 4 → i .size < 256 ^ 4
+heads : (h : ℕ) (i : Info) (at : ℕ) (s : List ℕ) → at + infoBytes ≤ length s → h < 256 ^ 4 → i .gain < 256 ^ 4 → i .size < 256 ^ 4
     → Heads s (withHead h i at s) at (at + 20) h (i .gain) (i .size)
 unfolding withHead
 heads h i at s l p q r =
@@ -63,48 +68,62 @@ heads h i at s l p q r =
       size = reads-before (de .kept) (at + 8) 4 (omega arith) ∙ reads-back b (at + 8) 4 (i .size) (omega arith) r;
     }
 
-info-stored : (fresh bed : Bool) (i : Info) (at : ℕ) (s : List ℕ) → at + 44 ≤ length s → headOf bed i < 256 ^ 4 → i .gain < 256 ^ 4 → i .size < 256 ^ 4 →
-    Heads s (withInfo fresh bed i at s) at (at + 44) (headOf bed i) (i .gain) (i .size)
+-- all words of an info of which something is said
+record Infos (s t : List ℕ) (at h g z d : ℕ) : Type 0 where
+  heads : Heads s t at (at + infoBytes) h g z
+  send : word t (at + sendByte) ≡ d
+
+info-stored : (P : Said) (fresh bed : Bool) (i : Info) (at : ℕ) (s : List ℕ) → at + infoBytes ≤ length s → Fit P bed i →
+    Infos s (withInfo fresh bed i at s) at (headOf bed i) (i .gain) (i .size) (i .send)
 unfolding withInfo
-info-stored fresh bed i at s l p q r =
+info-stored P fresh bed i at s l f =
     let a = withHead (headOf bed i) i at s in
-    let h = heads (headOf bed i) i at s l p q r in
-    let t = places-stored fresh i (at + 20) a in
+    let h = heads (headOf bed i) i at s l (f .head) (f .gain) (f .size) in
+    let w = places-stored fresh i (at + positionByte) a in
+    let b = withPlace i (at + positionByte) (cleared fresh (at + positionByte) a) in
+    let n = w .long ∙ h .stored .long in
+    let t = twice (at + positionByte) (at + infoBytes) w (one b (at + sendByte) (i .send)) (omega arith) (omega arith) (omega arith) (omega arith) in
     record {
-      stored = twice at (at + 44) (h .stored) t (omega arith) (omega arith) (omega arith) (omega arith);
-      head = reads-before (t .kept) at 4 (omega arith) ∙ h .head;
-      gain = reads-before (t .kept) (at + 4) 4 (omega arith) ∙ h .gain;
-      size = reads-before (t .kept) (at + 8) 4 (omega arith) ∙ h .size;
+      heads = record {
+        stored = twice at (at + infoBytes) (h .stored) t (omega arith) (omega arith) (omega arith) (omega arith);
+        head = reads-before (t .kept) at 4 (omega arith) ∙ h .head;
+        gain = reads-before (t .kept) (at + 4) 4 (omega arith) ∙ h .gain;
+        size = reads-before (t .kept) (at + 8) 4 (omega arith) ∙ h .size;
+      };
+      send = reads-back b (at + sendByte) 4 (i .send) (omega arith) (f .send);
     }
 
 module _ (P : Said) where
   -- info k of a table of which info j is written
-  table-at : (s t : List ℕ) (j h g z : ℕ) → Heads s t (44 * j) (44 * j + 44) h g z → P h g z → Table P s → (k : ℕ) → k < 512 → (below same : Bool) → ltb k j ≡ below
-      → eqb k j ≡ same →
-      P (word t (44 * k)) (word t (44 * k + 4)) (word t (44 * k + 8))
-  table-at s t j h g z w p q k l true same e f =
+  table-at : (s t : List ℕ) (j h g z d : ℕ) → Infos s t (infoBytes * j) h g z d → P h g z d → Table P s → (k : ℕ) → k < 512 → (below same : Bool) → ltb k j ≡ below
+      → eqb k j ≡ same → saidAt P t (infoBytes * k)
+  table-at s t j h g z d w p q k l true same e f =
       let a = ltb-true k j e in
-      let K = w .stored .kept in
-      rw (reads-before K (44 * k) 4 (omega arith), reads-before K (44 * k + 4) 4 (omega arith), reads-before K (44 * k + 8) 4 (omega arith)) (q .each k l)
-  table-at s t j h g z w p q k l false true e f =
+      let K = w .heads .stored .kept in
+      let at = infoBytes * k in
+      rw (reads-before K at 4 (omega arith), reads-before K (at + 4) 4 (omega arith), reads-before K (at + 8) 4 (omega arith), reads-before K (at + sendByte) 4 (omega arith))
+      (q .each k l)
+  table-at s t j h g z d w p q k l false true e f =
       let a = eqb-true k j f in
-      rw (a, w .head, w .gain, w .size) p
-  table-at s t j h g z w p q k l false false e f =
+      rw (a, w .heads .head, w .heads .gain, w .heads .size, w .send) p
+  table-at s t j h g z d w p q k l false false e f =
       let a = ltb-false k j e in
       let n = eqb-false k j f in
       let m : j < k = omega arith in
-      let K = w .stored .kept in
-      rw (reads-past K (44 * k) 4 (omega arith), reads-past K (44 * k + 4) 4 (omega arith), reads-past K (44 * k + 8) 4 (omega arith)) (q .each k l)
+      let K = w .heads .stored .kept in
+      let at = infoBytes * k in
+      rw (reads-past K at 4 (omega arith), reads-past K (at + 4) 4 (omega arith), reads-past K (at + 8) 4 (omega arith), reads-past K (at + sendByte) 4 (omega arith))
+      (q .each k l)
 
-  table-stored : (s t : List ℕ) (j h g z : ℕ) → Heads s t (44 * j) (44 * j + 44) h g z → P h g z → Table P s → Table P t
-  table-stored s t j h g z w p q =
-      record { long = w .stored .long ∙ q .long; bytes = w .stored .bytes (q .bytes); each = λ k l. table-at s t j h g z w p q k l (ltb k j) (eqb k j) refl refl }
+  table-stored : (s t : List ℕ) (j h g z d : ℕ) → Infos s t (infoBytes * j) h g z d → P h g z d → Table P s → Table P t
+  table-stored s t j h g z d w p q =
+      let v = w .heads .stored in
+      record { long = v .long ∙ q .long; bytes = v .bytes (q .bytes); each = λ k l. table-at s t j h g z d w p q k l (ltb k j) (eqb k j) refl refl }
 
-  info-kept : (fresh bed : Bool) (i : Info) (j : ℕ) (s : List ℕ) → j < 512 → Fit P bed i → Table P s → Table P (withInfo fresh bed i (44 * j) s)
+  info-kept : (fresh bed : Bool) (i : Info) (j : ℕ) (s : List ℕ) → j < 512 → Fit P bed i → Table P s → Table P (withInfo fresh bed i (infoBytes * j) s)
   info-kept fresh bed i j s l f q =
       let n = q .long in
-      table-stored s (withInfo fresh bed i (44 * j) s) j (headOf bed i) (i .gain) (i .size) (info-stored fresh bed i (44 * j) s (omega arith) (f .head) (f .gain) (f .size))
-      (f .holds) q
+      table-stored s (withInfo fresh bed i (infoBytes * j) s) j (headOf bed i) (i .gain) (i .size) (i .send) (info-stored P fresh bed i (infoBytes * j) s (omega arith) f) (f .holds) q
 
   -- ---- the infos of an element
 

@@ -12,6 +12,7 @@ pub mod TimedShapes
 pub mod Blank
 pub mod BlockRanges
 pub mod Demand3
+pub mod Opened
 pub mod Heard
 pub mod Players
 pub mod Marked

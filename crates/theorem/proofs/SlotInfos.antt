@@ -1,4 +1,4 @@
--- A slot leaves every info's head, gain, size, distance and screen factor as it was: it writes positions only. Assumes nothing.
+-- A slot leaves every info's head, gain, size, distance, screen factor and send as they were: it writes positions only. Assumes nothing.
 use Prim.Native.Nat.{ℕ, _+_, _*_, _≤_}
 use mathlib.Core.Path.{_≡_, refl, _∙_}
 use mathlib.Core.Bool.{Bool, true, false}
@@ -24,22 +24,30 @@ use Rattle.timed.specs.declared.objects.Moving.{Moving}
 use Rattle.timed.specs.declared.slot.Timing.{Timing}
 use Rattle.timed.specs.declared.slot.Reach.{Reach}
 use Rattle.timed.proofs.Theorems.{times-keeps, cond-keeps}
+use Rattle.timed.specs.InfoSizes.{infoBytes, positionByte, lastByte, sendByte}
 use Rattle.theorem.proofs.SlotShape.{slotOn}
 
--- js has is's words before each position
+-- js has is's words before each position, and its sends
 pub record Like (is js : List ℕ) : Type 0 where
   pub long : length js ≡ length is
   pub bytes : Bytes is → Bytes js
-  pub same : (k c : ℕ) → c ≤ 16 → word js (44 * k + c) ≡ word is (44 * k + c)
+  pub same : (k c : ℕ) → c ≤ 16 → word js (infoBytes * k + c) ≡ word is (infoBytes * k + c)
+  pub sent : (k : ℕ) → word js (infoBytes * k + sendByte) ≡ word is (infoBytes * k + sendByte)
 
 pub like-refl : (is : List ℕ) → Like is is
-like-refl is = record { long = refl; bytes = λ h. h; same = λ k c h. refl }
+like-refl is = record { long = refl; bytes = λ h. h; same = λ k c h. refl; sent = λ k. refl }
 
 pub like-trans : {is js ks : List ℕ} → Like is js → Like js ks → Like is ks
-like-trans a b = record { long = b .long ∙ a .long; bytes = λ h. b .bytes (a .bytes h); same = λ k c h. b .same k c h ∙ a .same k c h }
+like-trans a b =
+    record {
+      long = b .long ∙ a .long;
+      bytes = λ h. b .bytes (a .bytes h);
+      same = λ k c h. b .same k c h ∙ a .same k c h;
+      sent = λ k. b .sent k ∙ a .sent k;
+    }
 
-pub like-head : {is js : List ℕ} → Like is js → (k : ℕ) → word js (44 * k) ≡ word is (44 * k)
-like-head h k = let e : 44 * k ≡ 44 * k + 0 = omega arith in rw e (h .same k 0 (omega arith))
+pub like-head : {is js : List ℕ} → Like is js → (k : ℕ) → word js (infoBytes * k) ≡ word is (infoBytes * k)
+like-head h k = let e : infoBytes * k ≡ infoBytes * k + 0 = omega arith in rw e (h .same k 0 (omega arith))
 
 -- ---- a vector
 
@@ -83,23 +91,29 @@ module _ (is : List ℕ) (at : ℕ) (v : Vec3) where
 
 module _ (is : List ℕ) (j : ℕ) (p l : Vec3) where
   abbrev stored : List ℕ
-  stored = withVec (withVec is (44 * j + 20) p) (44 * j + 32) l
+  stored = withVec (withVec is (infoBytes * j + positionByte) p) (infoBytes * j + lastByte) l
 
-  stored-keeps : Kept is stored (44 * j + 20) (44 * j + 44)
+  stored-keeps : Kept is stored (infoBytes * j + positionByte) (infoBytes * j + sendByte)
   stored-keeps =
-      kept-twice (44 * j + 20) (44 * j + 44) (vec-keeps is (44 * j + 20) p) (vec-keeps (withVec is (44 * j + 20) p) (44 * j + 32) l) (omega arith) (omega arith) (omega arith)
-      (omega arith)
+      let at = infoBytes * j + positionByte in
+      kept-twice at (infoBytes * j + sendByte) (vec-keeps is at p) (vec-keeps (withVec is at p) (infoBytes * j + lastByte) l)
+      (omega arith) (omega arith) (omega arith) (omega arith)
 
-  stored-same : (k c : ℕ) → c ≤ 16 → (b : Bool) → ltb j k ≡ b → word stored (44 * k + c) ≡ word is (44 * k + c)
-  stored-same k c h true e = let g = ltb-true j k e in reads-past stored-keeps (44 * k + c) 4 (omega arith)
-  stored-same k c h false e = let g = ltb-false j k e in reads-before stored-keeps (44 * k + c) 4 (omega arith)
+  stored-same : (k c : ℕ) → c ≤ 16 → (b : Bool) → ltb j k ≡ b → word stored (infoBytes * k + c) ≡ word is (infoBytes * k + c)
+  stored-same k c h true e = let g = ltb-true j k e in reads-past stored-keeps (infoBytes * k + c) 4 (omega arith)
+  stored-same k c h false e = let g = ltb-false j k e in reads-before stored-keeps (infoBytes * k + c) 4 (omega arith)
+
+  stored-sent : (k : ℕ) (b : Bool) → ltb k j ≡ b → word stored (infoBytes * k + sendByte) ≡ word is (infoBytes * k + sendByte)
+  stored-sent k true e = let g = ltb-true k j e in reads-before stored-keeps (infoBytes * k + sendByte) 4 (omega arith)
+  stored-sent k false e = let g = ltb-false k j e in reads-past stored-keeps (infoBytes * k + sendByte) 4 (omega arith)
 
   stored-like : Like is stored
   stored-like =
       record {
-        long = vec-long (withVec is (44 * j + 20) p) (44 * j + 32) l ∙ vec-long is (44 * j + 20) p;
-        bytes = λ h. vec-bytes (withVec is (44 * j + 20) p) (44 * j + 32) l (vec-bytes is (44 * j + 20) p h);
+        long = vec-long (withVec is (infoBytes * j + positionByte) p) (infoBytes * j + lastByte) l ∙ vec-long is (infoBytes * j + positionByte) p;
+        bytes = λ h. vec-bytes (withVec is (infoBytes * j + positionByte) p) (infoBytes * j + lastByte) l (vec-bytes is (infoBytes * j + positionByte) p h);
         same = λ k c h. stored-same k c h (ltb j k) refl;
+        sent = λ k. stored-sent k (ltb k j) refl;
       }
 
 pub moved-like : (arrived : Bool) (k : ℕ) (s : DynamicSourceState) (is : List ℕ) → Like is (objectMoved arrived k s is .infos)

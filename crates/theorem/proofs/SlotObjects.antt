@@ -1,6 +1,5 @@
--- A slot gives beds and objects no gain and no size but those that they or the infos hold, and no place but f32 values: whatever holds of every gain (`G`) and every size (`Z`)
--- still does.
--- Assumes nothing.
+-- A slot gives beds and objects no gain, no size and no send but those that they or the infos hold, and no place but f32 values: whatever holds of every gain (`G`) and of every
+-- size and send (`Z`) still does. Assumes nothing.
 use Prim.Native.Nat.{ℕ, _+_, _*_, _<_, _≤_}
 use mathlib.Core.Path.{_≡_}
 use mathlib.Core.Bool.{Bool, _&&_}
@@ -16,13 +15,14 @@ use Rattle.vectors.specs.Vectors.{lerpVec3}
 use Rattle.vectors.specs.Target.{placed}
 use Rattle.vectors.specs.Fit.{VecFits, BlockFits, PlacedFits}
 use Rattle.vectors.proofs.Fitting.{placed-fits, lerp-fits}
-use Rattle.timed.specs.Infos.{maybeAt, vecAt, gainAt, sizeAt, blockPosition}
+use Rattle.timed.specs.Infos.{maybeAt, vecAt, gainAt, sizeAt, sendAt, blockPosition}
 use Rattle.timed.specs.Objects.{noSource, noTrack, orElse, objectMoved, movedAt, movedAll, bedAt, bedGains, ramped, rampedAt, rampedAll}
 use Rattle.timed.specs.Objects as objects
 use Rattle.timed.specs.declared.state.Track.{Track}
 use Rattle.timed.specs.declared.state.DynamicSourceState.{DynamicSourceState}
 use Rattle.timed.specs.declared.objects.Moving.{Moving}
 use Rattle.timed.proofs.Theorems.{times-in, cond-keeps, set-each}
+use Rattle.timed.specs.InfoSizes.{infoBytes, positionByte, lastByte}
 use Rattle.theorem.proofs.SlotInfos.{Like, like-head, moved-like}
 
 -- absent, or with P
@@ -34,10 +34,12 @@ pub record SourceHas (G Z : Float → Type 0) (s : DynamicSourceState) : Type 0 
   pub gain : G (s .gain)
   pub size : Z (s .size)
   pub place : VecFits (s .place)
+  pub send : Z (s .send)
 
 pub record InfosHave (G Z : Float → Type 0) (is : List ℕ) : Type 0 where
   pub gain : (k : ℕ) → Holds G (gainAt is k)
   pub size : (k : ℕ) → Holds Z (sizeAt is k)
+  pub send : (k : ℕ) → Z (sendAt is k)
 
 pub record MovingHas (G Z : Float → Type 0) (m : Moving) : Type 0 where
   pub sources : (d : ℕ) → d < 16 → SourceHas G Z (getD (m .sources) d noSource)
@@ -50,7 +52,13 @@ unfolding maybeAt floatAt
 maybe-like h k bit at l = rw (like-head h k, h .same k at l)
 
 pub like-has : {G Z : Float → Type 0} {is js : List ℕ} → Like is js → InfosHave G Z is → InfosHave G Z js
-like-has l h = record { gain = λ k. rw (maybe-like l k 4 4 (omega arith)) (h .gain k); size = λ k. rw (maybe-like l k 32 8 (omega arith)) (h .size k) }
+unfolding floatAt
+like-has l h =
+    record {
+      gain = λ k. rw (maybe-like l k 4 4 (omega arith)) (h .gain k);
+      size = λ k. rw (maybe-like l k 32 8 (omega arith)) (h .size k);
+      send = λ k. rw (l .sent k) (h .send k);
+    }
 
 vec-at-fits : (is : List ℕ) (at : ℕ) → VecFits (vecAt is at)
 unfolding vecAt floatAt
@@ -58,7 +66,7 @@ vec-at-fits is at = record { x-fits = ofBits-fits binary32 _; y-fits = ofBits-fi
 
 block-fits : (is : List ℕ) (k : ℕ) → BlockFits (blockPosition is k)
 unfolding blockPosition
-block-fits is k = record { position-fits = vec-at-fits is (44 * k + 20); last-fits = vec-at-fits is (44 * k + 32) }
+block-fits is k = record { position-fits = vec-at-fits is (infoBytes * k + positionByte); last-fits = vec-at-fits is (infoBytes * k + lastByte) }
 
 or-else-holds : (P : Float → Type 0) (m : Maybe) (x : Float) → Holds P m → P x → P (orElse m x)
 or-else-holds P Absent x h p = p
@@ -79,6 +87,7 @@ module _ (G Z : Float → Type 0) where
           size = or-else-holds Z (sizeAt is k) (s .size) (i .size k) (h .size);
           place = cond-keeps VecFits (blockPosition is k .valid && arrived) (placed (blockPosition is k) (s .place) .target) (s .place) (λ _. target-fits .target-fits)
               (λ _. h .place);
+          send = i .send k;
         }
 
     pub track-fits : VecFits (objectMoved arrived k s is .moved .track .future)
@@ -93,6 +102,7 @@ module _ (G Z : Float → Type 0) where
         gain = h .gain;
         size = h .size;
         place = cond-keeps VecFits (last && s .placed) (lerpVec3 (s .place) (k .future) t) (k .future) (λ _. lerp-fits (s .place) (k .future) t) (λ _. f);
+        send = h .send;
       })
       (λ _. h)
 

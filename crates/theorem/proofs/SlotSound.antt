@@ -8,17 +8,18 @@ use native.Mathlib.Omega.{arith}
 use borrow.Author.Tests.{ltb-true, ltb-false}
 use lib.Dec.{T, ltb}
 use lib.ListN.{length, getD, List·getD-eq-default}
-use lib.Ieee.{Float}
-use Rattle.words.specs.Words.{number}
+use lib.Ieee.{Float, fits, le, ofBits}
+use Rattle.words.specs.Words.{number, floatAt}
 use Rattle.vectors.specs.declared.Vec3.{Vec3}
 use Rattle.vectors.specs.declared.Maybe.{Maybe}
 use Rattle.vectors.specs.declared.Maybe.the-variants.{Absent, Value}
 use Rattle.vectors.specs.Fit.{VecFits}
 use Rattle.panning.specs.Choice.{0·0, 1·0}
 use Rattle.panning.specs.Table.{between, 8·0, Position}
-use Rattle.timed.specs.Infos.{maybeAt, gainAt, sizeAt}
+use Rattle.timed.specs.Infos.{maybeAt, gainAt, sizeAt, sendAt}
 use Rattle.timed.specs.State.{Timed, slotAt}
 use Rattle.timed.specs.declared.state.DynamicSourceState.{DynamicSourceState}
+use Rattle.timed.specs.InfoSizes.{infoBytes, allBytes, sendByte}
 use Rattle.theorem.proofs.Sound.{UpTo, SourceSound, InfosSound, Sound}
 use Rattle.theorem.proofs.SlotShape.{shape-slot}
 use Rattle.theorem.proofs.SlotInfos.{Like, slot-like}
@@ -38,9 +39,9 @@ number-past s at (suc n) h =
     let b : getD s (at + n) 0 ≡ 0 = List·getD-eq-default s 0 (omega arith) in
     rw (a, b, zero-mul)
 
-module _ (is : List ℕ) (long : length is ≡ 22528) (k : ℕ) (past : 512 ≤ k) where
-  head-past : number is (44 * k) 4 ≡ 0
-  head-past = number-past is (44 * k) 4 (omega arith)
+module _ (is : List ℕ) (long : length is ≡ allBytes) (k : ℕ) (past : 512 ≤ k) where
+  head-past : number is (infoBytes * k) 4 ≡ 0
+  head-past = number-past is (infoBytes * k) 4 (omega arith)
 
   gain-past : gainAt is k ≡ Absent
   unfolding maybeAt
@@ -49,6 +50,10 @@ module _ (is : List ℕ) (long : length is ≡ 22528) (k : ℕ) (past : 512 ≤ 
   size-past : sizeAt is k ≡ Absent
   unfolding maybeAt
   size-past = rw head-past
+
+  send-past : Upto 1·0 (sendAt is k)
+  unfolding floatAt ofBits between fits le
+  send-past = rw (number-past is (infoBytes * k + sendByte) 4 (omega arith)) tt
 
 -- ---- the two ways to say it
 
@@ -59,6 +64,10 @@ held most (Value x) h = h
 up-to : (most : Float) (m : Maybe) → Holds (Upto most) m → UpTo most m
 up-to most Absent h = h
 up-to most (Value x) h = h
+
+sends-held : (is : List ℕ) → InfosSound is → (k : ℕ) (b : Bool) → ltb k 512 ≡ b → Upto 1·0 (sendAt is k)
+sends-held is h k true e = h .send k (ltb-true k 512 e)
+sends-held is h k false e = send-past is (h .long) k (ltb-false k 512 e)
 
 -- below 512 as given, from there on absent
 each-held : (most : Float) (f : ℕ → Maybe) → ((k : ℕ) → k < 512 → UpTo most (f k)) → ((k : ℕ) → 512 ≤ k → f k ≡ Absent) → (k : ℕ) → (b : Bool) → ltb k 512 ≡ b
@@ -71,6 +80,7 @@ infos-have is h =
     record {
       gain = λ k. each-held 8·0 (gainAt is) (h .gain) (gain-past is (h .long)) k (ltb k 512) refl;
       size = λ k. each-held 1·0 (sizeAt is) (h .size) (size-past is (h .long)) k (ltb k 512) refl;
+      send = λ k. sends-held is h k (ltb k 512) refl;
     }
 
 fits-of : {v : Vec3} → Position v → VecFits v
@@ -80,17 +90,23 @@ position-of : {v : Vec3} → VecFits v → Position v
 position-of h = record { x = h .x-fits; y = h .y-fits; z = h .z-fits }
 
 source-has : {s : DynamicSourceState} → SourceSound s → SourceHas (Upto 8·0) (Upto 1·0) s
-source-has h = record { gain = h .gain; size = h .size; place = fits-of (h .place) }
+source-has h = record { gain = h .gain; size = h .size; place = fits-of (h .place); send = h .send }
 
 source-sound : {s : DynamicSourceState} → SourceHas (Upto 8·0) (Upto 1·0) s → SourceSound s
-source-sound h = record { gain = h .gain; size = h .size; place = position-of (h .place) }
+source-sound h = record { gain = h .gain; size = h .size; place = position-of (h .place); send = h .send }
 
 -- ---- infos and state
 
 pub like-sound : {is js : List ℕ} → Like is js → InfosSound is → InfosSound js
 like-sound {is} {js} l h =
     let g = like-has l (infos-have is h) in
-    record { long = l .long ∙ h .long; bytes = l .bytes (h .bytes); gain = λ k _. up-to 8·0 (gainAt js k) (g .gain k); size = λ k _. up-to 1·0 (sizeAt js k) (g .size k) }
+    record {
+      long = l .long ∙ h .long;
+      bytes = l .bytes (h .bytes);
+      gain = λ k _. up-to 8·0 (gainAt js k) (g .gain k);
+      size = λ k _. up-to 1·0 (sizeAt js k) (g .size k);
+      send = λ k _. g .send k;
+    }
 
 state-has : (m : Timed) → Sound m → StateHas (Upto 8·0) (Upto 1·0) (m .state)
 state-has m h =

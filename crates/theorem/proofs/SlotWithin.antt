@@ -22,6 +22,7 @@ use Rattle.timed.proofs.Theorems.{slot-within}
 use Rattle.store.specs.Ranges.{leastFlags, headsValid}
 use Rattle.store.specs.Ranged.{Single, Singles, SourceSingles, TrackSingles, ElementRanged, StateRanged, InfosRanged}
 use Rattle.store.proofs.Whole.{all-at}
+use Rattle.timed.specs.InfoSizes.{infoBytes}
 use Rattle.theorem.proofs.Sound.{Within}
 use Rattle.theorem.proofs.SlotShape.{Shaped, shape-slot}
 use Rattle.theorem.proofs.SlotInfos.{Like, like-head, slot-like}
@@ -42,10 +43,11 @@ either-holds P false x h = tt
 -- whatever bytes say is an f32
 single-at : (is : List ℕ) (k bit at : ℕ) → Holds Single (maybeAt is k bit at)
 unfolding maybeAt floatAt
-single-at is k bit at = either-holds Single (has (headAt is k) bit) (floatAt is (44 * k + at)) (ofBits-fits binary32 (word is (44 * k + at)))
+single-at is k bit at = either-holds Single (has (headAt is k) bit) (floatAt is (infoBytes * k + at)) (ofBits-fits binary32 (word is (infoBytes * k + at)))
 
 infos-single : (is : List ℕ) → InfosHave Single Single is
-infos-single is = record { gain = λ k. single-at is k 4 4; size = λ k. single-at is k 32 8 }
+unfolding floatAt
+infos-single is = record { gain = λ k. single-at is k 4 4; size = λ k. single-at is k 32 8; send = λ k. ofBits-fits binary32 _ }
 
 fits-of : {v : Vec3} → Singles v → VecFits v
 fits-of h = record { x-fits = h .x; y-fits = h .y; z-fits = h .z }
@@ -63,7 +65,7 @@ module _ (n : ℕ) (s : MetadataRendererState) (h : StateRanged n s) where
         gains = λ i l. all-out Single nan (s .gains) (h .beds) i (rw (h .gains) l);
         sources = λ d l.
             let g = all-out SourceSingles noSource (s .sources) (h .objects) d (rw (h .sources) l) in
-            record { gain = g .gain; size = g .size; place = fits-of (g .place) };
+            record { gain = g .gain; size = g .size; place = fits-of (g .place); send = g .send };
         targets = λ e l d k. fits-of (all-out TrackSingles noTrack (elementOf s e .tracks) (h .elements e l .targets) d (rw (h .elements e l .tracks) k));
       }
 
@@ -104,18 +106,18 @@ module _ (n : ℕ) (s : MetadataRendererState) (h : StateRanged n s) where
           sources = sources;
           objects =
               all-at SourceSingles noSource (t .sources)
-              (λ d l. let x = g .sources d (rw sources at l) in record { gain = x .gain; size = x .size; place = singles-of (x .place) });
+              (λ d l. let x = g .sources d (rw sources at l) in record { gain = x .gain; size = x .size; place = singles-of (x .place); send = x .send });
           states = g .states;
           elements = element-ranged;
         }
 
 -- ---- infos
 
-heads-same : {is js : List ℕ} → Like is js → (m k : ℕ) → headsValid js (44 * k) m ≡ headsValid is (44 * k) m
+heads-same : {is js : List ℕ} → Like is js → (m k : ℕ) → headsValid js (infoBytes * k) m ≡ headsValid is (infoBytes * k) m
 unfolding headsValid
 heads-same l zero k = refl
 heads-same l (suc m) k =
-    let e : 44 * k + 44 ≡ 44 * suc k = omega arith in
+    let e : infoBytes * k + infoBytes ≡ infoBytes * suc k = omega arith in
     rw (like-head l k, e, heads-same l m (suc k))
 
 pub like-ranged : {is js : List ℕ} → Like is js → InfosRanged is → InfosRanged js

@@ -1,4 +1,4 @@
--- What the timed state keeps along updates and slots: gains from 0 to 8, sizes from 0 to 1, f32 values (`Sound`), and document 01's ranges (`Within`). Assumes nothing.
+-- What the timed state keeps along updates and slots: gains from 0 to 8, sizes and sends from 0 to 1, f32 values (`Sound`), and document 01's ranges (`Within`). Assumes nothing.
 use Prim.Native.Nat.{ℕ, _-_, _≤_, _<_}
 use mathlib.Core.Path.{_≡_}
 use mathlib.Core.List.{List}
@@ -10,11 +10,12 @@ use Rattle.vectors.specs.declared.Maybe.{Maybe}
 use Rattle.vectors.specs.declared.Maybe.the-variants.{Absent, Value}
 use Rattle.panning.specs.Choice.{0·0, 1·0}
 use Rattle.panning.specs.Table.{between, 8·0, Position}
-use Rattle.timed.specs.Infos.{gainAt, sizeAt}
+use Rattle.timed.specs.Infos.{gainAt, sizeAt, sendAt}
 use Rattle.timed.specs.Objects.{noSource, noTrack}
 use Rattle.timed.specs.State.{Timed, elementOf}
 use Rattle.timed.specs.declared.state.DynamicSourceState.{DynamicSourceState}
 use Rattle.store.specs.Ranged.{StateRanged, InfosRanged}
+use Rattle.timed.specs.InfoSizes.{allBytes}
 
 -- absent, or from 0 to `most`
 abbrev pub UpTo : Float → Maybe → Type 0
@@ -25,13 +26,15 @@ pub record SourceSound (s : DynamicSourceState) : Type 0 where
   pub gain : T (between 0·0 8·0 (s .gain))
   pub size : T (between 0·0 1·0 (s .size))
   pub place : Position (s .place)
+  pub send : T (between 0·0 1·0 (s .send))
 
--- every gain and size that refusal 6 let pass
+-- every gain, size and send that refusal 6 let pass
 pub record InfosSound (is : List ℕ) : Type 0 where
-  pub long : length is ≡ 22528
+  pub long : length is ≡ allBytes
   pub bytes : Bytes is
   pub gain : (k : ℕ) → k < 512 → UpTo 8·0 (gainAt is k)
   pub size : (k : ℕ) → k < 512 → UpTo 1·0 (sizeAt is k)
+  pub send : (k : ℕ) → k < 512 → T (between 0·0 1·0 (sendAt is k))
 
 pub record Sound (m : Timed) : Type 0 where
   pub beds : m .state .beds ≤ 18

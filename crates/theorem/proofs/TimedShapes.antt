@@ -30,7 +30,7 @@ mixable m h =
       beds = each-all _ (bedOf s) (s .beds) (λ k l. h .gains k (omega arith));
       few-objects = subst (λ (n : ℕ). n ≤ 16) (sym (each-length (sourceOf s) (s .objects - s .isf))) some;
       objects = each-all _ (sourceOf s) (s .objects - s .isf)
-          (λ d l. let o = h .sources d (omega arith) in record { gain = o .gain; size = o .size; place = o .place });
+          (λ d l. let o = h .sources d (omega arith) in record { gain = o .gain; size = o .size; place = o .place; send = o .send });
     }
 
 pub shape-objects : (m : Timed) → length (hall .objects m) ≡ hall .shape m .objects

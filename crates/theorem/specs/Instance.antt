@@ -34,7 +34,7 @@ abbrev pub bedOf : MetadataRendererState → ℕ → Bed
 bedOf s k = record { code = getD (s .codes) k 0; gain = getD (s .gains) k nan }
 
 abbrev pub sourceOf : MetadataRendererState → ℕ → Source
-sourceOf s d = let o = getD (s .sources) d noSource in record { gain = o .gain; size = o .size; place = o .place }
+sourceOf s d = let o = getD (s .sources) d noSource in record { gain = o .gain; size = o .size; place = o .place; send = o .send }
 
 abbrev pub shapeOf : MetadataRendererState → Shape
 shapeOf s = record { started = s .initialized; objects = s .objects - s .isf; beds = each (λ k. getD (s .codes) k 0) (s .beds) }

@@ -66,7 +66,7 @@ moving offset =
       element = λ e. record {
         blocks = 1;
         block = λ b. record { offset = 1048576 + offset; ramp = 1048576 };
-        info = λ o b. record { head = 13 + 0 * 256 + 2 * 65536; gain = 0x3f00_0000; size = 0; distance = 0; screen = 0; x = 0x3f80_0000; y = 0x3f80_0000; z = 0x3f80_0000 };
+        info = λ o b. record { head = 13 + 0 * 256 + 2 * 65536; gain = 0x3f00_0000; size = 0; distance = 0; screen = 0; x = 0x3f80_0000; y = 0x3f80_0000; z = 0x3f80_0000; send = 0 };
       };
     }
 
@@ -76,7 +76,7 @@ caseObject offset timecode = getD (slotAt (4096 + timecode) (applied 4096 (movin
 
 -- the object as the block has it
 abbrev pub movedObject : DynamicSourceState
-movedObject = record { gain = 0·5; size = 0·0; place = vec3 1·0 1·0 -1·0; placed = true }
+movedObject = record { gain = 0·5; size = 0·0; place = vec3 1·0 1·0 -1·0; placed = true; send = 0·0 }
 
 -- ---- a block of the limiter
 

@@ -8,15 +8,15 @@ use lib.Dec.{lit<}
 use lib.Ieee.{Float, binary32, ofBits}
 use lib.ListN.{getD}
 use Rattle.words.specs.Words.{word, wordsAt, floatAt}
-use Rattle.formats.specs.Info.{infoFormat, gainIn, sizeIn, distanceIn, screenIn, positionIn, lastIn}
+use Rattle.formats.specs.Info.{infoFormat, gainIn, sizeIn, distanceIn, screenIn, positionIn, lastIn, sendIn}
 use Rattle.formats.proofs.Theorems.{word-of-run}
 use Rattle.vectors.specs.declared.Vec3.{Vec3}
 use Rattle.vectors.specs.declared.Maybe.{Maybe}
 use Rattle.vectors.specs.declared.Maybe.the-variants.{Absent, Value}
 use Rattle.vectors.specs.Head.{headIn, anchorOf, has}
 use Rattle.vectors.proofs.Theorems.{IsBit, flag-of-word}
-use Rattle.timed.specs.InfoSizes.{gainByte, sizeByte, distanceByte, screenByte, positionByte, lastByte, infoAt}
-use Rattle.timed.specs.Infos.{depthOf, infoOf, presentWith, gainSaid, sizeSaid, positionSaid, headAt, maybeAt, vecAt, gainAt, sizeAt, blockPosition}
+use Rattle.timed.specs.InfoSizes.{gainByte, sizeByte, distanceByte, screenByte, positionByte, lastByte, sendByte, infoAt}
+use Rattle.timed.specs.Infos.{depthOf, infoOf, presentWith, gainSaid, sizeSaid, positionSaid, headAt, maybeAt, vecAt, gainAt, sizeAt, sendAt, blockPosition}
 
 module _ (is : List ℕ) (k : ℕ) where
   -- the float at a word of the info
@@ -53,6 +53,9 @@ module _ (is : List ℕ) (k : ℕ) where
         y = float-read (lastIn + 1) (infoAt k + lastByte + 4) (lit< tt) (omega arith) j;
         z = float-read (lastIn + 2) (infoAt k + lastByte + 8) (lit< tt) (omega arith) j;
       }
+
+  pub send-read : infoOf is k .send ≡ sendAt is k
+  send-read = float-read sendIn _ (lit< tt) (omega arith)
 
   -- ---- what it says
 

@@ -1,7 +1,7 @@
 -- The numbers of the infos, in document 01's limits: "An update has up to 32 objects in all, .. 2 elements, 8 blocks each". Each object in each block of each element has an
 -- info, of the format of formats/specs/Info. Assumes nothing.
 use Prim.Native.Nat.{ℕ, _+_, _*_}
-use Rattle.formats.specs.Info.{gainIn, sizeIn, distanceIn, screenIn, positionIn, lastIn}
+use Rattle.formats.specs.Info.{gainIn, sizeIn, distanceIn, screenIn, positionIn, lastIn, sendIn}
 pub use Rattle.formats.specs.Areas.{infoBytes}
 
 abbrev pub mostElements : ℕ
@@ -23,7 +23,7 @@ allInfos = mostElements * elementInfos
 
 -- ---- bytes
 
--- of all infos: 22,528
+-- of all infos: 24,576
 abbrev pub allBytes : ℕ
 allBytes = infoBytes * allInfos
 
@@ -45,6 +45,9 @@ positionByte = 4 * positionIn
 
 abbrev pub lastByte : ℕ
 lastByte = 4 * lastIn
+
+abbrev pub sendByte : ℕ
+sendByte = 4 * sendIn
 
 -- ---- where an info is
 

@@ -14,7 +14,7 @@ use Rattle.vectors.specs.declared.Vec3.{Vec3}
 use Rattle.vectors.specs.declared.Maybe.{Maybe}
 use Rattle.vectors.specs.declared.Maybe.the-variants.{Absent, Value}
 use Rattle.vectors.specs.declared.BlockPosition.{BlockPosition}
-use Rattle.timed.specs.InfoSizes.{gainByte, sizeByte, distanceByte, screenByte, positionByte, lastByte, infoAt}
+use Rattle.timed.specs.InfoSizes.{gainByte, sizeByte, distanceByte, screenByte, positionByte, lastByte, sendByte, infoAt}
 
 -- "y to the power 0.25, 0.5, 1 or 2": codes 0 to 3
 abbrev pub depthOf : ℕ → Depth
@@ -70,6 +70,9 @@ gainAt is k = maybeAt is k 4 gainByte
 
 abbrev pub sizeAt : List ℕ → ℕ → Maybe
 sizeAt is k = maybeAt is k 32 sizeByte
+
+abbrev pub sendAt : List ℕ → ℕ → Float
+sendAt is k = floatAt is (infoAt k + sendByte)
 
 -- what info k says of its object's position
 unfoldable pub blockPosition : List ℕ → ℕ → BlockPosition

@@ -14,7 +14,7 @@ use Rattle.vectors.specs.Vectors.{lerpVec3}
 use Rattle.vectors.specs.Target.{placed}
 use Rattle.timed.specs.Turns.{times}
 use Rattle.timed.specs.InfoSizes.{mostBlocks, positionByte, lastByte, infoAt}
-use Rattle.timed.specs.Infos.{gainAt, sizeAt, blockPosition, withVec}
+use Rattle.timed.specs.Infos.{gainAt, sizeAt, sendAt, blockPosition, withVec}
 use Rattle.timed.specs.declared.state.DynamicSourceState.{DynamicSourceState}
 use Rattle.timed.specs.declared.state.Track.{Track}
 use Rattle.timed.specs.declared.objects.Moved.{Moved}
@@ -26,7 +26,7 @@ abbrev pub nowhere : Vec3
 nowhere = record { x = nan; y = nan; z = nan }
 
 abbrev pub noSource : DynamicSourceState
-noSource = record { gain = nan; size = nan; place = nowhere; placed = false }
+noSource = record { gain = nan; size = nan; place = nowhere; placed = false; send = nan }
 
 abbrev pub noTrack : Track
 noTrack = record { now = false; future = nowhere }
@@ -42,23 +42,33 @@ pub record ObjectAfter : Type 0 where
   pub moved : Moved
   pub infos : List ℕ
 
+-- the object where it is, with another gain, size and send
+abbrev pub heardWith : DynamicSourceState → Float → Float → Float → DynamicSourceState
+heardWith s gain size send = record { gain = gain; size = size; place = s .place; placed = s .placed; send = send }
+
+-- gain and size where info k has them, and the send; R-3: "a block that is applied sets it"
+abbrev pub withLevels : List ℕ → ℕ → DynamicSourceState → DynamicSourceState
+withLevels is k s = heardWith s (orElse (gainAt is k) (s .gain)) (orElse (sizeAt is k) (s .size)) (sendAt is k)
+
 -- what block position b and its target p make of an object, for info k
 abbrev pub afterMove : Bool → ℕ → DynamicSourceState → List ℕ → BlockPosition → Placed → ObjectAfter
 afterMove arrived k s is b p =
+    let heard = withLevels is k s in
     record {
       moved = record {
         source = record {
-          gain = orElse (gainAt is k) (s .gain);
-          size = orElse (sizeAt is k) (s .size);
+          gain = heard .gain;
+          size = heard .size;
           place = cond (b .valid && arrived) (p .target) (s .place);
           placed = (b .valid && arrived) || s .placed;
+          send = heard .send;
         };
         track = record { now = b .valid; future = p .target };
       };
       infos = withVec (withVec is (infoAt k + positionByte) (p .position)) (infoAt k + lastByte) (p .last);
     }
 
--- Info k for one object: gain and size where present; its target; the object put there where no ramp remains (`arrived`).
+-- Info k for one object: gain, size and send; its target; the object put there where no ramp remains (`arrived`).
 -- The info then holds the position that was used, and the last absolute one.
 unfoldable pub objectMoved : Bool → ℕ → DynamicSourceState → List ℕ → ObjectAfter
 unfolding blockPosition
@@ -97,7 +107,7 @@ bedGains is first count gs = times count 0 (bedAt is first) gs
 unfoldable pub ramped : Float → Bool → Track → DynamicSourceState → DynamicSourceState
 ramped t last k s =
     cond (k .now)
-    (record { gain = s .gain; size = s .size; place = cond (last && s .placed) (lerpVec3 (s .place) (k .future) t) (k .future); placed = true })
+    (record { gain = s .gain; size = s .size; place = cond (last && s .placed) (lerpVec3 (s .place) (k .future) t) (k .future); placed = true; send = s .send })
     s
 
 abbrev pub rampedAt : Float → List Track → ℕ → Moving → Moving

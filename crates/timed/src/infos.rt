@@ -7,7 +7,7 @@ ghost use Prim.Native.Nat.{_+_, _*_, _<_, _≤_};
 ghost use lib.ListN.{length};
 ghost use Rattle.vectors.specs.Head.{anchorOf, has};
 ghost use Rattle.timed.specs.InfoSizes.{allInfos, infoBytes, infoAt};
-ghost use Rattle.timed.specs.Infos.{depthOf, maybeAt, vecAt, withVec, blockPosition};
+ghost use Rattle.timed.specs.Infos.{depthOf, maybeAt, vecAt, sendAt, withVec, blockPosition};
 use formats::info;
 use roots::Depth;
 use vectors::Anchor;
@@ -34,6 +34,8 @@ pub const SCREEN: usize = info::SCREEN;
 pub const POSITION: usize = info::POSITION;
 
 pub const LAST: usize = info::LAST;
+
+pub const SEND: usize = info::SEND;
 
 fn anchor_of(n: u32) -> Anchor
     ensures { λ r. ⌜ r ≡ anchorOf n ⌝ }
@@ -95,6 +97,14 @@ pub fn put_vec(infos: &mut [u8], at: usize, v: Vec3)
     words::put_f32(infos, at, v.x);
     words::put_f32(infos, at + 4, v.y);
     words::put_f32(infos, at + 8, v.z);
+}
+
+// Its send, which is always there.
+pub fn send_at(infos: &[u8], k: usize) -> f32
+    requires { ⌜ (infoAt k + infoBytes ≤ length (now infos)) × (k < allInfos) ⌝ }
+    ensures { λ r. ⌜ r ≡ sendAt (now (infos .entry)) k ⌝ }
+{
+    words::f32_at(infos, INFO_BYTES * k + SEND)
 }
 
 // What info k says of its object's position.

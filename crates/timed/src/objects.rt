@@ -6,7 +6,7 @@ ghost use mathlib.Core.Path.{_≡_};
 ghost use Prim.Native.Nat.{ℕ, _+_, _*_, _<_, _≤_};
 ghost use lib.ListN.{length};
 ghost use Rattle.timed.specs.InfoSizes.{mostBlocks, allInfos, infoBytes, allBytes, infoAt};
-ghost use Rattle.timed.specs.Objects.{orElse, objectMoved, movedAll, bedGains, ramped, rampedAll};
+ghost use Rattle.timed.specs.Objects.{orElse, withLevels, objectMoved, movedAll, bedGains, ramped, rampedAll};
 ghost use Rattle.timed.specs.Contracts.{IsMoved, IsMovedAll};
 use crate::infos;
 use crate::infos::BLOCKS;
@@ -29,6 +29,16 @@ fn or_else(m: Maybe, other: f32) -> f32
     }
 }
 
+// The object with gain and size where info k has them, and with its send.
+fn with_levels(infos: &[u8], k: usize, source: DynamicSourceState) -> DynamicSourceState
+    requires { ⌜ (infoAt k + infoBytes ≤ length (now infos)) × (k < allInfos) ⌝ }
+    ensures { λ r. ⌜ r ≡ withLevels (now (infos .entry)) k source ⌝ }
+{
+    let gain = or_else(infos::maybe_at(infos, k, 4, GAIN), source.gain);
+    let size = or_else(infos::maybe_at(infos, k, 32, SIZE), source.size);
+    source.heard_with(gain, size, infos::send_at(infos, k))
+}
+
 // A dynamic object and its track.
 pub struct Moved {
     pub source: DynamicSourceState,
@@ -45,8 +55,7 @@ fn update_source_state(
     requires { ⌜ (infoAt k + infoBytes ≤ length (now infos)) × (k < allInfos) ⌝ }
     ensures { λ r. ⌜ IsMoved (objectMoved arrived k source (now (infos .entry))) r (now (infos .exit)) ⌝ }
 {
-    let gain = or_else(infos::maybe_at(infos, k, 4, GAIN), source.gain);
-    let size = or_else(infos::maybe_at(infos, k, 32, SIZE), source.size);
+    let heard = with_levels(infos, k, source);
     let here = source.place;
     let block = infos::block_position(infos, k);
     let to = vectors::update_source_position(block, here);
@@ -61,22 +70,18 @@ fn update_source_state(
         if arrived {
             return Moved {
                 source: DynamicSourceState {
-                    gain: gain,
-                    size: size,
+                    gain: heard.gain,
+                    size: heard.size,
                     place: target,
                     placed: true,
+                    send: heard.send,
                 },
                 track: track,
             };
         }
     }
     Moved {
-        source: DynamicSourceState {
-            gain: gain,
-            size: size,
-            place: here,
-            placed: source.placed,
-        },
+        source: heard,
         track: track,
     }
 }
@@ -139,6 +144,7 @@ fn ramp_one(source: DynamicSourceState, track: Track, last: bool, t: f32) -> Dyn
                     size: source.size,
                     place: vectors::lerp_vec3(here, future, t),
                     placed: true,
+                    send: source.send,
                 };
             }
         }
@@ -147,6 +153,7 @@ fn ramp_one(source: DynamicSourceState, track: Track, last: bool, t: f32) -> Dyn
             size: source.size,
             place: future,
             placed: true,
+            send: source.send,
         };
     }
     source

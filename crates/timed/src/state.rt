@@ -4,16 +4,35 @@
 // What is kept from slot to slot: `MetadataRendererState` and its parts. Tables have their full length, with counts beside them. The object infos stay in lent bytes.
 ghost use mathlib.Core.Path.{_≡_};
 ghost use Prim.Native.Nat.{_-_};
+ghost use Rattle.timed.specs.Objects.{heardWith};
 use clock::StreamSample;
 use vectors::Vec3;
 
-// A dynamic object as it is panned; `place` is the source's `cubical_position`, `placed` its `position_valid`.
+// A dynamic object as it is panned; `place` is the source's `cubical_position`, `placed` its `position_valid`, `send` its share in
+// the bass feed.
 #[repr(C)]
 pub struct DynamicSourceState {
     pub gain: f32,
     pub size: f32,
     pub place: Vec3,
     pub placed: bool,
+    pub send: f32,
+}
+
+impl DynamicSourceState {
+    // Where it is, with another gain, size and send.
+    pub fn heard_with(self, gain: f32, size: f32, send: f32) -> DynamicSourceState
+        ensures { λ r. ⌜ r ≡ heardWith self gain size send ⌝ }
+    {
+        let place = self.place;
+        DynamicSourceState {
+            gain: gain,
+            size: size,
+            place: place,
+            placed: self.placed,
+            send: send,
+        }
+    }
 }
 
 // Whether the element moves an object (`update_now`), and where to.

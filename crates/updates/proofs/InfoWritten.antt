@@ -18,9 +18,9 @@ use Rattle.vectors.specs.Head.{headIn, headWord, asSpeaker}
 use Rattle.vectors.specs.Vectors.{zeroVec3}
 use Rattle.vectors.specs.declared.Vec3.{Vec3}
 use Rattle.vectors.proofs.Theorems.{head-reads-back}
-use Rattle.timed.specs.InfoSizes.{infoBytes, gainByte, sizeByte, distanceByte, screenByte, positionByte, infoAt}
+use Rattle.timed.specs.InfoSizes.{infoBytes, gainByte, sizeByte, distanceByte, screenByte, positionByte, sendByte, infoAt}
 use Rattle.timed.specs.Infos.{infoOf, vecAt}
-use Rattle.timed.proofs.InfoFields.{gain-read, size-read, distance-read, screen-read, position-read, last-read}
+use Rattle.timed.proofs.InfoFields.{gain-read, size-read, distance-read, screen-read, position-read, last-read, send-read}
 use Rattle.fields.specs.Infos.{storedInfo}
 use Rattle.fields.specs.Object.{depthCode}
 use Rattle.fields.specs.declared.object.Info.{Info}
@@ -165,22 +165,34 @@ module _ (fresh bed : Bool) (i : Info) (w : InfoWords i) (is : List ℕ) (k : �
   abbrev headed : List ℕ
   headed = withHead (headOf bed i) i at is
 
+  abbrev positioned : List ℕ
+  positioned = withPlace i (at + positionByte) (cleared fresh (at + positionByte) headed)
+
   abbrev written : List ℕ
-  written = withPlace i (at + positionByte) (cleared fresh (at + positionByte) headed)
+  written = withWord positioned (at + sendByte) (i .send)
+
+  before-send : Kept positioned written (at + sendByte) (at + sendByte + 4)
+  before-send = number-keeps positioned (at + sendByte) 4 (i .send)
 
   -- the words before the positions
   as-headed : (m : ℕ) → m + 4 ≤ at + positionByte → word written m ≡ word headed m
-  as-headed m h = reads-before (places-stored fresh i (at + positionByte) headed .kept) m 4 h
+  as-headed m h = reads-before before-send m 4 (omega arith) ∙ reads-before (places-stored fresh i (at + positionByte) headed .kept) m 4 h
 
   long-headed : length headed ≡ length is
   long-headed = head-stored (headOf bed i) i at is .long
+
+  send-back : word written (at + sendByte) ≡ i .send
+  send-back =
+      let l = places-stored fresh i (at + positionByte) headed .long ∙ long-headed in
+      reads-back positioned (at + sendByte) 4 (i .send) (omega arith) (w .send)
 
   position-back : vecAt written (at + positionByte) ≡ infoAfter fresh bed i (infoOf is k) .position
   unfolding withPlace
   position-back =
       let l = long-headed in
       let c = cleared-stored fresh (at + positionByte) headed .long in
-      placed (cleared fresh (at + positionByte) headed) (at + positionByte) (omega arith) i w (eqb (i .head / 8 % 2) 1)
+      vec-before before-send (at + positionByte) (omega arith)
+      ∙ placed (cleared fresh (at + positionByte) headed) (at + positionByte) (omega arith) i w (eqb (i .head / 8 % 2) 1)
       ∙ ap (cond (eqb (i .head / 8 % 2) 1) (positionSent i))
       (cleared-position headed (at + positionByte) (omega arith) fresh
       ∙ ap (cond fresh zeroVec3) (vec-past (head-stored (headOf bed i) i at is .kept) (at + positionByte) (omega arith) ∙ sym (position-read is k)))
@@ -188,7 +200,8 @@ module _ (fresh bed : Bool) (i : Info) (w : InfoWords i) (is : List ℕ) (k : �
   last-back : vecAt written (at + positionByte + 12) ≡ infoAfter fresh bed i (infoOf is k) .last
   last-back =
       let l = long-headed in
-      vec-past (place-stored i (at + positionByte) (cleared fresh (at + positionByte) headed) .kept) (at + positionByte + 12) (omega arith)
+      vec-before before-send (at + positionByte + 12) (omega arith)
+      ∙ vec-past (place-stored i (at + positionByte) (cleared fresh (at + positionByte) headed) .kept) (at + positionByte + 12) (omega arith)
       ∙ cleared-last headed (at + positionByte) (omega arith) fresh
       ∙ ap (cond fresh zeroVec3)
       (vec-past (head-stored (headOf bed i) i at is .kept) (at + positionByte + 12) (omega arith) ∙ ap (vecAt is) (omega arith) ∙ sym (last-read is k))
@@ -204,6 +217,7 @@ module _ (fresh bed : Bool) (i : Info) (w : InfoWords i) (is : List ℕ) (k : �
         screen = (screen-read written k ∙ ap (ofBits binary32) (as-headed (at + screenByte) (omega arith) ∙ screen-back (headOf bed i) i w at is room)) j;
         position = (position-read written k ∙ position-back) j;
         last = (last-read written k ∙ ap (vecAt written) (omega arith) ∙ last-back) j;
+        send = (send-read written k ∙ ap (ofBits binary32) send-back) j;
       }
 
 -- ---- what a record of bytes has are words
@@ -231,4 +245,5 @@ info-words m r h =
       x = number-small m (40 * r + 8) 4 h;
       y = number-small m (40 * r + 12) 4 h;
       z = number-small m (40 * r + 16) 4 h;
+      send = number-small m (40 * r + 36) 4 h;
     }

@@ -16,7 +16,7 @@ use Rattle.words.proofs.Numbers.{length-kept}
 use Rattle.vectors.specs.Vectors.{zeroVec3}
 use Rattle.fields.specs.declared.object.Info.{Info}
 use Rattle.vectors.specs.Head.{has}
-use Rattle.timed.specs.InfoSizes.{infoNumber}
+use Rattle.timed.specs.InfoSizes.{mostBlocks, elementInfos, infoBytes, allBytes, positionByte, lastByte, sendByte, infoNumber}
 use Rattle.timed.specs.Infos.{vecAt}
 use Rattle.timed.specs.Rules.{middle, noBlock}
 use Rattle.timed.specs.Turns.{times}
@@ -28,7 +28,7 @@ use Rattle.updates.specs.Said.{Element, Update}
 use Rattle.updates.specs.Stored.{withThree, cleared, withPlace, headOf, withHead, withInfo, infoGiven, objectStored, objectGiven, objectsStored}
 use Rattle.updates.specs.Applied.{Work, isSame, scheduled, elementNext, elementGiven, elementsApplied, applied}
 use Rattle.updates.specs.Lifted.{WithinCounts, Afresh}
-use Rattle.updates.proofs.StoredInfos.{Stored, head-stored, place-stored, three, info-stored, object-stored, objects-stored}
+use Rattle.updates.proofs.StoredInfos.{Stored, one, head-stored, place-stored, three, info-stored, object-stored, objects-stored}
 use Rattle.updates.proofs.Elements.{turned-at, element-at}
 
 -- ---- turn k makes what the others leave
@@ -82,22 +82,22 @@ origin-written s at l =
 -- ---- an info
 
 record Origin (i : Info) (k : ℕ) (is : List ℕ) : Type 0 where
-  long : length is ≡ 22528
-  position : has (i .head) 8 ≡ false → vecAt is (44 * k + 20) ≡ zeroVec3
-  last : vecAt is (44 * k + 32) ≡ zeroVec3
+  long : length is ≡ allBytes
+  position : has (i .head) 8 ≡ false → vecAt is (infoBytes * k + positionByte) ≡ zeroVec3
+  last : vecAt is (infoBytes * k + lastByte) ≡ zeroVec3
 
-origin-beside : {i : Info} {k : ℕ} {s t : List ℕ} {lo hi : ℕ} → Stored s t lo hi → (44 * k + 44 ≤ lo) ⊎ (hi ≤ 44 * k) → Origin i k s → Origin i k t
+origin-beside : {i : Info} {k : ℕ} {s t : List ℕ} {lo hi : ℕ} → Stored s t lo hi → (infoBytes * k + infoBytes ≤ lo) ⊎ (hi ≤ infoBytes * k) → Origin i k s → Origin i k t
 origin-beside {k = k} w (inl l) h =
     record {
       long = w .long ∙ h .long;
-      position = λ e. vec-beside (44 * k + 20) (w .kept) (inl (omega arith)) ∙ h .position e;
-      last = vec-beside (44 * k + 32) (w .kept) (inl (omega arith)) ∙ h .last;
+      position = λ e. vec-beside (infoBytes * k + positionByte) (w .kept) (inl (omega arith)) ∙ h .position e;
+      last = vec-beside (infoBytes * k + lastByte) (w .kept) (inl (omega arith)) ∙ h .last;
     }
 origin-beside {k = k} w (inr l) h =
     record {
       long = w .long ∙ h .long;
-      position = λ e. vec-beside (44 * k + 20) (w .kept) (inr (omega arith)) ∙ h .position e;
-      last = vec-beside (44 * k + 32) (w .kept) (inr (omega arith)) ∙ h .last;
+      position = λ e. vec-beside (infoBytes * k + positionByte) (w .kept) (inr (omega arith)) ∙ h .position e;
+      last = vec-beside (infoBytes * k + lastByte) (w .kept) (inr (omega arith)) ∙ h .last;
     }
 
 -- the positions of a new one, from byte `at` on
@@ -112,25 +112,27 @@ no-place : (i : Info) (at : ℕ) (s : List ℕ) → has (i .head) 8 ≡ false �
 unfolding withPlace
 no-place i at s e = rw e
 
-info-origin : (bed : Bool) (i : Info) (k : ℕ) (s : List ℕ) → k < 512 → length s ≡ 22528 → Origin i k (withInfo true bed i (44 * k) s)
+info-origin : (bed : Bool) (i : Info) (k : ℕ) (s : List ℕ) → k < 512 → length s ≡ allBytes → Origin i k (withInfo true bed i (infoBytes * k) s)
 unfolding withInfo
 info-origin bed i k s l n =
-    let a = withHead (headOf bed i) i (44 * k) s in
-    let at = 44 * k + 20 in
-    let m = head-stored (headOf bed i) i (44 * k) s .long in
+    let a = withHead (headOf bed i) i (infoBytes * k) s in
+    let at = infoBytes * k + positionByte in
+    let m = head-stored (headOf bed i) i (infoBytes * k) s .long in
     let c = cleared-origin at a (omega arith) in
     let p = place-stored i at (cleared true at a) in
-    let q : at + 12 ≡ 44 * k + 32 = omega arith in
+    let w = one (withPlace i at (cleared true at a)) (infoBytes * k + sendByte) (i .send) in
+    let q : at + 12 ≡ infoBytes * k + lastByte = omega arith in
     record {
-      long = info-stored true bed i (44 * k) s .long ∙ n;
-      position = λ e. rw (no-place i at (cleared true at a) e) (c .0);
-      last = subst (λ (j : ℕ). vecAt (withPlace i at (cleared true at a)) j ≡ zeroVec3) q (vec-beside (at + 12) (p .kept) (inr (omega arith)) ∙ c .1);
+      long = info-stored true bed i (infoBytes * k) s .long ∙ n;
+      position = λ e. vec-beside at (w .kept) (inl (omega arith)) ∙ rw (no-place i at (cleared true at a) e) (c .0);
+      last = vec-beside (infoBytes * k + lastByte) (w .kept) (inl (omega arith))
+          ∙ subst (λ (j : ℕ). vecAt (withPlace i at (cleared true at a)) j ≡ zeroVec3) q (vec-beside (at + 12) (p .kept) (inr (omega arith)) ∙ c .1);
     }
 
 -- ---- an object's infos, an element's, all
 
 abbrev Long : List ℕ → Type 0
-Long is = length is ≡ 22528
+Long is = length is ≡ allBytes
 
 -- n bytes at each number, those of two numbers
 apart : (n a b at : ℕ) → (b ≡ a → ⊥) → (at + n * a + n ≤ at + n * b) ⊎ (at + n * b + n ≤ at + n * a)
@@ -145,10 +147,10 @@ object-origin : (bed : Bool) (x : Element) (first o b : ℕ) (s : List ℕ) → 
 unfolding objectStored
 object-origin bed x first o b s most few l h =
     made Long (Origin (x .info o b) (first + b)) (infoGiven true bed x first o) (x .blocks) b
-    (λ j t q i. info-stored true bed (x .info o j) (44 * (first + j)) t .long ∙ i)
+    (λ j t q i. info-stored true bed (x .info o j) (infoBytes * (first + j)) t .long ∙ i)
     (λ t i. info-origin bed (x .info o b) (first + b) t (omega arith) i)
     (λ j t q ne i.
-    origin-beside (info-stored true bed (x .info o j) (44 * (first + j)) t) (elim (apart 44 b j (44 * first) ne) [ inl z ↦ inl (omega arith) | inr z ↦ inr (omega arith) ]) i)
+    origin-beside (info-stored true bed (x .info o j) (infoBytes * (first + j)) t) (elim (apart infoBytes b j (infoBytes * first) ne) [ inl z ↦ inl (omega arith) | inr z ↦ inr (omega arith) ]) i)
     l s h
 
 objects-origin : (isf : ℕ) (x : Element) (first n o b : ℕ) (s : List ℕ) → first + 256 ≤ 512 → n ≤ 32 → x .blocks ≤ 8 → o < n → b < x .blocks → Long s →
@@ -159,7 +161,7 @@ objects-origin isf x first n o b s most all few l m h =
     (λ j t q i. object-stored true (ltb j isf) x (first + 8 * j) j t few .long ∙ i)
     (λ t i. object-origin (ltb o isf) x (first + 8 * o) o b t (omega arith) few m i)
     (λ j t q ne i.
-    origin-beside (object-stored true (ltb j isf) x (first + 8 * j) j t few) (elim (apart 352 o j (44 * first) ne) [ inl z ↦ inl (omega arith) | inr z ↦ inr (omega arith) ]) i)
+    origin-beside (object-stored true (ltb j isf) x (first + 8 * j) j t few) (elim (apart (mostBlocks * infoBytes) o j (infoBytes * first) ne) [ inl z ↦ inl (omega arith) | inr z ↦ inr (omega arith) ]) i)
     l s h
 
 infos-origin : (u : Update) (w : Work) → u .elements ≤ 2 → u .objects ≤ 32 → ((e : ℕ) → e < u .elements → u .element e .blocks ≤ 8) → Long (w .infos) →
@@ -174,7 +176,7 @@ infos-origin u w two most few h e o b le lo lb =
     (λ v i. objects-origin (u .isf) (u .element e) (e * 256) (u .objects) o b (v .infos) (omega arith) most (few e le) lo lb i)
     (λ j v q ne i.
     origin-beside (objects-stored true (u .isf) (u .element j) (j * 256) (u .objects) (v .infos) (few j q) most)
-    (let n = few e le in elim (apart 11264 e j 0 ne) [ inl z ↦ inl (omega arith) | inr z ↦ inr (omega arith) ]) i)
+    (let n = few e le in elim (apart (elementInfos * infoBytes) e j 0 ne) [ inl z ↦ inl (omega arith) | inr z ↦ inr (omega arith) ]) i)
     le w h)
 
 -- ---- the update

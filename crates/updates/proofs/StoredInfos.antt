@@ -12,6 +12,7 @@ use Rattle.words.proofs.Numbers.{length-kept}
 use Rattle.words.proofs.Small.{number-bytes}
 use Rattle.fields.specs.declared.object.Info.{Info}
 use Rattle.timed.proofs.Theorems.{times-in, cond-keeps}
+use Rattle.timed.specs.InfoSizes.{mostBlocks, elementInfos, infoBytes, positionByte, sendByte}
 use Rattle.updates.specs.Said.{Element}
 use Rattle.updates.specs.Stored.{withThree, cleared, withPlace, headOf, withHead, withInfo, infoGiven, objectStored, objectGiven, objectsStored}
 
@@ -69,26 +70,29 @@ pub places-stored : (fresh : Bool) (i : Info) (at : ℕ) (s : List ℕ) → Stor
 places-stored fresh i at s =
     twice at (at + 24) (cleared-stored fresh at s) (place-stored i at (cleared fresh at s)) (omega arith) (omega arith) (omega arith) (omega arith)
 
-pub info-stored : (fresh bed : Bool) (i : Info) (at : ℕ) (s : List ℕ) → Stored s (withInfo fresh bed i at s) at (at + 44)
+pub info-stored : (fresh bed : Bool) (i : Info) (at : ℕ) (s : List ℕ) → Stored s (withInfo fresh bed i at s) at (at + infoBytes)
 unfolding withInfo
 info-stored fresh bed i at s =
-    twice at (at + 44) (head-stored (headOf bed i) i at s) (places-stored fresh i (at + 20) (withHead (headOf bed i) i at s))
-    (omega arith) (omega arith) (omega arith) (omega arith)
+    let a = withHead (headOf bed i) i at s in
+    let b = withPlace i (at + positionByte) (cleared fresh (at + positionByte) a) in
+    let said = twice at (at + sendByte) (head-stored (headOf bed i) i at s) (places-stored fresh i (at + positionByte) a) (omega arith) (omega arith) (omega arith) (omega arith) in
+    twice at (at + infoBytes) said (one b (at + sendByte) (i .send)) (omega arith) (omega arith) (omega arith) (omega arith)
 
 -- an object's infos, of at most eight blocks, and an element's, of at most 32 objects
-pub object-stored : (fresh bed : Bool) (x : Element) (first o : ℕ) (s : List ℕ) → x .blocks ≤ 8 → Stored s (objectStored fresh bed x first o s) (44 * first) (44 * first + 352)
+pub object-stored : (fresh bed : Bool) (x : Element) (first o : ℕ) (s : List ℕ) → x .blocks ≤ mostBlocks →
+    Stored s (objectStored fresh bed x first o s) (infoBytes * first) (infoBytes * first + mostBlocks * infoBytes)
 unfolding objectStored
 object-stored fresh bed x first o s few =
-    times-in (λ (t : List ℕ). Stored s t (44 * first) (44 * first + 352)) (infoGiven fresh bed x first o) (x .blocks)
+    times-in (λ (t : List ℕ). Stored s t (infoBytes * first) (infoBytes * first + mostBlocks * infoBytes)) (infoGiven fresh bed x first o) (x .blocks)
     (λ b t l h.
-    twice (44 * first) (44 * first + 352) h (info-stored fresh bed (x .info o b) (44 * (first + b)) t) (omega arith) (omega arith) (omega arith) (omega arith))
+    twice (infoBytes * first) (infoBytes * first + mostBlocks * infoBytes) h (info-stored fresh bed (x .info o b) (infoBytes * (first + b)) t) (omega arith) (omega arith) (omega arith) (omega arith))
     (x .blocks) 0 (omega arith) s (stays s _ _)
 
 pub objects-stored : (fresh : Bool) (isf : ℕ) (x : Element) (first n : ℕ) (s : List ℕ) → x .blocks ≤ 8 → n ≤ 32 →
-    Stored s (objectsStored fresh isf x first n s) (44 * first) (44 * first + 11264)
+    Stored s (objectsStored fresh isf x first n s) (infoBytes * first) (infoBytes * first + elementInfos * infoBytes)
 unfolding objectsStored
 objects-stored fresh isf x first n s few most =
-    times-in (λ (t : List ℕ). Stored s t (44 * first) (44 * first + 11264)) (objectGiven fresh isf x first) n
+    times-in (λ (t : List ℕ). Stored s t (infoBytes * first) (infoBytes * first + elementInfos * infoBytes)) (objectGiven fresh isf x first) n
     (λ o t l h.
-    twice (44 * first) (44 * first + 11264) h (object-stored fresh (ltb o isf) x (first + 8 * o) o t few) (omega arith) (omega arith) (omega arith) (omega arith))
+    twice (infoBytes * first) (infoBytes * first + elementInfos * infoBytes) h (object-stored fresh (ltb o isf) x (first + 8 * o) o t few) (omega arith) (omega arith) (omega arith) (omega arith))
     n 0 (omega arith) s (stays s _ _)

@@ -23,9 +23,9 @@ use Rattle.updates.specs.Stored.{objectsStored}
 abbrev pub 0·707 : Float
 0·707 = ofBits binary32 0x3f34fdf4
 
--- "Objects start at gain 0.707, size 0 and the origin"
+-- "Objects start at gain 0.707, size 0 and the origin"; R-3: "An object starts with send 0"
 abbrev pub newSource : DynamicSourceState
-newSource = record { gain = 0·707; size = 0·0f; place = zeroVec3; placed = false }
+newSource = record { gain = 0·707; size = 0·0f; place = zeroVec3; placed = false; send = 0·0f }
 
 abbrev pub newTrack : Track
 newTrack = record { now = false; future = zeroVec3 }

@@ -15,7 +15,7 @@ headSent bed i = cond bed (asSpeaker (headIn (i .head))) (headIn (i .head))
 abbrev pub positionSent : Info → Vec3
 positionSent i = record { x = ofBits binary32 (i .x); y = ofBits binary32 (i .y); z = ofBits binary32 (i .z) }
 
--- head, gain, size, distance and screen factor are the record's; the position is where the record has one; what is not sent stays, or is the origin where the element is new
+-- head, gain, size, distance, screen factor and send are the record's; the position is where the record has one; what is not sent stays, or is the origin where the element is new
 abbrev pub infoAfter : Bool → Bool → Info → ObjectInfo → ObjectInfo
 infoAfter fresh bed i was =
     record {
@@ -26,6 +26,7 @@ infoAfter fresh bed i was =
       screen = ofBits binary32 (i .screen);
       position = cond (has (i .head) 8) (positionSent i) (cond fresh zeroVec3 (was .position));
       last = cond fresh zeroVec3 (was .last);
+      send = ofBits binary32 (i .send);
     }
 
 -- each field of a record is a word
@@ -38,3 +39,4 @@ pub record InfoWords (i : Info) : Type 0 where
   pub x : i .x < 2 ^ 32
   pub y : i .y < 2 ^ 32
   pub z : i .z < 2 ^ 32
+  pub send : i .send < 2 ^ 32

@@ -6,7 +6,7 @@ use lib.Dec.{ltb}
 use Rattle.words.specs.Words.{withWord}
 use Rattle.vectors.specs.Head.{headIn, headWord, asSpeaker, has}
 use Rattle.timed.specs.Turns.{times}
-use Rattle.timed.specs.InfoSizes.{mostBlocks, gainByte, sizeByte, distanceByte, screenByte, positionByte, infoAt}
+use Rattle.timed.specs.InfoSizes.{mostBlocks, gainByte, sizeByte, distanceByte, screenByte, positionByte, sendByte, infoAt}
 use Rattle.fields.specs.declared.object.Info.{Info}
 use Rattle.updates.specs.Said.{Element}
 
@@ -33,10 +33,11 @@ withHead head i at is =
     withWord (withWord (withWord (withWord (withWord is at head) (at + gainByte) (i .gain)) (at + sizeByte) (i .size)) (at + distanceByte) (i .distance)) (at + screenByte)
     (i .screen)
 
--- the info at byte `at`
+-- the info at byte `at`; its send as the record has it
 unfoldable pub withInfo : Bool → Bool → Info → ℕ → List ℕ → List ℕ
 unfolding withHead cleared withPlace
-withInfo fresh bed i at is = withPlace i (at + positionByte) (cleared fresh (at + positionByte) (withHead (headOf bed i) i at is))
+withInfo fresh bed i at is =
+    withWord (withPlace i (at + positionByte) (cleared fresh (at + positionByte) (withHead (headOf bed i) i at is))) (at + sendByte) (i .send)
 
 abbrev pub infoGiven : Bool → Bool → Element → ℕ → ℕ → ℕ → List ℕ → List ℕ
 infoGiven fresh bed x first o b is = withInfo fresh bed (x .info o b) (infoAt (first + b)) is

@@ -12,6 +12,7 @@ use timed::infos::DISTANCE;
 use timed::infos::GAIN;
 use timed::infos::POSITION;
 use timed::infos::SCREEN;
+use timed::infos::SEND;
 use timed::infos::SIZE;
 
 fn put_three(infos: &mut [u8], at: usize, x: u32, y: u32, z: u32)
@@ -73,4 +74,5 @@ pub fn put_info(infos: &mut [u8], at: usize, i: Info, fresh: bool, bed: bool)
     put_head(infos, at, head_of(i, bed), i);
     clear(infos, at + POSITION, fresh);
     put_place(infos, at + POSITION, i);
+    words::put_u32(infos, at + SEND, i.send);
 }

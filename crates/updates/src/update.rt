@@ -42,6 +42,7 @@ fn next_sources(
         size: 0.0,
         place: origin,
         placed: false,
+        send: 0.0,
     };
     [source; 16]
 }

@@ -7,7 +7,7 @@ use Rattle.fields.proofs.object.info_at.Tie as tie
 
 returns : tie.Need-returns
 returns c =
-    let a = c .before .before .before .before .before .before .before .before .before .before .before .before .before .args in
+    let a = c .before .before .before .before .before .before .before .before .before .before .before .before .before .before .args in
     cc (float-bits (a .meta .now) (40 * a .r + 32))
 
 pub info-at-spec : {M : Type 1} → statement M
@@ -17,6 +17,8 @@ info-at-spec =
     (λ c. search needs) (λ c. search needs)
     (λ c κs. search needs) (λ c κs. search needs)
     (λ c. search needs) (λ c. search needs) (λ c. search needs) (λ c. search needs)
+    (λ c κs. search needs)
+    (λ c. search needs)
     (λ c κs. search needs)
     (λ c. search needs)
     (λ c κs. search needs)

@@ -1,4 +1,4 @@
--- `fields::object::object_in_range`: gain, size, depth, by their bits. Assumes nothing.
+-- `fields::object::object_in_range`: gain, size, depth, send, by their bits. Assumes nothing.
 use Prim.Native.Nat.{_+_, _*_}
 use borrow.Author.Needs.{needs}
 use lib.ListN.{getD}
@@ -10,17 +10,19 @@ use Rattle.fields.proofs.object.object_in_range.Tie as tie
 
 returns : tie.Need-returns
 returns c =
-    let a = c .before .before .before .before .before .before .before .before .before .before .args in
+    let a = c .before .before .before .before .before .before .before .before .before .before .before .before .args in
     let m = a .meta .now in
     let at = 40 * a .r in
     let flags = getD m (at + 2) 0 in
-    cc (range-by-bits 0x41000000 8·0 eight-bits m flags 4 (at + 4), range-by-bits 0x3f800000 1·0 one-bits m flags 32 (at + 24), float-bits m (at + 32))
+    cc (range-by-bits 0x41000000 8·0 eight-bits m flags 4 (at + 4), range-by-bits 0x3f800000 1·0 one-bits m flags 32 (at + 24), float-bits m (at + 32), float-bits m (at + 36), one-bits)
 
 pub object-in-range-spec : {M : Type 1} → statement M
 object-in-range-spec =
     tie.close
     (tie.spec
     (λ c. search needs) (λ c. search needs) (λ c. search needs) (λ c. search needs)
+    (λ c κs. search needs) (λ c κs. search needs)
+    (λ c. search needs)
     (λ c κs. search needs) (λ c κs. search needs)
     (λ c. search needs)
     (λ c κs. search needs) (λ c κs. search needs)

@@ -27,8 +27,9 @@ loop-again c =
     let p = c .before .before in
     let w = p .before .before .before in
     let l = w .before .before .before .loop in
-    let a = w .before .before .before .before .before .args in
-    let h : l .i < length (a .t3) = omega arith in
+    let start = w .before .before .before .before .before in
+    let a = start .args in
+    let h : l .i < length (a .t3) = omega (arith, start .good .1 .1 .0 .1 .0 .1) in
     let q = store-turn sourceFormat lawful-source noSource (a .s .now) (l .s) (p .put-words .last .0) (a .at) (l .i) (a .at + 4 * sourceFormat .width * l .i)
     (a .t3) (w .source-words .result) h (omega arith) (search needs) (w .source-words .ensures) (l .inv .2) (p .put-words .ensures) in
     (omega arith, q .0, q .1)

@@ -5,24 +5,19 @@ use mathlib.Core.List.{List}
 use native.Mathlib.Omega.{arith}
 use denote.Ref.{now}
 use borrow.Author.Needs.{needs}
-use Rattle.vectors.specs.declared.Maybe.{Maybe}
 use Rattle.timed.specs.InfoSizes.{lastByte, infoAt}
 use Rattle.timed.specs.Infos.{withVec}
-use Rattle.timed.specs.Objects.{orElse}
 use Rattle.timed.proofs.AppliedBlock.{BlockRead, put-there, left-there}
 use Rattle.timed.proofs.objects.update_source_state.Statement.{statement}
 use Rattle.timed.proofs.objects.update_source_state.Tie as tie
 
 -- ---- what was read and stored, once all of it is
 
-abbrev sized : tie.After-block-position → tie.After-or-else2
-sized c = c .before .before .before
-
-abbrev heard : tie.After-block-position → tie.After-or-else
-heard c = sized c .before .before .before
+abbrev heard : tie.After-block-position → tie.After-with-levels
+heard c = c .before .before .before
 
 abbrev start : tie.After-block-position → tie.Start
-start c = heard c .before .before .before .before
+start c = heard c .before .before .before
 
 abbrev placed : tie.After-slice-known3 → tie.After-update-source-position
 placed c = c .before .before .before .before .before .before .before .before .before
@@ -30,20 +25,17 @@ placed c = c .before .before .before .before .before .before .before .before .be
 all-read : (c : tie.After-slice-known3) →
     let p = placed c in
     let s = start (p .before) .args in
-    BlockRead (s .k) (s .source) (now (s .infos)) (p .before .block-position .result) (p .update-source-position .result) (heard (p .before) .or-else .result)
-    (sized (p .before) .or-else2 .result) (c .before .before .put-vec2 .last .0)
+    BlockRead (s .k) (s .source) (now (s .infos)) (p .before .block-position .result) (p .update-source-position .result) (heard (p .before) .with-levels .result)
+    (c .before .before .put-vec2 .last .0)
 all-read c =
     let p = placed c in
     let t = p .update-source-position .result in
     let w = c .before .before in
-    let g = heard (p .before) in
-    let z = sized (p .before) in
     let s = start (p .before) .args in
     record {
       block = p .before .block-position .ensures;
       target = p .update-source-position .ensures;
-      heard = g .or-else .ensures ∙ ap (λ (m : Maybe). orElse m (s .source .gain)) (g .before .maybe-at .ensures);
-      sized = z .or-else2 .ensures ∙ ap (λ (m : Maybe). orElse m (s .source .size)) (z .before .maybe-at2 .ensures);
+      levels = heard (p .before) .with-levels .ensures;
       infos = w .put-vec2 .ensures ∙ ap (λ (is : List ℕ). withVec is (infoAt (s .k) + lastByte) (t .last)) (w .before .before .before .before .put-vec .ensures);
     }
 
@@ -68,7 +60,7 @@ pub update-source-state-spec : {M : Type 1} → statement M
 update-source-state-spec =
     tie.close
     (tie.spec
-    (λ c κs. search needs) (λ c κs. search needs) (λ c κs. search needs) (λ c κs. search needs) (λ c κs. search needs) (λ c κs. search needs)
+    (λ c κs. search needs) (λ c κs. search needs) (λ c κs. search needs)
     (λ c. omega (arith, first c .pre)) (λ c. omega (arith, first c .pre)) (λ c κs. omega (arith, first c .pre))
     (λ c. omega (arith, second c .pre)) (λ c. omega (arith, second c .pre)) (λ c κs. omega (arith, second c .pre, c .before .before .before .put-vec .kept))
     (λ c. search needs)

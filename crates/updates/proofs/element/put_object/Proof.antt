@@ -5,6 +5,7 @@ use native.Mathlib.Omega.{arith}
 use lib.ListN.{length}
 use borrow.Author.Needs.{needs}
 use Rattle.timed.proofs.Theorems.{Leads, leads, leads-on, leads-to}
+use Rattle.timed.specs.InfoSizes.{allBytes}
 use Rattle.updates.specs.Stored.{infoGiven, objectStored}
 use Rattle.updates.specs.Said.{elementSaid}
 use Rattle.updates.proofs.element.put_object.Statement.{statement}
@@ -12,7 +13,7 @@ use Rattle.updates.proofs.element.put_object.Tie as tie
 
 abbrev Inv-loop : tie.InvT-loop
 Inv-loop infos₀ meta sent first o bed p n b₀ infos b =
-    (b ≤ n) × (length infos ≡ 22528) × Leads (infoGiven (sent .fresh) bed (elementSaid meta p) first o) n infos₀ b infos
+    (b ≤ n) × (length infos ≡ allBytes) × Leads (infoGiven (sent .fresh) bed (elementSaid meta p) first o) n infos₀ b infos
 
 abbrev μ-loop : tie.MeasureT-loop
 μ-loop infos₀ meta sent first o bed p n b₀ infos b = n - b

@@ -7,6 +7,7 @@ use denote.Ref.{now}
 use borrow.Author.Needs.{needs}
 use Rattle.fields.specs.Block.{blocks}
 use Rattle.timed.proofs.Theorems.{Leads, leads, leads-on, leads-to}
+use Rattle.timed.specs.InfoSizes.{allBytes}
 use Rattle.updates.specs.Said.{elementSaid}
 use Rattle.updates.specs.Stored.{objectGiven, objectsStored}
 use Rattle.updates.proofs.AppliedByParts.{cell-below}
@@ -15,7 +16,7 @@ use Rattle.updates.proofs.element.put_objects.Tie as tie
 
 abbrev Inv-loop : tie.InvT-loop
 Inv-loop infos₀ meta sent first objects isf o₀ infos o =
-    (o ≤ objects) × (length infos ≡ 22528) × Leads (objectGiven (sent .fresh) isf (elementSaid meta (sent .place)) first) objects infos₀ o infos
+    (o ≤ objects) × (length infos ≡ allBytes) × Leads (objectGiven (sent .fresh) isf (elementSaid meta (sent .place)) first) objects infos₀ o infos
 
 abbrev μ-loop : tie.MeasureT-loop
 μ-loop infos₀ meta sent first objects isf o₀ infos o = objects - o

@@ -1,4 +1,4 @@
--- `updates::info::put_info`: the three stores in order. Assumes nothing.
+-- `updates::info::put_info`: the four stores in order. Assumes nothing.
 use borrow.Author.Needs.{needs}
 use Rattle.updates.specs.Stored.{withInfo}
 use Rattle.updates.proofs.info.put_info.Statement.{statement}
@@ -12,4 +12,5 @@ pub put-info-spec : {M : Type 1} → statement M
 put-info-spec =
     tie.close
     (tie.spec
-    (λ c κs. search needs) (λ c κs. search needs) (λ c. search needs) (λ c κs. search needs) (λ c. search needs) (λ c κs. search needs) (λ c. search needs) returns)
+    (λ c κs. search needs) (λ c κs. search needs) (λ c. search needs) (λ c κs. search needs) (λ c. search needs) (λ c κs. search needs) (λ c. search needs) (λ c κs. search needs)
+    (λ c. search needs) returns)

@@ -7,6 +7,7 @@ use denote.Ref.{now}
 use borrow.Author.Needs.{needs}
 use Rattle.timed.proofs.Theorems.{Leads, leads, leads-on, leads-to}
 use Rattle.records.specs.Laid.{elementAt}
+use Rattle.timed.specs.InfoSizes.{allBytes}
 use Rattle.updates.specs.WholeRecords.{WholeElement}
 use Rattle.updates.specs.Said.{updateOf}
 use Rattle.updates.specs.Applied.{Work, elementGiven, elementsApplied}
@@ -17,7 +18,7 @@ use Rattle.updates.proofs.update.apply_elements.Tie as tie
 abbrev Inv-loop : tie.InvT-loop
 Inv-loop infos₀ meta u n counts same next₀ p₀ e₀ infos next p e =
     (e ≤ n)
-    × (length infos ≡ 22528)
+    × (length infos ≡ allBytes)
     × (p ≡ elementAt meta u e)
     × Leads (elementGiven same (updateOf meta u)) n (record { states = next₀; infos = infos₀ }) e (record { states = next; infos = infos })
 

@@ -5,6 +5,7 @@ use native.Mathlib.Omega.{arith}
 use lib.ListN.{length}
 use denote.Ref.{now}
 use borrow.Author.Needs.{needs}
+use Rattle.timed.specs.InfoSizes.{allBytes}
 use Rattle.timed.proofs.LoopTurns.{Leads, leads, leads-on, leads-to}
 use Rattle.timed.specs.Objects.{movedAt, movedAll, ObjectsWork}
 use Rattle.timed.proofs.objects.Moving.apply_block.Statement.{statement}
@@ -13,7 +14,7 @@ use Rattle.timed.proofs.objects.Moving.apply_block.Tie as tie
 abbrev Inv-loop : tie.InvT-loop
 Inv-loop infos₀ first count arrived next₀ d₀ infos next d =
     (d ≤ count)
-    × (length infos ≡ 22528)
+    × (length infos ≡ allBytes)
     × Leads (movedAt arrived first) count (record { moving = next₀; infos = infos₀ }) d (record { moving = next; infos = infos })
 
 abbrev μ-loop : tie.MeasureT-loop

@@ -6,6 +6,7 @@ use native.Mathlib.Omega.{arith}
 use lib.ListN.{length}
 use denote.Ref.{now}
 use borrow.Author.Needs.{needs}
+use Rattle.timed.specs.InfoSizes.{allBytes}
 use Rattle.timed.proofs.LoopTurns.{Leads, leads, leads-on, leads-to}
 use Rattle.timed.specs.Slot.{SlotWork, blockTurn, blocksApplied}
 use Rattle.timed.proofs.slot.Slot.apply_blocks.Statement.{statement}
@@ -14,7 +15,7 @@ use Rattle.timed.proofs.slot.Slot.apply_blocks.Tie as tie
 abbrev Inv-loop : tie.InvT-loop
 Inv-loop infos₀ n when reach next₀ b₀ infos next b =
     (b ≤ n)
-    × (length infos ≡ 22528)
+    × (length infos ≡ allBytes)
     × Leads (blockTurn when reach) n (record { slot = next₀; infos = infos₀ }) b (record { slot = next; infos = infos })
 
 abbrev μ-loop : tie.MeasureT-loop

@@ -1,4 +1,4 @@
--- What is opened to compute a row: an `unfolding` line that names one of these opens what its own line names. Assumes nothing.
+-- What is opened to compute what the rules say of a list of calls: an `unfolding` line that names one of these opens what its own line names. Assumes nothing.
 use lib.Ieee as ieee
 use Rattle.words.specs.Words as words
 use Rattle.ieee.specs.Units as units
@@ -29,6 +29,7 @@ use Rattle.panning.specs.Terms as panning
 use Rattle.panning.specs.Speakers as speakers
 use Rattle.lowpass.specs.Lowpass as lowpass
 use Rattle.limiter.specs.Limiter as limiter
+use Rattle.limiter.specs.Meters as meters
 use Rattle.rules.specs.Mix as mix
 use Rattle.rules.specs.Samples as samples
 use Rattle.rules.specs.Block as rules
@@ -36,7 +37,7 @@ use Rattle.store.specs.Layout as store
 
 unfoldable pub numbers : Unit {0}
 unfolding
-    ieee.le ieee.ne ieee.neg ieee.sub ieee.ofBits ieee.toBits words.number words.withNumber words.floatAt words.withFloat units.mag
+    ieee.isNan ieee.lt ieee.le ieee.ne ieee.neg ieee.sub ieee.ofBits ieee.toBits words.number words.withNumber words.floatAt words.withFloat units.mag
     small.absolute small.larger small.smaller small.clamped roots.root roots.rootPower
 numbers = tt
 
@@ -56,7 +57,7 @@ unfoldable pub sound : Unit {0}
 unfolding
     routes.routeOf positions.positions positions.bedPosition terms.bedAdds matching.firstOf matching.matching
     choice.corner panning.panned panning.audible panning.paired panning.onChannel speakers.hall714
-    terms-of-angle.cosine terms-of-angle.sine angle.w0 filter.coefficientsOf lowpass.new limiter.lowered limiter.grown limiter.blockPeak
+    terms-of-angle.cosine terms-of-angle.sine angle.w0 filter.coefficientsOf lowpass.new limiter.lowered limiter.grown limiter.blockPeak meters.shown
     mix.objectTerms mix.heard samples.pushed samples.flushed rules.written
 sound = tt
 
