@@ -29,7 +29,8 @@ static void print(const char *call, hall_answer answer, const uint8_t *out) {
       printf("%08x%c", bits(out + 4 * (c * STRIDE + i)), c + 1 < HALL_CHANNELS ? ' ' : '\n');
 }
 
-/* One update: the bed stays, the object goes to (x, 0.25, 0.5) within the frame. Gives the records' length. */
+/* One update: the bed stays, the object goes to (x, 0.25, 0.5) within the frame and shakes the floor. Gives the records'
+   length. */
 static size_t move(uint8_t *meta, float x) {
   const uint8_t beds[] = {HALL_BED_BASS};
   uint8_t *end = meta;
@@ -40,6 +41,7 @@ static size_t move(uint8_t *meta, float x) {
   object.y = 0.25f;
   object.z = 0.5f;
   object.size = 0.125f;
+  object.send = 0.75f;
   end = hall_put_update(end, 0, 2, 1, beds, 1, 1);
   end = hall_put_element(end, 1);
   end = hall_put_block(end, 0, SAMPLES);

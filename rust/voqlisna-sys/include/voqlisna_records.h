@@ -26,7 +26,8 @@ enum { HALL_ROOM = 0, HALL_SCREEN = 1, HALL_SPEAKER = 2 };
 enum { HALL_VALID = 1, HALL_DIFFERENTIAL = 2, HALL_GAIN = 4, HALL_POSITION = 8, HALL_DISTANCE = 16, HALL_SIZE = 32 };
 enum { HALL_DEPTH_ONE = 0, HALL_DEPTH_QUARTER, HALL_DEPTH_HALF, HALL_DEPTH_TWO };
 
-/* An object in a block. A value counts where its flag is set. All zeros: a bed, or an object that keeps what it has. */
+/* An object in a block. A value counts where its flag is set, the send always. All zeros: a bed, or an object that keeps
+   what it has but for its send, which becomes 0. */
 typedef struct {
   uint8_t anchor; /* HALL_ROOM .. */
   uint8_t flags;  /* HALL_VALID | .. */
@@ -36,9 +37,10 @@ typedef struct {
   float distance;
   float size; /* 0 to 1 */
   float screen_factor;
+  float send; /* 0 to 1: what goes into the bass feed, times the gain */
 } hall_object;
 
-static const hall_object hall_keep = {0, 0, 0, 0.0f, 0.0f, 0.0f, 0.0f, 0.0f, 0.0f, 0.0f};
+static const hall_object hall_keep = {0, 0, 0, 0.0f, 0.0f, 0.0f, 0.0f, 0.0f, 0.0f, 0.0f, 0.0f};
 
 static inline uint8_t *hall_put_kind(uint8_t *to, uint8_t kind) {
   memset(to, 0, HALL_RECORD);
@@ -93,6 +95,7 @@ static inline uint8_t *hall_put_object(uint8_t *to, const hall_object *object) {
   hall_put_float(to + 24, object->flags & HALL_SIZE, object->size);
   hall_put_float(to + 28, 1, object->screen_factor);
   hall_put_float(to + 32, object->depth < 4, depths[object->depth & 3]);
+  hall_put_float(to + 36, 1, object->send);
   return end;
 }
 

@@ -18,11 +18,11 @@
 
 /// The version of the interface that these declarations are of; [`hall_version`] answers the
 /// library's.
-pub const VERSION: u32 = 2;
+pub const VERSION: u32 = 3;
 
 /// Bytes of a state block of this version, for blocks that are not on a heap; [`hall_state_size`]
 /// answers the library's.
-pub const STATE_SIZE: usize = 26_960;
+pub const STATE_SIZE: usize = 29_072;
 
 /// What [`hall_push`], [`hall_flush`] and [`hall_reset`] answer.
 #[repr(C)]

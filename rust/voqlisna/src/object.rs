@@ -10,6 +10,8 @@ pub(crate) const MOST_TIME: i64 = 1_048_576;
 pub(crate) const MOST_GAIN: f32 = 8.0;
 /// The greatest size.
 pub(crate) const MOST_SIZE: f32 = 1.0;
+/// The greatest send.
+pub(crate) const MOST_SEND: f32 = 1.0;
 
 /// When a block of an element starts, and how long its objects take to their new places.
 ///
@@ -99,12 +101,14 @@ impl Depth {
     }
 }
 
-/// One object in one block. What is `None` stays as it was.
+/// One object in one block. What is `None` stays as it was; the send is always set.
 ///
 /// ```
 /// use voqlisna::{Object, Room};
 /// let loud = Object::at(Room::CENTER).gain(2.0);
-/// assert_eq!(loud.gain, Some(2.0));
+/// assert_eq!((loud.gain, loud.send), (Some(2.0), 0.0));
+/// let shakes = loud.send(0.5); // the bass feed gets sample × (gain × send), so here the sample
+/// assert_eq!((shakes.gain, shakes.send), (Some(2.0), 0.5));
 /// assert_eq!(Object::KEEP, Object::default());
 /// ```
 #[derive(Clone, Copy, Debug, PartialEq, Default)]
@@ -127,10 +131,12 @@ pub struct Object {
     pub screen_factor: f32,
     /// Of a screen-anchored position.
     pub depth: Depth,
+    /// 0 to 1: what the object puts into the bass feed, times its gain. Of a bed it does nothing.
+    pub send: f32,
 }
 
 impl Object {
-    /// A bed channel, or an object that keeps what it has.
+    /// A bed channel, or an object that keeps what it has; its send becomes 0.
     pub const KEEP: Self = Self {
         anchor: Anchor::Room,
         gain: None,
@@ -141,6 +147,7 @@ impl Object {
         size: None,
         screen_factor: 0.0,
         depth: Depth::One,
+        send: 0.0,
     };
 
     /// At a place of the room.
@@ -170,6 +177,12 @@ impl Object {
         }
     }
 
+    /// With this send to the bass feed.
+    #[must_use]
+    pub const fn send(self, send: f32) -> Self {
+        Self { send, ..self }
+    }
+
     pub(crate) fn record(&self) -> Result<Bytes40, BuildError> {
         if self
             .gain
@@ -182,6 +195,9 @@ impl Object {
             .is_some_and(|size| !(0.0..=MOST_SIZE).contains(&size))
         {
             return Err(BuildError::Size);
+        }
+        if !(0.0..=MOST_SEND).contains(&self.send) {
+            return Err(BuildError::Send);
         }
         let mut r = [0; RECORD];
         r[0] = 4;
@@ -196,6 +212,7 @@ impl Object {
         r[24..28].copy_from_slice(&word(self.size));
         r[28..32].copy_from_slice(&self.screen_factor.to_le_bytes());
         r[32..36].copy_from_slice(&self.depth.factor().to_le_bytes());
+        r[36..40].copy_from_slice(&self.send.to_le_bytes());
         Ok(r)
     }
 

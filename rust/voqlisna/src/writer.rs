@@ -255,6 +255,8 @@ pub enum BuildError {
     Gain,
     /// A size outside 0 to 1.
     Size,
+    /// A send outside 0 to 1.
+    Send,
 }
 
 impl fmt::Display for BuildError {
@@ -272,6 +274,7 @@ impl fmt::Display for BuildError {
             Self::Offset => "an offset or a ramp must be within ±1,048,576 samples",
             Self::Gain => "a gain must be from 0 to 8",
             Self::Size => "a size must be from 0 to 1",
+            Self::Send => "a send must be from 0 to 1",
         })
     }
 }

@@ -40,7 +40,7 @@ pub enum Why {
     },
     /// A 17th update.
     Updates,
-    /// A gain or size.
+    /// A gain, size or send.
     Value {
         what: &'static str,
         value: f32,

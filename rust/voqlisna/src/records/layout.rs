@@ -3,7 +3,7 @@
 
 use super::{Record, Why};
 use crate::metadata::Bytes40;
-use crate::object::{MOST_GAIN, MOST_SIZE, MOST_TIME};
+use crate::object::{MOST_GAIN, MOST_SEND, MOST_SIZE, MOST_TIME};
 use crate::shape::{BEDS, OBJECTS};
 use crate::{Anchor, Block, Depth, Object, Room};
 
@@ -89,14 +89,14 @@ pub(super) fn object(r: &Bytes40) -> Result<Said<'_>, Wrong> {
             zeros(r, from, to)?;
         }
     }
-    zeros(r, 36, 40)?;
     let object = values(r);
     let factor = float(r, 32);
     let depth =
         (Depth::from_factor(factor).is_none()).then_some((32, Why::Depth { value: factor }));
     let value = range(4, "gain", object.gain, MOST_GAIN)
         .or(range(24, "size", object.size, MOST_SIZE))
-        .or(depth);
+        .or(depth)
+        .or(range(36, "send", Some(object.send), MOST_SEND));
     let record = Record::Object(object);
     Ok(Said { record, value })
 }
@@ -115,6 +115,7 @@ fn values(r: &Bytes40) -> Object {
         size: has(32).then(|| float(r, 24)),
         screen_factor: float(r, 28),
         depth: Depth::from_factor(float(r, 32)).unwrap_or_default(),
+        send: float(r, 36),
     }
 }
 
@@ -149,7 +150,7 @@ fn long(r: &Bytes40, at: usize) -> i64 {
     i64::from_le_bytes(word(r, at))
 }
 
-/// The bytes at `at`, which is below 33.
+/// The bytes at `at`, which are in the record.
 fn word<const N: usize>(r: &Bytes40, at: usize) -> [u8; N] {
     r.get(at..)
         .and_then(|rest| rest.first_chunk())

@@ -108,7 +108,8 @@ fn metadata(memory: &mut [u8], x: f32) -> Metadata<'_> {
     let mut writer = MetadataWriter::new(memory);
     let object = Object::at(Room { x, y: 0.25, z: 0.5 })
         .gain(0.5)
-        .size(0.125);
+        .size(0.125)
+        .send(0.75);
     writer
         .update(Update {
             at: 0,

@@ -172,6 +172,7 @@ fn object(draw: &mut Draw) -> Object {
         size: draw.once_in(3).then(|| draw.share()),
         screen_factor: draw.share(),
         depth: draw.pick(&Depth::ALL),
+        send: if draw.once_in(2) { draw.share() } else { 0.0 },
     }
 }
 
@@ -200,7 +201,7 @@ fn spoil_value(draw: &mut Draw, record: &mut [u8]) {
         3 => (draw.pick(&[8, 16]), 1_048_577i64.to_le_bytes().to_vec()),
         _ => {
             let value: f32 = draw.pick(&[-0.5, 9.0, 1.5, f32::NAN]);
-            (draw.pick(&[4, 24, 32]), value.to_le_bytes().to_vec())
+            (draw.pick(&[4, 24, 32, 36]), value.to_le_bytes().to_vec())
         }
     };
     for (place, byte) in record.iter_mut().skip(at).zip(value) {

@@ -106,7 +106,7 @@ fn every_other_error_is_a_sentence() {
         Full { needed: 1 },
     );
     limits.iter().for_each(|error| is_a_sentence(error));
-    [full, Offset, Gain, Size]
+    [full, Offset, Gain, Size, Send]
         .iter()
         .for_each(|error| is_a_sentence(error));
     use SnapshotError::*;

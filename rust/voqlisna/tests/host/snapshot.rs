@@ -103,7 +103,7 @@ fn a_field_out_of_range_is_turned_down_by_the_library() {
     let (renderer, ..) = running(1);
     let mut file = vec![0; Snapshot::size()];
     renderer.save(&mut file).unwrap();
-    for (byte, value) in [(4, 64), (64, 64), (68, 2), (80, 33), (1360, 64)] {
+    for (byte, value) in [(4, 64), (64, 64), (68, 2), (80, 33), (1424, 64)] {
         let mut forged = file.clone();
         forged[16 + byte] = value;
         let sum = crc32(&forged[16..]);

@@ -32,6 +32,7 @@ fn any_object(draw: &mut Draw) -> Object {
         size: draw.once_in(2).then(|| value(draw)),
         screen_factor: draw.float(),
         depth: draw.pick(&Depth::ALL),
+        send: value(draw),
     }
 }
 
@@ -161,7 +162,7 @@ fn is_never_refused_by_5_or_6_and_is_read_back() {
         assert!(refusal.number() > 8, "case {case}: {refusal}");
     }
     println!("{records} records; turned down {:?}", turned_down.values());
-    assert_eq!(turned_down.len(), 10, "every BuildError");
+    assert_eq!(turned_down.len(), 11, "every BuildError");
 }
 
 #[test]
@@ -180,6 +181,15 @@ fn what_is_turned_down_leaves_the_records() {
         .element(&[Block::default()], |_, _| Object::KEEP.gain(9.0));
     assert_eq!(loud.err(), Some(BuildError::Gain));
     assert_eq!(writer.metadata().records(), 1);
+    for send in [-1e-45, 1.0000001, f32::NAN, f32::INFINITY] {
+        let sent = writer
+            .update(head)
+            .unwrap()
+            .element(&[Block::default()], |_, _| Object::KEEP.send(send));
+        assert_eq!(sent.err(), Some(BuildError::Send), "{send}");
+        writer.clear();
+        writer.update(head).unwrap();
+    }
     let long = writer
         .update(head)
         .unwrap()
