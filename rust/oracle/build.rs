@@ -8,7 +8,7 @@ use std::{env, fs};
 
 const SOURCES: [&str; 3] = ["types.rs", "render_input.rs", "render.rs"];
 
-/// A text that render.rs has exactly once, and what stands in its place.
+/// A text that a source has exactly once, and what stands in its place.
 type Substitution = (&'static str, &'static str);
 
 /// Calls of the machine's libm, each with the nearest value in its place (docs/DIFFERENCES.md).
@@ -44,6 +44,67 @@ const LIFTED: [Substitution; 4] = [
     ),
 ];
 
+/// Document 02's R-3: a record and a stored block have a send, a source starts at send 0 and takes it
+/// from each block that is applied, and behind the beds each object adds sample × (gain × send) to
+/// the bass feed. A slot's debug row tells the send.
+const SENT: [Substitution; 11] = [
+    (
+        "struct DynamicSourceState {",
+        "struct DynamicSourceState {\n    send: f32,",
+    ),
+    (
+        "            gain: 0.707,\n            size: 0.0,",
+        "            send: 0.0,\n            gain: 0.707,\n            size: 0.0,",
+    ),
+    (
+        "let source = DynamicSourceState {",
+        "let source = DynamicSourceState {\n        send: 0.0,",
+    ),
+    (
+        "struct ObjectInfoBlockState {",
+        "struct ObjectInfoBlockState {\n    send: f32,",
+    ),
+    (
+        "            screen_factor: 1.0,",
+        "            send: 0.0,\n            screen_factor: 1.0,",
+    ),
+    (
+        "        self.gain = parsed.gain;",
+        "        self.gain = parsed.gain;\n        self.send = parsed.send;",
+    ),
+    (
+        "        if let Some(size) = self.size {",
+        "        source.send = self.send;\n        if let Some(size) = self.size {",
+    ),
+    (
+        "                    source,\n                );",
+        "                    source,\n                );
+                let bass = &mut channels[RENDER_714_LFE_INDEX][sample_offset..sample_end];
+                for (sum, sample) in bass.iter_mut().zip(&object_samples[sample_offset..]) {
+                    *sum += sample * (source.gain * source.send);
+                }",
+    ),
+    (
+        "pub struct Render714SourceDebug {",
+        "pub struct Render714SourceDebug {\n    pub send: f32,",
+    ),
+    (
+        "                object_index,\n",
+        "                object_index,\n                send: 0.0,\n",
+    ),
+    (
+        "                object_index: self.metadata.bed_sources.len() + dynamic_index,",
+        "                object_index: self.metadata.bed_sources.len() + dynamic_index,
+                send: source.send,",
+    ),
+];
+
+/// The same in render_input.rs.
+const SENT_INPUT: [Substitution; 1] = [(
+    "pub struct RenderMetadataObject {",
+    "pub struct RenderMetadataObject {\n    pub send: f32,",
+)];
+
 fn main() {
     println!("cargo::rustc-check-cfg=cfg(no_sources)");
     println!("cargo::rerun-if-env-changed=VOQLISNA_RUST_SRC");
@@ -72,13 +133,19 @@ fn main() {
         };
         println!("cargo::rerun-if-changed={}", path.display());
         let text = fs::read_to_string(path).unwrap();
-        let texts = if *name == "render.rs" {
-            let unchanged = substituted(text, &NEAREST);
-            [unchanged.clone(), substituted(unchanged, &LIFTED)]
-        } else {
-            [text.clone(), text]
+        let unchanged = match *name {
+            "render.rs" => substituted(name, text, &NEAREST),
+            _ => text,
         };
-        for (copy, text) in copies.iter().zip(texts) {
+        let amended = match *name {
+            "render.rs" => {
+                let lifted = substituted(name, unchanged.clone(), &LIFTED);
+                substituted(name, lifted, &SENT)
+            }
+            "render_input.rs" => substituted(name, unchanged.clone(), &SENT_INPUT),
+            _ => unchanged.clone(),
+        };
+        for (copy, text) in copies.iter().zip([unchanged, amended]) {
             fs::write(copy.join(name), text).unwrap();
         }
     }
@@ -100,10 +167,10 @@ fn find(folder: &Path, name: &str) -> Vec<PathBuf> {
     found
 }
 
-fn substituted(mut text: String, substitutions: &[Substitution]) -> String {
+fn substituted(name: &str, mut text: String, substitutions: &[Substitution]) -> String {
     for (from, to) in substitutions {
         let count = text.matches(from).count();
-        assert_eq!(count, 1, "render.rs has `{from}` {count} times, not once");
+        assert_eq!(count, 1, "{name} has `{from}` {count} times, not once");
         text = text.replace(from, to);
     }
     text

@@ -37,4 +37,6 @@ pub struct SlotSource {
     pub size: f32,
     pub lfe: bool,
     pub position_valid: bool,
+    /// Of the amended sources; 0 else.
+    pub send: f32,
 }

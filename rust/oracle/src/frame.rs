@@ -78,6 +78,8 @@ pub struct Object {
     pub size: Option<f32>,
     pub screen: f32,
     pub depth: f32,
+    /// To the bass feed (document 02, R-3): the unchanged Rust has none.
+    pub send: f32,
 }
 
 impl Object {
@@ -92,6 +94,7 @@ impl Object {
         size: None,
         screen: 1.0,
         depth: 1.0,
+        send: 0.0,
     };
 
     /// The record's flags, by place.

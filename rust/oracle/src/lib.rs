@@ -1,6 +1,6 @@
 //! The oracle: `Renderer714` compiled from its own sources, with the nearest value where it calls
 //! the machine's libm, and references in exact arithmetic. `amended` is the same sources with the
-//! rules of document 02 that the Rust has not (build.rs).
+//! rules of document 02 that the Rust has not (build.rs): R-1's lifted channels, R-3's sends.
 //!
 //! Where the sources are not at hand (cfg `no_sources`, see build.rs) everything here compiles and
 //! only `exact` runs; tests that need the sources carry
@@ -34,6 +34,20 @@ macro_rules! sources {
         include!(concat!(env!("OUT_DIR"), "/unchanged/", $name));
     };
 }
+/// A value of the sources; these have no send.
+#[cfg(not(no_sources))]
+macro_rules! with_send {
+    ($send:expr, $name:ident { $($fields:tt)* }) => {
+        $name { $($fields)* }
+    };
+}
+/// The send of a value of the sources.
+#[cfg(not(no_sources))]
+macro_rules! send_of {
+    ($value:expr) => {
+        0.0
+    };
+}
 mod renderer;
 
 /// The same with the rules of document 02.
@@ -41,6 +55,20 @@ mod renderer;
 macro_rules! sources {
     ($name:literal) => {
         include!(concat!(env!("OUT_DIR"), "/amended/", $name));
+    };
+}
+/// A value of the sources with its send.
+#[cfg(not(no_sources))]
+macro_rules! with_send {
+    ($send:expr, $name:ident { $($fields:tt)* }) => {
+        $name { send: $send, $($fields)* }
+    };
+}
+/// The send of a value of the sources.
+#[cfg(not(no_sources))]
+macro_rules! send_of {
+    ($value:expr) => {
+        $value.send
     };
 }
 #[expect(clippy::duplicate_mod)]

@@ -63,6 +63,8 @@ pub struct Info {
     pub anchor: Anchor,
     pub position: Vector,
     pub last_precise: Vector,
+    /// Of the amended sources; 0 else.
+    pub send: f32,
 }
 
 /// `DynamicSourceState`.
@@ -72,4 +74,6 @@ pub struct Source {
     pub size: f32,
     pub cubical_position: Vector,
     pub position_valid: bool,
+    /// Of the amended sources; 0 else.
+    pub send: f32,
 }

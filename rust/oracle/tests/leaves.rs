@@ -12,6 +12,7 @@ fn coefficients(cubical_position: Vector, gain: f32) -> Vec<f32> {
         size: 0.0,
         cubical_position,
         position_valid: true,
+        send: 0.0,
     };
     let mut output = vec![vec![0.0]; 12];
     leaf::render_object_timeslot_to_714(&[1.0], &mut output, 0, &source);

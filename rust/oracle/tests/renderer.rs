@@ -224,6 +224,65 @@ fn a_fall_keeps_old_flags() {
     assert_eq!(afresh, ([0.0; 3], vec![false], vec![[0.0; 3]], 0));
 }
 
+/// Document 02's R-3: what an object adds to the bass feed, as it enters the low-pass: sample ×
+/// (gain × send), behind the bed's sample × (gain × 0.31622776), whatever its size. The unchanged
+/// Rust adds nothing.
+#[test]
+#[cfg_attr(no_sources, ignore = "Rust sources not at hand")]
+fn a_send_goes_to_the_bass_feed() {
+    let fed = |send: f32, gain: f32, size: f32| -> [f32; 2] {
+        let object = Object {
+            send,
+            gain: Some(gain),
+            size: Some(size),
+            ..at([0.5; 3])
+        };
+        let bed = Object {
+            send: 1.0,
+            ..Object::default()
+        };
+        let mut update = moved(1, 0, 0, &[bed, object]);
+        update.beds = vec![LFE];
+        let frame = frame(1, &[LFE], 1, vec![update]);
+        let (mut oracle, mut amended) = (Oracle::new(), amended::Oracle::new());
+        ready(oracle.push(&frame));
+        ready(amended.push(&frame));
+        // x1 of the filter is the last sample that it was fed.
+        [oracle.state(), amended.state()].map(|state| state.lfe_lowpass.unwrap()[5])
+    };
+    let bed = 0.5 * (0.707 * 0.316_227_76f32);
+    for (send, gain, size) in [(1.0, 1.0, 0.0), (0.3, 0.7, 1.0), (1e-45, 8.0, 0.5)] {
+        assert_eq!(fed(send, gain, size), [bed, bed + 0.5 * (gain * send)]);
+    }
+    assert_eq!(fed(1.0, 0.0, 1.0), [bed; 2]);
+    assert_eq!(fed(-0.0, 1.0, 1.0), [bed; 2]);
+}
+
+/// an object starts with send 0, keeps its send until a block is applied, which sets it, and
+/// starts again where the number of objects changes.
+#[test]
+#[cfg_attr(no_sources, ignore = "Rust sources not at hand")]
+fn a_block_that_is_applied_sets_the_send() {
+    let send = |amended: &amended::Oracle| amended.state().metadata.dynamic_sources[0].send;
+    let of = |send: f32| Object {
+        send,
+        ..Object::default()
+    };
+    let mut amended = amended::Oracle::new();
+    let mut push = |updates: Vec<Update>, objects: usize| {
+        ready(amended.push(&frame(1, &[], objects, updates)));
+        send(&amended)
+    };
+    // Due at timecode 1: not yet.
+    assert_eq!(push(vec![moved(0, 1, 0, &[of(0.5)])], 1), 0.0);
+    assert_eq!(push(vec![moved(0, 0, 0, &[of(0.5)])], 1), 0.5);
+    assert_eq!(push(vec![], 1), 0.5);
+    assert_eq!(push(vec![moved(0, 1, 0, &[of(0.25)])], 1), 0.5);
+    assert_eq!(push(vec![moved(0, 0, 0, &[of(0.0)])], 1), 0.0);
+    assert_eq!(push(vec![moved(0, 0, 0, &[of(1.0)])], 1), 1.0);
+    assert_eq!(push(vec![moved(0, 1, 0, &[of(1.0); 2])], 2), 0.0);
+}
+
 #[test]
 #[cfg_attr(no_sources, ignore = "Rust sources not at hand")]
 fn debug_rows_tell_each_slot() {

@@ -63,17 +63,20 @@ pub fn anchor(anchor: ObjectAnchor) -> Anchor {
 }
 
 pub fn metadata_object(object: &Object) -> RenderMetadataObject {
-    RenderMetadataObject {
-        gain: object.gain,
-        anchor: object_anchor(object.anchor),
-        position_valid: object.position_valid,
-        differential_position: object.differential,
-        position: object.position.map(vec3),
-        distance: object.distance,
-        size: object.size,
-        screen_factor: object.screen,
-        depth_factor: object.depth,
-    }
+    with_send!(
+        object.send,
+        RenderMetadataObject {
+            gain: object.gain,
+            anchor: object_anchor(object.anchor),
+            position_valid: object.position_valid,
+            differential_position: object.differential,
+            position: object.position.map(vec3),
+            distance: object.distance,
+            size: object.size,
+            screen_factor: object.screen,
+            depth_factor: object.depth,
+        }
+    )
 }
 
 fn metadata_element(element: &Element) -> RenderMetadataElement {

@@ -117,22 +117,26 @@ pub fn info(state: &ObjectInfoBlockState) -> Info {
         anchor: anchor(state.anchor),
         position: vector(state.position),
         last_precise: vector(state.last_precise),
+        send: send_of!(state),
     }
 }
 
 pub fn info_state(info: &Info) -> ObjectInfoBlockState {
-    ObjectInfoBlockState {
-        valid_position: info.valid_position,
-        differential_position: info.differential_position,
-        gain: info.gain,
-        distance: info.distance,
-        size: info.size,
-        screen_factor: info.screen_factor,
-        depth_factor: info.depth_factor,
-        anchor: object_anchor(info.anchor),
-        position: vec3(info.position),
-        last_precise: vec3(info.last_precise),
-    }
+    with_send!(
+        info.send,
+        ObjectInfoBlockState {
+            valid_position: info.valid_position,
+            differential_position: info.differential_position,
+            gain: info.gain,
+            distance: info.distance,
+            size: info.size,
+            screen_factor: info.screen_factor,
+            depth_factor: info.depth_factor,
+            anchor: object_anchor(info.anchor),
+            position: vec3(info.position),
+            last_precise: vec3(info.last_precise),
+        }
+    )
 }
 
 pub fn source(state: &DynamicSourceState) -> Source {
@@ -141,16 +145,20 @@ pub fn source(state: &DynamicSourceState) -> Source {
         size: state.size,
         cubical_position: vector(state.cubical_position),
         position_valid: state.position_valid,
+        send: send_of!(state),
     }
 }
 
 pub fn source_state(source: &Source) -> DynamicSourceState {
-    DynamicSourceState {
-        gain: source.gain,
-        size: source.size,
-        cubical_position: vec3(source.cubical_position),
-        position_valid: source.position_valid,
-    }
+    with_send!(
+        source.send,
+        DynamicSourceState {
+            gain: source.gain,
+            size: source.size,
+            cubical_position: vec3(source.cubical_position),
+            position_valid: source.position_valid,
+        }
+    )
 }
 
 pub fn lowpass(f: &BiquadLowpassState) -> [f32; 9] {

@@ -76,16 +76,17 @@ impl Oracle {
             Some(output.samples_per_channel())
         }
 
-        /// The twelve channels of a frame that is accepted, as they come to the limiter.
-        pub fn mixed(self, frame: &Frame) -> Vec<Vec<f32>> {
+        /// The twelve channels of a frame that is accepted, as they come to the limiter, and the
+        /// rows of its slots.
+        pub fn mixed(self, frame: &Frame) -> (Vec<Vec<f32>>, Vec<Slot>) {
             let input = convert::input_frame(frame);
             let (mut beds, mut objects) = (Vec::new(), Vec::new());
             let input = render_input_from_frame(&input, &mut beds, &mut objects);
             let mut channels = vec![Vec::new(); RENDER_714_CHANNELS];
-            let mut renderer = self.renderer;
-            let mixed = renderer.push_frame_parts_impl(&input, &mut channels, &mut Vec::new());
+            let (mut renderer, mut slots) = (self.renderer, Vec::new());
+            let mixed = renderer.push_frame_parts_impl(&input, &mut channels, &mut slots);
             assert!(mixed.is_ok(), "a frame that is refused");
-            channels
+            (channels, slots.iter().map(slot).collect())
         }
 
         /// The pending samples of the twelve channels, or none.
@@ -175,6 +176,7 @@ fn slot(debug: &Render714TimeslotDebug) -> Slot {
                 size: source.size,
                 lfe: source.lfe,
                 position_valid: source.position_valid,
+                send: send_of!(source),
             })
             .collect(),
     }
