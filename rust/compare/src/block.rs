@@ -4,6 +4,18 @@ use crate::same;
 use oracle::frame::{ANCHORS, DEPTHS};
 use oracle::state::{Element, Info, Metadata, Source, State};
 
+/// Where the sources, elements, infos and places stand, and how long one of each is.
+pub const SOURCES: usize = 240;
+pub const SOURCE: usize = 28;
+pub const ELEMENTS: usize = SOURCES + 16 * SOURCE;
+pub const ELEMENT: usize = 368;
+pub const INFOS: usize = ELEMENTS + 2 * ELEMENT;
+pub const INFO: usize = 48;
+pub const PLACES: usize = INFOS + 512 * INFO;
+/// Where the send stands in a source and in an info.
+pub const SOURCE_SEND: usize = 24;
+pub const INFO_SEND: usize = 44;
+
 struct Block<'a>(&'a [u8]);
 
 impl Block<'_> {
@@ -41,7 +53,7 @@ impl Block<'_> {
     }
 
     fn same_pending(&self, channels: &[Vec<f32>]) -> bool {
-        let places = |(c, channel): (usize, &Vec<f32>)| self.holds(23_888 + 256 * c, channel);
+        let places = |(c, channel): (usize, &Vec<f32>)| self.holds(PLACES + 256 * c, channel);
         self.count(64) == channels[0].len() && channels.iter().enumerate().all(places)
     }
 
@@ -62,10 +74,11 @@ impl Block<'_> {
         self.holds(at, &[source.gain, source.size])
             && self.holds(at + 8, &source.cubical_position)
             && self.flag(at + 20) == source.position_valid
+            && self.holds(at + SOURCE_SEND, &[source.send])
     }
 
     fn same_element(&self, index: usize, element: &Element) -> bool {
-        let at = 624 + 368 * index;
+        let at = ELEMENTS + ELEMENT * index;
         let raised = |at: usize| i64::from(self.word(at)) - (1 << 20);
         let block = |b: usize| {
             raised(at + 16 + 12 * b) == element.block_offsets[b]
@@ -77,7 +90,7 @@ impl Block<'_> {
                 && self.holds(at + 116 + 16 * t, &element.future[t])
         };
         let infos = |(o, infos): (usize, &Vec<Info>)| {
-            let at = |b: usize| 1_360 + 44 * (256 * index + 8 * o + b);
+            let at = |b: usize| INFOS + INFO * (256 * index + 8 * o + b);
             infos
                 .iter()
                 .enumerate()
@@ -111,6 +124,7 @@ impl Block<'_> {
             && self.holds(at + 16, &[info.screen_factor])
             && self.holds(at + 20, &info.position)
             && self.holds(at + 32, &info.last_precise)
+            && self.holds(at + INFO_SEND, &[info.send])
     }
 }
 
@@ -118,7 +132,7 @@ impl Block<'_> {
 pub fn difference(block: &[u8], state: &State) -> Option<&'static str> {
     let block = Block(block);
     let metadata = &state.metadata;
-    let source = |(i, s): (usize, &Source)| block.same_source(240 + 24 * i, s);
+    let source = |(i, s): (usize, &Source)| block.same_source(SOURCES + SOURCE * i, s);
     let element = |(i, e): (usize, &Element)| block.same_element(i, e);
     let parts = [
         ("clock, gain, low-pass", block.same_clock(state)),
@@ -155,7 +169,7 @@ pub fn state(block: &[u8]) -> State {
         limiter_pending: (0..12)
             .map(|c| {
                 (0..pending)
-                    .map(|i| block.float(23_888 + 256 * c + 4 * i))
+                    .map(|i| block.float(PLACES + 256 * c + 4 * i))
                     .collect()
             })
             .collect(),
@@ -184,7 +198,7 @@ impl Block<'_> {
                 .map(|e| self.element(e, objects))
                 .collect(),
             dynamic_sources: (0..objects.saturating_sub(isf))
-                .map(|i| self.source(240 + 24 * i))
+                .map(|i| self.source(SOURCES + SOURCE * i))
                 .collect(),
         }
     }
@@ -195,16 +209,17 @@ impl Block<'_> {
             size: self.float(at + 4),
             cubical_position: self.floats(at + 8),
             position_valid: self.flag(at + 20),
+            send: self.float(at + SOURCE_SEND),
         }
     }
 
     /// The flags of the slot before are written before they are read.
     fn element(&self, index: usize, objects: usize) -> Element {
-        let at = 624 + 368 * index;
+        let at = ELEMENTS + ELEMENT * index;
         let (blocks, flags) = (self.count(at), self.count(at + 4));
         let raised = |at: usize| i64::from(self.word(at)) - (1 << 20);
         let offsets: Vec<i64> = (0..blocks).map(|b| raised(at + 16 + 12 * b)).collect();
-        let info = |o: usize, b: usize| self.info(1_360 + 44 * (256 * index + 8 * o + b));
+        let info = |o: usize, b: usize| self.info(INFOS + INFO * (256 * index + 8 * o + b));
         Element {
             min_offset: offsets.first().copied().unwrap_or(-1),
             block_used: (0..blocks).map(|b| self.flag(at + 24 + 12 * b)).collect(),
@@ -235,6 +250,7 @@ impl Block<'_> {
             anchor: ANCHORS[usize::from(anchor)],
             position: self.floats(at + 20),
             last_precise: self.floats(at + 32),
+            send: self.float(at + INFO_SEND),
         }
     }
 }

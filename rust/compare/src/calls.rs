@@ -91,6 +91,20 @@ impl Calls {
         }
     }
 
+    /// Calls in which objects are sent to the bass feed.
+    pub fn sending(seed: u64, most_samples: u64) -> Self {
+        Calls {
+            inputs: Generator::new(!seed),
+            frames: Frames::sending(seed, most_samples),
+        }
+    }
+
+    /// All frames have sends to the bass feed, or none has.
+    pub fn with_sends(mut self, sends: bool) -> Self {
+        self.frames.set_sends(sends);
+        self
+    }
+
     /// The frames that follow have up to so many samples.
     pub fn set_most_samples(&mut self, most_samples: u64) {
         self.frames.set_most_samples(most_samples);
@@ -237,6 +251,12 @@ fn spoil_value(inputs: &mut Generator, meta: &mut [u8]) {
                 (0, 32, 0xbf80_0000),
                 (0, 32, 0x7fc0_0000),
                 (0, 32, 0),
+                (0, 36, 0x3f80_0000), // send 1.0
+                (0, 36, 0x3f80_0001),
+                (0, 36, 0x8000_0000),
+                (0, 36, 0x8000_0001),
+                (0, 36, 0x7fc0_0000),
+                (0, 36, 0x7f80_0000),
                 (16, 20, 0x7f80_0000), // an infinite distance
                 (16, 20, 0xff80_0000),
             ]);

@@ -2,11 +2,14 @@
 //! which blocks are in range, and blocks drawn from all of these.
 
 use crate::Generator;
+use crate::block::{ELEMENT, ELEMENTS, INFO, INFO_SEND, INFOS, SOURCE, SOURCE_SEND, SOURCES};
 use crate::entry::BLOCK;
 use crate::model::STREAM_END;
 use std::sync::LazyLock;
 
 const RATES: std::ops::RangeInclusive<u64> = 8_000..=192_000;
+/// Where each element stands.
+pub const EACH_ELEMENT: [usize; 2] = [ELEMENTS, ELEMENTS + ELEMENT];
 /// A remaining ramp of 0.
 const MIDDLE: u64 = 1 << 47;
 /// The most below 0 that a remaining ramp is, but for 64 x position.
@@ -57,8 +60,8 @@ fn table() -> Vec<Field> {
     let mut fields = clock().to_vec();
     fields.extend(counts());
     fields.extend((0..18).map(|i| field(96 + 4 * i, 4, 0, 17)));
-    fields.extend((0..16).map(|i| field(260 + 24 * i, 4, 0, 1)));
-    for element in [624, 992] {
+    fields.extend((0..16).map(|i| field(SOURCES + SOURCE * i + 20, 4, 0, 1)));
+    for element in EACH_ELEMENT {
         fields.extend([blocks(element), flags(element), remaining(element)]);
         for block in 0..8 {
             let at = element + 16 + 12 * block;
@@ -68,7 +71,7 @@ fn table() -> Vec<Field> {
         fields.extend((0..16).map(|t| field(element + 112 + 16 * t, 4, 0, 1)));
     }
     for info in 0..512 {
-        let head = 1_360 + 44 * info;
+        let head = INFOS + INFO * info;
         let most = [63, 2, 3, 0];
         fields.extend((0..4).map(|k| field(head + k, 1, 0, most[k])));
     }
@@ -135,7 +138,7 @@ fn related(block: &[u8]) -> Vec<Field> {
         isf.at_least(number(objects).saturating_sub(16)),
         beds.at_most(number(objects).min(18)),
     ];
-    for (index, element) in [(0, 624), (1, 992)] {
+    for (index, element) in (0..).zip(EACH_ELEMENT) {
         let used = index < number(elements);
         related.push(flags(element).at_least(if used { dynamic } else { 0 }));
         let least = MIDDLE - LONGEST - 64 * position.min(STREAM_END);
@@ -163,7 +166,8 @@ fn end(inputs: &mut Generator, field: &Field) -> u64 {
 }
 
 /// A block in range: each number at an end of its range or between; floats of any bits, in every
-/// second block mostly small ones, so that not all that follows is NaN.
+/// second block mostly small ones, so that not all that follows is NaN; in every second block no
+/// send, so that the Rust goes on from it.
 pub fn drawn(inputs: &mut Generator) -> Vec<u8> {
     let tame = inputs.chance(2);
     let mut float = || {
@@ -182,8 +186,16 @@ pub fn drawn(inputs: &mut Generator) -> Vec<u8> {
     if inputs.chance(8) {
         block[..4].fill(0);
     }
+    if inputs.chance(2) {
+        let sources = (0..16).map(|i| SOURCES + SOURCE * i + SOURCE_SEND);
+        let infos = (0..512).map(|i| INFOS + INFO * i + INFO_SEND);
+        sources
+            .chain(infos)
+            .for_each(|at| block[at..at + 4].fill(0));
+    }
     // The phase before the slot's start, which depends on it.
-    for place in [4, 16, 64, 84, 88, 628, 632, 996, 1_000] {
+    let elements = EACH_ELEMENT.map(|at| [at + 4, at + 8]);
+    for place in [4, 16, 64, 84, 88].into_iter().chain(elements.concat()) {
         let field = *related(&block).iter().find(|f| f.at == place).unwrap();
         if !field.holds(&block) || inputs.chance(3) {
             let number = end(inputs, &field);

@@ -298,6 +298,29 @@ fn checks(list: &mut List) {
     list.flush();
 }
 
+/// An object on the bass feed beside a bed: its send stays, goes to 1, to next to nothing, to -0.0;
+/// the bed's own does nothing; sends that 6 refuses, of an update that is dropped too.
+fn sends(list: &mut List) {
+    let sent = |offset: u16, send: f32, bed: f32| {
+        update(offset, &[3], 1, &[&[(0, 0), (-1, 0)]], move |o, _| Object {
+            send: [bed, send][o],
+            ..placed(Anchor::Room, [0.25, 0.5, 0.5], 0.5, 0.25)
+        })
+    };
+    list.reset();
+    let frame = list.frame(65, &[3], 1, 0.5);
+    for send in [0.5, 1.0, 1e-45, -0.0] {
+        list.push(&frame, vec![sent(0, send, 0.25)]);
+        list.push(&frame, vec![]);
+    }
+    for wrong in [1f32.next_up(), -1e-45, f32::NAN, f32::INFINITY] {
+        list.push(&frame, vec![sent(0, wrong, 0.0)]);
+        list.push(&frame, vec![sent(0, 0.5, wrong)]);
+        list.push(&frame, vec![sent(65, wrong, 0.0)]);
+    }
+    list.flush();
+}
+
 /// The bass feed at both ends of the rates, and at one where std's sine is not the nearest f32.
 fn rates(list: &mut List) {
     for rate in [8_000, 8_025, 192_000] {
@@ -339,6 +362,7 @@ pub fn stdin() -> Vec<u8> {
     checks(&mut list);
     rates(&mut list);
     lifted(&mut list);
+    sends(&mut list);
     drawn(&mut list);
     // A cut record ends the list.
     list.stream.extend([7; 39]);

@@ -42,7 +42,17 @@ pub fn stream(seed: u64) -> Vec<u8> {
     stream
 }
 
-/// The same, damaged in one to three places.
+/// A seeded stream of 12 steps in which objects are sent to the bass feed.
+pub fn sending(seed: u64) -> Vec<u8> {
+    let mut calls = Calls::sending(seed + 4_000_000, STRIDE as u64);
+    let mut stream = Vec::new();
+    for _ in 0..12 {
+        append(&mut stream, &calls.next_step());
+    }
+    stream
+}
+
+/// The same as `stream`, damaged in one to three places.
 pub fn damaged(seed: u64) -> Vec<u8> {
     let (mut inputs, mut stream) = undamaged(seed);
     for _ in 0..1 + inputs.below(3) {

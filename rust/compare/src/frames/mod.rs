@@ -21,6 +21,9 @@ pub struct Frames {
     layout: Layout,
     /// Channels are lifted often.
     lifting: bool,
+    /// Objects are sent to the bass feed; drawn anew at each reset unless it is fixed.
+    sends: bool,
+    sends_fixed: bool,
     /// An update was sent.
     started: bool,
 }
@@ -36,6 +39,7 @@ impl Frames {
         let mut inputs = Generator::new(seed);
         let rate = rate(&mut inputs);
         let layout = layout(&mut inputs);
+        let sends = inputs.chance(2);
         Frames {
             inputs,
             most_samples,
@@ -43,6 +47,8 @@ impl Frames {
             rate,
             layout,
             lifting: false,
+            sends,
+            sends_fixed: false,
             started: false,
         }
     }
@@ -57,6 +63,17 @@ impl Frames {
         layout.blocks = (0..1 + inputs.below(2))
             .map(|_| 1 + inputs.below(3))
             .collect();
+        frames
+    }
+
+    /// Frames of at least one object, which blocks send to the bass feed.
+    pub fn sending(seed: u64, most_samples: u64) -> Self {
+        let mut frames = Frames::new(seed, most_samples);
+        frames.set_sends(true);
+        let Frames { inputs, layout, .. } = &mut frames;
+        layout.objects = layout.objects.max(1);
+        layout.bed_or_isf_objects = layout.bed_or_isf_objects.min(layout.objects - 1);
+        layout.blocks = vec![1 + inputs.below(3)];
         frames
     }
 
@@ -93,6 +110,11 @@ impl Frames {
         self.most_samples = most_samples;
     }
 
+    /// The frames that follow have sends, or none has.
+    pub fn set_sends(&mut self, sends: bool) {
+        (self.sends, self.sends_fixed) = (sends, true);
+    }
+
     /// The frames that follow lift channels.
     pub fn set_lifting(&mut self) {
         self.lifting = true;
@@ -103,6 +125,9 @@ impl Frames {
         self.rate = rate(&mut self.inputs);
         if !self.lifting && self.inputs.chance(2) {
             self.layout = layout(&mut self.inputs);
+        }
+        if !self.sends_fixed {
+            self.sends = self.inputs.chance(2);
         }
         self.started = false;
     }
@@ -165,7 +190,7 @@ impl Frames {
         let mut add = |inputs: &mut Generator, layout: &Layout, offset: u64| {
             records += layout.records();
             if records <= self.most_records {
-                updates.push(update(inputs, layout, offset as u16));
+                updates.push(update(inputs, layout, offset as u16, self.sends));
             }
         };
         if let Some(offset) = first {
@@ -207,7 +232,7 @@ pub fn largest_frame(seed: u64) -> Frame {
         objects: layout.dynamic(),
         pcm: pcm(&mut inputs, (18 + layout.dynamic()) * samples),
         updates: (0..16)
-            .map(|i| update(&mut inputs, &layout, 90 * i))
+            .map(|i| update(&mut inputs, &layout, 90 * i, true))
             .collect(),
     }
 }

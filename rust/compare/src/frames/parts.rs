@@ -64,11 +64,11 @@ pub fn pcm(inputs: &mut Generator, length: usize) -> Vec<f32> {
     (0..length).map(|_| sample()).collect()
 }
 
-pub fn update(inputs: &mut Generator, layout: &Layout, offset: u16) -> Update {
+pub fn update(inputs: &mut Generator, layout: &Layout, offset: u16, sends: bool) -> Update {
     let elements = layout.blocks.iter().map(|&blocks| Element {
         blocks: (0..blocks).map(|_| block(inputs)).collect(),
         objects: (0..layout.objects)
-            .map(|_| (0..blocks).map(|_| object(inputs)).collect())
+            .map(|_| (0..blocks).map(|_| object(inputs, sends)).collect())
             .collect(),
     });
     Update {
@@ -95,7 +95,7 @@ fn block(inputs: &mut Generator) -> Block {
     }
 }
 
-fn object(inputs: &mut Generator) -> Object {
+fn object(inputs: &mut Generator, sends: bool) -> Object {
     Object {
         anchor: inputs.pick(&ANCHORS),
         position_valid: !inputs.chance(4),
@@ -113,5 +113,16 @@ fn object(inputs: &mut Generator) -> Object {
         }),
         screen: inputs.near(0.0, 1.0),
         depth: inputs.pick(&DEPTHS),
+        send: if sends { send(inputs) } else { 0.0 },
+    }
+}
+
+/// To the bass feed: mostly some, one time in three nothing or next to nothing.
+fn send(inputs: &mut Generator) -> f32 {
+    match inputs.below(12) {
+        0..3 => 0.0,
+        3 => inputs.pick(&[-0.0, 1e-45, f32::MIN_POSITIVE, 1e-20]),
+        4 => 1.0,
+        _ => inputs.between(0.0, 1.0),
     }
 }

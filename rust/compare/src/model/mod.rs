@@ -1,10 +1,12 @@
 //! What documents 01 and 02 have a call answer: refusals 1 to 8, read here apart from the Rattle
-//! code, and the oracle for everything else: the unchanged Rust, and the amended one from a lifted
-//! bed channel to the next reset.
+//! code, and the oracle for everything else: the amended Rust, with which the unchanged one must
+//! agree but from a lifted bed channel, or an object that is sent to the bass feed, to
+//! the next reset.
 
 mod judged;
 mod met;
 mod meters;
+mod sends;
 
 use crate::calls::{Call, Step};
 use crate::entry::Answer;
@@ -16,6 +18,7 @@ use oracle::{Oracle, Pushed, amended};
 pub use judged::{judged, rightly_lent};
 pub use met::{Met, lifts, met};
 pub use meters::{Limited, Meters};
+pub use sends::with_sends;
 
 #[derive(Clone, Debug, PartialEq)]
 pub enum Outcome {
@@ -56,9 +59,12 @@ impl Outcome {
 pub const STREAM_END: u64 = 1 << 40;
 
 pub struct Model {
-    rust: Oracle,
-    /// In the Rust's place since a channel was lifted.
-    amended: Option<amended::Oracle>,
+    /// The Rust with the rules of document 02.
+    amended: amended::Oracle,
+    /// The unchanged Rust, which must agree, up to a lifted channel or a send.
+    rust: Option<Oracle>,
+    lifted: bool,
+    sent: bool,
     /// Samples of the stream before the oracle's first.
     pub before: u64,
     /// The last push that 1 to 8 let pass.
@@ -76,8 +82,10 @@ impl Model {
     #[expect(clippy::new_without_default)]
     pub fn new() -> Self {
         Model {
-            rust: Oracle::new(),
-            amended: None,
+            amended: amended::Oracle::new(),
+            rust: Some(Oracle::new()),
+            lifted: false,
+            sent: false,
             before: 0,
             judged: None,
         }
@@ -85,15 +93,27 @@ impl Model {
 
     /// What a block in range holds.
     pub fn of_block(bytes: &[u8]) -> Self {
+        let state = block::state(bytes);
+        let sent = sends::sounds(&state.metadata);
         Model {
-            rust: Oracle::in_state(&block::state(bytes)),
+            amended: amended::Oracle::in_state(&state),
+            rust: (!sent).then(|| Oracle::in_state(&state)),
+            sent,
             ..Model::new()
         }
     }
 
+    /// The unchanged Rust's while it is there, with the sends, which it has not.
     pub fn state(&self) -> State {
-        let amended = self.amended.as_ref().map(amended::Oracle::state);
-        amended.unwrap_or_else(|| self.rust.state())
+        let amended = self.amended.state();
+        let Some(rust) = &self.rust else {
+            return amended;
+        };
+        let state = rust.state();
+        State {
+            metadata: with_sends(state.metadata, &amended.metadata),
+            ..state
+        }
     }
 
     /// The same with the samples before the oracle's first counted in its positions.
@@ -108,7 +128,12 @@ impl Model {
 
     /// A channel was lifted since the last reset.
     pub fn lifted(&self) -> bool {
-        self.amended.is_some()
+        self.lifted
+    }
+
+    /// An object was sent to the bass feed since the last reset.
+    pub fn sent(&self) -> bool {
+        self.sent
     }
 
     /// The last push, where 1 to 8 let it pass.
@@ -129,42 +154,47 @@ impl Model {
         }
     }
 
-    /// What a frame that 1 to 8 let pass comes to. A refused one lifts nothing.
+    /// What a frame that 1 to 8 let pass comes to. A refused one lifts and sends nothing.
     fn render(&mut self, state: &State, frame: &Frame) -> Outcome {
         // "leading silence leaves fewer debug rows than ready blocks; there the rules above alone hold"
         let rows = frame.samples / 64 + 1;
-        let lifts = self.amended.is_none() && lifts(&state.metadata, &frame.applied());
-        if lifts {
-            self.amended = Some(amended::Oracle::in_state(state));
-        }
-        let pushed = match &mut self.amended {
-            Some(amended) => {
-                amended.store_debug_rows(rows);
-                amended.push(frame)
-            }
-            None => {
-                self.rust.store_debug_rows(rows);
-                self.rust.push(frame)
-            }
-        };
-        if lifts && !matches!(pushed, Pushed::Ready(_)) {
-            self.amended = None;
-        }
-        match pushed {
+        let lifts = lifts(&state.metadata, &frame.applied());
+        let before = self.amended.state();
+        self.amended.store_debug_rows(rows);
+        match self.amended.push(frame) {
             Pushed::Ready(ready) => {
-                let mixed = match &self.amended {
-                    Some(_) => amended::Oracle::in_state(state).mixed(frame),
-                    None => Oracle::in_state(state).mixed(frame),
-                };
+                let (mixed, slots) = amended::Oracle::in_state(&before).mixed(frame);
+                self.lifted |= lifts;
+                self.sent |= sends::any(&slots);
+                if self.lifted || self.sent {
+                    self.rust = None;
+                }
+                self.agrees(frame, &Pushed::Ready(ready.clone()));
                 self.metered(state, frame.rate, mixed, ready)
             }
-            Pushed::Refused(refusal) => Outcome::Refused([
-                refusal.number.into(),
-                refusal.counts[0] as u32,
-                refusal.counts[1] as u32,
-            ]),
+            Pushed::Refused(refusal) => {
+                if !lifts {
+                    self.agrees(frame, &Pushed::Refused(refusal));
+                }
+                let [first, second] = refusal.counts;
+                Outcome::Refused([refusal.number.into(), first as u32, second as u32])
+            }
             Pushed::Panicked => panic!("the oracle panicked at {frame:?}"),
         }
+    }
+
+    /// The unchanged Rust, where it is there, has the frame come to the same.
+    fn agrees(&mut self, frame: &Frame, pushed: &Pushed) {
+        let Some(rust) = &mut self.rust else {
+            return;
+        };
+        rust.store_debug_rows(frame.samples / 64 + 1);
+        let found = rust.push(frame);
+        let same = match (&found, pushed) {
+            (Pushed::Ready(a), Pushed::Ready(b)) => all_same(&a.concat(), &b.concat()),
+            _ => found == *pushed,
+        };
+        assert!(same, "the unchanged Rust differs at {frame:?}");
     }
 
     /// What a call at that stride comes to.
@@ -178,10 +208,15 @@ impl Model {
 
     pub fn flush(&mut self) -> Outcome {
         let state = self.state();
-        let flushed = match &mut self.amended {
-            Some(amended) => amended.flush(),
-            None => self.rust.flush(),
-        };
+        let flushed = self.amended.flush();
+        if let Some(rust) = &mut self.rust {
+            let (a, b) = (rust.flush(), flushed.clone());
+            let same = all_same(
+                &a.unwrap_or_default().concat(),
+                &b.unwrap_or_default().concat(),
+            );
+            assert!(same, "the unchanged Rust differs at a flush");
+        }
         let Some(ready) = flushed else {
             return Outcome::Nothing;
         };
@@ -211,8 +246,10 @@ impl Model {
     }
 
     pub fn reset(&mut self) -> Outcome {
-        self.rust.reset();
-        self.amended = None;
+        self.amended.reset();
+        let rust = self.rust.get_or_insert_with(Oracle::new);
+        rust.reset();
+        (self.lifted, self.sent) = (false, false);
         self.before = 0;
         Outcome::Reset
     }

@@ -26,6 +26,7 @@ pub struct Info {
     pub x: u32,
     pub y: u32,
     pub z: u32,
+    pub send: u32,
 }
 
 unsafe extern "C" {

@@ -1,5 +1,7 @@
 // The timed state crosses by value, the infos and the metadata as bytes.
 
+use crate::block::INFO;
+
 #[repr(C)]
 #[derive(Clone, Copy, Debug, Default)]
 pub struct Vec3 {
@@ -15,6 +17,7 @@ pub struct Source {
     pub size: f32,
     pub place: Vec3,
     pub placed: bool,
+    pub send: f32,
 }
 
 #[repr(C)]
@@ -111,7 +114,7 @@ impl Timed {
         };
         Timed {
             state,
-            infos: vec![0; 512 * 44],
+            infos: vec![0; 512 * INFO],
         }
     }
 
@@ -139,7 +142,7 @@ impl Timed {
 
     /// A word of an info.
     pub fn word(&self, info: usize, word: usize) -> u32 {
-        let at = 44 * info + 4 * word;
+        let at = INFO * info + 4 * word;
         u32::from_le_bytes(self.infos[at..at + 4].try_into().unwrap())
     }
 }

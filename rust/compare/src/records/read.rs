@@ -1,4 +1,5 @@
-//! Records read by a cursor that goes forward record by record: document 01's refusals 5 and 6.
+//! Records read by a cursor that goes forward record by record: document 01's refusals 5 and 6, with
+//! document 02's send.
 
 use super::zero;
 use crate::probe::records::{Block, Header, Info};
@@ -57,6 +58,7 @@ fn object(info: &Info) -> Object {
         size: present(32, info.size),
         screen: f32::from_bits(info.screen),
         depth: DEPTHS[usize::from(depth)],
+        send: f32::from_bits(info.send),
     }
 }
 
@@ -162,16 +164,17 @@ impl<'a> Cursor<'a> {
             || absent(8, 8, 20)
             || absent(16, 20, 24)
             || absent(32, 24, 28)
-            || !zero(&r[36..])
         {
             return Err(Broken);
         }
         let word = |at: usize| u32::from_le_bytes(r[at..at + 4].try_into().unwrap());
         let float = |at: usize| f32::from_bits(word(at));
         let depth = DEPTHS.iter().position(|&factor| factor == float(32));
-        let over =
-            |bit: u8, at: usize, most: f32| flags & bit != 0 && !(0.0..=most).contains(&float(at));
-        self.outside |= over(4, 4, 8.0) || over(32, 24, 1.0) || depth.is_none();
+        let over = |at: usize, most: f32| !(0.0..=most).contains(&float(at));
+        self.outside |= flags & 4 != 0 && over(4, 8.0)
+            || flags & 32 != 0 && over(24, 1.0)
+            || depth.is_none()
+            || over(36, 1.0);
         let info = Info {
             head: u32::from(flags) | u32::from(anchor) << 8 | (depth.unwrap_or(4) as u32) << 16,
             gain: word(4),
@@ -181,6 +184,7 @@ impl<'a> Cursor<'a> {
             x: word(8),
             y: word(12),
             z: word(16),
+            send: word(36),
         };
         Ok((place, info))
     }

@@ -52,8 +52,9 @@ fn object(object: &Object) -> Record {
         object.size.unwrap_or_default(),
         object.screen,
         object.depth,
+        object.send,
     ];
-    for (place, float) in record[4..36].chunks_exact_mut(4).zip(floats) {
+    for (place, float) in record[4..].chunks_exact_mut(4).zip(floats) {
         place.copy_from_slice(&float.to_le_bytes());
     }
     record

@@ -61,6 +61,13 @@ fn with_object(object: Object) -> Push {
     with_block((0, 0), object)
 }
 
+/// The same with that send in the object record at `at`.
+fn with_send(at: usize, send: f32, push: Push) -> Push {
+    let bytes = (at + 36..).zip(send.to_le_bytes());
+    let put = bytes.filter(|&(_, byte)| byte != 0);
+    put.fold(push, |push, (at, byte)| push.spoilt(at, byte))
+}
+
 /// One sample of a front left bed.
 fn loud(x: f32) -> Push {
     frame(&[0], &[[x]]).with(bed(&[0]))
@@ -112,7 +119,7 @@ fn refusals(rows: &mut Rows) {
         .push(half())
         .flush();
     let counts = [(4, 33), (7, 3), (41, 9)];
-    let values = [(0, 5), (8, 18), (121, 3), (122, 64), (140, 1), (156, 1)];
+    let values = [(0, 5), (8, 18), (121, 3), (122, 64), (140, 1), (123, 1)];
     rows.row("counts")
         .shows("5: 33 objects, 3 elements, 9 blocks, 17 updates")
         .pushes(counts.map(|(at, byte)| with_object(SILENT).spoilt(at, byte)))
@@ -129,6 +136,10 @@ fn refusals(rows: &mut Rows) {
         .push(with_block((0, -1_048_577), SILENT))
         .push(with_object(depth(0.75, SILENT)))
         .push(with_object(size(1.0, gain(8.0, SILENT))));
+    let sends = [1f32.next_up(), 0f32.next_down(), f32::NAN, -0.0, 1.0];
+    rows.row("send-ranges")
+        .shows("6: a bed's send above 1, below 0, NaN; -0.0 and 1 pass")
+        .pushes(sends.map(|x| with_send(120, x, with_object(SILENT))));
     rows.row("both")
         .shows("5 before 6")
         .push(with_object(gain(9.0, SILENT)).spoilt(121, 3));
@@ -408,6 +419,30 @@ fn updates(rows: &mut Rows) {
         .push(moved(0, near()))
         .push(of_object().with(update(0, &[], 1, &[longer])))
         .push(of_object().with(resting))
+        .flush();
+    let sent = |send: f32| with_send(200, send, moved(0, gain(0.5, near())));
+    rows.row("sent-alone")
+        .shows(
+            "an object alone on the bass feed; its send stays without a block, and ends with one",
+        )
+        .push(sent(0.5))
+        .push(of_object())
+        .push(sent(0.0))
+        .flush();
+    let both = update(0, &[3], 1, &[at_once(0, &[SILENT, near()])]);
+    let both = frame(&[3], &[[0.25], [0.5]]).with(both);
+    rows.row("sent-with-a-bed")
+        .shows(
+            "a bass bed and an object, the bed's own send without effect; other objects start at 0",
+        )
+        .push(with_send(280, 0.75, with_send(200, 1.0, both)))
+        .push(frame(&[], &[[0.5], [0.25]]).with(update(0, &[], 2, &[])))
+        .flush();
+    let last = update(0, &[3, 17], 1, &[at_once(0, &[SILENT, SILENT, near()])]);
+    let last = frame(&[3, 17], &[[16.0], [-16.0], [0.001]]).with(last);
+    rows.row("sent-last")
+        .shows("an object behind two bass beds that cancel each other")
+        .push(with_send(360, 1.0, last))
         .flush();
     let fallen = element([(0, 0), (5, 0)], &[[SILENT, far()], [SILENT; 2]]);
     rows.row("lifted")

@@ -152,6 +152,7 @@ fn element_text(element: &Element) -> String {
 }
 
 fn object_text(object: &Object) -> String {
+    assert_eq!(object.send.to_bits(), 0, "a send is put in as bytes");
     let place = object.position.map(|p| p.map(float).join(" "));
     let mut text = match (object.position_valid, place) {
         (false, None) => "object".to_string(),

@@ -1,6 +1,7 @@
 // SPDX-License-Identifier: Apache-2.0
 //! What a host can do wrong: memory, counts and lengths, and bytes of the block.
 
+use crate::block::INFOS;
 use crate::calls::{Call, spoil_record};
 use crate::entry::{self, BLOCK};
 use crate::host::Host;
@@ -73,7 +74,7 @@ fn pcm_length(call: &Call) -> usize {
 pub fn block(inputs: &mut Generator, state: &mut Vec<u8>) {
     match inputs.below(8) {
         0 => spoil_record(inputs, state),
-        1..4 => spoil_record(inputs, &mut state[..1_360]),
+        1..4 => spoil_record(inputs, &mut state[..INFOS]),
         4 => *state = ranges::drawn(inputs),
         _ => {
             let field = inputs.pick(ranges::fields());

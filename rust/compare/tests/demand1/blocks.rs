@@ -1,11 +1,12 @@
 //! State blocks (docs/STATE-BLOCK.md): out of range they are refused, in range they are taken, at
 //! the ends of every range and with floats of any bits.
 
+use compare::block::{ELEMENT, ELEMENTS};
 use compare::calls::{Call, Step, bed_frame};
 use compare::entry::{self, BLOCK};
 use compare::host::{Host, used_block};
 use compare::model::{Model, Outcome, lifts};
-use compare::ranges::{self, Field};
+use compare::ranges::{self, EACH_ELEMENT, Field};
 use compare::{Frames, Generator, block, seeds};
 use oracle::frame::{self, Frame};
 use oracle::state::{Element, Metadata};
@@ -19,7 +20,16 @@ const RELATED: [Puts; 6] = [
     ("slot", &[(4, 63), (8, 62), (12, 0), (16, 0), (20, 0)]),
     ("beds", &[(80, 3), (88, 4)]),
     ("dynamic", &[(80, 20), (84, 3)]),
-    ("flags", &[(80, 5), (84, 3), (88, 0), (92, 2), (996, 1)]),
+    (
+        "flags",
+        &[
+            (80, 5),
+            (84, 3),
+            (88, 0),
+            (92, 2),
+            (ELEMENTS + ELEMENT + 4, 1),
+        ],
+    ),
     (
         "ramp",
         &[
@@ -28,8 +38,8 @@ const RELATED: [Puts; 6] = [
             (16, 0),
             (20, 0),
             (4, 0),
-            (632, 0xffdf_ffff),
-            (636, 0x7fff),
+            (ELEMENTS + 8, 0xffdf_ffff),
+            (ELEMENTS + 12, 0x7fff),
         ],
     ),
 ];
@@ -126,7 +136,7 @@ fn all_at_one_end() {
         }
         if !most {
             // A ramp may remain as far below 0 as the stream is long.
-            for at in [632, 1_000] {
+            for at in EACH_ELEMENT.map(|element| element + 8) {
                 host.state[at..at + 8].copy_from_slice(&((1u64 << 47) - (1 << 21)).to_le_bytes());
             }
         }
@@ -153,7 +163,7 @@ fn block_with_room(inputs: &mut Generator) -> Vec<u8> {
 /// Both elements have flags for one dynamic object more than the state, as many as a rise asks for.
 fn put_a_flag_more(block: &mut [u8]) {
     let dynamic = block::state(block).metadata.dynamic_sources.len() as u32;
-    for at in [628, 996] {
+    for at in EACH_ELEMENT.map(|element| element + 4) {
         block[at..at + 4].copy_from_slice(&(dynamic + 1).min(16).to_le_bytes());
     }
 }
@@ -165,6 +175,10 @@ struct Tally {
     /// Of these, those with a NaN, and those that lift a channel.
     nans: u64,
     lifted: u64,
+    /// Those before which an object was sent to the bass feed, and those held against the unchanged
+    /// Rust.
+    sent: u64,
+    unchanged: u64,
     /// Accepted pushes that meet an element that would be kept, whose flags tell otherwise than the
     /// state whether it is: more than the update's dynamic objects, though these are as many as the
     /// state's; or as many, though a channel is lifted.
@@ -195,7 +209,8 @@ impl Tally {
 }
 
 /// From a block in range the entries go on as the Rust does from the state that it holds, and as
-/// the amended one does from a lifted channel on: in every second run channels are lifted.
+/// the amended one does from a lifted channel or a send on: in every second run channels are lifted,
+/// and in every second block sends have any bits.
 #[test]
 #[cfg_attr(no_sources, ignore = "Rust sources not at hand")]
 fn blocks_in_range_go_on_as_in_the_rust() {
@@ -222,6 +237,8 @@ fn blocks_in_range_go_on_as_in_the_rust() {
                 let outcome = host.push(&mut model, &Call::from(&frame), name);
                 if let Outcome::Ready(channels, _) = &outcome {
                     tally.count(&before, &frame, channels);
+                    tally.sent += u64::from(model.sent());
+                    tally.unchanged += u64::from(!model.sent() && !model.lifted());
                 }
             }
             assert!(ranges::hold(&host.state), "{name}");
@@ -232,6 +249,8 @@ fn blocks_in_range_go_on_as_in_the_rust() {
     println!("{tally:?}");
     let few = 500..tally.accepted - 500;
     assert!(!seeds::all() || tally.accepted > 2_000 && few.contains(&tally.nans));
+    let sends = [tally.sent, tally.unchanged];
+    assert!(!seeds::all() || sends.iter().all(|&n| n > 500));
     let flags = [tally.more_flags, tally.as_many_flags];
     assert!(!seeds::all() || tally.lifted > 300 && flags.iter().all(|&n| n > 20));
 }

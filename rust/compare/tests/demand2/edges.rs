@@ -138,6 +138,7 @@ fn rust_coefficients(position: [f32; 3], gain: f32) -> Vec<f32> {
         size: 0.0,
         cubical_position: position,
         position_valid: true,
+        send: 0.0,
     };
     leaf::render_object_timeslot_to_714(&[1.0], &mut channels, 0, &source);
     channels.concat()

@@ -53,7 +53,7 @@ struct Run {
 impl Run {
     fn new(seed: u64) -> Self {
         Run {
-            calls: Calls::lifting(seed + 2_000_000, STRIDE as u64),
+            calls: Calls::lifting(seed + 2_000_000, STRIDE as u64).with_sends(false),
             host: Host::new(STRIDE),
             model: Model::new(),
             rust: Some(Oracle::new()),

@@ -1,5 +1,6 @@
 //! Demand 2: what is given out is the Rust's, bit for bit, all NaNs being equal; from a lifted bed
-//! channel to the next reset that of the Rust with R-1's rule. R-2's meters are those of its blocks.
+//! channel, or from an object's send, to the next reset that of the Rust with R-1's and R-3's rules.
+//! R-2's meters are those of its blocks.
 
 mod edges;
 mod entries;
@@ -7,4 +8,5 @@ mod lifted;
 mod longest;
 mod meters;
 mod program;
+mod sends;
 mod stream_end;

@@ -3,6 +3,7 @@
 //! have any bits: peak and gain as the document has them, and on every case as the model reads them.
 //! On all other runs the model's reading is compared with each answer.
 
+use compare::block::PLACES;
 use compare::calls::{Call, Step, bed_frame};
 use compare::case::Case;
 use compare::entry::{self, Answer};
@@ -37,7 +38,7 @@ impl Handed {
         put(64, self.pending.len() as u32);
         put(168, self.bed.to_bits());
         for (i, x) in self.pending.iter().enumerate() {
-            put(23_888 + 256 * CENTER + 4 * i, x.to_bits());
+            put(PLACES + 256 * CENTER + 4 * i, x.to_bits());
         }
         assert!(ranges::hold(&state));
         state

@@ -1,5 +1,5 @@
-//! The program `hallrender` on 10,000 streams at rates drawn from all that are accepted: its standard
-//! output is, byte for byte, what the oracle has it print.
+//! The program `hallrender` on 10,000 streams at rates drawn from all that are accepted, and on 10,000
+//! with sends: its standard output is, byte for byte, what the oracle has it print.
 
 use compare::calls::{Call, Step};
 use compare::seeds::Seeds;
@@ -74,10 +74,10 @@ fn frame_rates(stream: &[u8]) -> impl Iterator<Item = u32> {
 type Counts = BTreeMap<String, u64>;
 
 /// Compares the streams of these seeds; gives their answers and rates.
-fn compared(seeds: Seeds) -> (Counts, BTreeSet<u32>) {
+fn compared(seeds: Seeds, stream: fn(u64) -> Vec<u8>) -> (Counts, BTreeSet<u32>) {
     let (mut counts, mut rates) = (Counts::new(), BTreeSet::new());
     for seed in seeds {
-        let stream = streams::stream(seed);
+        let stream = stream(seed);
         rates.extend(frame_rates(&stream));
         let expected = streams::played(&stream);
         let found = run(&stream);
@@ -98,8 +98,8 @@ fn prints_what_the_oracle_has_it_print() {
     );
     let [even, odd] = seeds!(0..STREAMS).halves();
     let halves = thread::scope(|scope| {
-        let other = scope.spawn(|| compared(odd));
-        [compared(even), other.join().unwrap()]
+        let other = scope.spawn(|| compared(odd, streams::stream));
+        [compared(even, streams::stream), other.join().unwrap()]
     });
     let kinds: BTreeSet<&String> = halves.iter().flat_map(|half| half.0.keys()).collect();
     let rates: BTreeSet<&u32> = halves.iter().flat_map(|half| &half.1).collect();
@@ -109,6 +109,19 @@ fn prints_what_the_oracle_has_it_print() {
         // ready, none, reset, bad record, and 2 to 14 but 7 and 4, which no stream is long enough for
         assert_eq!(kinds.len(), 4 + 11, "{kinds:?}");
     }
+}
+
+#[test]
+#[cfg_attr(no_sources, ignore = "Rust sources not at hand")]
+fn prints_what_is_sent_to_the_bass_feed() {
+    let [even, odd] = seeds!(0..STREAMS).halves();
+    let halves = thread::scope(|scope| {
+        let other = scope.spawn(|| compared(odd, streams::sending));
+        [compared(even, streams::sending), other.join().unwrap()]
+    });
+    let ready: u64 = halves.iter().map(|half| half.0["ready"]).sum();
+    println!("{ready} frames with samples");
+    assert!(!seeds::all() || ready > 50_000);
 }
 
 /// Document 01's example, as the document has it and as the oracle has it.

@@ -99,6 +99,7 @@ fn mixed(
                     size: 0.0,
                     cubical_position: beds::bed_channel_position(code),
                     position_valid: true,
+                    send: 0.0,
                 };
                 leaf::render_object_timeslot_to_714(samples, output, 0, &source);
             }

@@ -41,6 +41,7 @@ impl Mix {
             size,
             cubical_position: position,
             position_valid: true,
+            send: 0.0,
         };
         render_object_timeslot_to_714(&[self.sample], &mut self.channels, 0, &source);
         let mixed: [f32; 12] = std::array::from_fn(|channel| self.channels[channel][0]);

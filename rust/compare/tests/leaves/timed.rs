@@ -1,7 +1,7 @@
-//! Updates and slots: the whole timed state after each slot, 1,200,000 slots. Once a sequence has
-//! lifted a channel it is held against the amended Rust.
+//! Updates and slots: the whole timed state after each slot, 1,200,000 slots. Sends are held
+//! against the amended Rust, and so is all of a sequence that has lifted a channel.
 
-use compare::model::lifts;
+use compare::model::{lifts, with_sends};
 use compare::probe::timed::{self, MIDDLE, Timed, ZERO};
 use compare::{Drawn, Generator, drawn, records, same};
 use oracle::frame::{ANCHORS, Block, DEPTHS, Element, Object, Update};
@@ -72,6 +72,11 @@ fn object(inputs: &mut Generator) -> Object {
             inputs.between(0.0, 1.0)
         },
         depth: inputs.pick(&DEPTHS),
+        send: if inputs.chance(3) {
+            inputs.pick(&[0.0, -0.0, 1.0, 1e-45])
+        } else {
+            inputs.between(0.0, 1.0)
+        },
     }
 }
 
@@ -99,37 +104,43 @@ fn update(inputs: &mut Generator, layout: &Layout) -> Update {
     }
 }
 
-/// The timed state of the Rust: of the unchanged one up to the first lifted channel.
-enum Theirs {
-    Unchanged(leaf::Timed),
-    Amended(amended::leaf::Timed),
+/// The timed state of the Rust: of the unchanged one too, up to the first lifted channel.
+struct Theirs {
+    amended: amended::leaf::Timed,
+    unchanged: Option<leaf::Timed>,
 }
 
 impl Theirs {
+    fn new() -> Self {
+        Theirs {
+            amended: amended::leaf::Timed::new(),
+            unchanged: Some(leaf::Timed::new()),
+        }
+    }
+
+    /// But for the sends the unchanged one's while it is there.
     fn state(&self) -> Metadata {
-        match self {
-            Theirs::Unchanged(timed) => timed.state(),
-            Theirs::Amended(timed) => timed.state(),
+        let amended = self.amended.state();
+        match &self.unchanged {
+            Some(timed) => with_sends(timed.state(), &amended),
+            None => amended,
         }
     }
 
     fn apply_update(&mut self, update: &Update, at: i64) {
-        if let Theirs::Unchanged(timed) = self {
-            let state = timed.state();
-            if lifts(&state, &[update]) {
-                *self = Theirs::Amended(amended::leaf::Timed::in_state(&state));
-            }
+        if lifts(&self.state(), &[update]) {
+            self.unchanged = None;
         }
-        match self {
-            Theirs::Unchanged(timed) => timed.apply_update(update, at),
-            Theirs::Amended(timed) => timed.apply_update(update, at),
+        self.amended.apply_update(update, at);
+        if let Some(timed) = &mut self.unchanged {
+            timed.apply_update(update, at);
         }
     }
 
     fn update_timeslot(&mut self, at: i64) {
-        match self {
-            Theirs::Unchanged(timed) => timed.update_timeslot(at, 64),
-            Theirs::Amended(timed) => timed.update_timeslot(at, 64),
+        self.amended.update_timeslot(at, 64);
+        if let Some(timed) = &mut self.unchanged {
+            timed.update_timeslot(at, 64);
         }
     }
 }
@@ -158,7 +169,8 @@ fn assert_same(ours: &Timed, theirs: &Metadata, step: usize) {
             same(ours.gain, theirs.gain)
                 && same(ours.size, theirs.size)
                 && same_vector(ours.place, theirs.cubical_position)
-                && ours.placed == theirs.position_valid,
+                && ours.placed == theirs.position_valid
+                && same(ours.send, theirs.send),
             "step {step}: {ours:?} {theirs:?}"
         );
     }
@@ -232,6 +244,7 @@ fn assert_same_info(ours: &Timed, k: usize, theirs: &oracle::state::Info, step: 
     );
     assert!(same_vector(vector(5), theirs.position), "step {step}");
     assert!(same_vector(vector(8), theirs.last_precise), "step {step}");
+    assert!(same(float(11), theirs.send), "step {step}");
 }
 
 /// Sequences of updates and slots, up to `most` of everything. `lifted` slots at least are held
@@ -239,7 +252,7 @@ fn assert_same_info(ours: &Timed, k: usize, theirs: &oracle::state::Info, step: 
 fn compare_slots(mut inputs: Drawn, most: u64, slots: usize, lifted: usize) {
     let (mut done, mut amended) = (0, 0);
     while done < slots {
-        let (mut ours, mut theirs) = (Timed::new(), Theirs::Unchanged(leaf::Timed::new()));
+        let (mut ours, mut theirs) = (Timed::new(), Theirs::new());
         let mut at = inputs.below(1 << 39);
         let mut kept = layout(&mut inputs, most);
         for _ in 0..1 + inputs.below(40) {
@@ -272,7 +285,7 @@ fn compare_slots(mut inputs: Drawn, most: u64, slots: usize, lifted: usize) {
                 assert_same(&ours, &theirs.state(), done);
                 at += 64;
                 done += 1;
-                amended += usize::from(matches!(theirs, Theirs::Amended(_)));
+                amended += usize::from(theirs.unchanged.is_none());
             }
         }
     }

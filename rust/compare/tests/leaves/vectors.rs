@@ -212,6 +212,7 @@ fn parsed(block: &BlockPosition) -> Info {
         anchor: Anchor::Room,
         position: [0.0; 3],
         last_precise: block.last,
+        send: 0.0,
     };
     let object = Object {
         anchor: block.anchor,
@@ -246,6 +247,7 @@ fn target() {
             size: 0.0,
             cubical_position: here,
             position_valid: true,
+            send: 0.0,
         };
         let target = leaf::update_source_state(&mut info, &mut source);
         assert!(same_placed(&ours, target, &info), "{block:?} {here:?}");

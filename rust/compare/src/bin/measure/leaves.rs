@@ -133,6 +133,7 @@ fn panning() {
                     size: 0.0,
                     cubical_position: place,
                     position_valid: true,
+                    send: 0.0,
                 };
                 oracle::leaf::render_object_timeslot_to_714(&samples, &mut output, 0, &source);
             }
