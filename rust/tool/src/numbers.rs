@@ -1,7 +1,7 @@
 // SPDX-License-Identifier: Apache-2.0
 //! Numbers for people.
 
-/// 26960 as 26,960.
+/// 29072 as 29,072.
 pub fn grouped(n: u64) -> String {
     let digits = n.to_string();
     let mut text = String::new();
@@ -47,7 +47,7 @@ mod tests {
     fn numbers_for_people() {
         assert_eq!(grouped(0), "0");
         assert_eq!(grouped(999), "999");
-        assert_eq!(grouped(26_960), "26,960");
+        assert_eq!(grouped(29_072), "29,072");
         assert_eq!(grouped(1_048_576), "1,048,576");
         assert_eq!(decibels(0.9), "-0.9 dB");
         assert_eq!(decibels(0.0), "silent");

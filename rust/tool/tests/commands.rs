@@ -195,6 +195,8 @@ fn refusals() -> Vec<u8> {
     kind[80] = 4;
     let mut depth = metadata();
     depth[152..156].copy_from_slice(&3f32.to_le_bytes());
+    let mut send = metadata();
+    send[156..160].copy_from_slice(&1.5f32.to_le_bytes());
     let pcm = [0.5; 240];
     let mut beyond = pcm;
     beyond[17] = 16.5;
@@ -205,6 +207,7 @@ fn refusals() -> Vec<u8> {
         frame(48_000, &[2], 0, &metadata(), &pcm),
         frame(48_000, &[2], 0, &kind, &pcm),
         frame(48_000, &[2], 0, &depth, &pcm),
+        frame(48_000, &[2], 0, &send, &pcm),
         frame(48_000, &[2], 0, &[], &beyond),
         frame(44_100, &[2], 0, &[], &pcm),
         frame(48_000, &[2], 1, &[], &[pcm, pcm].concat()),
@@ -220,13 +223,14 @@ const REFUSALS: &str = "\
 frame 1 at 0.000 s: refused 10 (stream): no metadata has come yet
 frame 3 at 0.010 s: refused 5 (programme): record 2, byte 0 (update 0, element 0, block 0): the kind must be 3, a block; it is 4
 frame 4 at 0.015 s: refused 6 (programme): record 3, byte 32 (update 0, element 0, object 0, block 0): the depth factor is 3, and must be 0.25, 0.5, 1 or 2
-frame 5 at 0.020 s: refused 8 (decoder): channel 0, sample 17 is 16.5
-frame 6 at 0.025 s: refused 9 (stream): the stream runs at 48000 Hz and the frame at 44100: flush and reset first
-frame 7 at 0.030 s: refused 11 (stream): the metadata has 0 dynamic objects and the frame 1
-frame 8 at 0.035 s: refused 2 (host): bed 0 has code 19, and at most 17 may be
-frame 9 at 0.040 s: refused 3 (host): the rate is outside 8,000 to 192,000 Hz; it is 7,000
-frame 10 at 0.040 s: refused 2 (host): samples without a channel
-11 frames, 9 refused: 3 stream, 2 programme, 1 decoder, 3 host; up to 1,536 samples a frame (hallrender takes 256)
+frame 5 at 0.020 s: refused 6 (programme): record 3, byte 36 (update 0, element 0, object 0, block 0): the send is 1.5, and must be from 0 to 1
+frame 6 at 0.025 s: refused 8 (decoder): channel 0, sample 17 is 16.5
+frame 7 at 0.030 s: refused 9 (stream): the stream runs at 48000 Hz and the frame at 44100: flush and reset first
+frame 8 at 0.035 s: refused 11 (stream): the metadata has 0 dynamic objects and the frame 1
+frame 9 at 0.040 s: refused 2 (host): bed 0 has code 19, and at most 17 may be
+frame 10 at 0.045 s: refused 3 (host): the rate is outside 8,000 to 192,000 Hz; it is 7,000
+frame 11 at 0.045 s: refused 2 (host): samples without a channel
+12 frames, 10 refused: 3 stream, 3 programme, 1 decoder, 3 host; up to 1,536 samples a frame (hallrender takes 256)
 ";
 
 #[test]

@@ -24,6 +24,7 @@ fn the_demo_says_what_it_wrote() {
     let wav = fs::read(&to).unwrap();
     assert_eq!(wav.len(), 104 + 48 * 960_000);
     every_channel_sounds_and_only_the_stroke_is_limited(&wav[104..]);
+    the_ship_shakes_the_floor(&wav[104..]);
     assert!(
         run(&["demo", "-o", "-"]).out[104..] == wav[104..],
         "two runs give the same bytes"
@@ -57,6 +58,20 @@ fn every_channel_sounds_and_only_the_stroke_is_limited(rows: &[u8]) {
     }
     assert!(peaks.iter().all(|p| *p > 0.2), "{peaks:?}");
     assert_eq!(peaks[2], 0.9, "the limiter brings its peak to 0.9");
+}
+
+/// The bass feed is loudest while the ship passes overhead, around 5 s.
+fn the_ship_shakes_the_floor(rows: &[u8]) {
+    let (mut near, mut far) = (0f32, 0f32);
+    for (k, row) in rows.chunks_exact(48).enumerate() {
+        let x = f32::from_le_bytes(row[12..16].try_into().unwrap()).abs();
+        match k {
+            216_000..264_000 => near = near.max(x),
+            ..124_800 | 355_200.. => far = far.max(x),
+            _ => {}
+        }
+    }
+    assert!(near > 0.4 && far < 0.3, "{near} {far}");
 }
 
 #[test]

@@ -72,13 +72,15 @@ fn example() -> Vec<u8> {
     block[16..24].copy_from_slice(&256i64.to_le_bytes());
     let nan = f32::from_bits(0x7fc0_0001);
     let mut metadata = Vec::new();
+    let mut sent = object(2, 63, [nan, 0.5, 0.25, -0.0, f32::INFINITY, 1.0, 0.0, 0.25]);
+    sent[36..].copy_from_slice(&0.75f32.to_le_bytes());
     for r in [
         update,
         element,
         block,
         object(0, 0, [0.0, 0.0, 0.0, 0.0, 0.0, 0.0, 0.0, 1.0]),
         object(1, 4 + 32, [0.25, 0.0, 0.0, 0.0, 0.0, 1e-9, 0.5, 2.0]),
-        object(2, 63, [nan, 0.5, 0.25, -0.0, f32::INFINITY, 1.0, 0.0, 0.25]),
+        sent,
         // A gain that is not told must be zero.
         object(0, 0, [1.0, 0.0, 0.0, 0.0, 0.0, 0.0, 0.0, 1.0]),
     ] {
@@ -107,7 +109,7 @@ frame 48000 samples 3 beds FC,LFE objects 1
       block offset -64 ramp 256
         object room depth 1 # object 0, block 0
         object screen gain 0.25 size 1e-9 screen 0.5 depth 2 # object 1, block 0
-        object speaker gain nan:7fc00001 at 0.5 0.25 -0 distance inf size 1 valid differential depth 0.25 # object 2, block 0
+        object speaker gain nan:7fc00001 at 0.5 0.25 -0 distance inf size 1 valid differential depth 0.25 send 0.75 # object 2, block 0
         raw 040000000000803f0000000000000000000000000000000000000000000000000000803f00000000 # object 3, block 0
   pcm 3e800000 x3
   pcm 80000000 00000000 x2

@@ -1,6 +1,6 @@
 // SPDX-License-Identifier: Apache-2.0
-//! The demo's programme: three objects circle and rise over beds with bass; halfway one packet is broken, at three
-//! quarters a stroke goes above full scale.
+//! The demo's programme: three objects circle and rise over beds with bass, one of them a ship that shakes the floor as
+//! it passes overhead; halfway one packet is broken, at three quarters a stroke goes above full scale.
 mod path;
 mod score;
 mod tone;
@@ -9,7 +9,7 @@ mod voice;
 use crate::programme::{Ask, Broken, Packet, Programme};
 use score::{CHORD, STEP};
 use tone::{Noise, RATE, smooth};
-use voice::{Bass, Pad, Plucks, Song, Stroke};
+use voice::{Bass, Engine, Pad, Plucks, Song, Stroke};
 use voqlisna::{Bed, Block, BuildError, MetadataWriter, Object, Update};
 
 const HERTZ: u32 = RATE as u32;
@@ -26,6 +26,9 @@ const BEDS: [Bed; 6] = [
 ];
 const OBJECTS: usize = 3;
 const CHANNELS: usize = BEDS.len() + OBJECTS;
+/// The ship among the objects, and how much of it goes to the bass feed.
+const SHIP: usize = 2;
+const SHAKES: f32 = 0.8;
 /// The sample of the broken packet that is none.
 const BROKEN: (usize, usize) = (4, 17);
 const SEED: u64 = 0x5eed_0714;
@@ -38,6 +41,7 @@ pub struct Show {
     bass: Bass,
     plucks: [Plucks; 2],
     song: Song,
+    engine: Engine,
     stroke: Stroke,
     chance: Noise,
 }
@@ -51,6 +55,7 @@ impl Show {
             bass: Bass::default(),
             plucks: [Plucks::new(), Plucks::new()],
             song: Song::default(),
+            engine: Engine::default(),
             stroke: Stroke::new(SEED),
             chance: Noise(SEED),
         }
@@ -88,8 +93,9 @@ impl Show {
         let [left, right, side_left, side_right] = self.pad.next(time);
         let stroke = self.stroke.next();
         let bass = self.bass.next();
+        let ship = self.song.next(time) + self.engine.next(time / self.seconds());
         let [first, second] = &mut self.plucks;
-        let objects = [first.next(), second.next(), self.song.next(time)];
+        let objects = [first.next(), second.next(), ship];
         let left_over = (self.length - at) as f64 / RATE;
         let level = smooth(time / 0.5) * smooth(left_over / CHORD.min(self.seconds() / 4.0));
         let all = [
@@ -116,7 +122,10 @@ impl Show {
             .element(&[Block { offset: 0, ramp }], |o, _| {
                 let object = match o.checked_sub(fixed) {
                     None => Object::KEEP,
-                    Some(k) => Object::at(path::place(k, time, self.seconds())),
+                    Some(k) => {
+                        let send = if k == SHIP { SHAKES } else { 0.0 };
+                        Object::at(path::place(k, time, self.seconds())).send(send)
+                    }
                 };
                 object.gain(1.0)
             })?;

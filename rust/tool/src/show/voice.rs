@@ -1,5 +1,5 @@
 // SPDX-License-Identifier: Apache-2.0
-//! The voices: pads, a bass, plucked figures, a slow voice, a stroke.
+//! The voices: pads, a bass, plucked figures, a slow voice, an engine, a stroke.
 use super::score::{self, CHORD, STEP};
 use super::tone::{Noise, Phasor, RATE, hertz, sine, smooth};
 
@@ -133,6 +133,26 @@ impl Song {
         self.turns -= self.turns.floor();
         let level = 0.22 * smooth(within / 0.35) * smooth((CHORD - within) / 0.5);
         level * (sine(self.turns) + 0.18 * sine(2.0 * self.turns) + 0.06 * sine(3.0 * self.turns))
+    }
+}
+
+/// A deep hum that comes near and goes, lower as it goes: once, around the show's first quarter.
+#[derive(Default)]
+pub struct Engine {
+    turns: f64,
+}
+
+impl Engine {
+    /// At a part of the show, from 0 to 1.
+    pub fn next(&mut self, part: f64) -> f64 {
+        let near = 1.0 - (part - 0.25).abs() / 0.12;
+        if near <= 0.0 {
+            return 0.0;
+        }
+        self.turns += (46.0 - 10.0 * smooth((part - 0.2) / 0.1)) / RATE;
+        self.turns -= self.turns.floor();
+        let hum = sine(self.turns) + 0.5 * sine(2.0 * self.turns) + 0.2 * sine(3.0 * self.turns);
+        0.22 * smooth(near) * hum
     }
 }
 

@@ -7,7 +7,7 @@
 //!   update at 0 objects 3 fixed 2 beds FC,LFE elements 1
 //!     element blocks 1
 //!       block offset 0 ramp 256
-//!         object room gain 1 at 0.5 0.25 0 valid depth 1
+//!         object room gain 1 at 0.5 0.25 0 valid depth 1 send 0.5
 //!   pcm 3e800000 x256
 //! flush
 //! ```

@@ -83,7 +83,11 @@ fn object(r: &Record) -> String {
     if value(r, 28).to_bits() != 0 {
         text += &format!(" screen {}", word::float(value(r, 28)));
     }
-    text + &format!(" depth {}", word::float(value(r, 32)))
+    text += &format!(" depth {}", word::float(value(r, 32)));
+    if value(r, 36).to_bits() != 0 {
+        text += &format!(" send {}", word::float(value(r, 36)));
+    }
+    text
 }
 
 fn value(r: &Record, at: usize) -> f32 {
@@ -198,6 +202,7 @@ fn read_object(words: &mut Words<'_>, r: &mut Record) -> Result<(), String> {
             "differential" => (DIFFERENTIAL, 0, 0),
             "screen" => (0, 28, 32),
             "depth" => (0, 32, 36),
+            "send" => (0, 36, 40),
             other => return Err(format!("an object has no {other}")),
         };
         r[2] |= bit;

@@ -194,7 +194,7 @@ pub fn update(beds: &[Bed], objects: usize, dice: &mut Dice) -> Vec<u8> {
             } else {
                 Object::at(place)
             };
-            object.gain(dice.unit())
+            object.gain(dice.unit()).send(dice.unit())
         })
         .unwrap();
     memory
