@@ -32,6 +32,8 @@ pub struct Case {
     pub updates: Updates,
     /// 4 MB of other data are gone through before each push.
     pub cold: bool,
+    /// Of every object, to the bass feed.
+    pub send: f32,
 }
 
 /// The same frames as each side takes them.
@@ -117,6 +119,7 @@ impl Case {
             gain: Some(0.7),
             position: (o >= self.beds).then(|| std::array::from_fn(|_| inputs.between(0.0, 1.0))),
             size: Some(0.0),
+            send: self.send,
             ..Object::default()
         };
         let mut element = || Element {

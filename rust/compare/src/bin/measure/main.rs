@@ -7,6 +7,7 @@ mod case;
 mod counts;
 mod fit;
 mod leaves;
+mod sends;
 mod sides;
 mod slowest;
 mod table;
@@ -21,8 +22,9 @@ use std::{env, fs, process, thread};
 use table::{Row, rows};
 
 const USAGE: &str = "\
-usage: measure [SECONDS] | leaves
+usage: measure [SECONDS] | sends | leaves
   SECONDS   for each case (0.8)
+  sends     only what sends to the bass feed cost
   leaves    times of single functions";
 
 /// Rounds of all cases, a line for each case and side: seconds a push.
@@ -44,10 +46,10 @@ fn sweep(seconds: f64) {
 
 /// The same by a process of its own: where code and memory come to lie, which is another thing in
 /// each, makes up to a tenth.
-fn sweep_apart(rows: &mut [Row], seconds: f64) {
+fn sweep_apart<'a>(word: &str, sides: impl Iterator<Item = &'a mut Vec<f64>>, seconds: f64) {
     let program = env::current_exe().unwrap();
     let ran = Command::new(program)
-        .args([SWEEP, &seconds.to_string()])
+        .args([word, &seconds.to_string()])
         .stderr(Stdio::inherit())
         .output()
         .unwrap();
@@ -55,7 +57,6 @@ fn sweep_apart(rows: &mut [Row], seconds: f64) {
         process::exit(1);
     }
     let text = String::from_utf8(ran.stdout).unwrap();
-    let sides = rows.iter_mut().flat_map(|row| &mut row.times);
     for (times, line) in sides.zip(text.lines()) {
         times.extend(line.split(' ').map(|time| time.parse::<f64>().unwrap()));
     }
@@ -87,15 +88,27 @@ fn processor() -> String {
 }
 
 const SWEEPS: usize = 6;
-/// The word on the command line for one of them.
+/// The words on the command line for one of them.
 const SWEEP: &str = "sweep";
+const SWEEP_SENDS: &str = "sweep-sends";
+
+/// What sends cost.
+fn sends(seconds: f64) -> Vec<sends::Row> {
+    let mut rows = sends::rows();
+    for _ in 0..SWEEPS {
+        let sides = rows.iter_mut().flat_map(|row| &mut row.times);
+        sweep_apart(SWEEP_SENDS, sides, seconds / SWEEPS as f64);
+    }
+    rows
+}
 
 fn all(seconds: f64) {
     let (start, before) = (Instant::now(), load());
     let mut rows = rows();
     for sweep in 1..=SWEEPS {
         eprintln!("sweep {sweep} of {SWEEPS}");
-        sweep_apart(&mut rows, seconds / SWEEPS as f64);
+        let sides = rows.iter_mut().flat_map(|row| &mut row.times);
+        sweep_apart(SWEEP, sides, seconds / SWEEPS as f64);
     }
     if let Some(counts) = counts::counts(&warm()) {
         let warm = rows.iter_mut().filter(|row| !row.case.cold);
@@ -104,6 +117,7 @@ fn all(seconds: f64) {
     }
     println!("## Measured");
     table::print(&rows);
+    sends::print(&sends(seconds));
     table::print_functions(&rows);
     fit::print(&rows);
     threads::print();
@@ -131,6 +145,8 @@ fn main() {
     match words.as_slice() {
         [] => all(0.8),
         ["leaves"] => leaves::print(),
+        ["sends"] => sends::print(&sends(0.8)),
+        [SWEEP_SENDS, seconds] => sends::sweep(seconds.parse().unwrap()),
         [SWEEP, seconds] => sweep(seconds.parse().unwrap()),
         [counts::COUNTED] => counts::counted(&warm()),
         [seconds] if seconds.parse::<f64>().is_ok() => all(seconds.parse().unwrap()),

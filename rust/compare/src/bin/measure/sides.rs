@@ -3,7 +3,7 @@
 use crate::case::Inputs;
 use compare::calls::Call;
 use compare::{all_same, floats};
-use oracle::{Oracle, Pushed};
+use oracle::{Oracle, Pushed, amended};
 use std::hint::black_box;
 use std::mem::MaybeUninit;
 use std::time::{Duration, Instant};
@@ -227,6 +227,20 @@ pub fn assert_equal(sides: &mut [Side], inputs: &Inputs) {
                 assert!(library.gave(&channels), "samples of push {k}");
             }
         }
+    }
+}
+
+/// Every push of the library gives the samples of the Rust with sends.
+pub fn assert_sent(inputs: &Inputs) {
+    let (mut library, mut oracle) = (Library::new(), amended::Oracle::new());
+    library.reset();
+    for (k, &frame) in inputs.order.iter().enumerate() {
+        let Pushed::Ready(channels) = oracle.push(&inputs.frames[frame]) else {
+            panic!("the Rust refuses push {k}");
+        };
+        let ready = library.push(&inputs.calls[frame]);
+        assert_eq!(ready, channels[0].len(), "ready samples of push {k}");
+        assert!(library.gave(&channels), "samples of push {k}");
     }
 }
 

@@ -16,6 +16,7 @@ pub const FULL: Case = Case {
     beds: 10,
     updates: Updates::Moving,
     cold: false,
+    send: 0.0,
 };
 const EACH_435: Updates = each(2, 8);
 
