@@ -12,6 +12,8 @@
 #include <unistd.h>
 
 enum { CALLS = 24, HEAD = 32, STRIDE = 1536, CHANNELS = 34, RECORDS = 1024, STREAM = 40, BEHIND = 64 };
+/* Of the block: where sources, elements and infos stand, and how long a source and an element are (docs/STATE-BLOCK.md). */
+enum { SOURCES = 240, SOURCE = 28, ELEMENTS = SOURCES + 16 * SOURCE, ELEMENT = 368, INFOS = ELEMENTS + 2 * ELEMENT };
 
 /* One renderer's memory, longer than what is lent of it. */
 static uint8_t state[1 << 16], before[1 << 16], out[48 * STRIDE], kept[48 * STRIDE], records[40 * RECORDS], codes[255];
@@ -91,7 +93,7 @@ static void damage(const uint8_t *head, size_t size) {
     const int places[3] = {8, 16, 72}; /* position, slot start, payload position */
     for (int i = 0; i < 3; i++) put_both(state + places[i], both(state + places[i]) + end - room - position);
   } else {
-    state[head[1] & 2 ? word(head + 2) % size : word(head + 2) % 1360] = head[8];
+    state[head[1] & 2 ? word(head + 2) % size : word(head + 2) % INFOS] = head[8];
     damaged = 1;
   }
 }
@@ -136,7 +138,7 @@ static void tell(hall_answer a, size_t stride, uint32_t last) {
   spot(392 + (unsigned)a.ready / 64);
   spot(424 + (word(state + 64) / 8 & 7) + 8 * (word(state + 4) / 8 & 7)); /* pending samples, phase */
   for (unsigned e = 0; e < word(state + 92) % 3; e++) {
-    const uint8_t *element = state + 624 + 368 * e;
+    const uint8_t *element = state + ELEMENTS + ELEMENT * e;
     unsigned used = 0, moves = 0;
     for (unsigned b = 0; b < 8; b++) used |= (element[24 + 12 * b] & 1u) << b;
     for (unsigned t = 0; t < 16; t++) moves += element[112 + 16 * t] & 1u;
@@ -148,6 +150,9 @@ static void tell(hall_answer a, size_t stride, uint32_t last) {
   unsigned heard = 0;
   for (size_t c = 0; c < 12 && a.ready; c++) heard += word(out + 4 * c * stride) != 0;
   spot(820 + heard); /* channels that are heard */
+  unsigned sent = 0;
+  for (size_t i = 0; i < 16; i++) sent += word(state + SOURCES + SOURCE * i + 24) << 1 != 0;
+  spot(840 + sent); /* objects with a send */
 }
 
 static void check(const made *m, size_t size) {

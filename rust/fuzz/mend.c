@@ -46,7 +46,7 @@ static void mend_object(uint8_t *r) {
   if (!(r[2] & 16)) memset(r + 20, 0, 4);
   if (r[2] & 32) put_float(r + 24, 1.0f); else memset(r + 24, 0, 4);
   memcpy(r + 32, depths + ((r[34] >> 6 | r[35] << 2) & 3), 4);
-  memset(r + 36, 0, 4);
+  put_float(r + 36, 1.0f);
 }
 
 /* An element and what it holds, in at most `left` records: as many blocks as there is room for. */
