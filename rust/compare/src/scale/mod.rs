@@ -192,7 +192,10 @@ impl<'a> Run<'a> {
         };
         push.count(self.reached);
         let (host, reached) = (&self.host, &mut self.reached);
-        reached.add(What::Lifted, self.model.lifted().into());
+        let (lifted, sent) = (self.model.lifted(), self.model.sent());
+        reached.add(What::Lifted, lifted.into());
+        reached.add(What::Sent, sent.into());
+        reached.add(What::Unsent, (!lifted && !sent).into());
         reached.add(What::LongList, (call.meta.len() > LONG).into());
         reached.add(What::LongOutput, (host.out.len() > 48 * host.stride).into());
         reached.one(What::Stride(host.stride as u32));

@@ -35,6 +35,11 @@ pub enum What {
     /// An update that lifts a channel, and an accepted push from there to the next reset.
     Lift,
     Lifted,
+    /// Sends of applied object records: 0, 1, between; and an accepted push from an object that is
+    /// sent to the bass feed to the next reset, and one before that.
+    Send(u8),
+    Sent,
+    Unsent,
     /// An accepted push with silent samples before the first update.
     Silence,
     /// An update at or past the frame's end.

@@ -120,4 +120,10 @@ fn record(reached: &mut Reached, object: &Object) {
     reached.one(What::Anchor(object.anchor as u8));
     let depth = DEPTHS.iter().position(|&depth| depth == object.depth);
     reached.one(What::Depth(depth.unwrap() as u8));
+    let send = match object.send {
+        0.0 => 0,
+        1.0 => 1,
+        _ => 2,
+    };
+    reached.one(What::Send(send));
 }

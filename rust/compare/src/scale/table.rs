@@ -7,7 +7,7 @@ use super::What::{self, *};
 type Line = (&'static str, Vec<(String, What)>);
 
 /// What has a name.
-const NAMED: [(&str, &[(&str, What)]); 14] = [
+const NAMED: [(&str, &[(&str, What)]); 15] = [
     (
         "compared",
         &[
@@ -50,6 +50,16 @@ const NAMED: [(&str, &[(&str, What)]); 14] = [
     (
         "lifted channels",
         &[("updates", Lift), ("frames from there on", Lifted)],
+    ),
+    (
+        "sends",
+        &[
+            ("0", Send(0)),
+            ("1", Send(1)),
+            ("between", Send(2)),
+            ("frames from one on", Sent),
+            ("frames without, as the unchanged Rust", Unsent),
+        ],
     ),
     (
         "in time",
