@@ -323,9 +323,7 @@ fn ends_of_the_range() {
 /// The loudest that passes: 16 objects of gain 8 and send 1, 18 beds of gain 8, 17 of them of bass,
 /// samples of 16 that swing at `half` samples each way.
 fn loudest(rate: u32, half: usize) -> Frame {
-    let beds: Vec<u8> = (0..18)
-        .map(|i| [3, 17, 2][(i % 2).max(2 * (i / 17))])
-        .collect();
+    let beds: Vec<u8> = [[3, 17].repeat(8), vec![3, 2]].concat();
     let object = Object {
         position_valid: true,
         position: Some([0.5; 3]),
@@ -335,7 +333,13 @@ fn loudest(rate: u32, half: usize) -> Frame {
         ..Object::default()
     };
     let samples = 1_536;
-    let swing = (0..samples).map(|i| if i / half % 2 == 0 { 16.0 } else { -16.0 });
+    let swing = (0..samples).map(|i| {
+        if (i / half).is_multiple_of(2) {
+            16.0
+        } else {
+            -16.0
+        }
+    });
     let channel: Vec<f32> = swing.collect();
     Frame {
         rate,
