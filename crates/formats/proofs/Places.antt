@@ -1,7 +1,7 @@
 -- Words in place: of a front and a rest, and of the words that a format has. Assumes nothing.
 use mathlib.Core.Path.{_≡_, sym, ap, _∙_}
 use mathlib.Core.List.{List, [], _∷_, _++_}
-use Prim.Native.Nat.{ℕ, zero, suc, _+_, _*_, _<_}
+use Prim.Native.Nat.{ℕ, zero, suc, _+_, _*_, _/_, _<_, _≤_}
 use native.Mathlib.Nat.{add-zero, add-assoc, zero-add}
 use native.Mathlib.Omega.{arith}
 use lib.Dec.{T}
@@ -9,6 +9,7 @@ use lib.ListN.{length, getD, length-append, List·getD-append}
 use lib.Seq.{getD-append-add, ext-getD}
 pub use lib.Ieee.Fits.{and-i as and-in}
 use Rattle.words.specs.Words.{Words, word, wordsAt}
+use Rattle.formats.specs.Numbers.{inWords}
 use Rattle.formats.specs.Format.{Format, Stands}
 use Rattle.formats.specs.Lawful.{Same, Lawful}
 
@@ -50,6 +51,11 @@ pub word-of-run : (s : List ℕ) (at n i m : ℕ) → i < n → m ≡ at + 4 * i
 word-of-run s at zero i m h e = absurd (omega arith)
 word-of-run s at (suc n) zero m h e = ap (word s) (let q : at ≡ m = omega arith in q)
 word-of-run s at (suc n) (suc i) m h e = word-of-run s (at + 4) n i m (omega arith) (omega arith)
+
+-- word i of bytes
+pub word-of-bytes : (s : List ℕ) (i : ℕ) → 4 * i + 4 ≤ length s → getD (inWords s) i 0 ≡ word s (4 * i)
+unfolding inWords
+word-of-bytes s i h = word-of-run s 0 (length s / 4) i (4 * i) (omega arith) (omega arith)
 
 pub same-at : (v : List ℕ) (a : ℕ) (w : List ℕ) (b k : ℕ) → Same v a w b (suc k) → getD v a 0 ≡ getD w b 0
 same-at v a w b k h = ap (λ (i : ℕ). getD v i 0) (sym (add-zero a)) ∙ h 0 (omega arith) ∙ ap (λ (i : ℕ). getD w i 0) (add-zero b)

@@ -8,8 +8,8 @@ pub use Rattle.formats.proofs.Parts.{lawful-pair, lawful-array, lawful-
 pub use Rattle.formats.proofs.Infos.{lawful-vec, lawful-info-head, lawful-info, infos-test, head-within, head-exact}
 -- so decode after encode is the value, a value in range passes the test, and words that spell a value are its words
 pub use Rattle.formats.proofs.Places.{round, passes, spelled}
--- words in place: a list holds itself, and a word of a run of bytes
-pub use Rattle.formats.proofs.Places.{stands-all, word-of-run}
+-- words in place: a list holds itself, and a word of a run of bytes, of all bytes
+pub use Rattle.formats.proofs.Places.{stands-all, word-of-run, word-of-bytes}
 -- two runs of words, or two values, one after the other
 pub use Rattle.formats.proofs.Loops.{runs-at, pair-stored}
 -- a turn of a loop that reads an array, that stores one, that tests one

@@ -3,8 +3,13 @@ use Prim.Native.Nat.{ℕ, _+_, _*_, _/_, _%_}
 use mathlib.Core.Bool.{Bool, cond}
 use mathlib.Core.List.{List}
 use lib.Dec.{T}
-use lib.ListN.{getD}
+use lib.ListN.{length, getD}
 use lib.Ieee.{Float, binary32, fits, ofBits, toBits}
+use Rattle.words.specs.Words.{wordsAt}
+
+-- bytes as words, four bytes each
+unfoldable pub inWords : List ℕ → List ℕ
+inWords s = wordsAt s 0 (length s / 4)
 
 -- a number in two words, the low one first
 abbrev pub low : ℕ → ℕ

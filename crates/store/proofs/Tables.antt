@@ -2,7 +2,7 @@
 use mathlib.Core.Path.{_≡_, refl, sym, ap, ap₂, subst, _∙_}
 use mathlib.Core.Bool.{Bool, true, false, _&&_}
 use mathlib.Core.List.{List}
-use Prim.Native.Nat.{ℕ, _+_, _≤_}
+use Prim.Native.Nat.{ℕ, _+_, _*_, _≤_}
 use native.Mathlib.Omega.{arith}
 use borrow.Author.Tests.{eq-eqb, ne-eqb}
 use lib.Dec.{T, eqb, leb}
@@ -10,15 +10,17 @@ use lib.ListN.{length, getD}
 pub use Rattle.formats.proofs.Theorems.{and-in}
 use Rattle.formats.specs.Areas.{infoCount}
 use Rattle.words.specs.Words.{wordsAt}
-use Rattle.formats.specs.Numbers.{longOf}
+use Rattle.formats.specs.Numbers.{inWords, longOf}
 use Rattle.formats.specs.Format.{allAt, gets, u8To}
+use Rattle.formats.specs.Lawful.{Same}
+use Rattle.formats.proofs.Theorems.{word-of-run, word-of-bytes}
 use Rattle.formats.proofs.Theorems.{most, all-same, all-both, all-any, and-true, and-false}
 use Rattle.store.specs.Fields.{longest, sourceFormat, blockFormat, trackFormat, elementFormat, tablesFormat, smallFormat, smallOf}
 use Rattle.store.specs.Places.{phaseAt, positionAt, startAt, pendingAt, objectsAt, isfAt, bedsAt, inUseAt}
 use Rattle.store.specs.Places.{tablesAt, gainsAt, sourcesAt, placedIn, flagsIn, remainingIn, firstAt, secondAt}
 use Rattle.store.specs.Layout.{smallWidth, size, infosOf}
 use Rattle.store.specs.Ranges.{clockIn, countsIn, least, elementIn, related, smallValid, headsValid, valid}
-use Rattle.store.proofs.Back.{lawful-small}
+use Rattle.store.proofs.Back.{lawful-small, lawful-small-part}
 
 module _ (w : List ℕ) where
   -- a column of the table
@@ -64,19 +66,21 @@ module _ (w : List ℕ) where
   related-words = refl
 
   -- the same, from what is computed one after the other
-  pub related-from : {position start i first j second : ℕ} {k n e f : Bool}
-      → position ≡ longOf w positionAt → start ≡ longOf w startAt
-      → i ≡ least 0 (getD w inUseAt 0) (getD w objectsAt 0) (getD w isfAt 0) → first ≡ longOf w (firstAt + remainingIn)
-      → j ≡ least 1 (getD w inUseAt 0) (getD w objectsAt 0) (getD w isfAt 0) → second ≡ longOf w (secondAt + remainingIn)
-      → k ≡ clockIn (getD w 0 0) (getD w phaseAt 0) position start (getD w pendingAt 0)
-      → n ≡ countsIn (getD w objectsAt 0) (getD w isfAt 0) (getD w bedsAt 0)
-      → e ≡ elementIn position i (getD w (firstAt + flagsIn) 0) first → f ≡ elementIn position j (getD w (secondAt + flagsIn) 0) second
-      → (k && (n && (e && f))) ≡ related (smallOf w)
-  related-from p s a x b y k n e f =
-      (λ t. k t && (n t && (e t && f t)))
-      ∙ (λ t. clockIn (getD w 0 0) (getD w phaseAt 0) (p t) (s t) (getD w pendingAt 0)
+  pub related-from : {position start rate phase pending objects isf elements beds i f first j g second : ℕ} {k n e d : Bool}
+      → position ≡ longOf w positionAt → start ≡ longOf w startAt → rate ≡ getD w 0 0 → phase ≡ getD w phaseAt 0 → pending ≡ getD w pendingAt 0
+      → k ≡ clockIn rate phase position start pending
+      → objects ≡ getD w objectsAt 0 → isf ≡ getD w isfAt 0 → elements ≡ getD w inUseAt 0 → beds ≡ getD w bedsAt 0
+      → n ≡ countsIn objects isf beds
+      → i ≡ least 0 elements objects isf → f ≡ getD w (firstAt + flagsIn) 0 → first ≡ longOf w (firstAt + remainingIn) → e ≡ elementIn position i f first
+      → j ≡ least 1 elements objects isf → g ≡ getD w (secondAt + flagsIn) 0 → second ≡ longOf w (secondAt + remainingIn) → d ≡ elementIn position j g second
+      → (k && (n && (e && d))) ≡ related (smallOf w)
+  related-from p s r h q k o b u v n i f x e j g y d =
+      (λ t. k t && (n t && (e t && d t)))
+      ∙ (λ t. clockIn (r t) (h t) (p t) (s t) (q t) && (countsIn (o t) (b t) (v t) && (elementIn (p t) (i t) (f t) (x t) && elementIn (p t) (j t) (g t) (y t))))
+      ∙ (λ t. clockIn (getD w 0 0) (getD w phaseAt 0) (longOf w positionAt) (longOf w startAt) (getD w pendingAt 0)
       && (countsIn (getD w objectsAt 0) (getD w isfAt 0) (getD w bedsAt 0)
-      && (elementIn (p t) (a t) (getD w (firstAt + flagsIn) 0) (x t) && elementIn (p t) (b t) (getD w (secondAt + flagsIn) 0) (y t))))
+      && (elementIn (longOf w positionAt) (least 0 (u t) (o t) (b t)) (getD w (firstAt + flagsIn) 0) (longOf w (firstAt + remainingIn))
+      && elementIn (longOf w positionAt) (least 1 (u t) (o t) (b t)) (getD w (secondAt + flagsIn) 0) (longOf w (secondAt + remainingIn)))))
       ∙ sym related-words
 
 -- the numbers of two words, where each field is in its range
@@ -102,6 +106,21 @@ fields-good w e = ap (λ (x : Bool). x && related (smallFormat .get w 0)) e
 pub fields-bad : (w : List ℕ) → smallFormat .test w 0 ≡ false → smallValid w ≡ false
 unfolding smallValid
 fields-bad w e = ap (λ (x : Bool). x && related (smallFormat .get w 0)) e
+
+-- the small part in a block: what is beside its words plays no part
+module _ (b : List ℕ) (h : length b ≡ size) where
+  words-same : Same (inWords b) 0 (wordsAt b 0 smallWidth) 0 smallWidth
+  words-same i l =
+      word-of-bytes b (0 + i) (omega arith)
+      ∙ sym (word-of-run b 0 smallWidth (0 + i) (4 * (0 + i)) (omega arith) (omega arith))
+
+  pub small-in-block : smallOf (inWords b) ≡ smallOf (wordsAt b 0 smallWidth)
+  unfolding smallOf
+  small-in-block = lawful-small .beside (inWords b) 0 (wordsAt b 0 smallWidth) 0 words-same
+
+  pub valid-in-block : smallValid (inWords b) ≡ smallValid (wordsAt b 0 smallWidth)
+  unfolding smallValid
+  valid-in-block = lawful-small-part .untouched (inWords b) 0 (wordsAt b 0 smallWidth) 0 words-same
 
 module _ (b : List ℕ) where
   pub wrong-length : (length b ≡ size → ⊥) → valid b ≡ false

@@ -32,9 +32,7 @@ pub fn load(state: &[u8]) -> Renderer714
     requires { ⌜ length (now state) ≡ size ⌝ }
     ensures { λ r. ⌜ r ≡ smallOf (wordsAt (now (state .entry)) 0 smallWidth) ⌝ }
 {
-    let mut w = [0u32; places::WORDS];
-    words::get_words(state, 0, &mut w);
-    read::small(&w)
+    read::small(state)
 }
 
 fn zeros(s: &mut [u8])

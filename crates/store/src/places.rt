@@ -80,6 +80,3 @@ pub const SECOND_FLAGS: usize = SECOND + FLAGS;
 pub const SECOND_RAMP: usize = SECOND + REMAINING;
 
 pub const WORDS: usize = SECOND + ELEMENT;
-
-// The words of the small part.
-pub type Words = [u32; WORDS];

@@ -1,18 +1,20 @@
 // The ranges of a block's fields.
 ghost use mathlib.Core.Path.{_≡_};
-ghost use Prim.Native.Nat.{_+_, _≤_};
+ghost use Prim.Native.Nat.{_+_, _*_, _≤_};
 ghost use mathlib.Core.Bool.{true, not, _||_};
 ghost use lib.Dec.{eqb};
+ghost use lib.ListN.{length};
+ghost use Rattle.formats.specs.Numbers.{inWords};
 ghost use Rattle.rules.specs.Refusals as refusals;
 ghost use Rattle.store.specs.Fields.{longest, elementFormat, countsFormat, tablesFormat, basicsFormat, smallFormat, smallOf};
-ghost use Rattle.store.specs.Places.{stateAt, tablesAt, smallWidth};
+ghost use Rattle.store.specs.Places.{stateAt, tablesAt, size};
 ghost use Rattle.store.specs.Ranges as ranges;
 ghost use Rattle.store.specs.Ranges.{clockIn, countsIn, least, elementIn, smallValid, valid};
 use crate::places;
-use crate::places::Words;
-use crate::read;
 use formats::areas::heads_valid;
 use formats::at_most;
+use formats::long;
+use formats::word_of;
 use timed::state;
 
 fn rate_valid(rate: u32) -> bool
@@ -26,57 +28,61 @@ fn rate_valid(rate: u32) -> bool
 
 // ---- each field by itself
 
-fn basics_fields(w: &Words) -> bool
-    ensures { λ r. ⌜ r ≡ basicsFormat .test (now (w .entry)) 0 ⌝ }
+fn basics_fields(s: &[u8]) -> bool
+    requires { ⌜ length (now s) ≡ size ⌝ }
+    ensures { λ r. ⌜ r ≡ basicsFormat .test (inWords (now (s .entry))) 0 ⌝ }
 {
-    rate_valid(w[places::RATE])
-        & ((w[places::PHASE] < 64)
-            & ((read::long(w, places::POSITION) <= 1099511627776)
-                & ((read::long(w, places::START) <= 1099511627776) & (w[places::PENDING] < 64))))
+    rate_valid(word_of(s, places::RATE))
+        & ((word_of(s, places::PHASE) < 64)
+            & ((long(s, places::POSITION) <= 1099511627776)
+                & ((long(s, places::START) <= 1099511627776) & (word_of(s, places::PENDING) < 64))))
 }
 
-fn counts_fields(w: &Words) -> bool
-    ensures { λ r. ⌜ r ≡ countsFormat .test (now (w .entry)) stateAt ⌝ }
+fn counts_fields(s: &[u8]) -> bool
+    requires { ⌜ length (now s) ≡ size ⌝ }
+    ensures { λ r. ⌜ r ≡ countsFormat .test (inWords (now (s .entry))) stateAt ⌝ }
 {
-    (w[places::INITIALIZED] <= 1)
-        & ((read::long(w, places::PAYLOAD) <= 1099511627776)
-            & ((w[places::OBJECTS] <= 32)
-                & ((w[places::ISF] <= 255) & ((w[places::BEDS] <= 18) & (w[places::IN_USE] <= 2)))))
+    (word_of(s, places::INITIALIZED) <= 1)
+        & ((long(s, places::PAYLOAD) <= 1099511627776)
+            & ((word_of(s, places::OBJECTS) <= 32)
+                & ((word_of(s, places::ISF) <= 255) & ((word_of(s, places::BEDS) <= 18) & (word_of(s, places::IN_USE) <= 2)))))
 }
 
 // The element whose words start at `at`.
-fn element_fields(w: &Words, at: usize) -> bool
-    requires { ⌜ at + elementFormat .width ≤ smallWidth ⌝ }
-    ensures { λ r. ⌜ r ≡ elementFormat .test (now (w .entry)) at ⌝ }
+fn element_fields(s: &[u8], at: usize) -> bool
+    requires { ⌜ 4 * (at + elementFormat .width) ≤ length (now s) ⌝ }
+    ensures { λ r. ⌜ r ≡ elementFormat .test (inWords (now (s .entry))) at ⌝ }
 {
     let flags = at + 1;
     let remaining = flags + 1;
     let blocks = at + places::HEAD;
     let rows = blocks + places::SCHEDULE;
-    let head = (w[at] <= 8) & ((w[flags] <= 16) & (read::long(w, remaining) <= 140737489403904));
-    let offsets = at_most(w, blocks, 0, places::BLOCK, 8, 2097152);
-    let ramps = at_most(w, blocks, 1, places::BLOCK, 8, 2097152);
-    let used = at_most(w, blocks, 2, places::BLOCK, 8, 1);
-    let now = at_most(w, rows, 0, places::TRACK, 16, 1);
+    let head = (word_of(s, at) <= 8) & ((word_of(s, flags) <= 16) & (long(s, remaining) <= 140737489403904));
+    let offsets = at_most(s, blocks, 0, places::BLOCK, 8, 2097152);
+    let ramps = at_most(s, blocks, 1, places::BLOCK, 8, 2097152);
+    let used = at_most(s, blocks, 2, places::BLOCK, 8, 1);
+    let now = at_most(s, rows, 0, places::TRACK, 16, 1);
     head & ((offsets & (ramps & used)) & now)
 }
 
-fn tables_fields(w: &Words) -> bool
-    ensures { λ r. ⌜ r ≡ tablesFormat .test (now (w .entry)) tablesAt ⌝ }
+fn tables_fields(s: &[u8]) -> bool
+    requires { ⌜ length (now s) ≡ size ⌝ }
+    ensures { λ r. ⌜ r ≡ tablesFormat .test (inWords (now (s .entry))) tablesAt ⌝ }
 {
-    let codes = at_most(w, places::CODES, 0, 1, 18, 17);
-    let placed = at_most(w, places::SOURCES, places::PLACED, places::SOURCE, 16, 1);
-    let first = element_fields(w, places::FIRST);
-    let second = element_fields(w, places::SECOND);
+    let codes = at_most(s, places::CODES, 0, 1, 18, 17);
+    let placed = at_most(s, places::SOURCES, places::PLACED, places::SOURCE, 16, 1);
+    let first = element_fields(s, places::FIRST);
+    let second = element_fields(s, places::SECOND);
     codes & (placed & (first & second))
 }
 
-fn fields_valid(w: &Words) -> bool
-    ensures { λ r. ⌜ r ≡ smallFormat .test (now (w .entry)) 0 ⌝ }
+fn fields_valid(s: &[u8]) -> bool
+    requires { ⌜ length (now s) ≡ size ⌝ }
+    ensures { λ r. ⌜ r ≡ smallFormat .test (inWords (now (s .entry))) 0 ⌝ }
 {
-    let basics = basics_fields(w);
-    let counts = counts_fields(w);
-    let tables = tables_fields(w);
+    let basics = basics_fields(s);
+    let counts = counts_fields(s);
+    let tables = tables_fields(s);
     basics & (counts & tables)
 }
 
@@ -125,45 +131,46 @@ fn element_valid(position: u64, least: usize, flags: u32, remaining: u64) -> boo
     (least <= flags as usize) & (140737488355328 <= remaining + (2097152 + 64 * position))
 }
 
-fn related(w: &Words) -> bool
-    requires { ⌜ smallFormat .test (now w) 0 ≡ true ⌝ }
-    ensures { λ r. ⌜ r ≡ ranges.related (smallOf (now (w .entry))) ⌝ }
+fn related(s: &[u8]) -> bool
+    requires { ⌜ (length (now s) ≡ size) × (smallFormat .test (inWords (now s)) 0 ≡ true) ⌝ }
+    ensures { λ r. ⌜ r ≡ ranges.related (smallOf (inWords (now (s .entry)))) ⌝ }
 {
-    let position = read::long(w, places::POSITION);
-    let start = read::long(w, places::START);
+    let position = long(s, places::POSITION);
+    let start = long(s, places::START);
     let clock = clock_valid(
-        w[places::RATE],
-        w[places::PHASE],
+        word_of(s, places::RATE),
+        word_of(s, places::PHASE),
         position,
         start,
-        w[places::PENDING],
+        word_of(s, places::PENDING),
     );
-    let objects = w[places::OBJECTS];
-    let isf = w[places::ISF];
-    let elements = w[places::IN_USE];
-    let counts = counts_valid(objects, isf, w[places::BEDS]);
+    let objects = word_of(s, places::OBJECTS);
+    let isf = word_of(s, places::ISF);
+    let elements = word_of(s, places::IN_USE);
+    let counts = counts_valid(objects, isf, word_of(s, places::BEDS));
     let first = element_valid(
         position,
         least_flags(0, elements, objects, isf),
-        w[places::FIRST_FLAGS],
-        read::long(w, places::FIRST_RAMP),
+        word_of(s, places::FIRST_FLAGS),
+        long(s, places::FIRST_RAMP),
     );
     let second = element_valid(
         position,
         least_flags(1, elements, objects, isf),
-        w[places::SECOND_FLAGS],
-        read::long(w, places::SECOND_RAMP),
+        word_of(s, places::SECOND_FLAGS),
+        long(s, places::SECOND_RAMP),
     );
     clock & (counts & (first & second))
 }
 
-fn small_valid(w: &Words) -> bool
-    ensures { λ r. ⌜ r ≡ smallValid (now (w .entry)) ⌝ }
+fn small_valid(s: &[u8]) -> bool
+    requires { ⌜ length (now s) ≡ size ⌝ }
+    ensures { λ r. ⌜ r ≡ smallValid (inWords (now (s .entry))) ⌝ }
 {
-    if !fields_valid(w) {
+    if !fields_valid(s) {
         return false;
     }
-    related(w)
+    related(s)
 }
 
 // Whether a block has the right length and every field in its range.
@@ -176,7 +183,5 @@ pub fn is_valid(state: &[u8]) -> bool
     if !heads_valid(&state[crate::INFOS..crate::PLACES]) {
         return false;
     }
-    let mut w = [0u32; places::WORDS];
-    words::get_words(state, 0, &mut w);
-    small_valid(&w)
+    small_valid(state)
 }

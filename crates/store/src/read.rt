@@ -1,16 +1,20 @@
-// The small part's fields from its words. Each place is the place before plus that field's width.
+// The small part's fields from the words of a block. Each place is the place before plus that field's width.
 ghost use mathlib.Core.Path.{_≡_};
-ghost use Prim.Native.Nat.{_+_, _≤_, _<_};
-ghost use Rattle.formats.specs.Numbers.{floatOf, longOf};
+ghost use Prim.Native.Nat.{_+_, _*_, _≤_};
+ghost use lib.Dec.{eqb};
+ghost use lib.ListN.{length, getD};
+ghost use Rattle.formats.specs.Numbers.{inWords};
 ghost use Rattle.formats.specs.Format.{u8To, array};
 ghost use Rattle.formats.specs.Format as format;
 ghost use Rattle.store.specs.Fields.{vecFormat, sourceFormat, blockFormat, trackFormat, elementFormat, filterFormat, stateFormat, smallOf};
-ghost use Rattle.store.specs.Places.{stateAt, smallWidth};
+ghost use Rattle.store.specs.Places.{stateAt, size};
 use crate::places;
-use crate::places::Words;
 use crate::renderer::Clock;
 use crate::renderer::Renderer714;
 use clock::StreamSample;
+use formats::float;
+use formats::long;
+use formats::word_of;
 use limiter::Limiter;
 use lowpass::BiquadLowpassState;
 use timed::state::BlockState;
@@ -20,166 +24,159 @@ use timed::state::MetadataRendererState;
 use timed::state::Track;
 use vectors::Vec3;
 
-fn count(n: u32) -> usize
-    ensures { λ r. ⌜ r ≡ n ⌝ }
+// The count at a word, and the flag.
+fn count(s: &[u8], at: usize) -> usize
+    requires { ⌜ 4 * at + 4 ≤ length (now s) ⌝ }
+    ensures { λ r. ⌜ r ≡ getD (inWords (now (s .entry))) at 0 ⌝ }
 {
-    n as usize
+    word_of(s, at) as usize
 }
 
-// The float at a word.
-fn float(w: &Words, at: usize) -> f32
-    requires { ⌜ at < smallWidth ⌝ }
-    ensures { λ r. ⌜ r ≡ floatOf (now (w .entry)) at ⌝ }
+fn flag(s: &[u8], at: usize) -> bool
+    requires { ⌜ 4 * at + 4 ≤ length (now s) ⌝ }
+    ensures { λ r. ⌜ r ≡ eqb (getD (inWords (now (s .entry))) at 0) 1 ⌝ }
 {
-    words::f32_of(w[at])
+    word_of(s, at) == 1
 }
 
-// A number of two words, the low one first.
-pub fn long(w: &Words, at: usize) -> u64
-    requires { ⌜ at + 1 < smallWidth ⌝ }
-    ensures { λ r. ⌜ r ≡ longOf (now (w .entry)) at ⌝ }
-{
-    formats::joined(w[at], w[at + 1])
-}
-
-fn vec(w: &Words, at: usize) -> Vec3
-    requires { ⌜ at + vecFormat .width ≤ smallWidth ⌝ }
-    ensures { λ r. ⌜ vecFormat .Reads (now (w .entry)) at r ⌝ }
+fn vec(s: &[u8], at: usize) -> Vec3
+    requires { ⌜ 4 * (at + vecFormat .width) ≤ length (now s) ⌝ }
+    ensures { λ r. ⌜ vecFormat .Reads (inWords (now (s .entry))) at r ⌝ }
 {
     let y = at + 1;
     let z = y + 1;
     Vec3 {
-        x: float(w, at),
-        y: float(w, y),
-        z: float(w, z),
+        x: float(s, at),
+        y: float(s, y),
+        z: float(s, z),
     }
 }
 
 // ---- entries of tables
 
-fn source(w: &Words, at: usize) -> DynamicSourceState
-    requires { ⌜ at + sourceFormat .width ≤ smallWidth ⌝ }
-    ensures { λ r. ⌜ sourceFormat .Reads (now (w .entry)) at r ⌝ }
+fn source(s: &[u8], at: usize) -> DynamicSourceState
+    requires { ⌜ 4 * (at + sourceFormat .width) ≤ length (now s) ⌝ }
+    ensures { λ r. ⌜ sourceFormat .Reads (inWords (now (s .entry))) at r ⌝ }
 {
     let size = at + 1;
     let place = size + 1;
     let placed = place + places::VEC;
     let send = placed + 1;
     DynamicSourceState {
-        gain: float(w, at),
-        size: float(w, size),
-        place: vec(w, place),
-        placed: w[placed] == 1,
-        send: float(w, send),
+        gain: float(s, at),
+        size: float(s, size),
+        place: vec(s, place),
+        placed: flag(s, placed),
+        send: float(s, send),
     }
 }
 
-fn block(w: &Words, at: usize) -> BlockState
-    requires { ⌜ at + blockFormat .width ≤ smallWidth ⌝ }
-    ensures { λ r. ⌜ blockFormat .Reads (now (w .entry)) at r ⌝ }
+fn block(s: &[u8], at: usize) -> BlockState
+    requires { ⌜ 4 * (at + blockFormat .width) ≤ length (now s) ⌝ }
+    ensures { λ r. ⌜ blockFormat .Reads (inWords (now (s .entry))) at r ⌝ }
 {
     let ramp = at + 1;
     let used = ramp + 1;
     BlockState {
-        offset: w[at],
-        ramp: w[ramp],
-        used: w[used] == 1,
+        offset: word_of(s, at),
+        ramp: word_of(s, ramp),
+        used: flag(s, used),
     }
 }
 
-fn track(w: &Words, at: usize) -> Track
-    requires { ⌜ at + trackFormat .width ≤ smallWidth ⌝ }
-    ensures { λ r. ⌜ trackFormat .Reads (now (w .entry)) at r ⌝ }
+fn track(s: &[u8], at: usize) -> Track
+    requires { ⌜ 4 * (at + trackFormat .width) ≤ length (now s) ⌝ }
+    ensures { λ r. ⌜ trackFormat .Reads (inWords (now (s .entry))) at r ⌝ }
 {
     Track {
-        now: w[at] == 1,
-        future: vec(w, at + 1),
+        now: flag(s, at),
+        future: vec(s, at + 1),
     }
 }
 
 // ---- tables
 
-fn codes(w: &Words, at: usize) -> [u8; 18]
-    requires { ⌜ at + array 18 (u8To 17) .width ≤ smallWidth ⌝ }
-    ensures { λ r. ⌜ r ≡ array 18 (u8To 17) .get (now (w .entry)) at ⌝ }
+fn codes(s: &[u8], at: usize) -> [u8; 18]
+    requires { ⌜ 4 * (at + array 18 (u8To 17) .width) ≤ length (now s) ⌝ }
+    ensures { λ r. ⌜ r ≡ array 18 (u8To 17) .get (inWords (now (s .entry))) at ⌝ }
 {
     let mut a = [0u8; 18];
     let mut i = 0usize;
     while i < 18 {
-        a[i] = (w[at + i] % 256) as u8;
+        a[i] = (word_of(s, at + i) % 256) as u8;
         i += 1;
     }
     a
 }
 
-fn gains(w: &Words, at: usize) -> [f32; 18]
-    requires { ⌜ at + array 18 format.float .width ≤ smallWidth ⌝ }
-    ensures { λ r. ⌜ r ≡ array 18 format.float .get (now (w .entry)) at ⌝ }
+fn gains(s: &[u8], at: usize) -> [f32; 18]
+    requires { ⌜ 4 * (at + array 18 format.float .width) ≤ length (now s) ⌝ }
+    ensures { λ r. ⌜ r ≡ array 18 format.float .get (inWords (now (s .entry))) at ⌝ }
 {
     let mut a = [0.0f32; 18];
-    formats::floats(w, at, &mut a);
+    formats::floats(s, at, &mut a);
     a
 }
 
-fn sources(w: &Words, at: usize) -> [DynamicSourceState; 16]
-    requires { ⌜ at + array 16 sourceFormat .width ≤ smallWidth ⌝ }
-    ensures { λ r. ⌜ r ≡ array 16 sourceFormat .get (now (w .entry)) at ⌝ }
+fn sources(s: &[u8], at: usize) -> [DynamicSourceState; 16]
+    requires { ⌜ 4 * (at + array 16 sourceFormat .width) ≤ length (now s) ⌝ }
+    ensures { λ r. ⌜ r ≡ array 16 sourceFormat .get (inWords (now (s .entry))) at ⌝ }
 {
-    let first = source(w, at);
+    let first = source(s, at);
     let mut a = [first; 16];
     let mut i = 0usize;
     while i < 16 {
-        let x = source(w, at + places::SOURCE * i);
+        let x = source(s, at + places::SOURCE * i);
         a[i] = x;
         i += 1;
     }
     a
 }
 
-fn schedule(w: &Words, at: usize) -> [BlockState; 8]
-    requires { ⌜ at + array 8 blockFormat .width ≤ smallWidth ⌝ }
-    ensures { λ r. ⌜ r ≡ array 8 blockFormat .get (now (w .entry)) at ⌝ }
+fn schedule(s: &[u8], at: usize) -> [BlockState; 8]
+    requires { ⌜ 4 * (at + array 8 blockFormat .width) ≤ length (now s) ⌝ }
+    ensures { λ r. ⌜ r ≡ array 8 blockFormat .get (inWords (now (s .entry))) at ⌝ }
 {
-    let first = block(w, at);
+    let first = block(s, at);
     let mut a = [first; 8];
     let mut i = 0usize;
     while i < 8 {
-        let x = block(w, at + places::BLOCK * i);
+        let x = block(s, at + places::BLOCK * i);
         a[i] = x;
         i += 1;
     }
     a
 }
 
-fn tracks(w: &Words, at: usize) -> [Track; 16]
-    requires { ⌜ at + array 16 trackFormat .width ≤ smallWidth ⌝ }
-    ensures { λ r. ⌜ r ≡ array 16 trackFormat .get (now (w .entry)) at ⌝ }
+fn tracks(s: &[u8], at: usize) -> [Track; 16]
+    requires { ⌜ 4 * (at + array 16 trackFormat .width) ≤ length (now s) ⌝ }
+    ensures { λ r. ⌜ r ≡ array 16 trackFormat .get (inWords (now (s .entry))) at ⌝ }
 {
-    let first = track(w, at);
+    let first = track(s, at);
     let mut a = [first; 16];
     let mut i = 0usize;
     while i < 16 {
-        let x = track(w, at + places::TRACK * i);
+        let x = track(s, at + places::TRACK * i);
         a[i] = x;
         i += 1;
     }
     a
 }
 
-fn element(w: &Words, at: usize) -> ElementRendererState
-    requires { ⌜ at + elementFormat .width ≤ smallWidth ⌝ }
-    ensures { λ r. ⌜ elementFormat .Reads (now (w .entry)) at r ⌝ }
+fn element(s: &[u8], at: usize) -> ElementRendererState
+    requires { ⌜ 4 * (at + elementFormat .width) ≤ length (now s) ⌝ }
+    ensures { λ r. ⌜ elementFormat .Reads (inWords (now (s .entry))) at r ⌝ }
 {
     let flags = at + 1;
     let remaining = flags + 1;
     let blocks = at + places::HEAD;
     let rows = blocks + places::SCHEDULE;
-    let schedule = schedule(w, blocks);
-    let tracks = tracks(w, rows);
+    let schedule = schedule(s, blocks);
+    let tracks = tracks(s, rows);
     ElementRendererState {
-        blocks: count(w[at]),
-        flags: count(w[flags]),
-        remaining: long(w, remaining),
+        blocks: count(s, at),
+        flags: count(s, flags),
+        remaining: long(s, remaining),
         schedule: schedule,
         tracks: tracks,
     }
@@ -187,9 +184,9 @@ fn element(w: &Words, at: usize) -> ElementRendererState
 
 // ---- the whole
 
-fn filter(w: &Words, at: usize) -> BiquadLowpassState
-    requires { ⌜ at + filterFormat .width ≤ smallWidth ⌝ }
-    ensures { λ r. ⌜ filterFormat .Reads (now (w .entry)) at r ⌝ }
+fn filter(s: &[u8], at: usize) -> BiquadLowpassState
+    requires { ⌜ 4 * (at + filterFormat .width) ≤ length (now s) ⌝ }
+    ensures { λ r. ⌜ filterFormat .Reads (inWords (now (s .entry))) at r ⌝ }
 {
     let a2 = at + 1;
     let b0 = a2 + 1;
@@ -200,35 +197,36 @@ fn filter(w: &Words, at: usize) -> BiquadLowpassState
     let y1 = x2 + 1;
     let y2 = y1 + 1;
     BiquadLowpassState {
-        a1: float(w, at),
-        a2: float(w, a2),
-        b0: float(w, b0),
-        b1: float(w, b1),
-        b2: float(w, b2),
-        x1: float(w, x1),
-        x2: float(w, x2),
-        y1: float(w, y1),
-        y2: float(w, y2),
+        a1: float(s, at),
+        a2: float(s, a2),
+        b0: float(s, b0),
+        b1: float(s, b1),
+        b2: float(s, b2),
+        x1: float(s, x1),
+        x2: float(s, x2),
+        y1: float(s, y1),
+        y2: float(s, y2),
     }
 }
 
-fn state(w: &Words) -> MetadataRendererState
-    ensures { λ r. ⌜ stateFormat .Reads (now (w .entry)) stateAt r ⌝ }
+fn state(s: &[u8]) -> MetadataRendererState
+    requires { ⌜ length (now s) ≡ size ⌝ }
+    ensures { λ r. ⌜ stateFormat .Reads (inWords (now (s .entry))) stateAt r ⌝ }
 {
-    let codes = codes(w, places::CODES);
-    let gains = gains(w, places::GAINS);
-    let sources = sources(w, places::SOURCES);
-    let first = element(w, places::FIRST);
-    let second = element(w, places::SECOND);
+    let codes = codes(s, places::CODES);
+    let gains = gains(s, places::GAINS);
+    let sources = sources(s, places::SOURCES);
+    let first = element(s, places::FIRST);
+    let second = element(s, places::SECOND);
     let states = [first, second];
-    let payload = StreamSample(long(w, places::PAYLOAD));
+    let payload = StreamSample(long(s, places::PAYLOAD));
     MetadataRendererState {
-        initialized: w[places::INITIALIZED] == 1,
+        initialized: flag(s, places::INITIALIZED),
         payload: payload,
-        objects: count(w[places::OBJECTS]),
-        isf: count(w[places::ISF]),
-        beds: count(w[places::BEDS]),
-        elements: count(w[places::IN_USE]),
+        objects: count(s, places::OBJECTS),
+        isf: count(s, places::ISF),
+        beds: count(s, places::BEDS),
+        elements: count(s, places::IN_USE),
         codes: codes,
         gains: gains,
         states: states,
@@ -236,24 +234,25 @@ fn state(w: &Words) -> MetadataRendererState
     }
 }
 
-// The small part from its words.
-pub fn small(w: &Words) -> Renderer714
-    ensures { λ r. ⌜ r ≡ smallOf (now (w .entry)) ⌝ }
+// The small part.
+pub fn small(s: &[u8]) -> Renderer714
+    requires { ⌜ length (now s) ≡ size ⌝ }
+    ensures { λ r. ⌜ r ≡ smallOf (inWords (now (s .entry))) ⌝ }
 {
-    let filter = filter(w, places::LOWPASS);
-    let state = state(w);
+    let filter = filter(s, places::LOWPASS);
+    let state = state(s);
     Renderer714 {
-        rate: w[places::RATE],
+        rate: word_of(s, places::RATE),
         clock: Clock {
-            position: StreamSample(long(w, places::POSITION)),
-            start: StreamSample(long(w, places::START)),
-            phase: w[places::PHASE],
+            position: StreamSample(long(s, places::POSITION)),
+            start: StreamSample(long(s, places::START)),
+            phase: word_of(s, places::PHASE),
         },
         limiter: Limiter {
-            gain: float(w, places::LIMITER_GAIN),
+            gain: float(s, places::LIMITER_GAIN),
         },
         filter,
-        pending: w[places::PENDING],
+        pending: word_of(s, places::PENDING),
         state,
     }
 }

@@ -1,9 +1,8 @@
 -- Length, heads, words. Assumes nothing.
 use borrow.Author.Needs.{needs}
-use mathlib.Core.Path.{sym, ap, _∙_}
+use mathlib.Core.Path.{sym, _∙_}
 use borrow.Author.Tests.{not-true, not-false}
-use Rattle.store.specs.Ranges.{smallValid}
-use Rattle.store.proofs.Tables.{wrong-length, bad-heads, good-heads}
+use Rattle.store.proofs.Tables.{valid-in-block, wrong-length, bad-heads, good-heads}
 use Rattle.store.proofs.ranges.is_valid.Statement.{statement}
 use Rattle.store.proofs.ranges.is_valid.Tie as tie
 
@@ -15,10 +14,12 @@ returns-2 c = sym (bad-heads (c .before .before .before .before .before .args .s
 
 returns-3 : tie.Need-returns-3
 returns-3 c =
-    c .small-valid .ensures ∙ ap smallValid (c .before .before .before .get-words .ensures)
-    ∙ sym (good-heads (c .before .before .before .before .before .before .before .before .before .before .args .state .now)
-    (c .before .before .before .before .before .before .before .before .if1 .left)
-    (sym (c .before .before .before .before .before .before .heads-valid .ensures) ∙ not-false _ (c .before .before .before .before .before .if2 .left)))
+    let e = c .before in
+    let h = e .before in
+    let l = h .before .before in
+    let b = l .before .before .args .state .now in
+    c .small-valid .ensures ∙ valid-in-block b (l .if1 .left)
+    ∙ sym (good-heads b (l .if1 .left) (sym (h .heads-valid .ensures) ∙ not-false _ (e .if2 .left)))
 
 pub is-valid-spec : {M : Type 1} → statement M
 is-valid-spec =
@@ -28,6 +29,5 @@ is-valid-spec =
     (λ c. search needs) (λ c. search needs) (λ c. search needs)
     (λ c κs. search needs)
     returns-2
-    (λ c. search needs)
-    (λ c κs. search needs) (λ c κs. search needs)
+    (λ c κs. search needs)
     returns-3)

@@ -4,6 +4,7 @@ use mathlib.Core.Path.{_≡_, refl}
 use Prim.Native.Nat.{_+_, _-_, _*_, _≤_, _<_}
 use native.Mathlib.Omega.{arith}
 use lib.ListN.{length, take, length-set}
+use Rattle.formats.specs.Numbers.{inWords}
 use Rattle.formats.specs.Format.{gets, array}
 use Rattle.formats.proofs.Theorems.{gets-filled, gets-full}
 use Rattle.store.specs.Fields.{blockFormat}
@@ -12,10 +13,10 @@ use Rattle.store.proofs.read.schedule.Statement.{statement}
 use Rattle.store.proofs.read.schedule.Tie as tie
 
 abbrev Inv-loop : tie.InvT-loop
-Inv-loop w at a₀ i₀ a i = (i ≤ 8) × (length a ≡ 8) × (take i a ≡ array i blockFormat .get w at)
+Inv-loop s at a₀ i₀ a i = (i ≤ 8) × (length a ≡ 8) × (take i a ≡ array i blockFormat .get (inWords s) at)
 
 abbrev μ-loop : tie.MeasureT-loop
-μ-loop w at a₀ i₀ a i = 8 - i
+μ-loop s at a₀ i₀ a i = 8 - i
 
 loop-holds : tie.Need-loop-holds Inv-loop μ-loop
 unfolding gets
@@ -24,8 +25,8 @@ loop-holds c = (omega arith, refl, refl)
 loop-again : tie.Need-loop-again Inv-loop μ-loop
 loop-again c =
     let l = c .before .before .loop in
-    let a = c .before .before .before .before .args in
-    let w = a .w .now in
+    let a = c .before .before .before .before .before .args in
+    let w = inWords (a .s .now) in
     let h : l .i < length (l .a) = omega arith in (
       omega arith,
       simp length-set (omega arith),
@@ -36,8 +37,8 @@ loop-again c =
 returns : tie.Need-returns Inv-loop μ-loop
 returns c =
     let l = c .before .loop in
-    let a = c .before .before .before .args in
-    gets-full (blockFormat .get (a .w .now)) (blockFormat .width) (a .at) 8 (l .i) (l .a) (l .inv .1) (omega arith) (omega arith) (l .inv .2)
+    let a = c .before .before .before .before .args in
+    gets-full (blockFormat .get (inWords (a .s .now))) (blockFormat .width) (a .at) 8 (l .i) (l .a) (l .inv .1) (omega arith) (omega arith) (l .inv .2)
 
 pub schedule-spec : {M : Type 1} → statement M
 schedule-spec =

@@ -1,7 +1,7 @@
 -- Field by field. Assumes nothing.
 use borrow.Author.Needs.{needs}
-use mathlib.Core.Path.{refl}
 use mathlib.Core.List.{[], _∷_}
+use Rattle.formats.specs.Numbers.{inWords}
 use Rattle.formats.specs.Format.{gets}
 use Rattle.store.specs.Places.{firstAt, secondAt}
 use Rattle.store.proofs.Back.{lawful-element}
@@ -11,17 +11,18 @@ use Rattle.store.proofs.read.state.Tie as tie
 returns : tie.Need-returns
 unfolding gets
 returns c =
-    let c3 = c .before .before in
-    let c2 = c3 .before .before in
-    let c1 = c2 .before .before in
-    let l = c1 .before .before .before in
+    let c3 = c .before in
+    let c2 = c3 .before in
+    let c1 = c2 .before in
+    let f = c1 .before in
+    let l = f .before in
     let e2 = l .before in
     let e1 = e2 .before in
     let s = e1 .before in
     let g = s .before in
     let k = g .before in
-    let w = k .before .args .w .now in (
-      (refl, (l .long .ensures, (c1 .count .ensures, (c2 .count2 .ensures, (c3 .count3 .ensures, c .count4 .ensures))))),
+    let w = inWords (k .before .before .args .s .now) in (
+      (f .flag .ensures, (l .long .ensures, (c1 .count .ensures, (c2 .count2 .ensures, (c3 .count3 .ensures, c .count4 .ensures))))),
       (
         k .codes .ensures,
         (
@@ -40,12 +41,5 @@ state-spec =
     tie.close
     (tie.spec
     (λ c κs. search needs) (λ c κs. search needs) (λ c κs. search needs) (λ c κs. search needs) (λ c κs. search needs) (λ c κs. search needs)
-    (λ c. search needs) (λ c. search needs)
-    (λ c κs. search needs)
-    (λ c. search needs)
-    (λ c κs. search needs)
-    (λ c. search needs)
-    (λ c κs. search needs)
-    (λ c. search needs)
-    (λ c κs. search needs)
+    (λ c κs. search needs) (λ c κs. search needs) (λ c κs. search needs) (λ c κs. search needs) (λ c κs. search needs)
     returns)
