@@ -1,12 +1,12 @@
 -- Heads of infos tested by their format, and together: an OR is below a power of two where both terms are. Assumes nothing.
-use mathlib.Core.Path.{_≡_, refl, sym, ap, ap₂, _∙_}
+use mathlib.Core.Path.{_≡_, refl, sym, ap, ap₂, subst, _∙_}
 use mathlib.Core.Bool.{Bool, true, false, _&&_}
 use mathlib.Core.List.{List}
 use Prim.Native.Nat.{ℕ, zero, suc, _+_, _-_, _*_, _/_, _%_, _^_, _<_, _≤_}
 use native.Mathlib.Omega.{arith}
 use borrow.Author.Tests.{ltb-true, ltb-false, lt-ltb, le-ltb}
 use lib.Bits.{bitOr, bitAnd, or-lt, or-mod, or-add-and, and-le-l, and-le-r}
-use lib.Dec.{ltb}
+use lib.Dec.{T, ltb}
 use lib.ListN.{getD}
 use Rattle.words.specs.Words.{word, wordsAt}
 use Rattle.formats.specs.Format.{allAt, array}
@@ -14,7 +14,7 @@ use Rattle.formats.specs.Info.{headValid, infoFormat}
 use Rattle.formats.specs.Areas.{infoCount, infoBytes, headsValid}
 use Rattle.formats.proofs.Places.{word-of-run}
 use Rattle.formats.proofs.Loops.{and-true, and-assoc}
-use Rattle.formats.proofs.Infos.{infos-test}
+use Rattle.formats.proofs.Infos.{head-within, head-exact, infos-test}
 
 or-below : (k a b : ℕ) → ltb (bitOr a b) (2 ^ k) ≡ (ltb a (2 ^ k) && ltb b (2 ^ k))
 or-below k a b = by (ltb a (2 ^ k)) refl (ltb b (2 ^ k)) refl
@@ -54,6 +54,29 @@ pub together-more : (heads anchors h : ℕ) → together (bitOr heads h) (bitOr 
 together-more a b h =
     rw (or-mod a h 8, or-below 18 a h, or-below 6 (a % 256) (h % 256), or-below 10 b (h % 65536 + 256), anchor-below h)
     (pairs (ltb a 262144) (ltb (a % 256) 64) (ltb b 1024) (ltb h 262144) (ltb (h % 256) 64) (ltb (h / 256 % 256) 3))
+
+-- ---- an OR of heads that is in range
+
+or-from-l : (a b : ℕ) → a ≤ bitOr a b
+or-from-l a b = let s = or-add-and a b in let l = and-le-r a b in omega arith
+
+or-from-r : (a b : ℕ) → b ≤ bitOr a b
+or-from-r a b = let s = or-add-and a b in let l = and-le-l a b in omega arith
+
+-- no field of n is above that of m
+head-under : (n m : ℕ) → n ≤ m → n % 256 ≤ m % 256 → n % 65536 ≤ m % 65536 → T (headValid m) → T (headValid n)
+head-under n m whole flags anchor t =
+    let h = head-within m t in
+    let f = h .flags in
+    let a = h .anchor in
+    let d = h .depth in
+    head-exact n (record { flags = omega arith; anchor = omega arith; depth = omega arith })
+
+or-valid : (a b : ℕ) → T (headValid (bitOr a b)) → T (headValid a) × T (headValid b)
+or-valid a b t = (
+      head-under a (bitOr a b) (or-from-l a b) (rw (or-mod a b 8) (or-from-l (a % 256) (b % 256))) (rw (or-mod a b 16) (or-from-l (a % 65536) (b % 65536))) t,
+      head-under b (bitOr a b) (or-from-r a b) (rw (or-mod a b 8) (or-from-r (a % 256) (b % 256))) (rw (or-mod a b 16) (or-from-r (a % 65536) (b % 65536))) t,
+    )
 
 -- ---- the heads of infos
 
@@ -98,3 +121,20 @@ module _ (is : List ℕ) (heads anchors k : ℕ) where
   heads-all l m e =
       let z : infoCount - k ≡ 0 = omega arith in
       sym e ∙ ap (λ (n : ℕ). together heads anchors && headsValid is (infoBytes * k) n) z ∙ and-true (together heads anchors) true refl
+
+-- the same, where the OR of the heads so far is in range
+module _ (is : List ℕ) where
+  pub joined-more : (heads k h : ℕ) → k < infoCount → h ≡ word is (infoBytes * k)
+      → (T (headValid heads) → headsValid is (infoBytes * k) (infoCount - k) ≡ headsValid is 0 infoCount)
+      → T (headValid (bitOr heads h)) → headsValid is (infoBytes * (k + 1)) (infoCount - (k + 1)) ≡ headsValid is 0 infoCount
+  joined-more heads k h l e f t =
+      let (a, b) = or-valid heads h t in
+      ap (λ (x : Bool). x && headsValid is (infoBytes * (k + 1)) (infoCount - (k + 1))) (sym (true-of (headValid (word is (infoBytes * k))) (subst (λ (n : ℕ). T (headValid n)) e b)))
+      ∙ sym (heads-next is k infoCount l) ∙ f a
+    where
+      true-of : (x : Bool) → T x → x ≡ true
+      true-of true u = refl
+
+  pub joined-all : (k : ℕ) → k ≤ infoCount → infoCount ≤ k → headsValid is (infoBytes * k) (infoCount - k) ≡ headsValid is 0 infoCount → headsValid is 0 infoCount ≡ true
+  unfolding headsValid
+  joined-all k l m e = let z : infoCount - k ≡ 0 = omega arith in sym e ∙ ap (λ (n : ℕ). headsValid is (infoBytes * k) n) z
