@@ -137,8 +137,12 @@ fn schedule(s: &[u8], at: usize) -> [BlockState; 8]
     requires { ⌜ 4 * (at + array 8 blockFormat .width) ≤ length (now s) ⌝ }
     ensures { λ r. ⌜ r ≡ array 8 blockFormat .get (inWords (now (s .entry))) at ⌝ }
 {
-    let first = block(s, at);
-    let mut a = [first; 8];
+    let none = BlockState {
+        offset: 0,
+        ramp: 0,
+        used: false,
+    };
+    let mut a = [none; 8];
     let mut i = 0usize;
     while i < 8 {
         let x = block(s, at + places::BLOCK * i);
@@ -152,8 +156,15 @@ fn tracks(s: &[u8], at: usize) -> [Track; 16]
     requires { ⌜ 4 * (at + array 16 trackFormat .width) ≤ length (now s) ⌝ }
     ensures { λ r. ⌜ r ≡ array 16 trackFormat .get (inWords (now (s .entry))) at ⌝ }
 {
-    let first = track(s, at);
-    let mut a = [first; 16];
+    let none = Track {
+        now: false,
+        future: Vec3 {
+            x: 0.0,
+            y: 0.0,
+            z: 0.0,
+        },
+    };
+    let mut a = [none; 16];
     let mut i = 0usize;
     while i < 16 {
         let x = track(s, at + places::TRACK * i);

@@ -25,19 +25,19 @@ loop-holds c = (omega arith, refl, refl)
 loop-again : tie.Need-loop-again Inv-loop μ-loop
 loop-again c =
     let l = c .before .before .loop in
-    let a = c .before .before .before .before .before .args in
+    let a = c .before .before .before .before .args in
     let w = inWords (a .s .now) in
     let h : l .i < length (l .a) = omega arith in (
       omega arith,
       simp length-set (omega arith),
-      gets-filled (blockFormat .get w) (blockFormat .width) (a .at) (l .i) (l .a) (c .block2 .result) h (l .inv .2)
-          (lawful-block .reads w (a .at + blockFormat .width * l .i) (c .block2 .result) (c .block2 .ensures)),
+      gets-filled (blockFormat .get w) (blockFormat .width) (a .at) (l .i) (l .a) (c .block .result) h (l .inv .2)
+          (lawful-block .reads w (a .at + blockFormat .width * l .i) (c .block .result) (c .block .ensures)),
     )
 
 returns : tie.Need-returns Inv-loop μ-loop
 returns c =
     let l = c .before .loop in
-    let a = c .before .before .before .before .args in
+    let a = c .before .before .before .args in
     gets-full (blockFormat .get (inWords (a .s .now))) (blockFormat .width) (a .at) 8 (l .i) (l .a) (l .inv .1) (omega arith) (omega arith) (l .inv .2)
 
 pub schedule-spec : {M : Type 1} → statement M
@@ -46,7 +46,6 @@ schedule-spec =
     (tie.spec
     Inv-loop
     μ-loop
-    (λ c κs. search needs)
     loop-holds
     (λ c. search needs) (λ c. search needs)
     (λ c κs. search needs)

@@ -25,19 +25,19 @@ loop-holds c = (omega arith, refl, refl)
 loop-again : tie.Need-loop-again Inv-loop μ-loop
 loop-again c =
     let l = c .before .before .loop in
-    let a = c .before .before .before .before .before .args in
+    let a = c .before .before .before .before .args in
     let w = inWords (a .s .now) in
     let h : l .i < length (l .a) = omega arith in (
       omega arith,
       simp length-set (omega arith),
-      gets-filled (trackFormat .get w) (trackFormat .width) (a .at) (l .i) (l .a) (c .track2 .result) h (l .inv .2)
-          (lawful-track .reads w (a .at + trackFormat .width * l .i) (c .track2 .result) (c .track2 .ensures)),
+      gets-filled (trackFormat .get w) (trackFormat .width) (a .at) (l .i) (l .a) (c .track .result) h (l .inv .2)
+          (lawful-track .reads w (a .at + trackFormat .width * l .i) (c .track .result) (c .track .ensures)),
     )
 
 returns : tie.Need-returns Inv-loop μ-loop
 returns c =
     let l = c .before .loop in
-    let a = c .before .before .before .before .args in
+    let a = c .before .before .before .args in
     gets-full (trackFormat .get (inWords (a .s .now))) (trackFormat .width) (a .at) 16 (l .i) (l .a) (l .inv .1) (omega arith) (omega arith) (l .inv .2)
 
 pub tracks-spec : {M : Type 1} → statement M
@@ -46,7 +46,6 @@ tracks-spec =
     (tie.spec
     Inv-loop
     μ-loop
-    (λ c κs. search needs)
     loop-holds
     (λ c. search needs) (λ c. search needs)
     (λ c κs. search needs)
