@@ -6,7 +6,7 @@ use mathlib.Core.List.{List, [], _∷_}
 use native.Mathlib.Omega.{arith}
 use native.Mathlib.Numerals.{add-one}
 use borrow.Author.Tests.{eq-eqb, ne-eqb}
-use lib.Dec.{T, eqb}
+use lib.Dec.{eqb}
 use lib.ListN.{length, getD}
 use Rattle.timed.specs.State.{Timed, slotAt}
 use Rattle.timed.specs.Contracts.{IsTimed}
@@ -29,7 +29,7 @@ use Rattle.theorem.proofs.Theorems.{Within}
 use Rattle.formats.specs.Areas.{infosBytes}
 use Rattle.frame.specs.Held.{held, smallBytes, IsHeld, IsNext}
 use Rattle.store.specs.Steps.{withState}
-use Rattle.frame.specs.Begin.{restated, CanStart, Rests}
+use Rattle.frame.specs.Begin.{restated, CanStart, NoneSent, Starts}
 use Rattle.frame.proofs.Changed.{changed, changed-long, changed-small, changed-held}
 
 -- ---- one update
@@ -70,12 +70,12 @@ module _ (s : Renderer714) (b : List ℕ) where
   slot-rests whole e = record { holds = record { is = by-slot false _ e refl; long = whole }; small = refl }
 
   pub slot-starts :
-      (m : MetadataRendererState) (is : List ℕ) (r : Renderer714) → length b ≡ size → length is ≡ infosBytes → s .state .initialized ≡ true → s .clock .phase ≡ 0 →
+      (m : MetadataRendererState) (is : List ℕ) (r : Renderer714) → length b ≡ size → length is ≡ infosBytes → Starts s →
       IsTimed (slotAt (s .clock .start .0) (record { state = s .state; infos = infosOf b })) m is → r ≡ withState s m → IsNext (slotted hall (held s b)) b r (changed b is)
-  slot-starts m is r whole long e z h q =
+  slot-starts m is r whole long e h q =
       record {
         holds = record {
-          is = changed-held b is whole long r ∙ rw (q, h .state, h .infos) (by-slot true _ (rw (e, eq-eqb (s .clock .phase) 0 z)) refl);
+          is = changed-held b is whole long r ∙ rw (q, h .state, h .infos) (by-slot true _ e refl);
           long = changed-long b is whole long;
         };
         small = changed-small b is whole long;
@@ -190,17 +190,10 @@ past {f} {n} {t} {from} {i} h l =
     let e : i ≡ n = omega arith in
     subst (λ (j : ℕ). FirstAt f n t from j) e h
 
--- where none is sent a slot may start
-pub slot-begins : (l : records.Layout) (t phase : ℕ) (b : Bool) → eqb phase 0 ≡ b → FirstAt (offsetAt l) (l .count) t 0 (l .count)
-    → cond b (Rests l t true phase → ⊥) (Rests l t true phase)
-slot-begins l t phase true e n = λ h. subst T (sym e ∙ h .slot) tt
-slot-begins l t phase false e n = record { none = n; slot = e }
-
--- nothing begins
-pub rests : (m : List ℕ) (l : records.Layout) → IsLayout m l → (t : ℕ) (s : Renderer714) (b : List ℕ) → length b ≡ size → Rests l t (s .state .initialized) (s .clock .phase)
-    → IsNext (slotted hall (updated hall t (sentOf m) (held s b))) b s b
-rests m l g t s b long h =
+-- nothing is applied
+pub none-applied : (m : List ℕ) (l : records.Layout) → IsLayout m l → (t : ℕ) (s : Renderer714) (b : List ℕ) → length b ≡ size → NoneSent l t
+    → IsNext (updated hall t (sentOf m) (held s b)) b s b
+none-applied m l g t s b long h =
     let all = updated hall t (sentOf m) (held s b) in
-    let e = ends m l t (s .clock .position .0) all b g (l .count) s b (omega arith)
-    (standing m l t (s .clock .position .0) all b g 0 (l .count) s b (h .none) long refl refl (from-first m l g t (held s b))) in
-    slotted-after e (slot-rests s b long (h .slot))
+    ends m l t (s .clock .position .0) all b g (l .count) s b (omega arith)
+    (standing m l t (s .clock .position .0) all b g 0 (l .count) s b h long refl refl (from-first m l g t (held s b)))

@@ -1,7 +1,7 @@
 -- A reader may skip this file: before a chunk: what is asked there, and the small part that updates and slots leave. Assumes nothing.
 use Prim.Native.Nat.{ℕ, _≤_}
 use mathlib.Core.Path.{_≡_}
-use mathlib.Core.Bool.{Bool, false, cond, _&&_}
+use mathlib.Core.Bool.{Bool, true, cond, _&&_}
 use mathlib.Core.List.{List}
 use lib.Dec.{eqb}
 use lib.ListN.{length}
@@ -35,7 +35,10 @@ pub record CanBegin (s : Renderer714) (b m : List ℕ) (l : records.Layout) (t a
   pub whole : WholeUpdates m (l .first) (l .count)
   pub slot : CanStart (updated hall t (sentOf m) (held s b))
 
--- nothing begins at offset t: no update is sent for it and no slot starts
-pub record Rests (l : records.Layout) (t : ℕ) (started : Bool) (phase : ℕ) : Type 0 where
-  pub none : FirstAt (offsetAt l) (l .count) t 0 (l .count)
-  pub slot : (started && eqb phase 0) ≡ false
+-- no update is sent for offset t
+abbrev pub NoneSent : records.Layout → ℕ → Type 0
+NoneSent l t = FirstAt (offsetAt l) (l .count) t 0 (l .count)
+
+-- a slot starts at the present sample
+abbrev pub Starts : Renderer714 → Type 0
+Starts s = (s .state .initialized && eqb (s .clock .phase) 0) ≡ true

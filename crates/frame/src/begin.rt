@@ -1,7 +1,7 @@
 // SPDX-License-Identifier: Apache-2.0
 // Translated from libstarmine_ad render.rs; changed.
 
-// What happens before a chunk: the updates at its first sample, in the order sent, then the slot if one starts there.
+// What happens before a chunk: the updates at its first sample, in the order sent; the slot that starts there.
 ghost use mathlib.Core.Path.{_≡_};
 ghost use mathlib.Core.Bool.{not, _||_};
 ghost use lib.Dec.{eqb};
@@ -13,7 +13,7 @@ ghost use Rattle.rules.specs.Samples.{appliedAt, updated, slotted};
 ghost use Rattle.store.specs.Layout.{size};
 ghost use Rattle.theorem.specs.Instance.{hall, sentOf};
 ghost use Rattle.frame.specs.Held.{held, Leads};
-ghost use Rattle.frame.specs.Begin.{restated, CanStart, CanBegin};
+ghost use Rattle.frame.specs.Begin.{restated, CanStart, Starts};
 use crate::Rendering;
 use clock::FrameOffset;
 use clock::START;
@@ -70,7 +70,7 @@ impl Rendering {
     }
 
     // The updates at sample offset t, in the order sent.
-    fn apply_sent(
+    pub fn apply_sent(
         self,
         state: &mut [u8],
         meta: &[u8],
@@ -92,40 +92,16 @@ impl Rendering {
         next
     }
 
-    // The slot, where one starts.
-    fn start_slot(self, state: &mut [u8]) -> Rendering
-        requires { ⌜ (length (now state) ≡ size) × CanStart (held (self .renderer) (now state)) ⌝ }
+    // The slot that starts.
+    pub fn start_slot(self, state: &mut [u8]) -> Rendering
+        requires { ⌜ (length (now state) ≡ size) × CanStart (held (self .renderer) (now state)) × Starts (self .renderer) ⌝ }
         ensures { λ r. ⌜ Leads (slotted hall (held (self .renderer) (now (state .entry)))) self (now (state .entry)) r (now (state .exit)) ⌝ }
     {
         let before = self.renderer.state;
-        if !before.initialized {
-            return self;
-        }
-        let clock = self.renderer.clock;
-        if clock.phase != 0 {
-            return self;
-        }
-        let start = clock.start;
+        let start = self.renderer.clock.start;
         let first = store::INFOS;
         let end = store::PLACES;
         let after = before.update_timeslot(&mut state[first..end], start);
         self.restate(after, false)
-    }
-
-    // Before the sample at offset t of a frame with metadata `meta`: `at` is the stream's sample there.
-    pub fn begin(
-        self,
-        state: &mut [u8],
-        meta: &[u8],
-        l: Layout,
-        t: FrameOffset,
-        at: StreamSample,
-    ) -> Rendering
-        requires { ⌜ CanBegin (self .renderer) (now state) (now meta) l (t .0) (at .0) ⌝ }
-        ensures { λ r. ⌜ Leads (slotted hall (updated hall (t .0) (sentOf (now (meta .entry))) (held (self .renderer) (now (state .entry))))) self (now (state .entry)) r
-            (now (state .exit)) ⌝ }
-    {
-        let next = self.apply_sent(state, meta, l, t, at);
-        next.start_slot(state)
     }
 }

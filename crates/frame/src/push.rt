@@ -4,13 +4,14 @@
 // A frame that no refusal turned away, in chunks: each turn takes the updates at its first sample and the slot that starts there, then the samples up to the next
 // update, the end of the slot, of the limiter's block or of the frame.
 ghost use mathlib.Core.Path.{_≡_};
-ghost use mathlib.Core.Bool.{cond};
+ghost use mathlib.Core.Bool.{cond, _&&_};
+ghost use lib.Dec.{eqb};
 ghost use Prim.Native.Nat.{_-_, _<_, _≤_};
 ghost use Rattle.rules.specs.Samples.{pushed};
 ghost use Rattle.rules.specs.Calls.{frameOf};
 ghost use Rattle.store.specs.Layout.{decode};
 ghost use Rattle.theorem.specs.Instance.{hall};
-ghost use Rattle.frame.specs.Begin.{Rests};
+ghost use Rattle.frame.specs.Begin.{NoneSent};
 ghost use Rattle.refusals.specs.Contracts.{argsWith};
 ghost use Rattle.frame.specs.Loop.{lesser, runLength, Accepted, IsRendered};
 use crate::Rendering;
@@ -42,14 +43,18 @@ fn run_length(started: bool, phase: u32, pending: u32, t: FrameOffset, end: Fram
     room
 }
 
-// Whether an update is sent for sample offset t, or a slot starts there.
-fn begins(started: bool, phase: u32, l: Layout, t: FrameOffset) -> bool
+// Whether an update is sent for sample offset t.
+fn is_sent(l: Layout, t: FrameOffset) -> bool
     requires { ⌜ l .count ≤ 16 ⌝ }
-    ensures { λ r. ⌜ cond r (Rests l (t .0) started phase → ⊥) (Rests l (t .0) started phase) ⌝ }
+    ensures { λ r. ⌜ cond r (NoneSent l (t .0) → ⊥) (NoneSent l (t .0)) ⌝ }
 {
-    if sent_at(l, t, 0) < l.count {
-        return true;
-    }
+    sent_at(l, t, 0) < l.count
+}
+
+// Whether a slot starts: the clock runs from the first update on.
+fn slot_starts(started: bool, phase: u32) -> bool
+    ensures { λ r. ⌜ r ≡ (started && eqb phase 0) ⌝ }
+{
     if started {
         return phase == 0;
     }
@@ -83,13 +88,11 @@ impl Rendering {
         let mut t = START;
         while t.is_before(end) {
             let at = start.at(t);
-            if begins(
-                work.renderer.state.initialized,
-                work.renderer.clock.phase,
-                l,
-                t,
-            ) {
-                work = work.begin(state, meta, l, t, at);
+            if is_sent(l, t) {
+                work = work.apply_sent(state, meta, l, t, at);
+            }
+            if slot_starts(work.renderer.state.initialized, work.renderer.clock.phase) {
+                work = work.start_slot(state);
             }
             let next = next_offset(l, t, end);
             let k = run_length(
