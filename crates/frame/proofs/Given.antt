@@ -5,14 +5,14 @@ use Prim.Native.Nat.{ℕ, zero, suc, _+_, _-_, _*_, _<_, _≤_}
 use native.Mathlib.Nat.{not-suc-le-zero, le-of-suc-le-suc}
 use native.Mathlib.Omega.{arith}
 use lib.ListN.{length, take, drop, length-drop}
-use lib.Seq.{take-all}
+use lib.Seq.{take-all, drop-drop}
 use lib.Ieee.{Float, binary32, ofBits, toBits}
 use Rattle.words.specs.Words.{word, floatAt, withFloat, wordsAt, withWords}
 use Rattle.limiter.specs.Limiter.{blockGain, scaled, scaledBlock, grown}
 use Rattle.limiter.specs.Meters.{blockMeters, meets, meetsAll}
 use Rattle.limiter.specs.declared.meters.Meters.{Meters}
 use Rattle.limiter.specs.declared.Limited.{Limited}
-use Rattle.limiter.specs.Places.{floatsAt, withFloats, channelsAt, withChannels, Given}
+use Rattle.limiter.specs.Places.{floatsAt, withFloats, channels, channelsAt, withChannels, Given}
 use Rattle.rules.specs.Parts.{Channels, none, twelve, floats}
 use Rattle.rules.specs.Samples.{limited, metered, gainAfter, flushed}
 use Rattle.rules.specs.Block.{writtenFrom, written}
@@ -23,7 +23,7 @@ use Rattle.store.proofs.Theorems.{places-row, words-drop}
 use Rattle.frame.specs.declared.Rendering.{Rendering}
 use Rattle.frame.specs.Held.{held}
 use Rattle.frame.specs.Out.{behindFrom, behind}
-use Rattle.frame.specs.Give.{Gave}
+use Rattle.frame.specs.Give.{Gave, GaveRows}
 
 -- ---- floats and words
 
@@ -74,6 +74,16 @@ module _ (g : Float) (f : Channels) (stride ready : ℕ) where
 
 -- ---- a block of n samples
 
+block-behind : (g : Float) (f : Channels) (stride ready : ℕ) (out : List ℕ)
+    → withChannels (scaledBlock (blockGain g (twelve f)) (twelve f)) (4 * stride) (4 * ready) out ≡ behind ready (limited g f) stride out
+unfolding behind
+block-behind g f stride ready out =
+    let a : 4 * ready ≡ 4 * (0 * stride + ready) = omega arith in
+    ap (λ (cs : List (List Float)). withChannels (scaledBlock (blockGain g cs) cs) (4 * stride) (4 * ready) out) (sym (listed-twelve f))
+    ∙ ap (λ (at : ℕ). withChannels (scaledBlock (blockGain g (listed 12 0 f)) (listed 12 0 f)) (4 * stride) at out) a
+    ∙ channels-behind (blockGain g (listed 12 0 f)) f stride ready 12 0 out
+    ∙ ap (λ (cs : List (List Float)). behindFrom 12 0 ready (λ c. scaled (blockGain g cs) (f c)) stride out) (listed-twelve f)
+
 module _ (f : Channels) (s : List ℕ) (n : ℕ) (e : (c : ℕ) → c < 12 → floatsAt s (256 * c) n ≡ f c) where
   channels-twelve : channelsAt 12 n s 0 ≡ twelve f
   channels-twelve = channels-listed f s n e 12 0 (omega arith) ∙ listed-twelve f
@@ -86,14 +96,23 @@ module _ (f : Channels) (s : List ℕ) (n : ℕ) (e : (c : ℕ) → c < 12 → f
     meters-of = ap (λ (m : Meters). m ∷ []) (given .meters ∙ ap (blockMeters g) channels-twelve)
 
     pub given-behind : out' ≡ behind ready (limited g f) stride out
-    unfolding behind
     given-behind =
-        let a : 4 * ready ≡ 4 * (0 * stride + ready) = omega arith in
         given .samples
-        ∙ ap (λ (cs : List (List Float)). withChannels (scaledBlock (blockGain g cs) cs) (4 * stride) (4 * ready) out) (channels-twelve ∙ sym (listed-twelve f))
-        ∙ ap (λ (at : ℕ). withChannels (scaledBlock (blockGain g (listed 12 0 f)) (listed 12 0 f)) (4 * stride) at out) a
-        ∙ channels-behind (blockGain g (listed 12 0 f)) f stride ready 12 0 out
-        ∙ ap (λ (cs : List (List Float)). behindFrom 12 0 ready (λ c. scaled (blockGain g cs) (f c)) stride out) (listed-twelve f)
+        ∙ ap (λ (cs : List (List Float)). withChannels (scaledBlock (blockGain g cs) cs) (4 * stride) (4 * ready) out) channels-twelve
+        ∙ block-behind g f stride ready out
+
+-- the same in rows
+module _ (f : Channels) (ys : List Float) (e : (c : ℕ) → c < 12 → take 64 (drop (64 * c) ys) ≡ f c) where
+  rows-listed : (k c : ℕ) → c + k ≤ 12 → channels k 64 (drop (64 * c) ys) ≡ listed k c f
+  unfolding channels listed
+  rows-listed zero c h = refl
+  rows-listed (suc k) c h =
+      let a : 64 * c + 64 ≡ 64 * suc c = omega arith in
+      ap₂ (λ (x : List Float) (xs : List (List Float)). x ∷ xs) (e c (omega arith))
+      (ap (channels k 64) (drop-drop 64 (64 * c) ys ∙ ap (λ (i : ℕ). drop i ys) a) ∙ rows-listed k (suc c) (omega arith))
+
+  rows-twelve : channels 12 64 ys ≡ twelve f
+  rows-twelve = rows-listed 12 0 (omega arith) ∙ listed-twelve f
 
 -- ---- the places of a block
 
@@ -127,6 +146,24 @@ gave w b out stride l m p n o given =
       given = given-behind f part (s .pending) e stride (w .ready) given;
       ready = n;
       meters = o ∙ ap (meetsAll (w .meters)) (meters-of f part (s .pending) e stride (w .ready) given);
+    }
+
+-- what `give_rows` leaves, where the block's places are the rows
+pub gave-rows : (w : Rendering) (b : List ℕ) (ys : List Float) (out : List ℕ) (stride : ℕ) {r : Rendering} {out' : List ℕ} → w .renderer .pending ≡ 64
+    → ((c : ℕ) → c < 12 → take 64 (drop (64 * c) ys) ≡ take (w .renderer .pending) (floats (placesOf b) c)) → GaveRows w ys stride out r out' → Gave w b stride out r out'
+unfolding flushed
+gave-rows w b ys out stride z e given =
+    let s = w .renderer in
+    let g = s .limiter .gain in
+    let f : Channels = λ c. take (s .pending) (floats (placesOf b) c) in
+    let t = rows-twelve f ys e in
+    record {
+      next = ap (λ (r : Renderer714). held r b)
+          (given .renderer ∙ ap₂ (λ (n : ℕ) (cs : List (List Float)). emptiedBy s (record { gain = grown n (s .rate) (blockGain g cs) })) (sym z) t);
+      given = given .given ∙ ap (λ (cs : List (List Float)). withChannels (scaledBlock (blockGain g cs) cs) (4 * stride) (4 * w .ready) out) t
+          ∙ block-behind g f stride (w .ready) out;
+      ready = given .ready ∙ ap (λ (n : ℕ). w .ready + n) (sym z);
+      meters = given .meters ∙ ap (λ (cs : List (List Float)). meets (w .meters) (blockMeters g cs)) t;
     }
 
 -- ---- nothing behind others, and behind nothing

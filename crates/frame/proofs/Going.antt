@@ -5,13 +5,14 @@ use native.Mathlib.Omega.{arith}
 use mathlib.Core.Path.{_≡_, refl, sym, ap, _∙_, subst}
 use mathlib.Core.Bool.{Bool, true, false, cond}
 use mathlib.Core.List.{List}
-use lib.Dec.{eqb, lit<}
+use lib.Dec.{eqb, ltb, lit<}
 use lib.ListN.{length, length-append}
-use borrow.Author.Tests.{eqb-true, eqb-false}
+use borrow.Author.Tests.{eqb-true, eqb-false, ltb-true, ltb-false}
 use Rattle.ieee.specs.Bounds.{All}
 use Rattle.limiter.specs.Meters.{unmet, meetsAll}
 use Rattle.limiter.specs.declared.meters.Meters.{Meters}
 use Rattle.limiter.proofs.Theorems.{meets-append}
+use Rattle.rules.specs.Parts.{Places}
 use Rattle.rules.specs.Leaves.{Leaves, Shape}
 use Rattle.rules.specs.Samples.{Pending, State, After, updated, slotted, framed, opened, pushed}
 use Rattle.rules.specs.Refusals.{Args, listed, shapeAt}
@@ -23,6 +24,7 @@ use Rattle.frame.specs.Chunk.{chunk}
 use Rattle.frame.specs.Out.{behind}
 use Rattle.frame.proofs.Chunks.{both, Turn, chunk-passes, chunk-whole, turn}
 use Rattle.frame.proofs.Outs.{behind-joined, behind-nothing, behind-none, length-behind}
+use Rattle.frame.proofs.Replaced.{Agree, replaced, framed-replaced}
 use Rattle.frame.proofs.Counted.{Counted, framed-counted}
 
 -- ---- numbers
@@ -191,6 +193,39 @@ module _ (L : Leaves) (B : Layout L) (F : Facts L B) where
             let e = begun .pending in
             subst (λ (i : ℕ). Going (t + suc n) (C .next) i (meetsAll level (C .meters)) (behind ready (C .given) (a .stride) out))
             (sym (ready-is (eqb (C .next .pending .count) 0) ready (r .pending .count) n (counted .blocks) (C .next .pending .count) refl (counted .all) (omega arith))) gone
+
+    -- where nothing is pending and a block's samples are left, places may be others
+    pub swapped : (q : Places) (t : ℕ) (r : State L) (ready : ℕ) (level : Meters) (out : List ℕ) → Going t r ready level out → r .pending .count ≡ 0 → 64 ≤ a .samples - t
+        → R L B F (replaced L q r) → Going t (replaced L q r) ready level out
+    swapped q t r ready level out g z m h =
+        record {
+          here = g .here;
+          next = ap (λ (x : After L). x .next) same ∙ g .next;
+          given = ap (λ (x : After L). behind ready (x .given) (a .stride) out) same ∙ g .given;
+          count = ap (λ (x : After L). ready + length (x .given 0)) same ∙ g .count;
+          meters = ap (λ (x : After L). meetsAll level (x .meters)) same ∙ g .meters;
+          long = g .long;
+          ranged = h;
+          listed = g .listed;
+          position = g .position;
+          pending = g .pending;
+          whole = g .whole;
+          fits = g .fits;
+        }
+      where
+        agree : Agree (r .pending .count) (r .pending .places) q
+        agree = rw z (record { same = λ c. refl; long = λ c. level-of c (ltb c 12) refl; short = λ c. short-of c (ltb c 12) refl })
+          where
+            level-of : (c : ℕ) (b : Bool) → ltb c 12 ≡ b → length (r .pending .places c) ≡ length (q c)
+            level-of c true e = g .ranged .long c (ltb-true c 12 e) ∙ sym (h .long c (ltb-true c 12 e))
+            level-of c false e = ap length (g .ranged .none c (ltb-false c 12 e)) ∙ sym (ap length (h .none c (ltb-false c 12 e)))
+
+            short-of : (c : ℕ) (b : Bool) → ltb c 12 ≡ b → length (r .pending .places c) ≤ 64
+            short-of c true e = rw (g .ranged .long c (ltb-true c 12 e)) (omega arith)
+            short-of c false e = rw (g .ranged .none c (ltb-false c 12 e)) (omega arith)
+
+        same : rest t (replaced L q r) ≡ rest t r
+        same = framed-replaced L (frameOf L a) (a .samples - t) t r q agree (omega arith) (omega arith)
 
     -- ---- before the first sample, and after the last
     pub starts : R L B F r₀ → Passed L r₀ a → Going 0 (opened L (a .rate) r₀) 0 unmet (a .out)

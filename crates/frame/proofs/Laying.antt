@@ -1,15 +1,17 @@
 -- Rows laid into the places of a state block: the small part's bytes and the infos stay, and each channel's 64 places are `laid`. Assumes nothing.
-use mathlib.Core.Path.{_≡_, refl, sym, ap, fun-ext, _∙_}
+use mathlib.Core.Path.{_≡_, refl, sym, ap, ap₂, fun-ext, _∙_}
 use mathlib.Core.Bool.{Bool, true, false}
-use mathlib.Core.List.{List, [], _∷_, _++_, append-nil}
+use mathlib.Core.List.{List, [], _∷_, _++_, map, append-nil}
 use Prim.Native.Nat.{ℕ, zero, suc, _+_, _-_, _*_, _≤_}
+use native.Mathlib.Nat.{suc-ne-zero, suc-inj}
 use native.Mathlib.Omega.{arith}
 use borrow.Author.Tests.{ltb-true, ltb-false}
 use borrow.Rule.Slice.PartMut.{putMid}
 use lib.Dec.{T, ltb}
 use lib.ListN.{length, getD, set, take, drop, length-set, length-drop, length-append, take-append-drop, drop-of-length-le}
 use lib.Seq.{take-all, length-take-le, take-append-le, drop-append-le, drop-at}
-use lib.Ieee.{Float, nan, binary32, fits, toBits}
+use lib.Ieee.{Float, nan, binary32, fits, ofBits, toBits}
+use lib.Ieee.Bits.{ofBits-toBits}
 use Rattle.words.specs.Words.{wordsAt}
 use Rattle.limiter.specs.Places.{channels, withChannels}
 use Rattle.rules.specs.Parts.{laid}
@@ -30,6 +32,19 @@ laid-nil k (x ∷ xs) = laid-nil (suc k) xs
 pub length-laid : (k : ℕ) (xs : List Float) (ws : List ℕ) → length (laid k xs ws) ≡ length ws
 length-laid k [] ws = refl
 length-laid k (x ∷ xs) ws = length-laid (suc k) xs (set ws k (toBits binary32 x)) ∙ length-set ws k (toBits binary32 x)
+
+laid-front : (k : ℕ) (xs : List Float) (w : ℕ) (ws : List ℕ) → laid (suc k) xs (w ∷ ws) ≡ w ∷ laid k xs ws
+laid-front k [] w ws = refl
+laid-front k (x ∷ xs) w ws = laid-front (suc k) xs w (set ws k (toBits binary32 x))
+
+-- f32s laid into as many places are read back
+pub laid-floats : (xs : List Float) (ws : List ℕ) → Fit xs → length xs ≡ length ws → map (ofBits binary32) (laid 0 xs ws) ≡ xs
+laid-floats [] [] f e = refl
+laid-floats [] (w ∷ ws) f e = absurd (suc-ne-zero (length ws) (sym e))
+laid-floats (x ∷ xs) [] f e = absurd (suc-ne-zero (length xs) e)
+laid-floats (x ∷ xs) (w ∷ ws) f e =
+    ap (map (ofBits binary32)) (laid-front 0 xs (toBits binary32 x) ws)
+    ∙ ap₂ (λ (y : Float) (ys : List Float). y ∷ ys) (ofBits-toBits binary32 x (f .0)) (laid-floats xs ws (f .1) (suc-inj e))
 
 -- an f32 slice has f32 values
 pub fit-all : (xs : List Float) → ((i : ℕ) → T (fits binary32 (getD xs i nan))) → Fit xs
@@ -67,7 +82,8 @@ module _ (rows : List Float) (pending k : ℕ) (short : pending + k ≤ 64) (b n
       let d = rest-long in
       let o : length (drop placesAt b) ≤ length b - placesAt = omega arith in
       ap (λ (t : List ℕ). take placesAt b ++ (new ++ t)) (drop-of-length-le (drop placesAt b) o)
-      ∙ ap (λ (t : List ℕ). take placesAt b ++ t) (append-nil new ∙ p ∙ ap (withChannels (channels 12 k rows) 256 (4 * pending)) (take-all (length b - placesAt) (drop placesAt b) o))
+      ∙ ap (λ (t : List ℕ). take placesAt b ++ t) 
+      (append-nil new ∙ p ∙ ap (withChannels (channels 12 k rows) 256 (4 * pending)) (take-all (length b - placesAt) (drop placesAt b) o))
 
   put-long : length (front ++ back) ≡ size
   unfolding front back
@@ -102,3 +118,7 @@ module _ (rows : List Float) (pending k : ℕ) (short : pending + k ≤ 64) (b n
 
   pub lay-laid : Laid rows pending k b (putMid placesAt (length b - placesAt) b new)
   lay-laid = rw put (record { long = put-long; small = put-small; infos = put-infos; places = fun-ext (λ c. put-place c (ltb c 12) refl) })
+
+-- the block as it would be with the rows laid
+pub as-laid : (rows : List Float) (pending k : ℕ) → pending + k ≤ 64 → (b : List ℕ) → Fit rows → length rows ≡ 768 → length b ≡ size → (c : List ℕ) × Laid rows pending k b c
+as-laid rows pending k short b fit lr l = (_, lay-laid rows pending k short b _ fit lr l refl)

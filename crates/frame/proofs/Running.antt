@@ -30,7 +30,7 @@ use Rattle.rules.specs.Calls.{frameOf}
 use Rattle.rules.proofs.Theorems.{Passed, is-passed, and-true, is-roomy, is-listed, rate-high, is-sized, samples-fit, R}
 use Rattle.store.specs.declared.renderer.Renderer714.{Renderer714}
 use Rattle.store.specs.Steps.{openedBy}
-use Rattle.store.specs.Layout.{smallWidth, size, infosOf, decode}
+use Rattle.store.specs.Layout.{smallWidth, size, assembled, infosOf, placesOf, decode}
 use Rattle.store.specs.Ranges.{smallValid, headsValid, valid}
 use Rattle.theorem.specs.Instance.{hall, block, sentAt, sentOf}
 use Rattle.theorem.proofs.Theorems.{each-all, codes-long, shape-apply, shape-slot, facts}
@@ -44,7 +44,7 @@ use Rattle.frame.proofs.ChunkOnBlock.{Passable}
 use Rattle.frame.specs.Loop.{runLength, Accepted, IsRendered}
 use Rattle.frame.proofs.Begins.{ranged-starts}
 use Rattle.frame.proofs.Chunks.{NoneAt, Turn}
-use Rattle.frame.proofs.Going.{Shaped, Going, Begun, begun, step, starts, ends}
+use Rattle.frame.proofs.Going.{Shaped, Going, Begun, begun, step, swapped, starts, ends}
 use Rattle.frame.proofs.Opening.{RunLength, run-length-is}
 
 -- ---- a push that was accepted
@@ -184,8 +184,8 @@ module _ (b : List ℕ) (a : Args) (l : Layout) (k : Taken b a l) (t : ℕ) (w :
             let o = w₁ .long in
             let y = g .long in
             record {
+              block = e .next .holds .long;
               passes = record {
-                block = e .next .holds .long;
                 framed = record {
                   room = omega arith;
                   plain = pass-plain (a .pcm) 0 ((length (a .codes) + a .objects) * a .samples) (p .early .pass);
@@ -286,6 +286,35 @@ module _ {b : List ℕ} {a : Args} {l : Layout} {t : ℕ} {w : Rendering} {state
 
   pub turn-runs : (r : Rendering) (c o : List ℕ) → Passes (frameOf hall a) t n (a .stride) w′ state′ out r c o → Running b a (t + n) r c o
   turn-runs r c o p = turns b a l (u .taken) t w state out (u .running) (u .more) end (u .ends) w′ state′ (u .begun) n len r c o p
+
+  -- where its block was not laid and as many samples follow; c is the block with it
+  pub turn-skips : (r : Rendering) (c o : List ℕ) → Passes (frameOf hall a) t n (a .stride) w′ state′ out r c o → infosOf c ≡ infosOf state′ → r .renderer .pending ≡ 0
+      → 64 ≤ a .samples - (t + n) → Running b a (t + n) r state′ o
+  turn-skips r c o p i z m =
+      let x = turn-runs r c o p in
+      let g = x .going .ranged in
+      let h = now-ranged b a l (u .taken) t w state out (u .running) (u .more) end (u .ends) w′ state′ (u .begun) in
+      record {
+        long = u .begun .next .holds .long;
+        small = u .begun .next .small ∙ u .running .small;
+        going = subst (λ (y : State hall). Going hall block facts (decode b) a (t + n) y (r .ready) (r .meters) o)
+            (ap (λ (is : List ℕ). assembled (r .renderer) is (placesOf state′)) i)
+            (swapped hall block facts (decode b) a (placesOf state′) (t + n) (held (r .renderer) c) (r .ready) (r .meters) o (x .going) z m
+            (record {
+              rate = g .rate;
+              position = g .position;
+              phase = g .phase;
+              start = g .start;
+              gain = g .gain;
+              filter = g .filter;
+              meta = g .meta;
+              pending = g .pending;
+              idle = g .idle;
+              long = h .long;
+              words = h .words;
+              none = h .none;
+            }));
+      }
 
 -- ---- after the last sample
 pub rendered : (b : List ℕ) (a : Args) (t : ℕ) (w : Rendering) (state out : List ℕ) → Running b a t w state out → a .samples ≤ t

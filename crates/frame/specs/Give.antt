@@ -2,12 +2,18 @@
 use Prim.Native.Nat.{ℕ, _+_, _*_, _≤_}
 use mathlib.Core.Path.{_≡_}
 use mathlib.Core.List.{List}
-use lib.ListN.{length}
-use Rattle.limiter.specs.Meters.{unmet, meetsAll}
+use lib.Dec.{T}
+use lib.ListN.{length, getD}
+use lib.Ieee.{Float, binary32, fits, nan}
+use Rattle.formats.specs.Areas.{rowCount, rowPlaces, placeCount}
+use Rattle.limiter.specs.Limiter.{blockGain, scaledBlock, grown}
+use Rattle.limiter.specs.Places.{channels, withChannels}
+use Rattle.limiter.specs.Meters.{unmet, blockMeters, meets, meetsAll}
 use Rattle.rules.specs.Samples.{After, flushed}
 use Rattle.rules.specs.Block.{written}
 use Rattle.theorem.specs.Instance.{hall}
 use Rattle.store.specs.Layout.{size}
+use Rattle.store.specs.Steps.{emptiedBy}
 use Rattle.frame.specs.declared.Rendering.{Rendering}
 use Rattle.frame.specs.Held.{held}
 use Rattle.frame.specs.Out.{behind}
@@ -34,3 +40,25 @@ pub record IsDrained (d : After hall) (n stride : ℕ) (state out : List ℕ) (r
   pub given : out' ≡ written (d .given) stride out
   pub ready : r .ready ≡ n
   pub meters : r .meters ≡ meetsAll unmet (d .meters)
+
+-- ---- a whole block that is still in rows
+
+-- what is asked: the rows, and room for their samples behind those that are ready
+pub record CanGiveRows (w : Rendering) (rows : List Float) (out : List ℕ) (stride : ℕ) : Type 0 where
+  pub whole : length rows ≡ placeCount
+  pub rate : w .renderer .rate ≤ 16777216
+  pub room : w .ready + 64 ≤ stride
+  pub short : stride ≤ 4096
+  pub output : 48 * stride ≤ length out
+
+-- the rows' channels
+abbrev pub rowChannels : List Float → List (List Float)
+rowChannels rows = channels rowCount rowPlaces rows
+
+-- the rows, which are f32s, limited as one block behind the samples that are ready
+pub record GaveRows (w : Rendering) (rows : List Float) (stride : ℕ) (out : List ℕ) (r : Rendering) (out' : List ℕ) : Type 0 where
+  pub fit : (i : ℕ) → T (fits binary32 (getD rows i nan))
+  pub renderer : r .renderer ≡ emptiedBy (w .renderer) (record { gain = grown 64 (w .renderer .rate) (blockGain (w .renderer .limiter .gain) (rowChannels rows)) })
+  pub given : out' ≡ withChannels (scaledBlock (blockGain (w .renderer .limiter .gain) (rowChannels rows)) (rowChannels rows)) (4 * stride) (4 * w .ready) out
+  pub ready : r .ready ≡ w .ready + 64
+  pub meters : r .meters ≡ meets (w .meters) (blockMeters (w .renderer .limiter .gain) (rowChannels rows))

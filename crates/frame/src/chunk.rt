@@ -11,11 +11,9 @@ ghost use Rattle.formats.specs.Areas.{rowPlaces, placeCount};
 ghost use Rattle.theorem.specs.Instance.{Sent};
 ghost use Rattle.render.specs.Run.{Framed, sceneAt, Passed};
 ghost use Rattle.store.specs.Layout.{size};
-ghost use Rattle.frame.specs.Held.{Leads};
-ghost use Rattle.frame.specs.Pass.{CanPass, Laid, sceneOf, frameWith, settledAt};
+ghost use Rattle.frame.specs.Pass.{CanPass, Laid, sceneOf, frameWith, momentHere, Waits};
 use crate::Rendering;
 use clock::FrameOffset;
-use formats::areas;
 use lowpass::BiquadLowpassState;
 use render::Scene;
 use render::Span;
@@ -57,7 +55,7 @@ fn mix(
 }
 
 // The rows' first k places behind the pending samples of the block.
-fn lay(state: &mut [u8], rows: &[f32], pending: usize, k: usize)
+pub fn lay(state: &mut [u8], rows: &[f32], pending: usize, k: usize)
     requires { ⌜ (length (now state) ≡ size) × (length (now rows) ≡ placeCount) × (pending + k ≤ rowPlaces) ⌝ }
     ensures { λ _. ⌜ Laid (now (rows .entry)) pending k (now (state .entry)) (now (state .exit)) ⌝ }
 {
@@ -66,10 +64,10 @@ fn lay(state: &mut [u8], rows: &[f32], pending: usize, k: usize)
 }
 
 impl Rendering {
-    // The k samples from t on of a frame of n samples, which wait then.
+    // The k samples from t on of a frame of n samples, mixed into the rows; they wait then.
     pub fn pass(
         mut self,
-        state: &mut [u8],
+        rows: &mut [f32],
         pcm: &[u8],
         codes: &[u8],
         objects: usize,
@@ -77,12 +75,10 @@ impl Rendering {
         t: FrameOffset,
         k: usize,
     ) -> Rendering
-        requires { ⌜ CanPass (self .renderer) (now state) (now pcm) (now codes) objects n (t .0) k ⌝ }
-        ensures { λ r. ⌜ ((rate : ℕ) (us : List Sent)
-            → Leads (settledAt (frameWith rate us (now (codes .entry)) objects (now (pcm .entry)) n) (t .0) k (self .renderer) (now (state .entry))) self (now (state .entry)) r
-            (now (state .exit))) ⌝ }
+        requires { ⌜ CanPass (self .renderer) (now pcm) (now codes) objects n (t .0) k × (length (now rows) ≡ placeCount) ⌝ }
+        ensures { λ r. ⌜ ((rate : ℕ) (us : List Sent) (b : List ℕ)
+            → Waits (momentHere (frameWith rate us (now (codes .entry)) objects (now (pcm .entry)) n) (t .0) k (self .renderer) b) self (t .0) k (now (rows .exit)) r) ⌝ }
     {
-        let mut rows = [0.0f32; areas::PLACE_COUNT];
         let m = self.renderer.state;
         let before = self.renderer.filter;
         let first = t.index();
@@ -91,8 +87,7 @@ impl Rendering {
             first,
             count: k,
         };
-        let filter = mix(m, before, &mut rows, pcm, codes, objects, span);
-        lay(state, &rows, self.renderer.pending as usize, k);
+        let filter = mix(m, before, rows, pcm, codes, objects, span);
         let next = self.renderer.settle(filter, k as u32);
         self.renderer = next;
         self

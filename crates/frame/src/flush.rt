@@ -7,8 +7,9 @@ ghost use Rattle.theorem.specs.Instance.{hall};
 ghost use Rattle.limiter.specs.Meters.{unmet};
 ghost use Rattle.rules.specs.Samples.{flushed};
 ghost use Rattle.frame.specs.Held.{held};
-ghost use Rattle.frame.specs.Give.{CanGive, Gave, IsDrained};
+ghost use Rattle.frame.specs.Give.{CanGive, Gave, IsDrained, CanGiveRows, GaveRows};
 use crate::Rendering;
+use limiter::places::store_block;
 
 impl Rendering {
     // The pending samples as one block, behind those that are ready.
@@ -31,6 +32,25 @@ impl Rendering {
         self.renderer = next;
         self.ready = self.ready + pending;
         let meters = self.meters.meet(after.meters);
+        self.meters = meters;
+        self
+    }
+
+    // A whole block that is still in rows: the one peak is that of all channels.
+    pub fn give_rows(mut self, rows: &[f32], out: &mut [u8], stride: usize) -> Rendering
+        requires { ⌜ CanGiveRows self (now rows) (now out) stride ⌝ }
+        ensures { λ r. ⌜ GaveRows self (now (rows .entry)) stride (now (out .entry)) r (now (out .exit)) ⌝ }
+    {
+        let limiter = self.renderer.limiter;
+        let peak = limiter::max_abs_slice(rows);
+        let scaling = limiter.lower(peak);
+        store_block(rows, 64, scaling.gain, out, 4 * stride, 4 * self.ready);
+        let grown = scaling.grow(64, self.renderer.rate);
+        let next = self.renderer.empty(grown);
+        self.renderer = next;
+        self.ready = self.ready + 64;
+        let met = scaling.meters(peak);
+        let meters = self.meters.meet(met);
         self.meters = meters;
         self
     }

@@ -4,8 +4,8 @@
 // A frame that no refusal turned away, in chunks: each turn takes the updates at its first sample and the slot that starts there, then the samples up to the next
 // update, the end of the slot, of the limiter's block or of the frame.
 ghost use mathlib.Core.Path.{_≡_};
-ghost use mathlib.Core.Bool.{cond, _&&_};
-ghost use lib.Dec.{eqb};
+ghost use mathlib.Core.Bool.{cond, _&&_, _||_};
+ghost use lib.Dec.{eqb, ltb};
 ghost use Prim.Native.Nat.{_-_, _<_, _≤_};
 ghost use Rattle.rules.specs.Samples.{pushed};
 ghost use Rattle.rules.specs.Calls.{frameOf};
@@ -15,8 +15,10 @@ ghost use Rattle.frame.specs.Begin.{NoneSent};
 ghost use Rattle.refusals.specs.Contracts.{argsWith};
 ghost use Rattle.frame.specs.Loop.{lesser, runLength, Accepted, IsRendered};
 use crate::Rendering;
+use crate::chunk::lay;
 use clock::FrameOffset;
 use clock::START;
+use formats::areas;
 use records::layout::Layout;
 use records::order::next_offset;
 use records::order::sent_at;
@@ -61,6 +63,17 @@ fn slot_starts(started: bool, phase: u32) -> bool
     false
 }
 
+// Whether a chunk of k samples is laid into the block, with `left` samples of the frame from its first on: unless it is a whole limiter block, and as much follows, which
+// takes all of its places.
+fn is_kept(k: usize, left: usize) -> bool
+    ensures { λ r. ⌜ r ≡ (ltb k 64 || ltb left 128) ⌝ }
+{
+    if k < 64 {
+        return true;
+    }
+    left < 128
+}
+
 impl Rendering {
     // Infos and places are left in `state`, the rest is answered: its bytes in `state` stay.
     pub fn render(
@@ -102,9 +115,18 @@ impl Rendering {
                 t,
                 next,
             );
-            work = work.pass(state, pcm, codes, objects, samples, t, k);
-            if work.renderer.pending == 64 {
-                work = work.give(state, out, stride);
+            let mut rows = [0.0f32; areas::PLACE_COUNT];
+            let pending = work.renderer.pending as usize;
+            work = work.pass(&mut rows, pcm, codes, objects, samples, t, k);
+            if is_kept(k, t.up_to(end)) {
+                lay(state, &rows, pending, k);
+            }
+            if k == 64 {
+                work = work.give_rows(&rows, out, stride);
+            } else {
+                if work.renderer.pending == 64 {
+                    work = work.give(state, out, stride);
+                }
             }
             t = t.plus(k as u32);
         }

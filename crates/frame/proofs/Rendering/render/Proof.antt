@@ -1,7 +1,10 @@
 -- `render` meets its contract: the loop keeps `Running`, and what is left of the frame falls at each turn. Assumes nothing.
-use Prim.Native.Nat.{ℕ, _+_, _-_, _≤_, _<_}
+use Prim.Native.Nat.{ℕ, _+_, _-_, _<_}
 use mathlib.Core.Path.{_≡_, refl, sym, ap, _∙_, subst}
+use mathlib.Core.List.{List}
+use mathlib.Core.Bool.{Bool, true, false, _||_}
 use mathlib.Core.Logic.{⊎-elim}
+use lib.Dec.{T, ltb}
 use native.Mathlib.Omega.{arith}
 use native.Mathlib.Nat.{le-of-lt}
 use borrow.Author.Needs.{needs}
@@ -15,11 +18,15 @@ use Rattle.theorem.specs.Instance.{sentOf, hall}
 use Rattle.refusals.specs.Contracts.{argsWith}
 use Rattle.store.specs.declared.renderer.Renderer714.{Renderer714}
 use Rattle.frame.specs.Held.{held, Leads}
+use Rattle.frame.specs.declared.Rendering.{Rendering}
 use Rattle.frame.specs.Begin.{CanBegin}
+use Rattle.frame.specs.Give.{GaveRows}
+use Rattle.frame.specs.Pass.{momentHere, Laid, Waits}
 use Rattle.frame.proofs.Begins.{can-start, slotted-after, none-applied, slot-rests}
-use Rattle.frame.proofs.Running.{Taken, takes, starts-at, is-rate, Running, opens, can-begin, end-above, few, Turning, turn-some, turn-within, turn-passes, turn-runs}
-use Rattle.frame.proofs.Running.{rendered}
-use Rattle.frame.proofs.ChunkOnBlock.{can-give, passes-on, passes-given}
+use Rattle.frame.proofs.Running.{Taken, takes, starts-at, is-rate, Running, opens, can-begin, end-above, few, Turning, turn-some, turn-within, turn-passes}
+use Rattle.frame.proofs.Running.{turn-runs, turn-skips, rendered}
+use Rattle.frame.proofs.ChunkOnBlock.{can-give-rows, can-give, passes-on, passes-given, passes-whole}
+use Rattle.frame.proofs.Laying.{fit-all, as-laid}
 use Rattle.frame.proofs.Rendering.render.Statement.{statement}
 use Rattle.frame.proofs.Rendering.render.Tie as tie
 
@@ -148,7 +155,8 @@ run-length-requires c κs =
     (f .0, f .1, le-of-lt (end-above (now (s .state)) (args a) (s .l) (taken a) (x .t .0) (x .work) (x .state) (x .out) (x .inv .0) l e (ends c)))
 
 turning : (c : tie.After-run-length Inv-loop μ-loop) → let a = c .before .before .before .before .before .before .before .before .before .before .before .before in
-    let s = a .before .before .before .before .before .before .before .before .before .args in let x = c .before .before .before .before .before .before .before .before .before .loop in
+    let s = a .before .before .before .before .before .before .before .before .before .args in
+    let x = c .before .before .before .before .before .before .before .before .before .loop in
     Turning (now (s .state)) (args a) (s .l) (x .t .0) (x .work) (x .state) (x .out) (c .before .next-offset .result .0) (c .before .before .if3 .work)
     (c .before .before .if3 .state) (c .run-length .result)
 turning c =
@@ -162,53 +170,110 @@ turning c =
     }
 
 pass-requires : tie.Need-pass-requires Inv-loop μ-loop
-pass-requires c κs = turn-passes (turning (c .before)) .passes
+pass-requires c κs = (turn-passes (turning (c .before .before)) .passes, search needs)
+
+-- back to the start and to the turn's
+abbrev opening : tie.After-run-length Inv-loop μ-loop → tie.After-start Inv-loop μ-loop
+opening u = u .before .before .before .before .before .before .before .before .before .before .before .before
+
+abbrev turnOf : tie.After-run-length Inv-loop μ-loop → tie.At-loop Inv-loop μ-loop
+turnOf u = u .before .before .before .before .before .before .before .before .before
+
+-- the samples of the turn, in the rows
+waiting : (c : tie.After-pass Inv-loop μ-loop) → let u = c .before .before .before in let v = u .before .before .if3 in let t = turnOf u .loop .t .0 in
+    Waits (momentHere (frameOf hall (args (opening u))) t (u .run-length .result) (v .work .renderer) (v .state)) (v .work) t (u .run-length .result) (c .pass .last .1 .0)
+    (c .pass .result)
+waiting c =
+    let u = c .before .before .before in
+    let s = opening u .before .before .before .before .before .before .before .before .before .args in
+    c .pass .ensures (s .n .rate) (sentOf (now (s .meta))) (u .before .before .if3 .state)
+
+up-to-requires : tie.Need-up-to-requires Inv-loop μ-loop
+up-to-requires c κs = let u = c .before .before .before .before in omega (arith, more (u .before .before .before .before .before .before .before), turnOf u .loop .inv .1)
+
+lay-requires : tie.Need-lay-requires Inv-loop μ-loop
+lay-requires c κs =
+    let p = turn-passes (turning (c .before .before .before .before .before .before .before .before .before)) in
+    (p .block, waiting (c .before .before .before .before .before .before) .whole, p .passes .pending)
+
+neither : (a b : Bool) → (a || b) ≡ false → (a ≡ false) × (b ≡ false)
+neither true b e = absurd (subst T e tt)
+neither false b e = (refl, e)
+
+-- where it is no whole block, it was laid
+laid-part : (c : tie.Joined4 Inv-loop μ-loop) → let r = c .before .before .before .before .before .before .before in let v = r .before .before .if3 in
+    (r .run-length .result ≡ 64 → ⊥)
+    → Laid (c .before .before .before .before .pass .last .1 .0) (v .work .renderer .pending) (r .run-length .result) (v .state) (c .if4 .state)
+laid-part c h =
+    let r = c .before .before .before .before .before .before .before in
+    let p = turn-passes (turning r) .passes .pending in
+    ⊎-elim (λ w. rw (w .6) (w .3 .ensures))
+    (λ w. let x = ltb-false (r .run-length .result) 64 (neither (ltb (r .run-length .result) 64) _ (sym (c .before .is-kept .ensures) ∙ w .0 .left) .0) in absurd (h (omega arith)))
+    (c .if4 .came)
+
+give-rows-requires : tie.Need-give-rows-requires Inv-loop μ-loop
+give-rows-requires c κs =
+    let u = c .before .before .before .before .before .before .before .before .before .before in
+    can-give-rows (frameOf hall (args (opening u))) (turn-passes (turning u)) (waiting (c .before .before .before .before .before .before .before))
+    (c .before .before .if5 .taken)
 
 give-requires : tie.Need-give-requires Inv-loop μ-loop
 give-requires c κs =
-    let p = c .before .before .before .before .before .before in
-    let u = p .before .before in
-    let a = u .before .before .before .before .before .before .before .before .before .before .before .before in
-    let s = a .before .before .before .before .before .before .before .before .before .args in
-    can-give (frameOf hall (args a)) (turn-passes (turning u)) (p .pass .ensures (s .n .rate) (sentOf (now (s .meta)))) (c .before .before .if4 .taken)
+    let u = c .before .before .before .before .before .before .before .before .before .before .before .before in
+    can-give (frameOf hall (args (opening u))) (turn-passes (turning u)) (waiting (c .before .before .before .before .before .before .before .before .before))
+    (laid-part (c .before .before .before .before .before) (c .before .before .before .before .if5 .left)) (c .before .before .if6 .taken)
 
 cast-plus : tie.Need-cast-plus Inv-loop μ-loop
-cast-plus c = omega (
-  arith,
-  taken (c .before .before .before .before .before .before .before .before .before .before .before .before .before .before .before .before .before .before) .samples,
-  turn-within (turning (c .before .before .before .before .before .before)),
-)
+cast-plus c = let u = c .before .before .before .before .before .before .before .before in omega (arith, taken (opening u) .samples, turn-within (turning u))
 
 plus-requires : tie.Need-plus-requires Inv-loop μ-loop
-plus-requires c κs =
-    omega (
-      arith,
-      taken (c .before .before .before .before .before .before .before .before .before .before .before .before .before .before .before .before .before .before) .samples,
-      turn-within (turning (c .before .before .before .before .before .before)),
-    )
+plus-requires c κs = let u = c .before .before .before .before .before .before .before .before in omega (arith, taken (opening u) .samples, turn-within (turning u))
 
 loop-less : tie.Need-loop-less Inv-loop μ-loop
-loop-less c = omega (
-  arith,
-  turn-some (turning (c .before .before .before .before .before .before .before)),
-  turn-within (turning (c .before .before .before .before .before .before .before)),
-  c .plus .ensures,
-)
+loop-less c = let u = turning (c .before .before .before .before .before .before .before .before .before) in omega (arith, turn-some u, turn-within u, c .plus .ensures)
+
+-- a whole block: laid, or as much follows
+whole-runs : (c : tie.Joined4 Inv-loop μ-loop) (r : Rendering) (o : List ℕ) → let u = c .before .before .before .before .before .before .before in
+    let s = opening u .before .before .before .before .before .before .before .before .before .args in
+    u .run-length .result ≡ 64 → GaveRows (c .before .before .before .before .pass .result) (c .before .before .before .before .pass .last .1 .0) (s .n .stride)
+    (turnOf u .loop .out) r o
+    → Running (now (s .state)) (args (opening u)) (turnOf u .loop .t .0 + u .run-length .result) r (c .if4 .state) o
+whole-runs c r o e g =
+    let u = c .before .before .before .before .before .before .before in
+    let f = frameOf hall (args (opening u)) in
+    let q = turning u in
+    let p = turn-passes q in
+    let y = waiting (c .before .before .before .before) in
+    let ys = c .before .before .before .before .pass .last .1 .0 in
+    let v = u .before .before .if3 in
+    ⊎-elim (λ w. rw (w .6) (turn-runs q r _ o (passes-whole f p y (w .3 .ensures) e g)))
+    (λ w.
+    let k = u .run-length .result in
+    let left = c .before .before .up-to .result in
+    let x = ltb-false left 128 (neither (ltb k 64) (ltb left 128) (sym (c .before .is-kept .ensures) ∙ w .0 .left) .1) in
+    let l = as-laid ys (v .work .renderer .pending) k (p .passes .pending) (v .state) (fit-all ys (g .fit)) (y .whole) (p .block) in
+    rw (w .1)
+    (turn-skips q r (l .0) o (passes-whole f p y (l .1) e g) (l .1 .infos) (ap (λ (s : Renderer714). s .pending) (g .renderer))
+    (omega (arith, x, c .before .before .up-to .ensures, turnOf u .loop .inv .1))))
+    (c .if4 .came)
 
 loop-again : tie.Need-loop-again Inv-loop μ-loop
 loop-again c =
-    let a = c .before .before .before .before .before .before .before .before .before .before .before .before .before .before .before .before .before .before .before in
+    let u = c .before .before .before .before .before .before .before .before .before in
+    let a = opening u in
     let s = a .before .before .before .before .before .before .before .before .before .args in
-    let u = turning (c .before .before .before .before .before .before .before) in
-    let y = c .before .before .before .before .before .pass in
-    let z = c .before .if4 in
-    let p = turn-passes u in
+    let j = c .before .before in
+    let z = c .before .if5 in
+    let q = turning u in
+    let p = turn-passes q in
     let f = frameOf hall (args a) in
-    let e = y .ensures (s .n .rate) (sentOf (now (s .meta))) in (
-      subst (λ (t : ℕ). Running (now (s .state)) (args a) t (z .work) (y .last .1 .0) (z .out)) (sym (c .plus .ensures))
-          (turn-runs u (z .work) (y .last .1 .0) (z .out)
-          (⊎-elim (λ w. rw (w .6, w .7) (passes-given f p e (w .0 .taken) (w .3 .ensures))) (λ w. rw (w .1, w .2) (passes-on f p e (w .0 .left))) (z .came))),
-      c .before .before .before .before .before .before .before .before .before .before .before .before .before .before .before .before .loop .inv .1,
+    let y = waiting (c .before .before .before .before .before .before) in (
+      subst (λ (t : ℕ). Running (now (s .state)) (args a) t (z .work) (j .if4 .state) (z .out)) (sym (c .plus .ensures))
+          (⊎-elim (λ w. rw (w .6, w .7) (whole-runs j _ _ (w .0 .taken) (w .3 .ensures)))
+          (⊎-elim (λ w. rw (w .8, w .9) (turn-runs q _ _ _ (passes-given f p y (laid-part j (w .0 .left)) (w .2 .taken) (w .5 .ensures))))
+          (λ w. rw (w .3, w .4) (turn-runs q _ _ _ (passes-on f p y (laid-part j (w .0 .left)) (w .2 .left)))))
+          (z .came)),
+      turnOf u .loop .inv .1,
     )
 
 -- ---- at the end
@@ -245,7 +310,14 @@ render-spec =
     start-slot-requires
     next-offset-requires
     run-length-requires
+    (λ c. search needs) (λ c. search needs)
     pass-requires
+    up-to-requires
+    (λ c κs. search needs)
+    (λ c. search needs)
+    lay-requires
+    (λ c. search needs)
+    give-rows-requires
     give-requires
     cast-plus
     plus-requires

@@ -1,7 +1,6 @@
 -- `start_slot`: the slot, through the lent part. Assumes nothing.
-use mathlib.Core.Path.{_≡_, ap}
+use mathlib.Core.Path.{ap}
 use denote.Ref.{now}
-use lib.ListN.{length}
 use borrow.Author.Needs.{needs}
 use Rattle.frame.specs.declared.Rendering.{Rendering}
 use Rattle.frame.proofs.Begins.{slot-starts}
@@ -17,9 +16,9 @@ returns c =
     let s = b .args in
     let u = c .before .before .before .update-timeslot in
     let r = c .restate in
-    let long : length (u .last .1 .0) ≡ 22528 = search (needs, u .kept, update-timeslot-requires (c .before .before .before .before) (u .lifetimes)) in
     record {
-      next = slot-starts (s .self .renderer) (now (s .state)) (u .result) (u .last .1 .0) (r .result .renderer) (b .pre .0) long (b .pre .2) (u .ensures)
+      next = slot-starts (s .self .renderer) (now (s .state)) (u .result) (u .last .1 .0) (r .result .renderer) (b .pre .0)
+          (search (needs, u .kept, update-timeslot-requires (c .before .before .before .before) (u .lifetimes))) (b .pre .2) (u .ensures)
           (ap (λ (w : Rendering). w .renderer) (r .ensures));
       ready = ap (λ (w : Rendering). w .ready) (r .ensures);
       meters = ap (λ (w : Rendering). w .meters) (r .ensures);
