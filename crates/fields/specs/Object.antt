@@ -87,6 +87,7 @@ objectOf m r =
 abbrev pub fromZeroTo : Float → Float → Bool
 fromZeroTo most x = le (fin false 0 (pos 0)) x && le x most
 
+-- absent, or from 0 to `most`
 abbrev pub absentOr : Float → Maybe → Bool
 absentOr most Absent = true
 absentOr most (Value x) = fromZeroTo most x

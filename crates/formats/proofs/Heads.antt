@@ -129,7 +129,8 @@ module _ (is : List ℕ) where
       → T (headValid (bitOr heads h)) → headsValid is (infoBytes * (k + 1)) (infoCount - (k + 1)) ≡ headsValid is 0 infoCount
   joined-more heads k h l e f t =
       let (a, b) = or-valid heads h t in
-      ap (λ (x : Bool). x && headsValid is (infoBytes * (k + 1)) (infoCount - (k + 1))) (sym (true-of (headValid (word is (infoBytes * k))) (subst (λ (n : ℕ). T (headValid n)) e b)))
+      ap (λ (x : Bool). x && headsValid is (infoBytes * (k + 1)) (infoCount - (k + 1)))
+      (sym (true-of (headValid (word is (infoBytes * k))) (subst (λ (n : ℕ). T (headValid n)) e b)))
       ∙ sym (heads-next is k infoCount l) ∙ f a
     where
       true-of : (x : Bool) → T x → x ≡ true

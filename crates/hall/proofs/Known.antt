@@ -27,7 +27,8 @@ use Rattle.frame.specs.Held.{held, IsHeld}
 pub valid-long : (b : List ℕ) → valid b ≡ true → length b ≡ size
 unfolding valid
 valid-long b v = eqb-true (length b) size
-    (and-true (eqb (length b) size) (smallValid (wordsAt b 0 smallWidth)) (and-true (eqb (length b) size && smallValid (wordsAt b 0 smallWidth)) (headsValid (infosOf b) 0 512) v .0) .0)
+    (and-true (eqb (length b) size) (smallValid (wordsAt b 0 smallWidth))
+    (and-true (eqb (length b) size && smallValid (wordsAt b 0 smallWidth)) (headsValid (infosOf b) 0 512) v .0) .0)
 
 pub pos-of : (n : ℕ) → (n ≡ 0 → ⊥) → 0 < n
 pos-of zero h = absurd (h refl)

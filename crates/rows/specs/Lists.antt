@@ -566,6 +566,14 @@ sent-alone =
     (0x3e92c43e ∷ 0 ∷ 0 ∷ 0x38bdcd94 ∷ 0 ∷ 0 ∷ 0x3e292ec5 ∷ 0x3d6193b1 ∷ 0x3dd93924 ∷ 0x3d10d0c2 ∷ 0 ∷ 0 ∷ []) ∷ [])
     ∷ [])
 
+-- gain x send is rounded, then sample x that
+abbrev pub sent-rounded : Row
+sent-rounded =
+    asRow
+    (sent 1 [] 1 (0x3f333333 ∷ []) (spoilt 239 63 (spoilt 238 64 (update 0 [] 1 (atOnce 0 (at 0x3dcccccd 0x3e4ccccd 0x3dcccccd ∷ []) ∷ []))) ∷ []) ⇒ ready []
+    ∷ flushAt 64 ⇒ ready ((0x3ef454ed ∷ 0 ∷ 0 ∷ 0x37bdf91c ∷ 0 ∷ 0 ∷ 0x3e8cd31d ∷ 0x3dbbc425 ∷ 0x3e34d00d ∷ 0x3d711567 ∷ 0 ∷ 0 ∷ []) ∷ [])
+    ∷ [])
+
 -- a bass bed and an object, the bed's own send without effect; other objects start at 0
 abbrev pub sent-with-a-bed : Row
 sent-with-a-bed =
@@ -602,7 +610,7 @@ lifted =
 abbrev pub updates : List Row
 updates =
     offset-0 ∷ new-slot ∷ mid-frame ∷ leading-silence ∷ dropped ∷ in-order ∷ two-elements ∷ below-0 ∷ differences ∷ another-number ∷ kept-element ∷ no-flag ∷ new-element ∷
-    sent-alone ∷ sent-with-a-bed ∷ sent-last ∷ lifted ∷ []
+    sent-alone ∷ sent-rounded ∷ sent-with-a-bed ∷ sent-last ∷ lifted ∷ []
 
 -- ---- slots
 

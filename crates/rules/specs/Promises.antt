@@ -34,8 +34,8 @@ nobody = record { gain = 0·0; size = 0·0; place = record { x = 0·0; y = 0·0;
 abbrev pub unsent : Source → Bool
 unsent s = eq (s .gain) 0·0 || eq (s .send) 0·0
 
--- "the exact squares of its eleven coefficients add up to its gain g within g × 2^-20 + 2^-140": its terms are all that it adds besides its send; each is finite and from 0 to 8, on one of
--- the eleven channels that are not 3, and no two are on one channel
+-- "the exact squares of its eleven coefficients add up to its gain g within g × 2^-20 + 2^-140": its terms are all that it adds besides its send; each is finite and from
+-- 0 to 8, on one of the eleven channels that are not 3, and no two are on one channel
 pub record Squares (s : Source) : Type 0 where
   pub channels : Each (λ t. (t .channel < 12) × (t .channel ≡ 3 → ⊥)) (objectTerms s)
   pub each : Each (λ t. T (between 0·0 8·0 (t .coefficient))) (objectTerms s)

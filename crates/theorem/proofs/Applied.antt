@@ -66,8 +66,10 @@ heads-in : (is : List ℕ) (n at : ℕ) → ((k : ℕ) → k < n → T (headVali
 unfolding headsValid
 heads-in is zero at h = tt
 heads-in is (suc n) at h =
-    and-in (headValid (word is at)) (headsValid is (at + infoBytes) n) (subst (λ (j : ℕ). T (headValid (word is j))) (let e : at + infoBytes * 0 ≡ at = omega arith in e) (h 0 (omega arith)))
-    (heads-in is n (at + infoBytes) (λ k l. subst (λ (j : ℕ). T (headValid (word is j))) (let e : at + infoBytes * suc k ≡ at + infoBytes + infoBytes * k = omega arith in e) (h (suc k) (omega arith))))
+    and-in (headValid (word is at)) (headsValid is (at + infoBytes) n)
+    (subst (λ (j : ℕ). T (headValid (word is j))) (let e : at + infoBytes * 0 ≡ at = omega arith in e) (h 0 (omega arith)))
+    (heads-in is n (at + infoBytes)
+    (λ k l. subst (λ (j : ℕ). T (headValid (word is j))) (let e : at + infoBytes * suc k ≡ at + infoBytes + infoBytes * k = omega arith in e) (h (suc k) (omega arith))))
 
 ranged-table : (is : List ℕ) → InfosRanged is → Table RangedSaid is
 ranged-table is h = record {

@@ -123,7 +123,8 @@ module _ (P : Said) where
   info-kept : (fresh bed : Bool) (i : Info) (j : ℕ) (s : List ℕ) → j < 512 → Fit P bed i → Table P s → Table P (withInfo fresh bed i (infoBytes * j) s)
   info-kept fresh bed i j s l f q =
       let n = q .long in
-      table-stored s (withInfo fresh bed i (infoBytes * j) s) j (headOf bed i) (i .gain) (i .size) (i .send) (info-stored P fresh bed i (infoBytes * j) s (omega arith) f) (f .holds) q
+      table-stored s (withInfo fresh bed i (infoBytes * j) s) j (headOf bed i) (i .gain) (i .size) (i .send)
+      (info-stored P fresh bed i (infoBytes * j) s (omega arith) f) (f .holds) q
 
   -- ---- the infos of an element
 

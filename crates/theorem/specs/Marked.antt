@@ -66,7 +66,17 @@ moving offset =
       element = λ e. record {
         blocks = 1;
         block = λ b. record { offset = 1048576 + offset; ramp = 1048576 };
-        info = λ o b. record { head = 13 + 0 * 256 + 2 * 65536; gain = 0x3f00_0000; size = 0; distance = 0; screen = 0; x = 0x3f80_0000; y = 0x3f80_0000; z = 0x3f80_0000; send = 0 };
+        info = λ o b. record {
+          head = 13 + 0 * 256 + 2 * 65536;
+          gain = 0x3f00_0000;
+          size = 0;
+          distance = 0;
+          screen = 0;
+          x = 0x3f80_0000;
+          y = 0x3f80_0000;
+          z = 0x3f80_0000;
+          send = 0;
+        };
       };
     }
 

@@ -9,7 +9,9 @@ pub use Rattle.timed.proofs.Differences.{Is, is-pos, is-less, is-plus, 
 -- a slot keeps the ranges of the state; a later stream position has wider ones
 pub use Rattle.timed.proofs.SlotInRange.{slot-within, within-later}
 -- what the code reads of an info's bytes is what the info's format reads
-pub use Rattle.timed.proofs.InfoFields.{gain-said, size-said, position-said}
+pub use Rattle.timed.proofs.InfoFields.{gain-said, size-said, position-said, send-read}
+-- an applied block sets the send, and a ramp leaves it
+pub use Rattle.timed.proofs.SendSet.{block-sets-send, ramp-keeps-send}
 -- a loop of n turns: those that are left lead from the value now to that at the end
 pub use Rattle.timed.proofs.LoopTurns.{Leads, leads, leads-on, leads-to}
 -- what every turn keeps, what both ways of a test keep, what holds of every entry of a table

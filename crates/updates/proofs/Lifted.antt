@@ -150,7 +150,8 @@ object-origin bed x first o b s most few l h =
     (λ j t q i. info-stored true bed (x .info o j) (infoBytes * (first + j)) t .long ∙ i)
     (λ t i. info-origin bed (x .info o b) (first + b) t (omega arith) i)
     (λ j t q ne i.
-    origin-beside (info-stored true bed (x .info o j) (infoBytes * (first + j)) t) (elim (apart infoBytes b j (infoBytes * first) ne) [ inl z ↦ inl (omega arith) | inr z ↦ inr (omega arith) ]) i)
+    origin-beside (info-stored true bed (x .info o j) (infoBytes * (first + j)) t)
+    (elim (apart infoBytes b j (infoBytes * first) ne) [ inl z ↦ inl (omega arith) | inr z ↦ inr (omega arith) ]) i)
     l s h
 
 objects-origin : (isf : ℕ) (x : Element) (first n o b : ℕ) (s : List ℕ) → first + 256 ≤ 512 → n ≤ 32 → x .blocks ≤ 8 → o < n → b < x .blocks → Long s →
@@ -161,7 +162,8 @@ objects-origin isf x first n o b s most all few l m h =
     (λ j t q i. object-stored true (ltb j isf) x (first + 8 * j) j t few .long ∙ i)
     (λ t i. object-origin (ltb o isf) x (first + 8 * o) o b t (omega arith) few m i)
     (λ j t q ne i.
-    origin-beside (object-stored true (ltb j isf) x (first + 8 * j) j t few) (elim (apart (mostBlocks * infoBytes) o j (infoBytes * first) ne) [ inl z ↦ inl (omega arith) | inr z ↦ inr (omega arith) ]) i)
+    origin-beside (object-stored true (ltb j isf) x (first + 8 * j) j t few)
+    (elim (apart (mostBlocks * infoBytes) o j (infoBytes * first) ne) [ inl z ↦ inl (omega arith) | inr z ↦ inr (omega arith) ]) i)
     l s h
 
 infos-origin : (u : Update) (w : Work) → u .elements ≤ 2 → u .objects ≤ 32 → ((e : ℕ) → e < u .elements → u .element e .blocks ≤ 8) → Long (w .infos) →

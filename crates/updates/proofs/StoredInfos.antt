@@ -85,7 +85,8 @@ unfolding objectStored
 object-stored fresh bed x first o s few =
     times-in (λ (t : List ℕ). Stored s t (infoBytes * first) (infoBytes * first + mostBlocks * infoBytes)) (infoGiven fresh bed x first o) (x .blocks)
     (λ b t l h.
-    twice (infoBytes * first) (infoBytes * first + mostBlocks * infoBytes) h (info-stored fresh bed (x .info o b) (infoBytes * (first + b)) t) (omega arith) (omega arith) (omega arith) (omega arith))
+    twice (infoBytes * first) (infoBytes * first + mostBlocks * infoBytes) h (info-stored fresh bed (x .info o b) (infoBytes * (first + b)) t)
+    (omega arith) (omega arith) (omega arith) (omega arith))
     (x .blocks) 0 (omega arith) s (stays s _ _)
 
 pub objects-stored : (fresh : Bool) (isf : ℕ) (x : Element) (first n : ℕ) (s : List ℕ) → x .blocks ≤ 8 → n ≤ 32 →
@@ -94,5 +95,6 @@ unfolding objectsStored
 objects-stored fresh isf x first n s few most =
     times-in (λ (t : List ℕ). Stored s t (infoBytes * first) (infoBytes * first + elementInfos * infoBytes)) (objectGiven fresh isf x first) n
     (λ o t l h.
-    twice (infoBytes * first) (infoBytes * first + elementInfos * infoBytes) h (object-stored fresh (ltb o isf) x (first + 8 * o) o t few) (omega arith) (omega arith) (omega arith) (omega arith))
+    twice (infoBytes * first) (infoBytes * first + elementInfos * infoBytes) h (object-stored fresh (ltb o isf) x (first + 8 * o) o t few)
+    (omega arith) (omega arith) (omega arith) (omega arith))
     n 0 (omega arith) s (stays s _ _)

@@ -429,6 +429,11 @@ fn updates(rows: &mut Rows) {
         .push(of_object())
         .push(sent(0.0))
         .flush();
+    let rounded = frame(&[], &[[0.7]]).with(update(0, &[], 1, &[at_once(0, &[near()])]));
+    rows.row("sent-rounded")
+        .shows("gain x send is rounded, then sample x that")
+        .push(with_send(200, 0.75, rounded))
+        .flush();
     let both = update(0, &[3], 1, &[at_once(0, &[SILENT, near()])]);
     let both = frame(&[3], &[[0.25], [0.5]]).with(both);
     rows.row("sent-with-a-bed")

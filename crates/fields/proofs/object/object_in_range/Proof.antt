@@ -14,7 +14,9 @@ returns c =
     let m = a .meta .now in
     let at = 40 * a .r in
     let flags = getD m (at + 2) 0 in
-    cc (range-by-bits 0x41000000 8·0 eight-bits m flags 4 (at + 4), range-by-bits 0x3f800000 1·0 one-bits m flags 32 (at + 24), float-bits m (at + 32), float-bits m (at + 36), one-bits)
+    let gain = range-by-bits 0x41000000 8·0 eight-bits m flags 4 (at + 4) in
+    let size = range-by-bits 0x3f800000 1·0 one-bits m flags 32 (at + 24) in
+    cc (gain, size, float-bits m (at + 32), float-bits m (at + 36), one-bits)
 
 pub object-in-range-spec : {M : Type 1} → statement M
 object-in-range-spec =

@@ -27,10 +27,12 @@ element-valid-requires-2 c κs =
     (rw (p .long .ensures) (h .position), rw (c .long4 .ensures) (h .second))
 
 word-of-requires-9 : tie.Need-word-of-requires-9
-word-of-requires-9 c κs = let h = c .before .before .before .before .before .before .before .before .before .before .before .before .before .before .before .before .before .pre .0 in omega arith
+word-of-requires-9 c κs =
+    let h = c .before .before .before .before .before .before .before .before .before .before .before .before .before .before .before .before .before .pre .0 in omega arith
 
 long-requires-4 : tie.Need-long-requires-4
-long-requires-4 c κs = let h = c .before .before .before .before .before .before .before .before .before .before .before .before .before .before .before .before .before .before .pre .0 in omega arith
+long-requires-4 c κs =
+    let h = c .before .before .before .before .before .before .before .before .before .before .before .before .before .before .before .before .before .before .pre .0 in omega arith
 
 returns : tie.Need-returns
 returns c =
