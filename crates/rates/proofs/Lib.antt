@@ -1,3 +1,4 @@
+pub mod Quick
 pub mod Parts
 pub mod Every
 pub mod Theorems
