@@ -18,7 +18,7 @@ use Rattle.ieee.proofs.Ops.{Rounds, small, add-rounds, div-rounds}
 use Rattle.ieee.proofs.Signed.{at-most, at-least, not-negative, near, near-ulp, P-grid}
 use Rattle.ieee.proofs.Compare.{nlt→}
 use Rattle.limiter.specs.Limiter.{decay, grown}
-use Rattle.limiter.specs.Range.{Fraction, grownTimes}
+use Rattle.limiter.specs.BlockInRange.{Fraction, grownTimes}
 
 -- ---- the decay
 pub record Decay (n rate : ℕ) : Type 0 where

@@ -12,7 +12,8 @@ use Rattle.ieee.proofs.Value.{shape}
 use Rattle.ieee.proofs.Constants.{top-pos}
 use Rattle.limiter.specs.Limiter.{0·0, blockPeak, scaled, scaledBlock, lowered}
 use Rattle.limiter.specs.Meters.{blockMeters}
-use Rattle.limiter.specs.Range.{Metered, LimitedInRange}
+use Rattle.limiter.specs.Range.{Metered}
+use Rattle.limiter.specs.BlockInRange.{LimitedInRange}
 use Rattle.limiter.proofs.Levels.{Level, Fit, rank}
 use Rattle.limiter.proofs.Peaks.{Under, zero-level, zero-under, block-peak}
 use Rattle.limiter.proofs.Lowered.{lowered-keeps, kept-within, kept-under}

@@ -8,7 +8,7 @@ use lib.Dec.{lit<}
 use lib.Ieee.{Float}
 use Rattle.ieee.specs.Units.{One, P}
 use Rattle.limiter.specs.Limiter.{1·0, decay}
-use Rattle.limiter.specs.Range.{Fraction, grownTimes}
+use Rattle.limiter.specs.BlockInRange.{Fraction, grownTimes}
 use Rattle.limiter.proofs.Growth.{Decay, decay-is, HalfUlp, Grows, grows}
 
 one-half : One ≡ 33554432 * HalfUlp

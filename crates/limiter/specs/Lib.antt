@@ -2,4 +2,5 @@ pub mod Limiter
 pub mod Level
 pub mod Meters
 pub mod Range
+pub mod BlockInRange
 pub mod Places

@@ -18,7 +18,7 @@ use Rattle.vectors.specs.declared.Vec3.{Vec3}
 use Rattle.panning.specs.Choice.{Corner, differ, 0·0}
 use Rattle.panning.specs.Table.{distinct}
 use Rattle.panning.specs.Terms.{Term, term, audible, onChannel}
-use Rattle.panning.specs.Facts.{Each, squareSum, squares}
+use Rattle.panning.specs.Coefficients.{Each, squareSum, squares}
 use Rattle.panning.proofs.Tables.{other, others}
 
 pub audible→ : (ts : List Term) {t : Term} → List·Memᴰ t (audible ts) → List·Memᴰ t ts

@@ -1,36 +1,17 @@
 -- What holds of panning over any table of speakers, for a position of any floats: the corners exist, the shares lie from 0 to 1, no speaker gets two corners, and at size 0
 -- the squares of the coefficients that are mixed add up to the gain. Assumes nothing.
-use Prim.Native.Nat.{ℕ, _+_, _*_, _≤_}
+use Prim.Native.Nat.{ℕ, _≤_}
 use mathlib.Core.Path.{_≡_}
 use mathlib.Core.Bool.{Bool}
-use mathlib.Core.List.{List, [], _∷_, List·Memᴰ}
+use mathlib.Core.List.{List, [], List·Memᴰ}
 use lib.Dec.{T}
 use lib.ListN.{length}
 use lib.Ieee.{Float, eq}
-use Rattle.ieee.specs.Units.{One, mag, P}
-use Rattle.ieee.specs.Bounds.{DifferBy}
 use Rattle.vectors.specs.declared.Vec3.{Vec3}
 use Rattle.panning.specs.Choice.{Corner, corner, 0·0, 1·0}
 use Rattle.panning.specs.Terms as t
 use Rattle.panning.specs.Terms.{Term, panned, terms, cornerTerms, onChannel}
-use Rattle.panning.specs.Table.{between, 8·0}
-
--- the sum of the exact squares of a channel's coefficients, and of those of the channels l, in units of 2 ^ -298
-unfoldable pub squareSum : List Float → ℕ
-squareSum [] = 0
-squareSum (x ∷ xs) = mag x * mag x + squareSum xs
-
-unfoldable pub squares : List ℕ → List Term → ℕ
-unfolding squareSum
-squares [] ts = 0
-squares (c ∷ l) ts = squareSum (onChannel c ts) + squares l ts
-
--- |sum - g| is at most g * 2 ^ -20 + 2 ^ -140, both sides taken 2 ^ 20 times. In units of 2 ^ -298 g is P g * One, and 2 ^ -140 is 512 * One.
-abbrev pub AddsUp : ℕ → Float → Type 0
-AddsUp sum g = DifferBy (1048576 * sum) (1048576 * (P g * One)) (P g * One + 1048576 * (512 * One))
-
-abbrev pub Each : (Term → Type 0) → List Term → Type 0
-Each Q ts = (t : Term) → List·Memᴰ t ts → Q t
+use Rattle.panning.specs.Coefficients.{between, 8·0, squares, AddsUp, Each}
 
 -- for the speakers l at the places sp, a size being divided by n, and the position p
 pub record Pans (sp : ℕ → Vec3) (l : List ℕ) (n : Float) (p : Vec3) : Type 0 where

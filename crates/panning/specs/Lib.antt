@@ -1,5 +1,6 @@
 pub mod Choice
 pub mod Terms
+pub mod Coefficients
 pub mod Table
 pub mod Speakers
 pub mod Corners714

@@ -8,7 +8,7 @@ use Rattle.vectors.specs.declared.Vec3.{Vec3}
 use Rattle.panning.specs.declared.Cube.{Cube}
 use Rattle.panning.specs.declared.Shares.{Shares}
 use Rattle.panning.specs.Choice.{0·0, 1·0}
-use Rattle.panning.specs.Table.{between}
+use Rattle.panning.specs.Coefficients.{between}
 use Rattle.panning.specs.Terms as t
 use Rattle.panning.specs.Speakers.{hall714}
 use Rattle.panning.specs.Found.{chosen}

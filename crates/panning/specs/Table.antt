@@ -5,16 +5,14 @@ use mathlib.Core.Bool.{Bool, true, false, not, _&&_}
 use mathlib.Core.List.{List, [], _∷_}
 use lib.IntN.{pos}
 use lib.Dec.{T, eqb}
-use lib.Ieee.{Float, fin, binary32, fits, le, eq}
+use lib.Ieee.{Float, fin, binary32, fits, eq}
 use Rattle.vectors.specs.declared.Vec3.{Vec3}
-pub use Rattle.ieee.specs.Numbers.{8·0}
 use Rattle.panning.specs.Choice.{everyOf, 1·0}
+pub use Rattle.panning.specs.Coefficients.{8·0}
+unfoldable pub use Rattle.panning.specs.Coefficients.{between}
 
 abbrev pub minus-one : Float
 minus-one = fin true 1 (pos 0)
-
-unfoldable pub between : Float → Float → Float → Bool
-between lo hi x = fits binary32 x && (le lo x && le x hi)
 
 abbrev pub placedInside : Vec3 → Bool
 placedInside v = between minus-one 1·0 (v .x) && (between minus-one 1·0 (v .y) && between minus-one 1·0 (v .z))

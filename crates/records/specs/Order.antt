@@ -1,5 +1,5 @@
 -- A reader may skip this file: the code's way along the updates of a frame, by rising offset and at each offset in the order sent; f i is the offset of update i, of n
--- updates. "Updates are taken in stable order of sample offset" is `taken` of `rules/specs/Order`. Assumes nothing.
+-- updates. "Updates are taken in stable order of sample offset" is `taken` of `rules/specs/StableOrder`. Assumes nothing.
 use Prim.Native.Nat.{ℕ, zero, suc, _≤_, _<_}
 use mathlib.Core.Path.{_≡_}
 use mathlib.Core.Bool.{_&&_, cond}

@@ -15,7 +15,8 @@ use Rattle.ieee.proofs.Compare.{→le}
 use Rattle.beds.proofs.Range.{between}
 use Rattle.limiter.specs.Limiter.{scaled, scaledBlock, blockGain}
 use Rattle.limiter.specs.Meters.{blockMeters}
-use Rattle.limiter.specs.Range.{Metered, MetersInRange, LimitedInRange}
+use Rattle.limiter.specs.Range.{Metered, MetersInRange}
+use Rattle.limiter.specs.BlockInRange.{LimitedInRange}
 use Rattle.limiter.proofs.Theorems.{limiter-in-range, length-scaled}
 use Rattle.angles.specs.Angle.{Listed}
 use Rattle.rules.specs.Parts.{1·0, Tame, Channels, twelve}

@@ -11,7 +11,8 @@ use borrow.Author.Tests.{eqb-true, eqb-false, eq-eqb, ne-eqb}
 use lib.Dec.{eqb}
 use Rattle.ieee.specs.Bounds.{All}
 use Rattle.ieee.proofs.Grid.{le-or-lt}
-use Rattle.rules.specs.Order.{atOffset, taken, Rises, Stable}
+use Rattle.rules.specs.Order.{atOffset}
+use Rattle.rules.specs.StableOrder.{taken, Rises, Stable}
 use Rattle.rules.specs.Leaves.{Leaves, Shape}
 use Rattle.rules.specs.Samples.{State, appliedAt, updated}
 use Rattle.rules.specs.Refusals.{Found, clear, _then_, Announced, objectsMatch, countsAt, shapeAt}

@@ -17,7 +17,7 @@ use Rattle.panning.specs.Choice.{0·0, 1·0}
 use Rattle.panning.specs.Table.{Position, between, 8·0}
 use Rattle.panning.specs.Terms.{Term, panned, audible, paired, spread, onChannel}
 use Rattle.panning.specs.Speakers.{fullRange, panned714, terms714, pan714}
-use Rattle.panning.specs.Facts.{Each}
+use Rattle.panning.specs.Coefficients.{Each}
 use Rattle.panning.proofs.Theorems.{pans714}
 use Rattle.panning.proofs.Tables.{gain8}
 use Rattle.rules.proofs.EachOf.{either}

@@ -8,6 +8,7 @@ pub mod Calls
 pub mod Accepted
 pub mod Sounds
 pub mod Order
+pub mod StableOrder
 pub mod Promises
 pub mod Ringing
 pub mod Block

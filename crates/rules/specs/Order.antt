@@ -1,29 +1,12 @@
--- "Updates are taken in stable order of sample offset. One at or past the frame's end is dropped". Assumes nothing.
-use Prim.Native.Nat.{ℕ, zero, suc, _≤_, _<_}
-use mathlib.Core.Path.{_≡_}
+-- "Updates are taken in stable order of sample offset. One at or past the frame's end is dropped": the updates at an offset. `Stable` (specs/StableOrder) is the whole
+-- sentence, which proofs/Order shows of the rules. Assumes nothing.
+use Prim.Native.Nat.{ℕ}
 use mathlib.Core.Bool.{cond}
-use mathlib.Core.List.{List, [], _∷_, _++_}
+use mathlib.Core.List.{List, [], _∷_}
 use lib.Dec.{eqb}
-use Rattle.ieee.specs.Bounds.{All}
 
 module _ {A : Type 0} (offset : A → ℕ) where
   -- those at t, in the order sent
   abbrev pub atOffset : ℕ → List A → List A
   atOffset t [] = []
   atOffset t (u ∷ us) = cond (eqb (offset u) t) (u ∷ atOffset t us) (atOffset t us)
-
-  -- those of the n samples from t on, as time meets them
-  abbrev pub taken : ℕ → ℕ → List A → List A
-  taken zero t us = []
-  taken (suc n) t us = atOffset t us ++ taken n (suc t) us
-
-  -- no offset below one before it
-  abbrev pub Rises : List A → Type 0
-  Rises [] = Unit {0}
-  Rises (u ∷ us) = All (λ (v : A). offset u ≤ offset v) us × Rises us
-
-  -- vs is the stable order of those updates of us that are below n: by rising offset, and at each offset as they were sent
-  pub record Stable (us : List A) (n : ℕ) (vs : List A) : Type 0 where
-    pub rises : Rises vs
-    pub same : (t : ℕ) → t < n → atOffset t vs ≡ atOffset t us
-    pub below : All (λ (u : A). offset u < n) vs

@@ -13,9 +13,8 @@ use Rattle.lowpass.specs.Lowpass.{next}
 use Rattle.limiter.specs.Meters.{callMeters}
 use Rattle.beds.specs.declared.Found.the-variants.{At}
 use Rattle.beds.specs.Matching.{matching}
-use Rattle.panning.specs.Facts.{squares, AddsUp, Each}
+use Rattle.panning.specs.Coefficients.{between, 8·0, squares, AddsUp, Each}
 use Rattle.panning.specs.Speakers.{fullRange}
-use Rattle.panning.specs.Table.{between, 8·0}
 use Rattle.rules.specs.Parts.{0·0}
 use Rattle.rules.specs.Leaves.{Leaves, Source, Bed, started}
 use Rattle.rules.specs.Mix.{objectTerms, sendOf, objectAdds, sampleAt, samplesAt, fed, fedByBeds}
