@@ -15,16 +15,16 @@ use Rattle.ieee.proofs.Value.{one-pos, one-grid}
 use Rattle.ieee.proofs.Constants.{one-less}
 use Rattle.ieee.proofs.Digits.{Plus, plus-of, div-plus}
 use Rattle.rates.specs.Rates.{Listed}
-use Rattle.rates.specs.Sums.{angleOf}
+use Rattle.rates.specs.Series.{angleOf}
 use Rattle.angles.specs.Angle.{w0, numeratorAt, down, partial}
 use Rattle.angles.specs.Filter.{alphaOf}
 use Rattle.angles.specs.FiveTerms.{sine}
 use Rattle.angles.proofs.Partial.{Fraction, fraction}
-use Rattle.angles.proofs.Unique.{size-of}
+use Rattle.angles.proofs.OneMeant.{size-of}
 use Rattle.angles.proofs.Terms.{term-small, t₁, t₂, t₃, t₄, Falling, falling}
 use Rattle.angles.proofs.Enclosed.{Within, low, wide}
 use Rattle.angles.proofs.Quotient.{at-most-one, square-small, angle-top, angle-bottom}
-use Rattle.angles.proofs.Rates.{w-large, sine-within}
+use Rattle.angles.proofs.MeantAtRates.{w-large, sine-within}
 
 -- ---- the constants
 -- Q + Q is 11,863,283 * 2 ^ -23

@@ -5,7 +5,7 @@ use Prim.Native.Nat.{ℕ, suc, _+_, _-_, _*_, _%_, _^_, _≤_, _<_}
 use native.Mathlib.Nat.{le-trans, le-of-eq, mul-le-mul-right, le-of-mul-le-mul-right}
 use native.Mathlib.Omega.{arith}
 use lib.Pow.{pow-pos}
-use Rattle.rates.specs.Sums.{nextTerm}
+use Rattle.rates.specs.Series.{nextTerm}
 use Rattle.angles.specs.Angle.{nextDivisor, numeratorAt, down}
 use Rattle.angles.proofs.Partial.{factor-pos, T-next, taken, plus}
 use Rattle.angles.proofs.Terms.{low-term, high-term, by, t₁, t₂, t₃, t₄, sum, Falling, falling}

@@ -14,7 +14,7 @@ use Rattle.ieee.proofs.Value.{Is, one-pos, plus-P, plus-N, shape}
 use Rattle.ieee.proofs.Constants.{whole-is}
 use Rattle.ieee.proofs.Unique.{same-value}
 use Rattle.ieee.proofs.Digits.{Plus, Gives, plus-of, exactly, mul-plus, add-plus}
-use Rattle.angles.proofs.Unique.{size-of}
+use Rattle.angles.proofs.OneMeant.{size-of}
 
 -- n times a power of two is exact
 scaled : (n j : ℕ) {c : Float} → n < 16777216 → j ≤ 125 → Plus c (2 ^ j) → Plus (mul binary32 (ofInt binary32 (pos n)) c) (n * 2 ^ j)

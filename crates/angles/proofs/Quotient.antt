@@ -22,7 +22,7 @@ use Rattle.ieee.proofs.Signed.{mag-is}
 use Rattle.ieee.proofs.Constants.{whole-is}
 use Rattle.ieee.proofs.Digits.{Plus, plus-of, closest-least, kept, div-plus}
 use Rattle.rates.specs.Rates.{Listed}
-use Rattle.rates.specs.Sums.{stepOf, angleOf}
+use Rattle.rates.specs.Series.{stepOf, angleOf}
 use Rattle.angles.specs.Angle.{w0}
 
 -- ---- the step is a power of two, and the quotient has 24 digits

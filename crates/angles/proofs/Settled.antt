@@ -16,7 +16,7 @@ use Rattle.ieee.proofs.Unique.{unique}
 use Rattle.rates.specs.Suffice.{inside}
 use Rattle.angles.specs.Angle.{numeratorAt, down, partial, Meant}
 use Rattle.angles.proofs.Partial.{Fraction, fraction, D-pos}
-use Rattle.angles.proofs.Unique.{size-of}
+use Rattle.angles.proofs.OneMeant.{size-of}
 use Rattle.angles.proofs.Terms.{sum}
 use Rattle.angles.proofs.Enclosed.{Within, low, wide}
 use Rattle.angles.proofs.Enclosed as enclosed

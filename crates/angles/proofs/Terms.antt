@@ -4,7 +4,7 @@ use Prim.Native.Nat.{ℕ, _+_, _-_, _*_, _/_, _^_, _≤_, _<_}
 use native.Mathlib.Nat.{le-trans, le-of-lt, mul-pos, mul-le-mul-right, div-le-self, div-mul-le-self, div-lt-iff-lt-mul, div-div-eq-div-mul}
 use native.Mathlib.Omega.{arith}
 use lib.Pow.{pow-pos}
-use Rattle.rates.specs.Sums.{nextTerm, five}
+use Rattle.rates.specs.Series.{nextTerm, five}
 use Rattle.angles.proofs.Partial.{factor-pos}
 
 -- ---- a term

@@ -16,15 +16,15 @@ use Rattle.ieee.proofs.Grid.{closest-near}
 use Rattle.ieee.proofs.Closest.{rnd-closest}
 use Rattle.ieee.proofs.Digits.{Plus, plus-of, closest-most}
 use Rattle.rates.specs.Rates.{Listed}
-use Rattle.rates.specs.Sums.{angleOf}
+use Rattle.rates.specs.Series.{angleOf}
 use Rattle.angles.specs.Angle.{w0, numeratorAt, down, partial}
 use Rattle.angles.specs.FiveTerms.{cosine}
 use Rattle.angles.proofs.Partial.{Fraction, fraction}
-use Rattle.angles.proofs.Unique.{size-of}
+use Rattle.angles.proofs.OneMeant.{size-of}
 use Rattle.angles.proofs.Terms.{term-small, t₁, t₂, t₃, t₄, Falling, falling}
 use Rattle.angles.proofs.Enclosed.{Within, low, wide}
 use Rattle.angles.proofs.Quotient.{at-most-one, square-small, angle-top, angle-bottom}
-use Rattle.angles.proofs.Rates.{y-large, cosine-within}
+use Rattle.angles.proofs.MeantAtRates.{y-large, cosine-within}
 use Rattle.angles.proofs.Made.{one-24}
 
 -- ---- C is nearest to 2 ^ 24 p / q, and p / q lies from b to h steps of 2 ^ -60

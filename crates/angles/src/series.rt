@@ -6,7 +6,7 @@ ghost use Prim.Native.Nat.{_+_, _*_, _/_, _^_, _<_, _≤_};
 ghost use lib.Ieee.{binary32, round};
 ghost use lib.Ieee.Nearest as ieee;
 ghost use Rattle.rates.specs.Rates.{Listed};
-ghost use Rattle.rates.specs.Sums.{stepOf, angleOf, nextTerm, five};
+ghost use Rattle.rates.specs.Series.{stepOf, angleOf, nextTerm, five};
 
 // The last digit of the angle's 24, in steps.
 fn step_of(rate: u64) -> u64

@@ -1,4 +1,4 @@
 pub mod Routes
 pub mod Positions
 pub mod Matching
-pub mod Terms
+pub mod BedTerms

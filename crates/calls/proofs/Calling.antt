@@ -9,15 +9,15 @@ use Rattle.words.specs.Words.{half, word}
 use Rattle.rules.specs.Refusals.{argsOf}
 use Rattle.rules.specs.Calls as rules
 use Rattle.rules.specs.Calls.{push, flush, reset, refused, rendered, nothing, cleared}
-use Rattle.rules.specs.Block.{made}
+use Rattle.rules.specs.BlockCalls.{made}
 use Rattle.theorem.specs.Instance.{hall, block}
 use Rattle.hall.specs.Answers.{Left, codeOf}
 use Rattle.hall.specs.declared.answer.Answer.{Answer}
 use Rattle.framing.specs.Framing.{bedCount}
-use Rattle.listing.specs.Contracts.{Told}
-use Rattle.calls.specs.Text.{textOf}
+use Rattle.listing.specs.GrownText.{Told}
+use Rattle.calls.specs.AnswerText.{textOf}
 use Rattle.calls.specs.Asked.{frameArgs, plainCall}
-use Rattle.calls.specs.Contracts.{textOfCode, Called}
+use Rattle.calls.specs.CallResults.{textOfCode, Called}
 
 -- ---- an entry's answer in the words of the rules
 

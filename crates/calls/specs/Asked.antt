@@ -7,7 +7,7 @@ use lib.ListN.{getD, take, drop}
 use Rattle.words.specs.Words.{half, word}
 use Rattle.rules.specs.Refusals.{Args, argsOf}
 use Rattle.rules.specs.Calls.{Call, push, flush, reset}
-use Rattle.rules.specs.Block.{made}
+use Rattle.rules.specs.BlockCalls.{made}
 use Rattle.theorem.specs.Instance.{hall, block}
 use Rattle.framing.specs.Framing.{bedCount, isFrame, isPlain, isBody, metadataBytes, pcmOf}
 

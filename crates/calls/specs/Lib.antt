@@ -1,3 +1,3 @@
-pub mod Text
+pub mod AnswerText
 pub mod Asked
-pub mod Contracts
+pub mod CallResults

@@ -4,9 +4,9 @@ ghost use mathlib.Core.Bool.{true};
 ghost use lib.ListN.{length};
 ghost use Rattle.rules.specs.Calls.{push};
 ghost use Rattle.framing.specs.Framing.{isFrame};
-ghost use Rattle.listing.specs.Contracts.{Told};
+ghost use Rattle.listing.specs.GrownText.{Told};
 ghost use Rattle.calls.specs.Asked.{frameArgs, plainCall};
-ghost use Rattle.calls.specs.Contracts.{textOfCode, Called};
+ghost use Rattle.calls.specs.CallResults.{textOfCode, Called};
 use fields::bytes::byte_at;
 use hall::answer::Answer;
 

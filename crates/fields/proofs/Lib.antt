@@ -1,6 +1,6 @@
 pub mod All
 pub mod Zeros
-pub mod Patterns
+pub mod RangesByBits
 pub mod Raised
-pub mod Infos
+pub mod InfoSaysAll
 pub mod Theorems

@@ -10,7 +10,7 @@ use lib.ListN.{getD}
 use borrow.Author.Tests.{eq-eqb, ne-eqb, eqb-true, eqb-false}
 use Rattle.words.specs.Words.{number}
 use Rattle.words.proofs.Numbers.{power-pos}
-use Rattle.fields.specs.Bytes.{all, zeroBytes}
+use Rattle.fields.specs.RecordBytes.{all, zeroBytes}
 
 -- a sum is 0 where both terms are
 sum-zero : (a b p : ℕ) → 0 < p → eqb (a + b * p) 0 ≡ (eqb a 0 && eqb b 0)

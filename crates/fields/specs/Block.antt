@@ -6,7 +6,7 @@ use lib.Dec.{eqb, leb}
 use lib.IntN.{ℤ, pos, negsuc}
 use lib.Signed.{leZ}
 use Rattle.words.specs.Words.{signedAt}
-use Rattle.fields.specs.Bytes.{byte, kind, zeroBytes}
+use Rattle.fields.specs.RecordBytes.{byte, kind, zeroBytes}
 use Rattle.fields.specs.declared.block.Block.{Block}
 
 abbrev pub blocks : List ℕ → ℕ → ℕ

@@ -1,6 +1,6 @@
-pub mod Bytes
+pub mod RecordBytes
 pub mod Update
 pub mod Block
 pub mod Raised
 pub mod Object
-pub mod Infos
+pub mod ObjectInfos

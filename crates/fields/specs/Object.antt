@@ -13,7 +13,7 @@ use Rattle.vectors.specs.declared.Vec3.{Vec3}
 use Rattle.vectors.specs.declared.Maybe.{Maybe}
 use Rattle.vectors.specs.declared.Maybe.the-variants.{Absent, Value}
 use Rattle.vectors.specs.Head.{anchorOf}
-use Rattle.fields.specs.Bytes.{byte, kind, zeroBytes, has}
+use Rattle.fields.specs.RecordBytes.{byte, kind, zeroBytes, has}
 
 -- ---- as laid out
 

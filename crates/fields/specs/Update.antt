@@ -5,7 +5,7 @@ use mathlib.Core.List.{List}
 use lib.Dec.{eqb, leb, ltb}
 use lib.ListN.{getD}
 use Rattle.words.specs.Words.{half}
-use Rattle.fields.specs.Bytes.{all, byte, kind, zeroBytes}
+use Rattle.fields.specs.RecordBytes.{all, byte, kind, zeroBytes}
 use Rattle.fields.specs.declared.update.Header.{Header}
 
 abbrev pub offset : List ℕ → ℕ → ℕ

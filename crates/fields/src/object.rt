@@ -5,7 +5,7 @@ ghost use lib.ListN.{length};
 ghost use lib.Ieee.{binary32, ofBits};
 ghost use Rattle.vectors.specs.Head.{headWord};
 ghost use Rattle.fields.specs.Object.{valueFits, valuesFit, isObject, depthCode, objectOf, fromZeroTo, objectInRange};
-ghost use Rattle.fields.specs.Infos.{storedInfo};
+ghost use Rattle.fields.specs.ObjectInfos.{storedInfo};
 use crate::bytes::has;
 use crate::bytes::zero_word;
 

@@ -12,8 +12,8 @@ use Rattle.formats.specs.Info.{infoFormat}
 use Rattle.formats.specs.Areas.{infoCount, infosFormat, rowCount, rowPlaces, rowFormat, placesFormat, rowBytes, placeCount}
 use Rattle.formats.proofs.Places.{word-of-run}
 use Rattle.formats.proofs.Word.{lawful-u32-to}
-use Rattle.formats.proofs.Parts.{lawful-array}
-use Rattle.formats.proofs.Infos.{lawful-info}
+use Rattle.formats.proofs.PairsAndArrays.{lawful-array}
+use Rattle.formats.proofs.LawfulInfo.{lawful-info}
 
 -- ---- an entry, and what stands past the last
 

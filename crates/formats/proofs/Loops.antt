@@ -14,7 +14,7 @@ use Rattle.words.specs.Words.{withWord, withWords}
 use Rattle.formats.specs.Format.{Format, _⊗_, puts, gets, allAt, array}
 use Rattle.formats.specs.Lawful.{Lawful}
 use Rattle.formats.proofs.Places.{spelled}
-use Rattle.formats.proofs.Parts.{lawful-array}
+use Rattle.formats.proofs.PairsAndArrays.{lawful-array}
 
 -- k more, where i is below n
 pub room : (k : ℕ) {i n : ℕ} → i < n → k * i + k ≤ k * n

@@ -9,7 +9,7 @@ use lib.ListN.{length, getD, length-append, List·getD-append}
 use lib.Seq.{getD-append-add, ext-getD}
 pub use lib.Ieee.Fits.{and-i as and-in}
 use Rattle.words.specs.Words.{Words, word, wordsAt}
-use Rattle.formats.specs.Numbers.{inWords}
+use Rattle.formats.specs.NumberWords.{inWords}
 use Rattle.formats.specs.Format.{Format, Stands}
 use Rattle.formats.specs.Lawful.{Same, Lawful}
 

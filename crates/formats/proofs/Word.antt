@@ -9,7 +9,7 @@ use lib.Dec.{T, eqb, leb, ltb, leb→le, le→leb, ltb→lt, lt→ltb, lit<, lit
 use lib.ListN.{getD}
 use lib.Ieee.{binary32, ofBits}
 use lib.Ieee.Bits.{ofBits-toBits, ofBits-fits, toBits-lt}
-use Rattle.formats.specs.Numbers.{low, high, bit, Single, bits}
+use Rattle.formats.specs.NumberWords.{low, high, bit, Single, bits}
 use Rattle.formats.specs.Format.{Stands, oneWord, u32Where, u32To, u32Below, usizeTo, u8To, flag, float, u64To}
 use Rattle.formats.specs.Lawful.{Lawful}
 use Rattle.formats.proofs.Places.{stands-at, stands-rest, same-at}

@@ -22,7 +22,7 @@ infoBytes = 4 * infoFormat .width
 abbrev pub infosBytes : ℕ
 infosBytes = 4 * infosFormat .width
 
--- the heads of n infos from byte `at` on; `heads-format` of proofs/Heads: it is the test of n infos by their format
+-- the heads of n infos from byte `at` on; `heads-format` of proofs/HeadsTested: it is the test of n infos by their format
 unfoldable pub headsValid : List ℕ → ℕ → ℕ → Bool
 headsValid is at zero = true
 headsValid is at (suc n) = headValid (word is at) && headsValid is (at + infoBytes) n

@@ -8,7 +8,7 @@ use lib.Dec.{T, eqb, leb, ltb}
 use lib.ListN.{length, getD, replicate}
 use lib.Ieee.{Float, binary32, ofBits}
 use Rattle.ieee.specs.Bounds.{All}
-use Rattle.formats.specs.Numbers.{low, high, longOf, bit, Single, bits}
+use Rattle.formats.specs.NumberWords.{low, high, longOf, bit, Single, bits}
 
 pub record Format (A : Type 0) : Type 1 where
   -- how many words

@@ -8,7 +8,7 @@ use lib.Dec.{ltb}
 use lib.Ieee.{Float}
 use Rattle.vectors.specs.Head.{Head, headWord, headIn}
 use Rattle.vectors.specs.declared.Vec3.{Vec3}
-use Rattle.formats.specs.Numbers.{Single}
+use Rattle.formats.specs.NumberWords.{Single}
 use Rattle.formats.specs.Format.{Format, oneWord, float, _⊗_, struct, ranged}
 use Rattle.formats.specs.Vector.{Singles, vecFormat}
 

@@ -9,14 +9,14 @@ use borrow.Author.Tests.{eq-eqb, ne-eqb}
 use lib.Dec.{eqb}
 use lib.ListN.{length, getD}
 use Rattle.timed.specs.State.{Timed, slotAt}
-use Rattle.timed.specs.Contracts.{IsTimed}
+use Rattle.timed.specs.TimedResults.{IsTimed}
 use Rattle.timed.specs.declared.state.MetadataRendererState.{MetadataRendererState}
 use Rattle.timed.proofs.Theorems as timed
 use Rattle.fields.specs.Update.{offset}
 use Rattle.records.specs.Runs.{each}
 use Rattle.records.specs.Laid.{updateAt, count}
-use Rattle.records.specs.Order.{FirstAt}
-use Rattle.records.specs.Answers.{IsLayout, offsetAt}
+use Rattle.records.specs.UpdateWalk.{FirstAt}
+use Rattle.records.specs.LayoutAnswers.{IsLayout, offsetAt}
 use Rattle.records.specs.declared.layout.Layout as records
 use Rattle.updates.specs.Said.{Update, updateOf}
 use Rattle.updates.specs.Applied as updates

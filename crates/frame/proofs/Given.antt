@@ -12,10 +12,10 @@ use Rattle.limiter.specs.Limiter.{blockGain, scaled, scaledBlock, grown}
 use Rattle.limiter.specs.Meters.{blockMeters, meets, meetsAll}
 use Rattle.limiter.specs.declared.meters.Meters.{Meters}
 use Rattle.limiter.specs.declared.Limited.{Limited}
-use Rattle.limiter.specs.Places.{floatsAt, withFloats, channels, channelsAt, withChannels, Given}
+use Rattle.limiter.specs.ChannelPlaces.{floatsAt, withFloats, channels, channelsAt, withChannels, Given}
 use Rattle.rules.specs.Parts.{Channels, none, twelve, floats}
 use Rattle.rules.specs.Samples.{limited, metered, gainAfter, flushed}
-use Rattle.rules.specs.Block.{writtenFrom, written}
+use Rattle.rules.specs.BlockCalls.{writtenFrom, written}
 use Rattle.store.specs.declared.renderer.Renderer714.{Renderer714}
 use Rattle.store.specs.Layout.{placesAt, size, placesOf}
 use Rattle.store.specs.Steps.{emptiedBy}

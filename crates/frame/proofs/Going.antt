@@ -17,7 +17,7 @@ use Rattle.rules.specs.Leaves.{Leaves, Shape}
 use Rattle.rules.specs.Samples.{Pending, State, After, updated, slotted, framed, opened, pushed}
 use Rattle.rules.specs.Refusals.{Args, listed, shapeAt}
 use Rattle.rules.specs.Calls.{announced, frameOf}
-use Rattle.rules.specs.Block.{Layout, written}
+use Rattle.rules.specs.BlockCalls.{Layout, written}
 use Rattle.rules.proofs.Theorems.{Facts, Passed, is-roomy, samples-fit, untouched, R, updated-ranged, slotted-ranged, framed-ranged, opened-ranged, Matches, matches-on, judged}
 use Rattle.rules.proofs.Theorems.{updated-shape, slotted-shape}
 use Rattle.frame.specs.Chunk.{chunk}

@@ -13,7 +13,7 @@ use lib.Seq.{take-all, length-take-le, take-append-le, drop-append-le, drop-at}
 use lib.Ieee.{Float, nan, binary32, fits, ofBits, toBits}
 use lib.Ieee.Bits.{ofBits-toBits}
 use Rattle.words.specs.Words.{wordsAt}
-use Rattle.limiter.specs.Places.{channels, withChannels}
+use Rattle.limiter.specs.ChannelPlaces.{channels, withChannels}
 use Rattle.rules.specs.Parts.{laid}
 use Rattle.store.specs.Layout.{infosAt, placesAt, size, infosOf, placesOf}
 use Rattle.store.proofs.Theorems.{places-row, no-places, words-drop}

@@ -10,7 +10,7 @@ use lib.Ieee.{binary32, toBits}
 use Rattle.words.specs.Words.{withNumber, withWord, withWords}
 use Rattle.words.proofs.Runs.{run-length-kept}
 use Rattle.rules.specs.Parts.{Channels, none, joined}
-use Rattle.rules.specs.Block.{writtenFrom, written}
+use Rattle.rules.specs.BlockCalls.{writtenFrom, written}
 use Rattle.rules.proofs.Theorems.{length-map}
 use Rattle.frame.specs.Out.{behindFrom, behind}
 

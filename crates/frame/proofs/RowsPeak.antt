@@ -8,7 +8,7 @@ use lib.ListN.{length, getD, take, drop, length-drop, take-append-drop}
 use lib.Ieee.{Float, nan}
 use Rattle.ieee.specs.Bounds.{All}
 use Rattle.limiter.specs.Limiter.{0·0, peak, blockPeak}
-use Rattle.limiter.specs.Places.{channels}
+use Rattle.limiter.specs.ChannelPlaces.{channels}
 use Rattle.limiter.proofs.Levels.{Fit, rank, level-unique}
 use Rattle.limiter.proofs.Peaks.{zero-level, zero-under, peak-from, all-fit, block-peak}
 use Rattle.rules.proofs.Theorems.{all-append}

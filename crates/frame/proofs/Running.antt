@@ -13,8 +13,8 @@ use Rattle.words.specs.Words.{Bytes, wordsAt}
 use Rattle.angles.specs.Angle.{Listed}
 use Rattle.fields.specs.Update.{offset}
 use Rattle.records.specs.Laid.{count, updateAt}
-use Rattle.records.specs.Answers.{IsLayout, offsetAt}
-use Rattle.records.specs.Order.{nextOffset}
+use Rattle.records.specs.LayoutAnswers.{IsLayout, offsetAt}
+use Rattle.records.specs.UpdateWalk.{nextOffset}
 use Rattle.records.specs.declared.layout.Layout.{Layout}
 use Rattle.records.proofs.Theorems.{next-within, next-above, next-least}
 use Rattle.updates.specs.WholeRecords.{WholeUpdates}
@@ -31,7 +31,7 @@ use Rattle.rules.proofs.Theorems.{Passed, is-passed, and-true, is-roomy, is-lis
 use Rattle.store.specs.declared.renderer.Renderer714.{Renderer714}
 use Rattle.store.specs.Steps.{openedBy}
 use Rattle.store.specs.Layout.{smallWidth, size, assembled, infosOf, placesOf, decode}
-use Rattle.store.specs.Ranges.{smallValid, headsValid, valid}
+use Rattle.store.specs.ValidBlocks.{smallValid, headsValid, valid}
 use Rattle.theorem.specs.Instance.{hall, block, sentAt, sentOf}
 use Rattle.theorem.proofs.Theorems.{each-all, codes-long, shape-apply, shape-slot, facts}
 use Rattle.frame.specs.declared.Rendering.{Rendering}

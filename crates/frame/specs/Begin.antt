@@ -7,8 +7,8 @@ use lib.Dec.{eqb}
 use lib.ListN.{length}
 use Rattle.timed.specs.State.{Timed, Within}
 use Rattle.timed.specs.declared.state.MetadataRendererState.{MetadataRendererState}
-use Rattle.records.specs.Order.{FirstAt}
-use Rattle.records.specs.Answers.{IsLayout, offsetAt}
+use Rattle.records.specs.UpdateWalk.{FirstAt}
+use Rattle.records.specs.LayoutAnswers.{IsLayout, offsetAt}
 use Rattle.records.specs.declared.layout.Layout as records
 use Rattle.updates.specs.WholeRecords.{WholeUpdates}
 use Rattle.rules.specs.Samples.{Renderer, updated}

@@ -7,10 +7,10 @@ use lib.ListN.{length, getD}
 use lib.Ieee.{Float, binary32, fits, nan}
 use Rattle.formats.specs.Areas.{rowCount, rowPlaces, placeCount}
 use Rattle.limiter.specs.Limiter.{blockGain, scaledBlock, grown}
-use Rattle.limiter.specs.Places.{channels, withChannels}
+use Rattle.limiter.specs.ChannelPlaces.{channels, withChannels}
 use Rattle.limiter.specs.Meters.{unmet, blockMeters, meets, meetsAll}
 use Rattle.rules.specs.Samples.{After, flushed}
-use Rattle.rules.specs.Block.{written}
+use Rattle.rules.specs.BlockCalls.{written}
 use Rattle.theorem.specs.Instance.{hall}
 use Rattle.store.specs.Layout.{size}
 use Rattle.store.specs.Steps.{emptiedBy}

@@ -6,16 +6,16 @@ use mathlib.Core.List.{List}
 use lib.Dec.{ltb}
 use lib.ListN.{length}
 use Rattle.words.specs.Words.{wordsAt}
-use Rattle.records.specs.Answers.{IsLayout}
+use Rattle.records.specs.LayoutAnswers.{IsLayout}
 use Rattle.records.specs.declared.layout.Layout.{Layout}
 use Rattle.limiter.specs.Meters.{unmet, meetsAll}
 use Rattle.rules.specs.Refusals.{Args, clear}
 use Rattle.rules.specs.Samples.{After}
 use Rattle.rules.specs.Calls.{found}
-use Rattle.rules.specs.Block.{written}
+use Rattle.rules.specs.BlockCalls.{written}
 use Rattle.store.specs.Fields.{smallOf}
 use Rattle.store.specs.Layout.{smallWidth, decode}
-use Rattle.store.specs.Ranges.{valid}
+use Rattle.store.specs.ValidBlocks.{valid}
 use Rattle.theorem.specs.Instance.{hall}
 use Rattle.frame.specs.declared.Rendering.{Rendering}
 use Rattle.frame.specs.Held.{IsNext}

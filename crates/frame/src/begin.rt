@@ -6,7 +6,7 @@ ghost use mathlib.Core.Path.{_≡_};
 ghost use mathlib.Core.Bool.{not, _||_};
 ghost use lib.Dec.{eqb};
 ghost use lib.ListN.{length};
-ghost use Rattle.records.specs.Answers.{IsLayout};
+ghost use Rattle.records.specs.LayoutAnswers.{IsLayout};
 ghost use Rattle.updates.specs.WholeRecords.{WholeUpdate, WholeUpdates};
 ghost use Rattle.updates.specs.Said.{updateOf};
 ghost use Rattle.rules.specs.Samples.{appliedAt, updated, slotted};

@@ -12,7 +12,7 @@ ghost use Rattle.rules.specs.Calls.{frameOf};
 ghost use Rattle.store.specs.Layout.{decode};
 ghost use Rattle.theorem.specs.Instance.{hall};
 ghost use Rattle.frame.specs.Begin.{NoneSent};
-ghost use Rattle.refusals.specs.Contracts.{argsWith};
+ghost use Rattle.refusals.specs.FirstFound.{argsWith};
 ghost use Rattle.frame.specs.Loop.{lesser, runLength, Accepted, IsRendered};
 use crate::Rendering;
 use crate::chunk::lay;

@@ -10,7 +10,7 @@ use lib.Dec.{leb, eqb}
 use lib.ListN.{getD}
 use Rattle.words.specs.Words.{half}
 use Rattle.fields.proofs.Theorems.{and-left, and-right}
-use Rattle.fields.specs.Bytes.{zeroBytes}
+use Rattle.fields.specs.RecordBytes.{zeroBytes}
 use Rattle.framing.specs.Framing.{bedCount, inLimits, isFrame}
 
 -- the counts of a frame

@@ -11,7 +11,7 @@ use lib.ListN.{length, take, drop, length-drop, drop-of-length-le}
 use lib.Seq.{take-at, take-all, length-take-le, drop-length, take-append-add}
 use borrow.Rule.Slice.PartMut.{putMid, midOf, postOf, mid-len, post-is}
 use Rattle.framing.specs.Framing.{isPcm, recordCount, recordBytes, recordAt, inUse, arePcm, heldIn}
-use Rattle.framing.specs.Contracts.{Taken, Unpacked}
+use Rattle.framing.specs.PcmTaken.{Taken, Unpacked}
 
 -- ---- one record
 

@@ -5,7 +5,7 @@ use mathlib.Core.List.{List, [], _++_}
 use lib.Dec.{eqb, leb}
 use lib.ListN.{getD, take, drop}
 use Rattle.words.specs.Words.{half}
-use Rattle.fields.specs.Bytes.{zeroBytes}
+use Rattle.fields.specs.RecordBytes.{zeroBytes}
 
 abbrev pub bedCount : List ℕ → ℕ
 bedCount r = getD r 10 0

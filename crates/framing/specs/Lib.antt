@@ -1,2 +1,2 @@
 pub mod Framing
-pub mod Contracts
+pub mod PcmTaken

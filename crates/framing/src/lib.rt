@@ -4,7 +4,7 @@ ghost use mathlib.Core.Bool.{true};
 ghost use Prim.Native.Nat.{_≤_, min};
 ghost use lib.ListN.{length};
 ghost use Rattle.framing.specs.Framing.{inLimits, isFrame, isPlain, isPcm, bedCount, metadataBytes, pcmBytes, recordBytes};
-ghost use Rattle.framing.specs.Contracts.{Taken, Unpacked};
+ghost use Rattle.framing.specs.PcmTaken.{Taken, Unpacked};
 use fields::bytes::byte_at;
 use fields::bytes::zeros;
 

@@ -20,12 +20,12 @@ use Rattle.rules.specs.Refusals.{Args, clear, room, listed}
 use Rattle.rules.specs.Samples.{Renderer, pushed, flushed}
 use Rattle.rules.specs.Ranges.{Ranged}
 use Rattle.rules.specs.Calls.{push, flush, frameOf, found}
-use Rattle.rules.specs.Block.{written, made}
+use Rattle.rules.specs.BlockCalls.{written, made}
 use Rattle.rules.proofs.Theorems.{is-passed, is-listed, rate-high, is-roomy, length-limited}
 use Rattle.store.specs.declared.renderer.Renderer714.{Renderer714}
 use Rattle.store.specs.Fields.{smallWords, smallOf}
 use Rattle.store.specs.Layout.{smallWidth, decode}
-use Rattle.store.specs.Ranges.{valid}
+use Rattle.store.specs.ValidBlocks.{valid}
 use Rattle.theorem.specs.Instance.{hall, block}
 use Rattle.theorem.proofs.Theorems.{Within, decoded-of, pushed-within, flushed-within}
 use Rattle.frame.specs.Held.{held, IsHeld}

@@ -15,8 +15,8 @@ use Rattle.rules.proofs.Theorems.{and-true}
 use Rattle.store.specs.declared.renderer.Renderer714.{Renderer714}
 use Rattle.store.specs.Fields.{smallWords, smallOf}
 use Rattle.store.specs.Layout.{smallWidth, size, small, placeBytes, infosOf, decode, encode}
-use Rattle.store.specs.Ranges.{valid, smallValid, headsValid}
-use Rattle.store.proofs.Back.{small-long}
+use Rattle.store.specs.ValidBlocks.{valid, smallValid, headsValid}
+use Rattle.store.proofs.SmallPartBack.{small-long}
 use Rattle.store.proofs.Rows.{rows-of}
 use Rattle.store.proofs.Whole.{small-full, saved-encode}
 use Rattle.theorem.specs.Instance.{hall}

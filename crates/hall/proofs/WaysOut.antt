@@ -9,10 +9,10 @@ use Rattle.rules.specs.Refusals.{Args, Found, clear, stop, room}
 use Rattle.rules.specs.Samples.{pushed, flushed}
 use Rattle.rules.specs.Calls as rules
 use Rattle.rules.specs.Calls.{Call, push, flush, reset, refused, rendered, nothing, cleared, Result, frameOf, found, answered, asked, drained, step}
-use Rattle.rules.specs.Block.{Outcome, outOf, strideOf, written, left, takes, made}
+use Rattle.rules.specs.BlockCalls.{Outcome, outOf, strideOf, written, left, takes, made}
 use Rattle.rules.proofs.Theorems.{numberOf, never-seven}
 use Rattle.store.specs.Layout.{size, decode, encode, freshRenderer}
-use Rattle.store.specs.Ranges.{valid}
+use Rattle.store.specs.ValidBlocks.{valid}
 use Rattle.theorem.specs.Instance.{hall, block}
 use Rattle.hall.specs.declared.answer.Answer.{Answer}
 use Rattle.hall.specs.Answers.{codeOf, codeOfFound, Left}

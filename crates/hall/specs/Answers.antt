@@ -9,14 +9,14 @@ use Rattle.limiter.specs.declared.meters.Meters.{Meters}
 use Rattle.rules.specs.Refusals.{Args, Found, clear, stop, room}
 use Rattle.rules.specs.Calls as rules
 use Rattle.rules.specs.Calls.{refused, rendered, nothing, cleared, found}
-use Rattle.rules.specs.Block.{Outcome}
+use Rattle.rules.specs.BlockCalls.{Outcome}
 use Rattle.words.specs.Words.{wordsAt}
 use Rattle.records.specs.declared.layout.Layout.{Layout}
-use Rattle.records.specs.Answers.{IsLayout}
+use Rattle.records.specs.LayoutAnswers.{IsLayout}
 use Rattle.store.specs.declared.renderer.Renderer714.{Renderer714}
 use Rattle.store.specs.Fields.{smallOf}
 use Rattle.store.specs.Layout.{smallWidth, decode}
-use Rattle.store.specs.Ranges.{valid}
+use Rattle.store.specs.ValidBlocks.{valid}
 use Rattle.theorem.specs.Instance.{hall}
 use Rattle.hall.specs.declared.answer.Answer.{Answer}
 

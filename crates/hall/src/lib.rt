@@ -1,7 +1,7 @@
 // The entries that the host calls. Contracts: the answer, the state block and the output at exit are those of the rules' `made`, for arguments of any kind.
 ghost use mathlib.Core.Path.{_≡_};
 ghost use Rattle.rules.specs.Calls.{push, flush, reset};
-ghost use Rattle.rules.specs.Block.{made};
+ghost use Rattle.rules.specs.BlockCalls.{made};
 ghost use Rattle.theorem.specs.Instance.{hall, block};
 ghost use Rattle.store.specs.Layout.{size};
 ghost use Rattle.hall.specs.Answers.{Left, codeOf, version};

@@ -1,9 +1,9 @@
 // An accepted push and a flush with samples waiting, on the state block in place.
 ghost use Rattle.rules.specs.Calls.{push, flush};
-ghost use Rattle.rules.specs.Block.{made};
+ghost use Rattle.rules.specs.BlockCalls.{made};
 ghost use Rattle.theorem.specs.Instance.{hall, block};
 ghost use Rattle.hall.specs.Answers.{Waiting, Cleared, Left};
-ghost use Rattle.refusals.specs.Contracts.{argsWith};
+ghost use Rattle.refusals.specs.FirstFound.{argsWith};
 use crate::answer;
 use crate::answer::Answer;
 use frame::Rendering;

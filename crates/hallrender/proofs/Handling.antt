@@ -8,15 +8,15 @@ use lib.Dec.{eqb}
 use lib.ListN.{getD, length, take, drop}
 use lib.Seq.{take-at}
 use Rattle.rules.specs.Calls.{push}
-use Rattle.rules.specs.Block.{made, finalOn}
+use Rattle.rules.specs.BlockCalls.{made, finalOn}
 use Rattle.theorem.specs.Instance.{hall, block}
 use Rattle.framing.specs.Framing.{isFrame, isPlain, isBody, metadataBytes, pcmBytes, pcmOf, pcmRecords, recordBytes, recordCount, arePcm}
-use Rattle.framing.specs.Contracts.{Unpacked}
+use Rattle.framing.specs.PcmTaken.{Unpacked}
 use Rattle.framing.proofs.Theorems.{none-are}
 use Rattle.calls.specs.Asked.{frameArgs, outAfter, pushOf, plainCall, callOf, isCall}
-use Rattle.calls.specs.Contracts.{Called}
-use Rattle.hallrender.specs.Run.{callsOf, outOn, Ran}
-use Rattle.hallrender.specs.Contracts.{FrameTaken, NotAlone, Handled, RecordTaken}
+use Rattle.calls.specs.CallResults.{Called}
+use Rattle.hallrender.specs.ProgramRun.{callsOf, outOn, Ran}
+use Rattle.hallrender.specs.RunResults.{FrameTaken, NotAlone, Handled, RecordTaken}
 
 -- ---- a frame
 

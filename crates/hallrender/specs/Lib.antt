@@ -1,2 +1,2 @@
-pub mod Run
-pub mod Contracts
+pub mod ProgramRun
+pub mod RunResults

@@ -1,7 +1,7 @@
 // `hallrender`: records of 40 bytes from standard input, each answer to standard output. Document 01, "`hallrender` reads 40-byte records".
 ghost use mathlib.Core.Path.{_≡_};
-ghost use Rattle.hallrender.specs.Run.{newBlock, Ran};
-ghost use Rattle.hallrender.specs.Contracts.{Rooms, FrameTaken, Handled, RecordTaken};
+ghost use Rattle.hallrender.specs.ProgramRun.{newBlock, Ran};
+ghost use Rattle.hallrender.specs.RunResults.{Rooms, FrameTaken, Handled, RecordTaken};
 use libc::STDERR_FILENO;
 use libc::STDIN_FILENO;
 use libc::STDOUT_FILENO;

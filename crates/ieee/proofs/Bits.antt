@@ -15,7 +15,7 @@ use lib.Ieee.Fits.{kept-lt}
 use lib.Ieee.Scale.{finite}
 use lib.Ieee.Digits.{size-le, size-reaches}
 use Rattle.ieee.specs.Units.{One, Top, F32, sign, mag}
-use Rattle.ieee.specs.Patterns.{unitsOf}
+use Rattle.ieee.specs.FloatBits.{unitsOf}
 use Rattle.ieee.specs.Bounds.{Bounded}
 use Rattle.ieee.proofs.Grid.{OnGrid, le-or-lt, size-mono, full-grid}
 use Rattle.ieee.proofs.Closest.{size-at}

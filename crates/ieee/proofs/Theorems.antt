@@ -7,7 +7,7 @@ pub use Rattle.ieee.proofs.Signed.{mag-is, one-sided, P-grid, P-less}
 pub use Rattle.ieee.proofs.Constants.{zero-f32, zero-mag, one-f32, one-P, ninth-f32, ninth-P, eight-f32, eight-P, sixteen-f32, sixteen-P}
 pub use Rattle.ieee.proofs.Value.{one-is, one-pos, one-grid}
 pub use Rattle.ieee.proofs.Constants.{one-less, top-pos}
-pub use Rattle.ieee.proofs.Numbers.{zero-bits, one-bits, nine-tenths-bits}
+pub use Rattle.ieee.proofs.NumbersByBits.{zero-bits, one-bits, nine-tenths-bits}
 -- a whole number as f32: its value, that it is on the grid, below `Top`, and can be cast
 pub use Rattle.ieee.proofs.Constants.{whole-is, whole-grid, whole-less, in-float}
 pub use Rattle.ieee.proofs.Value.{Is, plus-P, plus-N}

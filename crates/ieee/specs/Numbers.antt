@@ -20,7 +20,7 @@ abbrev pub 8·0 : Float
 abbrev pub 16·0 : Float
 16·0 = fin false 1 (pos 4)
 
--- ---- the same by their bits, which is how code has them (`zero-bits`, `one-bits`, `nine-tenths-bits` of proofs/Numbers)
+-- ---- the same by their bits, which is how code has them (`zero-bits`, `one-bits`, `nine-tenths-bits` of proofs/NumbersByBits)
 
 abbrev pub 0·0f : Float
 0·0f = ofBits binary32 0

@@ -12,7 +12,7 @@ use Rattle.ieee.specs.Bounds.{All}
 use Rattle.ieee.specs.Small.{absolute, larger}
 use Rattle.limiter.specs.Limiter.{peak, scaled, blockPeak, scaledBlock}
 use Rattle.limiter.proofs.Levels.{Level, level-abs}
-use Rattle.limiter.specs.Places.{floatsAt, withFloats, channels, overlaid, channelsAt, withChannels}
+use Rattle.limiter.specs.ChannelPlaces.{floatsAt, withFloats, channels, overlaid, channelsAt, withChannels}
 use Rattle.words.proofs.Runs.{length-floats}
 use Rattle.words.proofs.Part.{floats-back}
 use Rattle.limiter.proofs.Scaled.{length-scaled}

@@ -9,7 +9,7 @@ use lib.Seq.{drop-cons}
 use lib.Ieee.{Float, nan, binary32, mul}
 use Rattle.words.specs.Words.{withFloat}
 use Rattle.limiter.specs.Limiter.{scaled}
-use Rattle.limiter.specs.Places.{withFloats}
+use Rattle.limiter.specs.ChannelPlaces.{withFloats}
 
 pub length-scaled : (g : Float) (xs : List Float) → length (scaled g xs) ≡ length xs
 length-scaled g [] = refl

@@ -3,4 +3,4 @@ pub mod Level
 pub mod Meters
 pub mod Range
 pub mod BlockInRange
-pub mod Places
+pub mod ChannelPlaces

@@ -13,7 +13,7 @@ ghost use Rattle.formats.specs.Areas.{rowCount, rowPlaces, placeCount};
 ghost use Rattle.limiter.specs.Level.{Level};
 ghost use Rattle.limiter.specs.Limiter.{0·0, 1·0, peakFrom, peak, lowered, grown};
 ghost use Rattle.limiter.specs.Limiter.{blockPeak};
-ghost use Rattle.limiter.specs.Places.{channels, Room, Given};
+ghost use Rattle.limiter.specs.ChannelPlaces.{channels, Room, Given};
 use formats::areas;
 use meters::Meters;
 

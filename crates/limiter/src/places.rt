@@ -7,7 +7,7 @@ ghost use Prim.Native.Nat.{_+_, _*_, _≤_};
 ghost use lib.ListN.{length};
 ghost use Rattle.formats.specs.Areas.{rowCount, rowPlaces, placeCount, placesBytes};
 ghost use Rattle.limiter.specs.Limiter.{scaled, scaledBlock};
-ghost use Rattle.limiter.specs.Places.{floatsAt, withFloats, channels, overlaid, channelsAt, withChannels};
+ghost use Rattle.limiter.specs.ChannelPlaces.{floatsAt, withFloats, channels, overlaid, channelsAt, withChannels};
 use formats::areas;
 
 // The floats from `at` on, as many as `samples` has.

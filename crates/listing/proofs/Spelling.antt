@@ -13,7 +13,7 @@ use lib.Seq.{take-at, length-take-le}
 use Rattle.io.specs.Digits.{glyph, digits, Fewest}
 use Rattle.listing.specs.Line.{lineOf}
 use Rattle.listing.specs.Text.{decimalTo, decimal, linesOf}
-use Rattle.listing.specs.Contracts.{Put, Told}
+use Rattle.listing.specs.GrownText.{Put, Told}
 
 -- ---- decimal
 

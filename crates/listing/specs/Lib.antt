@@ -1,3 +1,3 @@
 pub mod Line
 pub mod Text
-pub mod Contracts
+pub mod GrownText

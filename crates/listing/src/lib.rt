@@ -5,7 +5,7 @@ ghost use Prim.Native.Nat.{_+_, _*_, _<_, _≤_, min};
 ghost use lib.ListN.{length, take, drop};
 ghost use Rattle.listing.specs.Line.{hex8, lineOf};
 ghost use Rattle.listing.specs.Text.{ascii, decimal, linesOf, readyText, refusedText, noneText, resetText};
-ghost use Rattle.listing.specs.Contracts.{Put, Told};
+ghost use Rattle.listing.specs.GrownText.{Put, Told};
 
 // The eight digits of a word and the byte behind them from `at` on.
 fn put_word(line: &mut [u8], at: usize, word: u32, end: u8)

@@ -1,15 +1,15 @@
 -- What others may cite of this crate, a line each. Assumes nothing.
 
 -- document 02, R-7: the output is at most twice the largest that the filter was fed
-pub use Rattle.lowpass.proofs.Rates.{lowpass-twice}
+pub use Rattle.lowpass.proofs.CalmAtRates.{lowpass-twice}
 -- a new filter has the coefficients that document 01 means
-pub use Rattle.lowpass.proofs.Rates.{new-meant}
+pub use Rattle.lowpass.proofs.CalmAtRates.{new-meant}
 -- `Calm X`: a new filter has it, a sample of size at most X keeps it, and with it an output is at most 2 X
 pub use Rattle.lowpass.proofs.Calm.{Calm, calm-next, output-bounded}
-pub use Rattle.lowpass.proofs.Rates.{calm-listed}
+pub use Rattle.lowpass.proofs.CalmAtRates.{calm-listed}
 -- of a list: what holds of a filter that was fed it, and one sample more
 pub use Rattle.lowpass.proofs.Calm.{calm-all, last-bounded}
-pub use Rattle.lowpass.proofs.Rates.{calm-fed, fed-more}
+pub use Rattle.lowpass.proofs.CalmAtRates.{calm-fed, fed-more}
 -- a filter that remembers only +0.0 answers +0.0 with +0.0
 pub use Rattle.lowpass.proofs.Silence.{Still, still-output, still-next}
 -- the bound is needed: once the largest is too little, and the sample itself must count

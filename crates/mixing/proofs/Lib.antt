@@ -3,6 +3,6 @@ pub mod Samples
 pub mod Parts
 pub mod Sums
 pub mod Passes
-pub mod Meant
+pub mod RefusalEight
 pub mod Bounded
 pub mod Theorems

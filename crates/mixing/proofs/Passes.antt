@@ -12,8 +12,8 @@ use lib.Ieee.{nan, neg, lt, le, eq}
 use Rattle.words.specs.Words.{word}
 use Rattle.words.proofs.Nan.{above}
 use Rattle.ieee.proofs.Grid.{le-or-lt}
-use Rattle.mixing.specs.Samples.{within16, passes, allPass}
-use Rattle.mixing.specs.Patterns.{Plain}
+use Rattle.mixing.specs.FrameSamples.{within16, passes, allPass}
+use Rattle.mixing.specs.SampleBits.{Plain}
 
 and-assoc : (a b c : Bool) → (a && (b && c)) ≡ ((a && b) && c)
 and-assoc true b c = refl

@@ -10,7 +10,7 @@ use lib.Ieee.{Float, nan}
 use Rattle.words.specs.Words.{floatAt}
 use Rattle.words.proofs.Runs.{floats-more}
 pub use Rattle.words.proofs.Runs.{length-floats as length-samples, float-at as sample-at}
-use Rattle.mixing.specs.Samples.{samples}
+use Rattle.mixing.specs.FrameSamples.{samples}
 
 module _ (s : List ℕ) where
   step : (at i : ℕ) (r : List Float) → i < length r → set (samples s at i ++ drop i r) i (floatAt s (at + 4 * i)) ≡ samples s at (i + 1) ++ drop (i + 1) r

@@ -9,9 +9,9 @@ pub use Rattle.mixing.proofs.Bounded.{AddendWithin, total-bounded}
 -- mixing keeps a row's length, and a gain of zero keeps the row
 pub use Rattle.mixing.proofs.Mixed.{length-full, full-zero}
 -- refusal 8: a sample passes exactly if its bits are small; each sample of a run that passes does so, is no NaN, and is finite and of size at most 16
-pub use Rattle.mixing.proofs.Meant.{passes-meant}
+pub use Rattle.mixing.proofs.RefusalEight.{passes-meant}
 pub use Rattle.mixing.proofs.Passes.{pass-at, pass-plain}
-pub use Rattle.mixing.proofs.Meant.{sample-bounded}
+pub use Rattle.mixing.proofs.RefusalEight.{sample-bounded}
 -- samples out of bytes: how many, and each
 pub use Rattle.mixing.proofs.Samples.{length-samples, sample-at}
 -- a part of a list put through a function that keeps its length: the whole's length, the part, what is beside it

@@ -1,5 +1,5 @@
-pub mod Samples
+pub mod FrameSamples
 pub mod Sums
 pub mod Mixing
 pub mod Part
-pub mod Patterns
+pub mod SampleBits

@@ -8,8 +8,8 @@ ghost use lib.ListN.{length};
 ghost use Rattle.words.specs.Words.{word};
 ghost use Rattle.mixing.specs.Mixing.{mixed, mixedFull};
 ghost use Rattle.mixing.specs.Part.{onPart};
-ghost use Rattle.mixing.specs.Samples.{samples, allPass};
-ghost use Rattle.mixing.specs.Patterns.{Plain};
+ghost use Rattle.mixing.specs.FrameSamples.{samples, allPass};
+ghost use Rattle.mixing.specs.SampleBits.{Plain};
 
 // Each sample of `input` times the gain is added to the output's.
 pub fn mix_add_scaled(input: &[f32], output: &mut [f32], gain: f32)

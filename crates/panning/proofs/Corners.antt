@@ -15,7 +15,7 @@ use Rattle.panning.specs.Table.{Table, Position}
 use Rattle.panning.proofs.Lists.{In, Some, Each, keep→, first-in, orElse→, orElse-some, some-of}
 use Rattle.panning.proofs.Axis.{end→, Ends, ends, level-with}
 use Rattle.panning.proofs.Tables.{Tame3, all-tame}
-use Rattle.panning.proofs.Beside.{Beside, Part, eq-self, ratio-part}
+use Rattle.panning.proofs.SharesInUnit.{Beside, Part, eq-self, ratio-part}
 
 -- ---- left and right of a row
 module _ (X : ℕ → Float) (v : Float) (g : T (fits binary32 v)) (l : List ℕ) (f : Each (λ k. F32 (X k)) l) (s : Some l) where

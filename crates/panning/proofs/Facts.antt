@@ -24,7 +24,7 @@ use Rattle.panning.specs.Table.{Table, Position, 8·0, between}
 use Rattle.panning.specs.Facts.{Pans}
 use Rattle.panning.specs.Coefficients.{Each, squares, AddsUp}
 use Rattle.panning.proofs.Tables.{Gain8, gain8, size1}
-use Rattle.panning.proofs.Beside.{Part}
+use Rattle.panning.proofs.SharesInUnit.{Part}
 use Rattle.panning.proofs.Corners.{corner-in, up-part, ahead-part, across-part}
 use Rattle.panning.proofs.Weighing.{Plus, weight, weights, part-plus}
 use Rattle.panning.proofs.Once.{once}

@@ -4,7 +4,7 @@ pub mod Corners714
 pub mod Lists
 pub mod Axis
 pub mod Tables
-pub mod Beside
+pub mod SharesInUnit
 pub mod Corners
 pub mod Sum
 pub mod Weighing

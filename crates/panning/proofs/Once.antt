@@ -13,7 +13,7 @@ use Rattle.panning.specs.Choice.{Corner, differ, first, layer, rowAmong,
 use Rattle.panning.specs.Terms.{ratio, cornerAt, up, ahead, across}
 use Rattle.panning.specs.Table.{Table, Position}
 use Rattle.panning.proofs.Tables.{Tame3, Gain8, all-tame}
-use Rattle.panning.proofs.Beside.{eq-self, ratio-zero}
+use Rattle.panning.proofs.SharesInUnit.{eq-self, ratio-zero}
 use Rattle.panning.proofs.Corners.{layers, rows, corner-in-row, corner-in-layer, corner-in}
 use Rattle.panning.proofs.Weighing.{weight, no-up, no-ahead, no-across}
 

@@ -18,7 +18,7 @@ use Rattle.panning.specs.Choice.{corner}
 use Rattle.panning.specs.Terms.{up, ahead, across, part, rowWeight}
 use Rattle.panning.specs.Table.{Table, Position}
 use Rattle.panning.proofs.Tables.{Gain8}
-use Rattle.panning.proofs.Beside.{Part}
+use Rattle.panning.proofs.SharesInUnit.{Part}
 use Rattle.panning.proofs.Corners.{up-part, ahead-part, across-part}
 
 -- ---- products of values that are not negative

@@ -11,7 +11,7 @@ use Rattle.angles.specs.declared.Turn.{Turn}
 use Rattle.angles.specs.declared.filter.Coefficients.{Coefficients}
 use Rattle.clock.specs.Start.{frameStart}
 use Rattle.limiter.specs.Meters.{blockMeters}
-use Rattle.limiter.specs.Places.{channelsAt}
+use Rattle.limiter.specs.ChannelPlaces.{channelsAt}
 use Rattle.limiter.specs.declared.Limited.{Limited}
 use Rattle.fields.specs.declared.block.Block.{Block}
 use Rattle.fields.specs.declared.object.Info.{Info}

@@ -5,9 +5,9 @@ use mathlib.Core.Bool.{Bool, _&&_, cond}
 use mathlib.Core.List.{List}
 use lib.Dec.{eqb, leb, ltb}
 use lib.ListN.{length, getD}
-use Rattle.fields.specs.Bytes.{all}
+use Rattle.fields.specs.RecordBytes.{all}
 use Rattle.records.specs.Laid.{updateAt, laidOut, count}
-use Rattle.records.specs.Ranges.{inRange}
+use Rattle.records.specs.ValuesInRange.{inRange}
 use Rattle.timed.specs.InfoSizes.{allBytes}
 use Rattle.timed.specs.Slot.{middle, noBlock}
 use Rattle.timed.specs.State.{Timed, elementOf, slotAt}

@@ -5,7 +5,7 @@ ghost use Prim.Native.Nat.{_*_};
 ghost use lib.Dec.{eqb};
 ghost use lib.ListN.{length};
 ghost use Rattle.limiter.specs.Limiter.{peak, scaled};
-ghost use Rattle.limiter.specs.Places.{withFloats, Given};
+ghost use Rattle.limiter.specs.ChannelPlaces.{withFloats, Given};
 ghost use Rattle.probes.specs.Taken.{hasRoom, withGain};
 
 #[no_mangle]

@@ -6,7 +6,7 @@ ghost use lib.Dec.{leb};
 ghost use lib.ListN.{length};
 ghost use Rattle.mixing.specs.Mixing.{mixed, mixedFull};
 ghost use Rattle.mixing.specs.Part.{onPart};
-ghost use Rattle.mixing.specs.Samples.{samples, allPass};
+ghost use Rattle.mixing.specs.FrameSamples.{samples, allPass};
 
 #[no_mangle]
 pub extern "C" fn probe_mix_add_scaled(input: &[f32], output: &mut [f32], gain: f32)

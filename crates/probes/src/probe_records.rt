@@ -10,10 +10,10 @@ ghost use Prim.Native.Nat.{_+_, _*_};
 ghost use lib.Dec.{leb, ltb};
 ghost use Rattle.fields.specs.Update.{offset, headerOf, code};
 ghost use Rattle.fields.specs.Block.{blocks, blockOf};
-ghost use Rattle.fields.specs.Infos.{storedInfo};
+ghost use Rattle.fields.specs.ObjectInfos.{storedInfo};
 ghost use Rattle.records.specs.Laid.{updateAt, count, elementEnd, objectAt};
-ghost use Rattle.records.specs.Ranges.{refusal};
-ghost use Rattle.records.specs.Order.{nextOffset, FirstAt};
+ghost use Rattle.records.specs.ValuesInRange.{refusal};
+ghost use Rattle.records.specs.UpdateWalk.{nextOffset, FirstAt};
 ghost use Rattle.probes.specs.Taken.{hasRecord, zeroHeader, zeroBlock, zeroInfo};
 
 #[no_mangle]

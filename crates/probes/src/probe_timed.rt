@@ -1,7 +1,7 @@
 // The timed state crosses by value, the infos as bytes. Where the state is not within its ranges, the infos are not all there or the metadata is refused, nothing is done.
 ghost use mathlib.Core.Path.{_≡_};
 ghost use Prim.Native.Nat.{_≤_};
-ghost use Rattle.timed.specs.Contracts.{IsTimed};
+ghost use Rattle.timed.specs.TimedResults.{IsTimed};
 ghost use Rattle.probes.specs.Timed.{scheduleFits, elementFits, countsSuit, stateFits, slotIf, updateIf};
 use clock::StreamSample;
 use timed::infos::ELEMENT_INFOS;

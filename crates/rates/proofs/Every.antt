@@ -8,8 +8,8 @@ use lib.Dec.{T, leb, ltb, leb→le, nleb→lt}
 use lib.Ieee.Fits.{and-l, and-r}
 use Rattle.rates.specs.Rates.{Listed}
 use Rattle.rates.specs.Suffice.{suffice}
-use Rattle.rates.proofs.Quick.{quick, quickFrom, quick-is}
-use Rattle.rates.proofs.Parts.{by-32-a, by-32-b, by-16-a, by-16-b, by-16-c, by-8-a, by-8-b, by-8-c, by-4-a, by-4-b, by-4-c, by-2-a, by-2-b, by-2-c}
+use Rattle.rates.proofs.FewerSteps.{quick, quickFrom, quick-is}
+use Rattle.rates.proofs.TestInParts.{by-32-a, by-32-b, by-16-a, by-16-b, by-16-c, by-8-a, by-8-b, by-8-c, by-4-a, by-4-b, by-4-c, by-2-a, by-2-b, by-2-c}
 
 -- a test and what it says of the numbers
 either : {P : Type 0} (m n : ℕ) → (m ≤ n → P) → (n < m → P) → P

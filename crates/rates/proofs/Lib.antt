@@ -1,4 +1,4 @@
-pub mod Quick
-pub mod Parts
+pub mod FewerSteps
+pub mod TestInParts
 pub mod Every
 pub mod Theorems

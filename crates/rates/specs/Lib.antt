@@ -1,3 +1,3 @@
 pub mod Rates
-pub mod Sums
+pub mod Series
 pub mod Suffice

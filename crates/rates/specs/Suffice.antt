@@ -4,7 +4,7 @@
 use Prim.Native.Nat.{ℕ, _+_, _-_, _*_, _%_, _^_}
 use mathlib.Core.Bool.{Bool, _&&_}
 use lib.Dec.{ltb}
-use Rattle.rates.specs.Sums.{stepOf, nearestAngle, nextTerm}
+use Rattle.rates.specs.Series.{stepOf, nearestAngle, nextTerm}
 
 -- what begins at m in a cell of the length g, and is d long, neither begins nor ends at an end of it
 abbrev pub inside : (m d g : ℕ) → Bool

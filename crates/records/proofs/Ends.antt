@@ -3,7 +3,7 @@ use Prim.Native.Nat.{ℕ}
 use mathlib.Core.Path.{_≡_, refl}
 use mathlib.Core.Bool.{Bool, true, false}
 use native.Mathlib.Omega.{arith}
-use Rattle.records.specs.Answers.{endIf}
+use Rattle.records.specs.LayoutAnswers.{endIf}
 use Rattle.records.specs.declared.layout.End.the-variants.{At, Broken}
 
 pub broken-if : (b : Bool) (x : ℕ) → b ≡ false → Broken ≡ endIf b x

@@ -1,4 +1,4 @@
-pub mod Runs
+pub mod SomeAndLast
 pub mod RecordKinds
 pub mod Within
 pub mod Ends
@@ -7,7 +7,7 @@ pub mod Walked
 pub mod Times
 pub mod Reached
 pub mod Placed
-pub mod Meant
+pub mod RefusalSix
 pub mod Each
-pub mod Cases
+pub mod SmallLists
 pub mod Theorems

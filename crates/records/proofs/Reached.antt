@@ -8,13 +8,13 @@ use native.Mathlib.Omega.{arith}
 use lib.Dec.{eqb, leb}
 use lib.ListN.{length, getD}
 use borrow.Author.Tests.{leb-true, lt-ltb}
-use Rattle.fields.specs.Bytes.{all, byte, kind}
+use Rattle.fields.specs.RecordBytes.{all, byte, kind}
 use Rattle.fields.specs.Update.{objects, bedOrIsf, beds, elements, countsFit, mostAt, codesFit, isUpdate}
 use Rattle.fields.specs.Block.{blocks, isElement, isBlock}
 use Rattle.fields.specs.Object.{isObject}
 use Rattle.records.specs.Laid.{blockAt, objectAt, elementAt, updateAt, isWholeElement, isWholeUpdate, isUpdates, laidOut, count}
 use Rattle.fields.proofs.All.{and-left, and-right, all-at}
-use Rattle.records.proofs.Runs.{some-last}
+use Rattle.records.proofs.SomeAndLast.{some-last}
 use Rattle.records.proofs.RecordKinds.{there-update, there-element, there-block, there-object, few-blocks}
 use Rattle.records.proofs.Updates.{each-whole, whole-list}
 

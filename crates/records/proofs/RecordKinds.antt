@@ -8,7 +8,7 @@ use native.Mathlib.Omega.{arith}
 use lib.Dec.{eqb, leb}
 use lib.ListN.{length, List·getD-eq-default}
 use borrow.Author.Tests.{ne-eqb, leb-true, eqb-true}
-use Rattle.fields.specs.Bytes.{kind}
+use Rattle.fields.specs.RecordBytes.{kind}
 use Rattle.fields.specs.Block.{blocks, isElement, isBlock}
 use Rattle.fields.specs.Update.{isUpdate}
 use Rattle.fields.specs.Object.{isObject}

@@ -13,7 +13,7 @@ pub use Rattle.records.proofs.Reached.{Counts, update-counts, blocks-fe
 -- what holds at each of these places holds of every record
 pub use Rattle.records.proofs.Placed.{AtPlaces, every-record-placed}
 -- no refusal 6 exactly where each block and each object is within its ranges
-pub use Rattle.records.proofs.Meant.{Within, all-within, none-outside}
+pub use Rattle.records.proofs.RefusalSix.{Within, all-within, none-outside}
 -- the next offset: at most the end, above t, the least such
 pub use Rattle.records.proofs.Times.{next-within, next-above, next-least}
 -- offsets that agree have the same next one, and the same first update at t

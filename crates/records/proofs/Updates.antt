@@ -9,10 +9,10 @@ use native.Mathlib.Numerals.{add-one}
 use native.Mathlib.Omega.{arith}
 use lib.ListN.{length}
 use borrow.Author.Tests.{eq-eqb, eqb-true}
-use Rattle.fields.specs.Bytes.{all}
+use Rattle.fields.specs.RecordBytes.{all}
 use Rattle.records.specs.Laid.{isWholeUpdate, updateEnd, updateAt, isUpdates, laidOut, count}
 use Rattle.fields.proofs.All.{and-left, and-right, not-true, all-at}
-use Rattle.records.proofs.Runs.{some-at, some-none, last-only, last-none}
+use Rattle.records.proofs.SomeAndLast.{some-at, some-none, last-only, last-none}
 use Rattle.records.proofs.Within.{updates-rise}
 
 module _ (m : List ℕ) where

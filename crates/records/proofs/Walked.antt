@@ -10,11 +10,11 @@ use lib.ListN.{length, getD, set, replicate, length-set}
 use lib.Seq.{getD-set-same, getD-set-other}
 use Rattle.clock.specs.declared.FrameOffset.{FrameOffset}
 use Rattle.clock.specs.Start.{frameStart}
-use Rattle.clock.proofs.Same.{offset-is}
-use Rattle.fields.specs.Bytes.{all}
+use Rattle.clock.proofs.SameCount.{offset-is}
+use Rattle.fields.specs.RecordBytes.{all}
 use Rattle.fields.specs.Update.{offset}
 use Rattle.records.specs.Laid.{isWholeUpdate, updateEnd, updateAt, isUpdates, count}
-use Rattle.records.specs.Answers.{noLayout, IsLayout}
+use Rattle.records.specs.LayoutAnswers.{noLayout, IsLayout}
 use Rattle.records.specs.declared.layout.Layout.{Layout}
 use Rattle.fields.proofs.All.{all-none, all-more}
 use Rattle.records.proofs.Within.{update-within}

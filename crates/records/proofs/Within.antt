@@ -8,7 +8,7 @@ use native.Mathlib.Nat.{eq-or-lt-of-le}
 use native.Mathlib.Numerals.{add-one}
 use native.Mathlib.Omega.{arith}
 use lib.ListN.{length}
-use Rattle.fields.specs.Bytes.{all}
+use Rattle.fields.specs.RecordBytes.{all}
 use Rattle.fields.specs.Block.{blocks, isElement, isBlock}
 use Rattle.fields.specs.Update.{objects, elements, isUpdate}
 use Rattle.fields.specs.Object.{isObject}

@@ -6,7 +6,7 @@ use mathlib.Core.Bool.{Bool, _&&_}
 use mathlib.Core.List.{List}
 use lib.Dec.{eqb}
 use lib.ListN.{length}
-use Rattle.fields.specs.Bytes.{all}
+use Rattle.fields.specs.RecordBytes.{all}
 use Rattle.fields.specs.Update.{objects, elements, isUpdate}
 use Rattle.fields.specs.Block.{blocks, isElement, isBlock}
 use Rattle.fields.specs.Object.{isObject}

@@ -1,5 +1,5 @@
 pub mod Runs
 pub mod Laid
-pub mod Ranges
-pub mod Order
-pub mod Answers
+pub mod ValuesInRange
+pub mod UpdateWalk
+pub mod LayoutAnswers

@@ -2,12 +2,12 @@
 ghost use mathlib.Core.Path.{_≡_};
 ghost use Prim.Native.Nat.{_+_, _*_, _/_, _%_, _<_, _≤_};
 ghost use lib.ListN.{length};
-ghost use Rattle.fields.specs.Bytes.{all};
+ghost use Rattle.fields.specs.RecordBytes.{all};
 ghost use Rattle.fields.specs.Update.{objects};
 ghost use Rattle.fields.specs.Block.{blocks, isBlock};
 ghost use Rattle.fields.specs.Object.{isObject};
 ghost use Rattle.records.specs.Laid.{blockAt, objectAt, isWholeElement, isWholeUpdate, elementEnd, elementAt, updateEnd};
-ghost use Rattle.records.specs.Answers.{endIf, noLayout, IsLayout};
+ghost use Rattle.records.specs.LayoutAnswers.{endIf, noLayout, IsLayout};
 use clock::FrameOffset;
 use clock::START;
 use fields::block::blocks_at;

@@ -2,7 +2,7 @@
 ghost use mathlib.Core.Path.{_≡_};
 ghost use Prim.Native.Nat.{_+_, _*_, _≤_};
 ghost use lib.ListN.{length};
-ghost use Rattle.records.specs.Ranges.{recordInRange, inRange, refusal};
+ghost use Rattle.records.specs.ValuesInRange.{recordInRange, inRange, refusal};
 use crate::layout::layout_of;
 use fields::block::block_in_range;
 use fields::object::object_in_range;

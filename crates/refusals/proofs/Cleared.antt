@@ -13,7 +13,7 @@ use Rattle.refusals.specs.declared.Refusal.{Refusal}
 use Rattle.refusals.specs.declared.Refusal.the-variants.{Clear, Lent, Sizes, Rate, StreamEnd, Records, Ranges, Samples}
 use Rattle.refusals.specs.declared.Refusal.the-variants.{SampleRateChanged, MissingOamd, ObjectCountMismatch}
 use Rattle.refusals.specs.declared.Refusal.the-variants.{UnsupportedSampleCount, BedChannelCountMismatch, UnsupportedBedChannel}
-use Rattle.refusals.specs.Contracts.{isNone, isClear}
+use Rattle.refusals.specs.FirstFound.{isNone, isClear}
 
 abbrev others : List ℕ
 others = 1 ∷ 2 ∷ 3 ∷ 4 ∷ 5 ∷ 6 ∷ 7 ∷ 8 ∷ 9 ∷ 10 ∷ 11 ∷ 12 ∷ 13 ∷ []

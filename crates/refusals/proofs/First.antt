@@ -12,7 +12,7 @@ use Rattle.beds.specs.Matching.{counted}
 use Rattle.rules.specs.Refusals.{Found, clear, stop, _then_, unless, every, bedFound, bedsFound}
 use Rattle.refusals.specs.RefusalNumbers.{foundOf}
 use Rattle.refusals.specs.declared.Refusal.{Refusal}
-use Rattle.refusals.specs.Contracts.{isNone, isClear}
+use Rattle.refusals.specs.FirstFound.{isNone, isClear}
 
 -- a test that the code makes and that fails, or does not
 pub failed : {b r : Bool} → r ≡ b → not r ≡ true → b ≡ false

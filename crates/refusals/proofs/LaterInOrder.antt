@@ -9,7 +9,7 @@ use native.Mathlib.Omega.{arith}
 use borrow.Author.Tests.{ne-eqb}
 use Rattle.records.specs.Runs.{each}
 use Rattle.records.specs.Laid.{count}
-use Rattle.records.specs.Answers.{IsLayout}
+use Rattle.records.specs.LayoutAnswers.{IsLayout}
 use Rattle.records.specs.declared.layout.Layout.{Layout}
 use Rattle.rules.specs.Leaves.{Shape}
 use Rattle.rules.specs.Refusals.{Found, clear, stop, _then_, unless, objectsMatch, countsAt, shapeAt, walk, noneSent, later}
@@ -17,7 +17,7 @@ use Rattle.refusals.specs.RefusalNumbers.{foundOf}
 use Rattle.refusals.specs.declared.Refusal.{Refusal}
 use Rattle.refusals.specs.declared.present.Present.{Present}
 use Rattle.refusals.specs.PresentShape.{toldOf, presentShape}
-use Rattle.refusals.specs.Contracts.{IsAfter, matched}
+use Rattle.refusals.specs.FirstFound.{IsAfter, matched}
 use Rattle.refusals.proofs.Sent.{told, told-each}
 
 -- what they look at: the metadata and its layout; a push's objects, codes, samples and rate; the state's rate and shape

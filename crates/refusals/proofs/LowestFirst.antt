@@ -10,8 +10,8 @@ use borrow.Author.Tests.{eqb-true}
 use Rattle.ieee.specs.Bounds.{All}
 use Rattle.fields.proofs.All.{and-left, and-right}
 use Rattle.records.specs.Laid.{laidOut}
-use Rattle.records.specs.Ranges.{inRange}
-use Rattle.mixing.specs.Samples.{allPass}
+use Rattle.records.specs.ValuesInRange.{inRange}
+use Rattle.mixing.specs.FrameSamples.{allPass}
 use Rattle.rules.specs.Samples.{State}
 use Rattle.rules.specs.Refusals.{Args, Found, clear, stop, unless, _then_, every, room, sized, listed, early}
 use Rattle.theorem.specs.Instance.{hall}

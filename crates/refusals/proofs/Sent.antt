@@ -23,7 +23,7 @@ use Rattle.refusals.specs.declared.Refusal.{Refusal}
 use Rattle.refusals.specs.declared.Refusal.the-variants.{Clear}
 use Rattle.refusals.specs.declared.present.Present.{Present}
 use Rattle.refusals.specs.PresentShape.{toldOf, saidShape, presentShape}
-use Rattle.refusals.specs.Contracts.{IsAfter, IsEleven, matched, isClear}
+use Rattle.refusals.specs.FirstFound.{IsAfter, IsEleven, matched, isClear}
 use Rattle.refusals.proofs.First.{chain-stops, chain-passes}
 
 -- the first n of a list, by their places

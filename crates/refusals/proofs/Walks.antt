@@ -9,8 +9,8 @@ use borrow.Author.Tests.{ne-eqb}
 use Rattle.ieee.specs.Bounds.{All}
 use Rattle.fields.specs.Update.{offset}
 use Rattle.records.specs.Laid.{count, updateAt}
-use Rattle.records.specs.Answers.{offsetAt, IsLayout}
-use Rattle.records.specs.Order.{nextOffset}
+use Rattle.records.specs.LayoutAnswers.{offsetAt, IsLayout}
+use Rattle.records.specs.UpdateWalk.{nextOffset}
 use Rattle.records.specs.declared.layout.Layout.{Layout}
 use Rattle.records.proofs.Theorems.{next-within, next-above, next-least}
 use Rattle.rules.specs.Leaves.{Shape}

@@ -1,3 +1,3 @@
 pub mod RefusalNumbers
 pub mod PresentShape
-pub mod Contracts
+pub mod FirstFound

@@ -5,7 +5,7 @@ ghost use Prim.Native.Nat.{_*_, _≤_};
 ghost use lib.Dec.{leb};
 ghost use Rattle.records.specs.Laid.{laidOut};
 ghost use Rattle.rules.specs.Refusals as rules;
-ghost use Rattle.refusals.specs.Contracts.{argsWith, IsEarly};
+ghost use Rattle.refusals.specs.FirstFound.{argsWith, IsEarly};
 use crate::Numbers;
 use crate::Refusal;
 use clock::StreamSample;

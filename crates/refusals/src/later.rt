@@ -8,7 +8,7 @@ ghost use mathlib.Core.Bool.{_||_, not};
 ghost use Prim.Native.Nat.{_≤_};
 ghost use lib.Dec.{eqb};
 ghost use lib.ListN.{length};
-ghost use Rattle.records.specs.Answers.{IsLayout};
+ghost use Rattle.records.specs.LayoutAnswers.{IsLayout};
 ghost use Rattle.updates.specs.WholeRecords.{WholeUpdates};
 ghost use Rattle.rules.specs.Refusals.{_then_, unless, walk, later};
 ghost use Rattle.refusals.specs.RefusalNumbers.{foundOf};

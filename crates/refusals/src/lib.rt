@@ -8,8 +8,8 @@ mod later;
 mod present;
 
 ghost use Prim.Native.Nat.{_≤_};
-ghost use Rattle.records.specs.Answers.{IsLayout};
-ghost use Rattle.refusals.specs.Contracts.{argsWith, IsFound};
+ghost use Rattle.records.specs.LayoutAnswers.{IsLayout};
+ghost use Rattle.refusals.specs.FirstFound.{argsWith, IsFound};
 use records::layout::Layout;
 use store::renderer::Renderer714;
 

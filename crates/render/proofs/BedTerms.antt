@@ -10,7 +10,7 @@ use Rattle.beds.specs.declared.Found.{Found}
 use Rattle.beds.specs.declared.Found.the-variants.{At}
 use Rattle.beds.specs.Routes.{routeOf}
 use Rattle.beds.specs.Positions.{bedPosition}
-use Rattle.beds.specs.Terms.{routed, bedAdds}
+use Rattle.beds.specs.BedTerms.{routed, bedAdds}
 use Rattle.beds.specs.Matching.{matching}
 use Rattle.beds.proofs.Matches.{Judged, judged}
 use Rattle.panning.specs.Terms.{Term, onChannel}

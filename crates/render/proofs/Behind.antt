@@ -14,7 +14,7 @@ use Rattle.words.specs.Words.{withWord, wordsAt, withFloat}
 use Rattle.words.proofs.Back.{reads-back}
 use Rattle.words.proofs.Beside.{Kept, kept-twice, number-keeps, reads-before, words-before, words-past}
 use Rattle.words.proofs.Numbers.{length-kept}
-use Rattle.limiter.specs.Places.{channels, withFloats, withChannels}
+use Rattle.limiter.specs.ChannelPlaces.{channels, withFloats, withChannels}
 use Rattle.rules.specs.Parts.{laid}
 
 -- ---- f32 values

@@ -8,7 +8,7 @@ use lib.ListN.{length, getD, take, drop, drop-of-length-le}
 use lib.Seq.{drop-cons, drop-drop}
 use lib.Ieee.{Float, nan}
 use Rattle.words.specs.Words.{withFloat}
-use Rattle.limiter.specs.Places.{channels, withFloats, withChannels}
+use Rattle.limiter.specs.ChannelPlaces.{channels, withFloats, withChannels}
 
 pub store-start : (s : List ℕ) (at : ℕ) (xs : List Float) → withFloats s (at + 4 * 0) xs ≡ withFloats s at xs
 store-start s at xs = let e : at + 4 * 0 ≡ at = omega arith in rw e

@@ -4,8 +4,8 @@ use Prim.Native.Nat.{ℕ, suc, _+_, _*_, _≤_}
 use mathlib.Core.List.{List, [], _∷_}
 use lib.ListN.{length}
 use lib.Ieee.{Float}
-use Rattle.mixing.specs.Samples.{samples}
-use Rattle.mixing.specs.Patterns.{Plain}
+use Rattle.mixing.specs.FrameSamples.{samples}
+use Rattle.mixing.specs.SampleBits.{Plain}
 use Rattle.beds.specs.declared.Route.{Route}
 use Rattle.beds.specs.declared.Route.the-variants.{Bass, Folded, Direct, Unsupported}
 use Rattle.beds.specs.declared.Found.{Found}

@@ -5,7 +5,7 @@ use mathlib.Core.List.{List, [], _∷_, _++_, map}
 use lib.ListN.{length, getD, take, drop}
 use lib.Ieee.{Float, nan}
 use Rattle.formats.specs.Areas.{rowCount, rowPlaces, placeCount}
-use Rattle.mixing.specs.Patterns.{Plain}
+use Rattle.mixing.specs.SampleBits.{Plain}
 use Rattle.lowpass.specs.Lowpass.{next}
 use Rattle.lowpass.specs.declared.BiquadLowpassState.{BiquadLowpassState}
 use Rattle.timed.specs.declared.state.DynamicSourceState.{DynamicSourceState}

@@ -3,7 +3,7 @@ ghost use mathlib.Core.Path.{_≡_};
 ghost use Prim.Native.Nat.{_+_, _*_, _≤_};
 ghost use lib.ListN.{length};
 ghost use Rattle.formats.specs.Areas.{rowCount, rowPlaces, rowBytes, placeCount, placesBytes};
-ghost use Rattle.limiter.specs.Places.{channels, withFloats, withChannels};
+ghost use Rattle.limiter.specs.ChannelPlaces.{channels, withFloats, withChannels};
 use formats::areas;
 
 // The samples written from `at` on.

@@ -7,7 +7,7 @@ ghost use mathlib.Core.Path.{_≡_};
 ghost use mathlib.Core.Bool.{true, false, cond};
 ghost use Prim.Native.Nat.{_+_, _-_, _*_, _%_, _^_, _<_, _≤_};
 ghost use lib.Ieee.{binary32, ofBits};
-ghost use Rattle.ieee.specs.Patterns.{unitsOf};
+ghost use Rattle.ieee.specs.FloatBits.{unitsOf};
 ghost use Rattle.roots.specs.Root.{rootUnits};
 ghost use Rattle.roots.specs.Whole.{Spanned};
 

@@ -1,6 +1,6 @@
 // A positive finite f32 by its bits: 24 digits and an exponent.
 ghost use Prim.Native.Nat.{_^_, _<_};
-ghost use Rattle.ieee.specs.Patterns.{unitsOf};
+ghost use Rattle.ieee.specs.FloatBits.{unitsOf};
 ghost use Rattle.roots.specs.Whole.{Normal};
 
 // m * 2 ^ (e - 23) units of 2 ^ -149, m having 24 binary digits.

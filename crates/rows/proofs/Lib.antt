@@ -1,3 +1,3 @@
 pub mod Quick
-pub mod Same
+pub mod QuickIsRules
 pub mod Table

@@ -1,4 +1,4 @@
--- How rows are computed: as the rules do it, but what they would work out again and again is worked out once. `proofs/Same`: that changes nothing. Assumes nothing.
+-- How rows are computed: as the rules do it, but what they would work out again and again is worked out once. `proofs/QuickIsRules`: that changes nothing. Assumes nothing.
 use Prim.Native.Nat.{ℕ, zero, suc, _+_, _*_, _^_}
 use mathlib.Core.Bool.{Bool, true, false, cond, _&&_, _||_}
 use mathlib.Core.List.{List, [], _∷_, _++_, map}
@@ -20,7 +20,7 @@ use Rattle.rules.specs.Samples as rules
 use Rattle.rules.specs.Samples.{Frame, State, After, opened, updated, slotted, sampled, moment, closing}
 use Rattle.rules.specs.Refusals.{Args, Found, clear, stop}
 use Rattle.rules.specs.Calls.{Call, push, flush, reset, Answer, refused, rendered, nothing, cleared, Result, frameOf, found, answered, step}
-use Rattle.rules.specs.Block.{written, outOf, strideOf}
+use Rattle.rules.specs.BlockCalls.{written, outOf, strideOf}
 use Rattle.theorem.specs.Instance.{hall, Sent}
 use Rattle.rows.specs.Rows.{Said, refusal, ready, none, renewed, samplesOn, Row, startingAt, calls}
 use Rattle.theorem.proofs.Opened.{everything}

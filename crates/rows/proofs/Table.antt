@@ -8,7 +8,7 @@ use Rattle.rows.specs.Notation.{concat}
 use Rattle.rows.specs.Lists.{refusals, outputs, block-rows, bed-rows, object-rows, updates, slots, groups, rows}
 use Rattle.theorem.proofs.Opened.{everything}
 use Rattle.rows.proofs.Quick.{plainly, quickly}
-use Rattle.rows.proofs.Same.{plainly-is, quickly-is}
+use Rattle.rows.proofs.QuickIsRules.{plainly-is, quickly-is}
 
 -- rows for which a way to compute them gives what they say
 held : (way : Row → List Said) → ((r : Row) → way r ≡ seen r) → (rs : List Row) → map way rs ≡ map says rs → All Holds rs

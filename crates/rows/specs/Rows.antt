@@ -6,7 +6,7 @@ use lib.ListN.{length}
 use Rattle.words.specs.Words.{word}
 use Rattle.rules.specs.Samples.{State, fresh}
 use Rattle.rules.specs.Calls.{Call, Answer, refused, rendered, nothing, cleared}
-use Rattle.rules.specs.Block.{Seen, strideOf, told}
+use Rattle.rules.specs.BlockCalls.{Seen, strideOf, told}
 use Rattle.theorem.specs.Instance.{hall, block}
 
 -- ---- what is seen of a call

@@ -15,7 +15,7 @@ use Rattle.words.specs.Words.{word, floatAt}
 use Rattle.words.proofs.Beside.{Kept, reads-before, reads-past}
 use Rattle.mixing.specs.Sums as sums
 use Rattle.mixing.specs.Sums.{plus, total}
-use Rattle.mixing.specs.Samples.{passes, allPass}
+use Rattle.mixing.specs.FrameSamples.{passes, allPass}
 use Rattle.mixing.proofs.Theorems.{pass-at, total-append}
 use Rattle.ieee.proofs.Grid.{le-or-lt}
 use Rattle.beds.specs.declared.Found as matched

@@ -10,7 +10,7 @@ use Rattle.ieee.specs.Bounds.{All}
 use Rattle.rules.specs.Leaves.{Leaves, Shape, started}
 use Rattle.rules.specs.Samples.{State, appliedAt, updated}
 use Rattle.rules.specs.Refusals.{Args}
-use Rattle.rules.specs.Block.{Layout}
+use Rattle.rules.specs.BlockCalls.{Layout}
 use Rattle.rules.specs.Promises.{upTo, begun}
 use Rattle.rules.proofs.EachOf.{either}
 use Rattle.rules.proofs.Owed.{Facts}

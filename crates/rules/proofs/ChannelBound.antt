@@ -22,7 +22,7 @@ use Rattle.beds.specs.declared.Found.the-variants.{At, Nothing}
 use Rattle.beds.specs.Routes.{routeOf, bassGain}
 use Rattle.beds.specs.Positions.{positions, bedPosition}
 use Rattle.beds.specs.Matching.{matching}
-use Rattle.beds.specs.Terms.{alone, routed, bedAdds}
+use Rattle.beds.specs.BedTerms.{alone, routed, bedAdds}
 use Rattle.beds.proofs.Matches.{Judged, judged}
 use Rattle.vectors.specs.declared.Vec3.{Vec3}
 use Rattle.lowpass.specs.Bound.{Range}

@@ -12,7 +12,7 @@ use Rattle.lowpass.specs.declared.BiquadLowpassState.{BiquadLowpassState}
 use Rattle.lowpass.proofs.Calm.{Calm}
 use Rattle.rules.specs.Leaves.{Leaves}
 use Rattle.rules.specs.Samples.{State, idle}
-use Rattle.rules.specs.Block.{Layout}
+use Rattle.rules.specs.BlockCalls.{Layout}
 use Rattle.rules.specs.Demand3.{nine, Clean}
 use Rattle.rules.proofs.EachOf.{all-map}
 use Rattle.rules.proofs.Owed.{Facts}

@@ -12,7 +12,7 @@ use Rattle.rules.specs.Samples.{State, flushed}
 use Rattle.rules.specs.Refusals.{room}
 use Rattle.rules.specs.Calls.{flush, drained, step}
 use Rattle.rules.specs.Promises.{FlushHolds}
-use Rattle.rules.specs.Block.{Layout}
+use Rattle.rules.specs.BlockCalls.{Layout}
 use Rattle.rules.proofs.Owed.{Facts}
 use Rattle.rules.proofs.Invariant.{Rest}
 use Rattle.rules.proofs.Frames.{flushed-fine}

@@ -17,7 +17,7 @@ use Rattle.rules.specs.Samples.{Pending, Frame, State, limited, updated,
 use Rattle.rules.specs.Sounds.{AllMetered}
 use Rattle.rules.specs.Refusals.{Args}
 use Rattle.rules.specs.Calls.{frameOf}
-use Rattle.rules.specs.Block.{Layout}
+use Rattle.rules.specs.BlockCalls.{Layout}
 use Rattle.rules.proofs.EachOf.{all-map, all-take, all-append, length-map}
 use Rattle.rules.proofs.Owed.{Facts}
 use Rattle.rules.proofs.Judged.{Passed, is-listed, sample-in, samples-in}

@@ -16,7 +16,7 @@ use Rattle.ieee.specs.Bounds.{Bounded, All}
 use Rattle.ieee.proofs.Constants.{zero-f32}
 use Rattle.lowpass.specs.Lowpass.{output, next, new}
 use Rattle.lowpass.proofs.Calm.{Calm, calm-next, output-bounded}
-use Rattle.lowpass.proofs.Rates.{calm-listed}
+use Rattle.lowpass.proofs.CalmAtRates.{calm-listed}
 use Rattle.angles.specs.Angle.{Listed}
 use Rattle.limiter.specs.Range.{MetersInRange}
 use Rattle.limiter.specs.declared.meters.Meters.{Meters}
@@ -26,7 +26,7 @@ use Rattle.rules.specs.Leaves.{Leaves, started}
 use Rattle.rules.specs.Mix.{sampleAt, Moment, heard, fed}
 use Rattle.rules.specs.Samples.{Frame, State, fresh, limited, metered, row, appliedAt, updated, slotted, moment, After, passed, opened}
 use Rattle.rules.specs.Sounds.{AllMetered}
-use Rattle.rules.specs.Block.{Layout}
+use Rattle.rules.specs.BlockCalls.{Layout}
 use Rattle.rules.proofs.EachOf.{either, all-laid, length-laid, all-same, all-map, length-map, zeros-long, few-left}
 use Rattle.rules.proofs.Owed.{Mixable, Facts}
 use Rattle.rules.proofs.ChannelBound.{Most, most-range, Hearable, heard-bounded}

@@ -11,14 +11,14 @@ use lib.ListN.{length}
 use Rattle.ieee.specs.Units.{One}
 use Rattle.ieee.specs.Bounds.{Bounded, All}
 use Rattle.words.specs.Words.{Bytes, floatAt}
-use Rattle.mixing.specs.Samples.{allPass}
+use Rattle.mixing.specs.FrameSamples.{allPass}
 use Rattle.rates.specs.Rates.{lowest, highest, Listed}
 use Rattle.rules.specs.Leaves.{Leaves}
 use Rattle.rules.specs.Mix.{sampleAt, samplesAt}
 use Rattle.rules.specs.Samples.{State}
 use Rattle.rules.specs.Refusals.{Args, Found, clear, stop, _then_, unless, every, room, sized, listed, early, later}
 use Rattle.rules.specs.Calls.{announced, found}
-use Rattle.mixing.proofs.Meant.{sample-bounded}
+use Rattle.mixing.proofs.RefusalEight.{sample-bounded}
 
 -- ---- tests
 pub stops : {n a b : ℕ} → stop n a b ≡ clear → ⊥

@@ -10,7 +10,7 @@ use Rattle.rules.specs.Leaves.{Leaves}
 use Rattle.rules.specs.Samples.{State, fresh}
 use Rattle.rules.specs.Refusals.{Args, Found, clear, stop, room}
 use Rattle.rules.specs.Calls.{Call, push, flush, reset, Answer, refused, rendered, nothing, cleared, isRefused, found, Result, asked, drained, step}
-use Rattle.rules.specs.Block.{Layout, Outcome, left, outOf, strideOf, takes}
+use Rattle.rules.specs.BlockCalls.{Layout, Outcome, left, outOf, strideOf, takes}
 use Rattle.rules.specs.Demand3.{Lent, Keeps}
 use Rattle.rules.proofs.Owed.{Facts, InRanges}
 use Rattle.rules.proofs.Judged.{is-passed}

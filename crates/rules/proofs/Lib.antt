@@ -31,5 +31,5 @@ pub mod Clean
 pub mod Called
 pub mod Flushes
 pub mod Keeps
-pub mod Demand3
+pub mod Demand3FromFacts
 pub mod Theorems

@@ -13,7 +13,7 @@ use Rattle.rules.specs.Parts.{0·0}
 use Rattle.rules.specs.Leaves.{Leaves, Source, Bed, started}
 use Rattle.rules.specs.Samples.{State}
 use Rattle.rules.specs.Ranges.{Ranged}
-use Rattle.rules.specs.Block.{Layout}
+use Rattle.rules.specs.BlockCalls.{Layout}
 
 -- a gain from 0 to 8, a size from 0 to 1, a place of f32 values, a send from 0 to 1
 pub record InHall (s : Source) : Type 0 where

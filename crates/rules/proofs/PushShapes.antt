@@ -23,7 +23,7 @@ use Rattle.rules.specs.Refusals.{Args, Found, clear, unless, bedFound, b
 use Rattle.rules.specs.Calls.{announced, frameOf}
 use Rattle.rules.specs.Sounds as sounds
 use Rattle.rules.specs.Promises.{Matched, begun}
-use Rattle.rules.specs.Block.{Layout}
+use Rattle.rules.specs.BlockCalls.{Layout}
 use Rattle.rules.proofs.EachOf.{either}
 use Rattle.rules.proofs.Owed.{Facts}
 use Rattle.rules.proofs.Judged.{then-clear, unless-clear, Passed}

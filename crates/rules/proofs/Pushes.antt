@@ -19,7 +19,7 @@ use Rattle.rules.specs.Refusals.{Args, Found, clear, unless}
 use Rattle.rules.specs.Calls.{frameOf, found, asked}
 use Rattle.rules.specs.Sounds.{silent, before, met, momentAt, whole}
 use Rattle.rules.specs.Promises.{nobody, unsent, Replaced, withPcm, objectHeard, begun, Matched, AtSample, PushHolds}
-use Rattle.rules.specs.Block.{Layout}
+use Rattle.rules.specs.BlockCalls.{Layout}
 use Rattle.rules.proofs.EachOf.{all-at}
 use Rattle.rules.proofs.Owed.{InHall, Facts}
 use Rattle.rules.proofs.Judged.{Passed, is-passed, then-clear, unless-clear}

@@ -18,7 +18,7 @@ use Rattle.rules.specs.Refusals.{Args}
 use Rattle.rules.specs.Calls.{frameOf}
 use Rattle.rules.specs.Sounds.{before, met, momentAt, soundAt}
 use Rattle.rules.specs.Promises.{begun}
-use Rattle.rules.specs.Block.{Layout}
+use Rattle.rules.specs.BlockCalls.{Layout}
 use Rattle.rules.proofs.EachOf.{either, neither}
 use Rattle.rules.proofs.Owed.{Facts}
 use Rattle.rules.proofs.Judged.{Passed}

@@ -19,7 +19,7 @@ use Rattle.rules.specs.Samples.{Frame, State, fresh, row, appliedAt, upd
 use Rattle.rules.specs.Refusals.{Args, listed}
 use Rattle.rules.specs.Ranges.{Fits, FilterFits, Ranged}
 use Rattle.rules.specs.Calls.{frameOf}
-use Rattle.rules.specs.Block.{Layout}
+use Rattle.rules.specs.BlockCalls.{Layout}
 use Rattle.rules.proofs.EachOf.{either, length-laid, zeros-long, few-left}
 use Rattle.rules.proofs.Owed.{Facts}
 use Rattle.rules.proofs.FloatsFit.{heard-fits, grown-fits, new-fits, laid-words, laid-none, same-words, row-fits}

@@ -18,7 +18,7 @@ use Rattle.angles.specs.Angle.{Listed}
 use Rattle.lowpass.specs.Lowpass.{next, new, afterAll}
 use Rattle.lowpass.specs.Bound.{largest}
 use Rattle.lowpass.specs.declared.BiquadLowpassState.{BiquadLowpassState}
-use Rattle.lowpass.proofs.Rates.{fed-more, lowpass-twice}
+use Rattle.lowpass.proofs.CalmAtRates.{fed-more, lowpass-twice}
 use Rattle.rules.specs.Leaves.{Leaves}
 use Rattle.rules.specs.Mix.{Moment, fed}
 use Rattle.rules.specs.Samples.{State, idle, fresh, opened, pushed, flushed}
@@ -26,7 +26,7 @@ use Rattle.rules.specs.Refusals.{Args, Found, clear, stop, room}
 use Rattle.rules.specs.Calls.{Call, push, flush, reset, frameOf, found, asked, drained, step}
 use Rattle.rules.specs.Sounds.{silent, before, momentAt}
 use Rattle.rules.specs.Ringing.{fedSince, Rings, CallRings}
-use Rattle.rules.specs.Block.{Layout}
+use Rattle.rules.specs.BlockCalls.{Layout}
 use Rattle.rules.specs.Demand3.{Lent}
 use Rattle.rules.proofs.EachOf.{all-append, length-map}
 use Rattle.rules.proofs.Owed.{Facts}

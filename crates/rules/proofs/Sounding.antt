@@ -21,7 +21,7 @@ use Rattle.rules.specs.Samples.{Frame, State, limited, metered, gainAfte
 use Rattle.rules.specs.Refusals.{Args}
 use Rattle.rules.specs.Calls.{frameOf}
 use Rattle.rules.specs.Sounds.{nthBlock, gainBefore, limitedBlocks, blocksMetered, before, met, momentAt, soundAt, sounds}
-use Rattle.rules.specs.Block.{Layout}
+use Rattle.rules.specs.BlockCalls.{Layout}
 use Rattle.rules.proofs.EachOf.{length-map, either}
 use Rattle.rules.proofs.Owed.{Facts}
 use Rattle.rules.proofs.ChannelBound.{most-range, Hearable, heard-bounded}

@@ -11,7 +11,7 @@ use Rattle.rules.specs.Leaves.{Leaves}
 use Rattle.rules.specs.Samples.{State, fresh}
 use Rattle.rules.specs.Refusals.{Args, Found, clear, stop, room}
 use Rattle.rules.specs.Calls.{Call, push, flush, reset, Answer, refused, rendered, nothing, cleared, found, Result, isRefused, asked, drained, step}
-use Rattle.rules.specs.Block.{Layout, Outcome, left, outOf, strideOf, takes, made, runOn, finalOn, keptOn, acceptedOn, asSeen}
+use Rattle.rules.specs.BlockCalls.{Layout, Outcome, left, outOf, strideOf, takes, made, runOn, finalOn, keptOn, acceptedOn, asSeen}
 use Rattle.rules.proofs.Owed.{Facts, InRanges}
 
 -- what an answer says of the renderer after it

@@ -6,14 +6,14 @@ use mathlib.Core.List.{List, [], _∷_}
 use lib.Dec.{eqb, leb}
 use lib.ListN.{length}
 use native.Mathlib.Omega.{arith}
-use Rattle.mixing.specs.Samples.{allPass}
+use Rattle.mixing.specs.FrameSamples.{allPass}
 use Rattle.beds.specs.Matching.{counted}
 use Rattle.rules.specs.Leaves.{Leaves, Shape}
 use Rattle.rules.specs.Samples.{State}
 use Rattle.rules.specs.Refusals.{Args, Found, clear, stop, _then_, unless, room, sized, listed, early, bedsFound, Announced, objectsMatch, countsAt, shapeAt, walk, noneSent}
 use Rattle.rules.specs.Refusals.{later}
 use Rattle.rules.specs.Calls.{Call, push, flush, reset, Answer, refused, rendered, nothing, cleared, announced, found, asked, drained, step}
-use Rattle.rules.specs.Block.{Layout, outOf, strideOf, left, takes, made}
+use Rattle.rules.specs.BlockCalls.{Layout, outOf, strideOf, left, takes, made}
 
 -- ---- what stops, if anything, is not 7
 

@@ -16,7 +16,7 @@ use Rattle.words.proofs.Beside.{words-keep, reads-before}
 use Rattle.words.proofs.Runs.{run-length-kept}
 use Rattle.ieee.proofs.Grid.{le-or-lt}
 use Rattle.rules.specs.Parts.{0·0, Tame, Channels}
-use Rattle.rules.specs.Block.{writtenFrom, written}
+use Rattle.rules.specs.BlockCalls.{writtenFrom, written}
 use Rattle.rules.proofs.EachOf.{all-at, length-map}
 use Rattle.rules.proofs.Limited.{tame}
 

@@ -6,7 +6,7 @@ use mathlib.Core.Bool.{true}
 use mathlib.Core.List.{List, []}
 use lib.ListN.{length}
 use Rattle.ieee.specs.Bounds.{All}
-use Rattle.mixing.specs.Samples.{allPass}
+use Rattle.mixing.specs.FrameSamples.{allPass}
 use Rattle.beds.specs.Matching.{counted}
 use Rattle.rules.specs.Leaves.{Leaves, Shape, started}
 use Rattle.rules.specs.Samples.{State}

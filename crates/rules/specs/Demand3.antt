@@ -16,7 +16,7 @@ use Rattle.rules.specs.Samples.{State, fresh}
 use Rattle.rules.specs.Calls.{Call, push, flush, reset, Answer, refused, rendered, nothing, cleared, isRefused, given, metersOf, step, run, final, kept, accepted}
 use Rattle.rules.specs.Promises.{AllHold}
 use Rattle.rules.specs.Ringing.{AllRing}
-use Rattle.rules.specs.Block.{Layout, Outcome, strideOf, outOf, made, runOn, finalOn, keptOn, acceptedOn, seenOn, told}
+use Rattle.rules.specs.BlockCalls.{Layout, Outcome, strideOf, outOf, made, runOn, finalOn, keptOn, acceptedOn, seenOn, told}
 
 -- how many samples an answer gives out on each channel
 abbrev pub ready : Answer → ℕ

@@ -11,5 +11,5 @@ pub mod Order
 pub mod StableOrder
 pub mod Promises
 pub mod Ringing
-pub mod Block
+pub mod BlockCalls
 pub mod Demand3

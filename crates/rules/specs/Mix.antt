@@ -9,7 +9,7 @@ use Rattle.mixing.specs.Sums.{total}
 use Rattle.beds.specs.declared.Found.{Found}
 use Rattle.beds.specs.declared.Found.the-variants.{At, Nothing}
 use Rattle.beds.specs.Matching.{matching}
-use Rattle.beds.specs.Terms.{bedAdds}
+use Rattle.beds.specs.BedTerms.{bedAdds}
 use Rattle.panning.specs.Terms.{Term, term, onChannel}
 use Rattle.panning.specs.Speakers.{terms714, pan714}
 use Rattle.rules.specs.Parts.{0·0}

@@ -8,7 +8,7 @@ use lib.ListN.{length, getD, drop}
 use lib.Ieee.{binary32, eq, toBits}
 use Rattle.words.specs.Words.{Bytes}
 use Rattle.ieee.specs.Bounds.{All}
-use Rattle.mixing.specs.Samples.{allPass}
+use Rattle.mixing.specs.FrameSamples.{allPass}
 use Rattle.lowpass.specs.Lowpass.{next}
 use Rattle.limiter.specs.Meters.{callMeters}
 use Rattle.beds.specs.declared.Found.the-variants.{At}

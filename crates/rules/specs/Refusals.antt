@@ -4,7 +4,7 @@ use mathlib.Core.Bool.{Bool, true, false, cond, not, _&&_, _||_}
 use mathlib.Core.List.{List, [], _∷_}
 use lib.Dec.{eqb, leb}
 use lib.ListN.{length}
-use Rattle.mixing.specs.Samples.{allPass}
+use Rattle.mixing.specs.FrameSamples.{allPass}
 use Rattle.beds.specs.Matching.{counted}
 pub use Rattle.rates.specs.Rates.{listed}
 use Rattle.rules.specs.Leaves.{Leaves, Shape, started}

@@ -21,10 +21,10 @@ use Rattle.store.specs.declared.renderer.Renderer714.{Renderer714}
 use Rattle.store.specs.Singles.{Brief}
 use Rattle.store.specs.Fields.{elementFormat, smallOf}
 use Rattle.store.specs.Layout.{smallWidth, infosAt, placesAt, size, assembled, infosOf, placesOf, decode}
-use Rattle.store.specs.Ranges.{clockIn, countsIn, elementRelated, leastFlags, smallPart, smallValid, headsValid, valid}
+use Rattle.store.specs.ValidBlocks.{clockIn, countsIn, elementRelated, leastFlags, smallPart, smallValid, headsValid, valid}
 use Rattle.store.specs.Ranged.{ElementRanged, StateRanged, InfosRanged, PlacesRanged, BlockRanged}
 use Rattle.store.proofs.PendingRows.{places-row, no-places}
-use Rattle.store.proofs.Back.{lawful-small-part}
+use Rattle.store.proofs.SmallPartBack.{lawful-small-part}
 
 all-out : {A : Type 0} (P : A → Type 0) (d : A) (xs : List A) → All P xs → (i : ℕ) → i < length xs → P (getD xs i d)
 all-out P d [] h i l = absurd (omega arith)

@@ -20,10 +20,10 @@ use Rattle.formats.specs.Areas.{infoCount, infoBytes, infosBytes, rowCount, row
 use Rattle.formats.specs.Format.{puts}
 use Rattle.store.specs.Bytes.{bytesOf}
 use Rattle.store.specs.Fields.{smallWords}
-use Rattle.store.specs.Places.{limiterGainAt, remainingIn, firstAt, secondAt, infosAt}
+use Rattle.store.specs.FieldPlaces.{limiterGainAt, remainingIn, firstAt, secondAt, infosAt}
 use Rattle.store.specs.Layout.{size, small, placeBytes, encode, still, noBlocks, blank, freshRenderer}
 use Rattle.store.specs.Filled.{marked, filled}
-use Rattle.store.specs.Ranges.{leastFlags, headValid, headsValid}
+use Rattle.store.specs.ValidBlocks.{leastFlags, headValid, headsValid}
 use Rattle.store.specs.Ranged.{Single, Singles, SourceSingles, TrackSingles, ElementRanged, StateRanged, InfosRanged, PlacesRanged, BlockRanged}
 use Rattle.store.proofs.PendingRows.{rowsBytes, place-bytes}
 use Rattle.store.proofs.Bytes.{written-front}

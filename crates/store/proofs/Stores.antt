@@ -15,8 +15,8 @@ use Rattle.timed.specs.declared.state.MetadataRendererState.{MetadataRendererSt
 use Rattle.store.specs.declared.renderer.Renderer714.{Renderer714}
 use Rattle.store.specs.Fields.{sourceFormat, blockFormat, trackFormat, headFormat, elementFormat, countsFormat, tablesFormat, stateFormat, basicsFormat}
 use Rattle.store.specs.Fields.{elementHead, countsOf, tablesOf, basicsOf, smallWords}
-use Rattle.store.specs.Places.{stateAt, tablesAt, gainsAt, sourcesAt, firstAt}
-use Rattle.store.proofs.Back.{lawful-source, lawful-block, lawful-head, lawful-element, lawful-counts, lawful-basics}
+use Rattle.store.specs.FieldPlaces.{stateAt, tablesAt, gainsAt, sourcesAt, firstAt}
+use Rattle.store.proofs.SmallPartBack.{lawful-source, lawful-block, lawful-head, lawful-element, lawful-counts, lawful-basics}
 
 pub element-stored : (s : List ℕ) (at : ℕ) (e : ElementRendererState)
     → withWords (withWords (withWords s at (headFormat .put (elementHead e))) (at + 4 * headFormat .width) (array 8 blockFormat .put (e .schedule)))

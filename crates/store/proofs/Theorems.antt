@@ -12,7 +12,7 @@ pub use Rattle.store.proofs.Fresh.{fresh-ranged, encode-fresh}
 -- a block that has a renderer's infos and places becomes its block when the small part is saved
 pub use Rattle.store.proofs.Whole.{saved-encode}
 -- the small part: its formats have the laws, it is in range where the renderer is, it has so many words and is read back from them
-pub use Rattle.store.proofs.Back.{lawful-small-part, small-long, small-words, small-back}
+pub use Rattle.store.proofs.SmallPartBack.{lawful-small-part, small-long, small-words, small-back}
 pub use Rattle.store.proofs.Whole.{small-full}
 -- the places of a block: a channel's row, none past the last channel; what is before them plays no part
 pub use Rattle.store.proofs.PendingRows.{places-row, no-places, places-beside}

@@ -12,9 +12,9 @@ use Rattle.timed.specs.State.{Timed}
 use Rattle.rules.specs.Samples.{Renderer}
 use Rattle.store.specs.Fields.{smallWords}
 use Rattle.store.specs.Layout.{smallWidth, size, small, infosOf, encode}
-use Rattle.store.specs.Ranges.{smallPart, smallValid, headsValid, valid}
+use Rattle.store.specs.ValidBlocks.{smallPart, smallValid, headsValid, valid}
 use Rattle.store.specs.Ranged.{BlockRanged}
-use Rattle.store.proofs.Back.{lawful-small-part}
+use Rattle.store.proofs.SmallPartBack.{lawful-small-part}
 use Rattle.store.proofs.Whole.{small-full, words-back, infos-back, encode-long}
 
 module _ (r : Renderer Timed) (h : BlockRanged r) where

@@ -12,7 +12,7 @@ use Rattle.words.proofs.Small.{run-small}
 use Rattle.formats.specs.Areas.{infoCount, infosFormat, rowCount, rowPlaces, rowFormat, placesFormat, placeCount}
 use Rattle.formats.proofs.Theorems.{all-same, all-any, heads-format, and-true}
 use Rattle.store.specs.Layout.{smallWidth, placesAt, size, infosOf}
-use Rattle.store.specs.Ranges.{headsValid, smallPart, smallValid, valid}
+use Rattle.store.specs.ValidBlocks.{headsValid, smallPart, smallValid, valid}
 
 -- words of any bits pass
 

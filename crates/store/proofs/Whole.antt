@@ -24,11 +24,11 @@ use Rattle.store.specs.Bytes.{bytesOf}
 use Rattle.store.specs.Singles.{Brief}
 use Rattle.store.specs.Fields.{elementFormat, stateFormat, smallWords, smallOf}
 use Rattle.store.specs.Layout.{smallWidth, infosAt, placesAt, size, small, assembled, infosOf, placesOf, decode, rowsFrom, placeBytes, encode}
-use Rattle.store.specs.Ranges.{clockIn, countsIn, leastFlags, related, elementRelated}
+use Rattle.store.specs.ValidBlocks.{clockIn, countsIn, leastFlags, related, elementRelated}
 use Rattle.store.specs.Ranged.{ElementRanged, StateRanged, PlacesRanged, BlockRanged}
 use Rattle.store.proofs.Bytes.{words-drop, bytes-length, bytes-bytes, bytes-back, stored}
 use Rattle.store.proofs.PendingRows.{places-row, no-places, rowsBytes, place-bytes}
-use Rattle.store.proofs.Back.{SmallFull, small-long, small-words, small-back}
+use Rattle.store.proofs.SmallPartBack.{SmallFull, small-long, small-words, small-back}
 
 -- ---- what is in range fits its words
 

@@ -5,7 +5,7 @@ use mathlib.Core.List.{List}
 use lib.ListN.{replicate}
 use Rattle.words.specs.Words.{withWord, withLong}
 use Rattle.timed.specs.Slot.{middle}
-use Rattle.store.specs.Places.{limiterGainAt, remainingIn, firstAt, secondAt, size}
+use Rattle.store.specs.FieldPlaces.{limiterGainAt, remainingIn, firstAt, secondAt, size}
 
 abbrev pub marked : List ℕ → List ℕ
 marked s = withLong (withLong (withWord s (4 * limiterGainAt) 0x3f80_0000) (4 * (firstAt + remainingIn)) middle) (4 * (secondAt + remainingIn)) middle

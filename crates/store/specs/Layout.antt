@@ -15,7 +15,7 @@ use Rattle.rules.specs.Samples.{Renderer, idle}
 use Rattle.store.specs.declared.renderer.Renderer714.{Renderer714}
 use Rattle.store.specs.Bytes.{bytesOf}
 use Rattle.store.specs.Fields.{clockOf, clockFrom, smallWords, smallOf}
-pub use Rattle.store.specs.Places.{smallWidth, infosAt, placesAt, size}
+pub use Rattle.store.specs.FieldPlaces.{smallWidth, infosAt, placesAt, size}
 
 -- ---- a renderer's parts
 

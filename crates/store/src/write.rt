@@ -4,7 +4,7 @@ ghost use Prim.Native.Nat.{_+_, _*_, _≤_};
 ghost use lib.ListN.{length};
 ghost use Rattle.words.specs.Words.{withWords};
 ghost use Rattle.formats.specs.Format.{u8To, float, array};
-ghost use Rattle.store.specs.Places.{stateAt, size};
+ghost use Rattle.store.specs.FieldPlaces.{stateAt, size};
 ghost use Rattle.store.specs.Fields.{sourceFormat, blockFormat, trackFormat, headFormat, elementFormat, countsFormat, stateFormat, basicsFormat};
 ghost use Rattle.store.specs.Fields.{elementHead, countsOf, basicsOf, smallWords};
 use crate::places;

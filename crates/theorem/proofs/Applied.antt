@@ -18,7 +18,7 @@ use Rattle.panning.specs.Table.{between, 8·0, Position}
 use Rattle.fields.specs.Update.{objects, elements}
 use Rattle.fields.specs.Block.{blocks}
 use Rattle.records.specs.Laid.{laidOut, count, updateAt}
-use Rattle.records.specs.Ranges.{inRange}
+use Rattle.records.specs.ValuesInRange.{inRange}
 use Rattle.timed.specs.Infos.{maybeAt}
 use Rattle.timed.specs.Objects.{noSource, noTrack}
 use Rattle.timed.specs.State.{Timed, noElement, elementOf}
@@ -33,9 +33,9 @@ use Rattle.updates.specs.Applied.{codeGiven, codesGiven, applied}
 use Rattle.updates.specs.WholeRecords.{WholeUpdate}
 use Rattle.updates.proofs.Theorems.{applied-within}
 use Rattle.updates.proofs.Elements.{flags-enough}
-use Rattle.store.specs.Ranges.{headValid, headsValid}
+use Rattle.store.specs.ValidBlocks.{headValid, headsValid}
 use Rattle.store.specs.Ranged.{Single, Singles, SourceSingles, TrackSingles, InfosRanged}
-use Rattle.store.proofs.Tables.{and-in}
+use Rattle.store.proofs.BlockTests.{and-in}
 use lib.Ieee.Fits.{and-l, and-r}
 use Rattle.timed.specs.InfoSizes.{infoBytes}
 use Rattle.theorem.specs.Instance.{Sent}

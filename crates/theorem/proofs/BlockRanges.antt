@@ -15,7 +15,7 @@ use Rattle.rules.specs.Refusals.{listed}
 use Rattle.rules.specs.Ranges as rules
 use Rattle.rules.specs.Samples.{Renderer}
 use Rattle.store.specs.Layout.{size, decode, encode}
-use Rattle.store.specs.Ranges as store
+use Rattle.store.specs.ValidBlocks as store
 use Rattle.store.specs.Ranged.{PlacesRanged, BlockRanged}
 use Rattle.store.proofs.Whole as whole
 use Rattle.store.proofs.Valid as valid′

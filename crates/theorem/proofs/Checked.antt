@@ -16,22 +16,22 @@ use Rattle.vectors.specs.declared.Maybe.{Maybe}
 use Rattle.vectors.specs.declared.Maybe.the-variants.{Absent, Value}
 use Rattle.panning.specs.Choice.{0·0, 1·0}
 use Rattle.panning.specs.Table.{between, 8·0}
-use Rattle.fields.specs.Bytes.{byte, kind, has}
+use Rattle.fields.specs.RecordBytes.{byte, kind, has}
 use Rattle.fields.specs.Update.{objects, bedOrIsf, beds, elements, code, countsFit, mostAt, codesFit, isUpdate}
 use Rattle.fields.specs.Block.{blocks}
-use Rattle.fields.specs.Infos.{storedInfo}
+use Rattle.fields.specs.ObjectInfos.{storedInfo}
 use Rattle.fields.specs.Object.{isObject, maybeOf, depthCode, objectOf, absentOr, objectInRange}
 use Rattle.fields.specs.declared.object.Info.{Info}
 use Rattle.fields.proofs.All.{and-left, and-right, all-at}
 use Rattle.records.specs.Runs.{each}
 use Rattle.records.specs.Laid.{laidOut, count, updateAt, elementAt, objectAt}
-use Rattle.records.specs.Ranges.{inRange}
+use Rattle.records.specs.ValuesInRange.{inRange}
 use Rattle.records.proofs.Theorems.{whole-records, update-whole, update-is, element-whole, object-is, all-within}
 use Rattle.updates.specs.Stored.{headOf}
 use Rattle.updates.specs.WholeRecords.{WholeUpdate}
 use Rattle.updates.proofs.Passed.{passes}
-use Rattle.store.specs.Ranges.{headValid}
-use Rattle.store.proofs.Tables.{and-in}
+use Rattle.store.specs.ValidBlocks.{headValid}
+use Rattle.store.proofs.BlockTests.{and-in}
 use Rattle.theorem.specs.Instance.{Sent, sentAt, sentOf}
 use Rattle.theorem.proofs.Sound.{UpTo}
 use Rattle.theorem.proofs.InfosWritten.{Said, Fit}

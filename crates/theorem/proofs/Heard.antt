@@ -14,7 +14,7 @@ use Rattle.rules.specs.Parts.{0·0, 1·0}
 use Rattle.rules.specs.Samples.{fresh}
 use Rattle.rules.specs.Refusals.{Args, clear}
 use Rattle.rules.specs.Calls.{Call, push, flush, reset, nothing, metersOf, found}
-use Rattle.rules.specs.Block.{made, Seen, seenOn, told}
+use Rattle.rules.specs.BlockCalls.{made, Seen, seenOn, told}
 use Rattle.rules.specs.Demand3.{AllLent}
 use Rattle.theorem.specs.Instance.{hall, block}
 use Rattle.theorem.proofs.Blank.{zero-bytes}

@@ -10,19 +10,19 @@ use Rattle.angles.specs.FiveTerms as terms-of-angle
 use Rattle.vectors.specs.Vectors as vectors
 use Rattle.vectors.specs.Anchors as anchors
 use Rattle.vectors.specs.Target as target
-use Rattle.fields.specs.Bytes as fields
+use Rattle.fields.specs.RecordBytes as fields
 use Rattle.fields.specs.Update as update
 use Rattle.fields.specs.Block as block
 use Rattle.fields.specs.Object as object
 use Rattle.records.specs.Runs as runs
 use Rattle.records.specs.Laid as laid
-use Rattle.records.specs.Ranges as ranges
+use Rattle.records.specs.ValuesInRange as ranges
 use Rattle.timed.specs.Infos as infos
 use Rattle.timed.specs.State as timed
 use Rattle.updates.specs.Applied as applied
 use Rattle.beds.specs.Routes as routes
 use Rattle.beds.specs.Positions as positions
-use Rattle.beds.specs.Terms as terms
+use Rattle.beds.specs.BedTerms as terms
 use Rattle.beds.specs.Matching as matching
 use Rattle.panning.specs.Choice as choice
 use Rattle.panning.specs.Terms as panning
@@ -32,7 +32,7 @@ use Rattle.limiter.specs.Limiter as limiter
 use Rattle.limiter.specs.Meters as meters
 use Rattle.rules.specs.Mix as mix
 use Rattle.rules.specs.Samples as samples
-use Rattle.rules.specs.Block as rules
+use Rattle.rules.specs.BlockCalls as rules
 use Rattle.store.specs.Layout as store
 
 unfoldable pub numbers : Unit {0}

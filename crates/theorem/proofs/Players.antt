@@ -9,11 +9,11 @@ use native.Mathlib.Omega.{arith}
 use lib.Dec.{T, lit≤, lit<}
 use lib.Ieee.{le, neg, ofBits}
 use lib.ListN.{length, replicate, length-replicate}
-use Rattle.fields.specs.Bytes.{all}
+use Rattle.fields.specs.RecordBytes.{all}
 use Rattle.fields.specs.Update.{codesFit, isUpdate}
 use Rattle.records.specs.Runs.{some, last, each}
 use Rattle.records.specs.Laid.{isWholeUpdate, isUpdates, updateAt, elementAt, laidOut, count}
-use Rattle.records.specs.Ranges.{recordInRange, inRange}
+use Rattle.records.specs.ValuesInRange.{recordInRange, inRange}
 use Rattle.timed.specs.Turns.{times}
 use Rattle.store.specs.Layout.{blank}
 use Rattle.words.specs.Words.{number}

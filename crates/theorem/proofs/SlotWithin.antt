@@ -19,7 +19,7 @@ use Rattle.timed.specs.Slot.{InRange}
 use Rattle.timed.specs.State.{Timed, elementOf, slotAt}
 use Rattle.timed.specs.declared.state.MetadataRendererState.{MetadataRendererState}
 use Rattle.timed.proofs.Theorems.{slot-within}
-use Rattle.store.specs.Ranges.{leastFlags, headsValid}
+use Rattle.store.specs.ValidBlocks.{leastFlags, headsValid}
 use Rattle.store.specs.Ranged.{Single, Singles, SourceSingles, TrackSingles, ElementRanged, StateRanged, InfosRanged}
 use Rattle.store.proofs.Whole.{all-at}
 use Rattle.timed.specs.InfoSizes.{infoBytes}

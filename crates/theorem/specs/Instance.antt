@@ -10,13 +10,13 @@ use Rattle.timed.specs.declared.state.MetadataRendererState.{MetadataRendererSt
 use Rattle.fields.specs.Update.{offset}
 use Rattle.records.specs.Runs.{each}
 use Rattle.records.specs.Laid.{laidOut, count, updateAt}
-use Rattle.records.specs.Ranges.{inRange}
+use Rattle.records.specs.ValuesInRange.{inRange}
 use Rattle.updates.specs.Said.{Update, updateOf}
 use Rattle.updates.specs.Applied.{applied}
 use Rattle.rules.specs.Leaves.{Leaves, Source, Bed, Shape}
-use Rattle.rules.specs.Block.{Layout}
+use Rattle.rules.specs.BlockCalls.{Layout}
 use Rattle.store.specs.Layout as store
-use Rattle.store.specs.Ranges.{valid}
+use Rattle.store.specs.ValidBlocks.{valid}
 
 -- an update with its sample offset
 pub record Sent : Type 0 where

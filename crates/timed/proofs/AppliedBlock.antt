@@ -9,7 +9,7 @@ use Rattle.vectors.specs.Target.{placed}
 use Rattle.timed.specs.InfoSizes.{positionByte, lastByte, infoAt}
 use Rattle.timed.specs.Infos.{blockPosition, withVec}
 use Rattle.timed.specs.Objects.{withLevels, objectMoved, afterMove}
-use Rattle.timed.specs.Contracts.{IsMoved}
+use Rattle.timed.specs.TimedResults.{IsMoved}
 use Rattle.timed.specs.declared.state.DynamicSourceState.{DynamicSourceState}
 use Rattle.timed.specs.declared.state.Track.{Track}
 

@@ -9,7 +9,7 @@ use borrow.Author.Tests.{eq-eqb, ne-eqb}
 use Rattle.timed.proofs.Invariants.{cond-keeps}
 use Rattle.timed.specs.Rules.{begins, active}
 use Rattle.timed.specs.Slot.{updatedSources}
-use Rattle.timed.specs.Contracts.{IsUpdated, IsTimed}
+use Rattle.timed.specs.TimedResults.{IsUpdated, IsTimed}
 use Rattle.timed.specs.State.{Timed, noElement, elementTaken, elementOf, timingOf, slotLeft, slotOf, slotAt}
 use Rattle.timed.specs.declared.state.ElementRendererState.{ElementRendererState}
 use Rattle.timed.specs.declared.state.MetadataRendererState.{MetadataRendererState}

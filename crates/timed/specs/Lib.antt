@@ -7,4 +7,4 @@ pub mod Shifted
 pub mod Slot
 pub mod State
 pub mod Preconditions
-pub mod Contracts
+pub mod TimedResults

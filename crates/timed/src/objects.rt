@@ -7,7 +7,7 @@ ghost use Prim.Native.Nat.{ℕ, _+_, _*_, _<_, _≤_};
 ghost use lib.ListN.{length};
 ghost use Rattle.timed.specs.InfoSizes.{mostBlocks, allInfos, infoBytes, allBytes, infoAt};
 ghost use Rattle.timed.specs.Objects.{orElse, withLevels, objectMoved, movedAll, bedGains, ramped, rampedAll};
-ghost use Rattle.timed.specs.Contracts.{IsMoved, IsMovedAll};
+ghost use Rattle.timed.specs.TimedResults.{IsMoved, IsMovedAll};
 use crate::infos;
 use crate::infos::BLOCKS;
 use crate::infos::GAIN;

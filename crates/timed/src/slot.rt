@@ -9,7 +9,7 @@ ghost use Rattle.timed.specs.InfoSizes.{mostBlocks, allBytes};
 ghost use Rattle.timed.specs.Rules.{remainingOf, keptAs, due, leftAfter, share, active, begins};
 ghost use Rattle.timed.specs.Slot.{blockApplied, blocksApplied, rampApplied, updatedSources};
 ghost use Rattle.timed.specs.Preconditions.{InTime, InRange, Reaches};
-ghost use Rattle.timed.specs.Contracts.{IsSlotWork, IsUpdated};
+ghost use Rattle.timed.specs.TimedResults.{IsSlotWork, IsUpdated};
 use crate::objects;
 use crate::objects::Moving;
 use crate::state::BlockState;

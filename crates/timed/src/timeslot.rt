@@ -8,7 +8,7 @@ ghost use lib.ListN.{length};
 ghost use Rattle.timed.specs.InfoSizes.{mostElements, allBytes};
 ghost use Rattle.timed.specs.State.{elementTaken, slotOf, slotAt};
 ghost use Rattle.timed.specs.Preconditions.{InTime, Within};
-ghost use Rattle.timed.specs.Contracts.{IsTimed};
+ghost use Rattle.timed.specs.TimedResults.{IsTimed};
 use crate::infos::BLOCKS;
 use crate::infos::ELEMENT_INFOS;
 use crate::slot::Reach;

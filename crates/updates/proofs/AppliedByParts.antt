@@ -10,7 +10,7 @@ use native.Mathlib.Numerals.{add-one}
 use native.Mathlib.Omega.{arith}
 use native.Mathlib.Nat.{mul-le-mul-right, suc-mul}
 use Rattle.timed.specs.State.{noElement}
-use Rattle.timed.specs.Contracts.{IsTimed}
+use Rattle.timed.specs.TimedResults.{IsTimed}
 use Rattle.clock.specs.declared.StreamSample.{StreamSample}
 use Rattle.timed.specs.declared.state.DynamicSourceState.{DynamicSourceState}
 use Rattle.timed.specs.declared.state.MetadataRendererState.{MetadataRendererState}
@@ -21,7 +21,7 @@ use Rattle.records.specs.Laid.{elementAt, elementEnd}
 use Rattle.updates.specs.declared.element.Counts.{Counts}
 use Rattle.updates.specs.WholeRecords.{WholeElement}
 use Rattle.updates.specs.Said.{elementSaid, updateOf}
-use Rattle.updates.specs.Contracts.{IsCounts, IsElement, IsWork}
+use Rattle.updates.specs.UpdateResults.{IsCounts, IsElement, IsWork}
 use Rattle.updates.specs.Applied.{Work, elementGiven, elementsApplied, codesGiven, nextGains, nextSources, applied}
 
 -- object o in block b is among n objects in k blocks each

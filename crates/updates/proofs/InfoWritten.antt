@@ -21,7 +21,7 @@ use Rattle.vectors.proofs.Theorems.{head-reads-back}
 use Rattle.timed.specs.InfoSizes.{infoBytes, gainByte, sizeByte, distanceByte, screenByte, positionByte, sendByte, infoAt}
 use Rattle.timed.specs.Infos.{infoOf, vecAt}
 use Rattle.timed.proofs.InfoFields.{gain-read, size-read, distance-read, screen-read, position-read, last-read, send-read}
-use Rattle.fields.specs.Infos.{storedInfo}
+use Rattle.fields.specs.ObjectInfos.{storedInfo}
 use Rattle.fields.specs.Object.{depthCode}
 use Rattle.fields.specs.declared.object.Info.{Info}
 use Rattle.updates.specs.Stored.{withThree, cleared, withPlace, headOf, withHead, withInfo}

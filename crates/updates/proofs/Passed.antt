@@ -13,8 +13,8 @@ use Rattle.fields.specs.Raised.{raisedOf}
 use Rattle.fields.proofs.All.{and-left, and-right}
 use Rattle.fields.proofs.Raised.{raised-within}
 use Rattle.records.specs.Laid.{blockAt, elementAt, updateAt, laidOut, count}
-use Rattle.records.specs.Ranges.{inRange}
-use Rattle.records.specs.Answers.{IsLayout}
+use Rattle.records.specs.ValuesInRange.{inRange}
+use Rattle.records.specs.LayoutAnswers.{IsLayout}
 use Rattle.records.specs.declared.layout.Layout.{Layout}
 use Rattle.records.proofs.Theorems.{element-within, whole-records, update-whole, update-is, update-place, update-counts, element-whole, blocks-few, all-within}
 use Rattle.updates.specs.WholeRecords.{WholeElement, WholeUpdate, WholeUpdates}

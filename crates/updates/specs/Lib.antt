@@ -3,5 +3,5 @@ pub mod Said
 pub mod Stored
 pub mod InfoAfter
 pub mod Applied
-pub mod Contracts
+pub mod UpdateResults
 pub mod Lifted

@@ -6,7 +6,7 @@ use Rattle.fields.specs.declared.object.Info.{Info}
 use Rattle.fields.specs.Update.{objects, bedOrIsf, beds, elements, code}
 use Rattle.fields.specs.Block.{blocks}
 use Rattle.fields.specs.Raised.{raisedOf}
-use Rattle.fields.specs.Infos.{storedInfo}
+use Rattle.fields.specs.ObjectInfos.{storedInfo}
 use Rattle.records.specs.Laid.{blockAt, objectAt, elementAt}
 
 pub record Element : Type 0 where

@@ -13,7 +13,7 @@ ghost use Rattle.updates.specs.WholeRecords.{WholeBlocks, WholeElement};
 ghost use Rattle.updates.specs.Said.{elementSaid};
 ghost use Rattle.updates.specs.Stored.{objectStored, objectsStored};
 ghost use Rattle.updates.specs.Applied.{newTrack, isKept, scheduled, elementNext};
-ghost use Rattle.updates.specs.Contracts.{IsElement};
+ghost use Rattle.updates.specs.UpdateResults.{IsElement};
 use crate::info::put_info;
 use fields::block::blocks_at;
 use fields::block::raised_block_at;

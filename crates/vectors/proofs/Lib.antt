@@ -1,4 +1,4 @@
 pub mod Fitting
-pub mod Cases
+pub mod EdgeValues
 pub mod Heads
 pub mod Theorems

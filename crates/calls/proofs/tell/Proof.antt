@@ -1,6 +1,6 @@
 -- `tell`: each kind has its text. Assumes nothing.
 use borrow.Author.Tests.{ne-eqb}
-use Rattle.calls.specs.Contracts.{textOfCode}
+use Rattle.calls.specs.CallResults.{textOfCode}
 use borrow.Author.Needs.{needs}
 use Rattle.calls.proofs.tell.Statement.{statement}
 use Rattle.calls.proofs.tell.Tie as tie

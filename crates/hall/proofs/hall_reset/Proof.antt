@@ -2,7 +2,7 @@
 use mathlib.Core.Path.{sym, ap, _∙_}
 use borrow.Author.Tests.{eq-eqb, ne-eqb}
 use Rattle.rules.specs.Calls.{reset}
-use Rattle.rules.specs.Block.{Outcome}
+use Rattle.rules.specs.BlockCalls.{Outcome}
 use Rattle.hall.specs.Answers.{codeOf}
 use Rattle.hall.proofs.WaysOut.{wrong, resets}
 use borrow.Author.Needs.{needs}

@@ -1,5 +1,5 @@
 -- `main`: the block is new when the run begins. Assumes nothing.
-use Rattle.hallrender.specs.Run.{newBlock}
+use Rattle.hallrender.specs.ProgramRun.{newBlock}
 use borrow.Author.Needs.{needs}
 use Rattle.hallrender.proofs.main.Statement.{statement}
 use Rattle.hallrender.proofs.main.Tie as tie

@@ -3,7 +3,7 @@ use mathlib.Core.Path.{_≡_, refl, sym}
 use mathlib.Core.List.{[]}
 use lib.ListN.{length}
 use lib.Seq.{length-take-le}
-use Rattle.hallrender.specs.Contracts.{Rooms}
+use Rattle.hallrender.specs.RunResults.{Rooms}
 use Rattle.hallrender.proofs.Handling.{From, said-fits, stops, goes}
 use borrow.Author.Needs.{needs}
 use Rattle.hallrender.proofs.run.Statement.{statement}

@@ -6,7 +6,7 @@ use native.Mathlib.Omega.{arith}
 use lib.ListN.{drop}
 use lib.Ieee.{ofBits}
 use Rattle.limiter.specs.Limiter.{0·0, blockPeak}
-use Rattle.limiter.specs.Places.{channels}
+use Rattle.limiter.specs.ChannelPlaces.{channels}
 use Rattle.limiter.proofs.Levels.{Level}
 use Rattle.limiter.proofs.Peaks.{zero-level}
 use Rattle.limiter.proofs.Blocks.{peak-next, peak-end}

@@ -4,7 +4,7 @@ use mathlib.Core.Path.{_≡_}
 use native.Mathlib.Omega.{arith}
 use lib.ListN.{length}
 use Rattle.listing.specs.Text.{linesOf}
-use Rattle.listing.specs.Contracts.{Put}
+use Rattle.listing.specs.GrownText.{Put}
 use Rattle.listing.proofs.Spelling.{renamed, no-line, line-more}
 use borrow.Author.Needs.{needs}
 use Rattle.listing.proofs.lines.Statement.{statement}

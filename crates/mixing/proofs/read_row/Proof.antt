@@ -8,7 +8,7 @@ use lib.ListN.{length, drop}
 use lib.Ieee.{binary32, ofBits}
 use Rattle.words.specs.Words.{floatAt}
 use Rattle.words.proofs.Nan.{not-above}
-use Rattle.mixing.specs.Samples.{samples}
+use Rattle.mixing.specs.FrameSamples.{samples}
 use Rattle.mixing.proofs.Samples.{samples-step, samples-all}
 use Rattle.mixing.proofs.read_row.Statement.{statement}
 use Rattle.mixing.proofs.read_row.Tie as tie

@@ -5,9 +5,9 @@ use mathlib.Core.Logic.{⊎-elim}
 use mathlib.Core.Path.{_≡_, sym, ap, _∙_}
 use native.Mathlib.Omega.{arith}
 use Prim.Native.Nat.{_-_, _≤_}
-use Rattle.mixing.specs.Samples.{passes, allPass}
+use Rattle.mixing.specs.FrameSamples.{passes, allPass}
 use Rattle.mixing.proofs.Passes.{pass-step, and-true, and-false}
-use Rattle.mixing.proofs.Meant.{passes-meant}
+use Rattle.mixing.proofs.RefusalEight.{passes-meant}
 use Rattle.mixing.proofs.samples_pass.Statement.{statement}
 use Rattle.mixing.proofs.samples_pass.Tie as tie
 

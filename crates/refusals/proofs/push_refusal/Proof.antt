@@ -9,7 +9,7 @@ use Rattle.rules.specs.Samples.{State}
 use Rattle.rules.specs.Calls.{announced}
 use Rattle.rules.proofs.Judged.{is-early, is-sized}
 use Rattle.refusals.specs.RefusalNumbers.{foundOf}
-use Rattle.refusals.specs.Contracts.{argsWith}
+use Rattle.refusals.specs.FirstFound.{argsWith}
 use Rattle.store.specs.Layout.{assembled, decode}
 use Rattle.updates.proofs.Passed.{passes-all}
 use Rattle.theorem.specs.Instance.{hall}

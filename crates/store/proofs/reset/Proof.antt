@@ -6,7 +6,7 @@ use Prim.Native.Nat.{ℕ, _+_, _*_}
 use lib.ListN.{length}
 use Rattle.words.specs.Words.{withWord, withLong}
 use Rattle.timed.specs.Slot.{middle}
-use Rattle.store.specs.Places.{limiterGainAt, remainingIn, firstAt, secondAt}
+use Rattle.store.specs.FieldPlaces.{limiterGainAt, remainingIn, firstAt, secondAt}
 use Rattle.store.proofs.Fresh.{refilled}
 use Rattle.store.proofs.reset.Statement.{statement}
 use Rattle.store.proofs.reset.Tie as tie

@@ -5,7 +5,7 @@ use native.Mathlib.Omega.{arith}
 use borrow.Author.Needs.{needs}
 use lib.Ieee.Nearest.{closest}
 use Rattle.rates.specs.Rates.{Listed}
-use Rattle.rates.specs.Sums.{stepOf, angleOf}
+use Rattle.rates.specs.Series.{stepOf, angleOf}
 use Rattle.angles.proofs.Quotient.{angle-small, step-size}
 use Rattle.angles.proofs.series.angle_of.Statement.{statement}
 use Rattle.angles.proofs.series.angle_of.Tie as tie

@@ -6,7 +6,7 @@ use native.Mathlib.Omega.{arith}
 use lib.Dec.{eqb}
 use lib.ListN.{getD}
 use borrow.Author.Needs.{needs}
-use Rattle.fields.specs.Bytes.{zeroBytes}
+use Rattle.fields.specs.RecordBytes.{zeroBytes}
 use Rattle.fields.proofs.All.{all-none, all-next}
 use Rattle.fields.proofs.bytes.zeros.Statement.{statement}
 use Rattle.fields.proofs.bytes.zeros.Tie as tie

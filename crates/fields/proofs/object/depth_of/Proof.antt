@@ -1,7 +1,7 @@
 -- `fields::object::depth_of`: each factor in turn. Assumes nothing.
 use native.Mathlib.Omega.{arith}
 use borrow.Author.Tests.{eq-eqb, ne-eqb}
-use Rattle.fields.proofs.Patterns.{depth-by-bits}
+use Rattle.fields.proofs.RangesByBits.{depth-by-bits}
 use Rattle.fields.proofs.object.depth_of.Statement.{statement}
 use Rattle.fields.proofs.object.depth_of.Tie as tie
 

@@ -1,7 +1,7 @@
 -- `fields::object::info_at`: field by field. Assumes nothing.
 use Prim.Native.Nat.{_+_, _*_}
 use borrow.Author.Needs.{needs}
-use Rattle.fields.proofs.Patterns.{float-bits}
+use Rattle.fields.proofs.RangesByBits.{float-bits}
 use Rattle.fields.proofs.object.info_at.Statement.{statement}
 use Rattle.fields.proofs.object.info_at.Tie as tie
 

@@ -4,7 +4,7 @@ use borrow.Author.Needs.{needs}
 use lib.ListN.{getD}
 use Rattle.ieee.specs.Numbers.{1·0, 8·0}
 use Rattle.ieee.proofs.Theorems.{one-bits}
-use Rattle.fields.proofs.Patterns.{eight-bits, float-bits, range-by-bits}
+use Rattle.fields.proofs.RangesByBits.{eight-bits, float-bits, range-by-bits}
 use Rattle.fields.proofs.object.object_in_range.Statement.{statement}
 use Rattle.fields.proofs.object.object_in_range.Tie as tie
 

@@ -6,7 +6,7 @@ use native.Mathlib.Omega.{arith}
 use lib.Dec.{leb}
 use lib.ListN.{getD}
 use borrow.Author.Needs.{needs}
-use Rattle.fields.specs.Bytes.{all}
+use Rattle.fields.specs.RecordBytes.{all}
 use Rattle.fields.specs.Update.{mostAt, codesFit}
 use Rattle.fields.proofs.All.{all-none, all-next}
 use Rattle.fields.proofs.update.codes_fit.Statement.{statement}

@@ -3,7 +3,7 @@ use Prim.Native.Nat.{ℕ}
 use mathlib.Core.Path.{_≡_}
 use borrow.Author.Needs.{needs}
 use Rattle.clock.specs.declared.FrameOffset.{FrameOffset}
-use Rattle.clock.proofs.Same.{offset-is}
+use Rattle.clock.proofs.SameCount.{offset-is}
 use Rattle.fields.specs.declared.update.Header.{Header}
 use Rattle.fields.proofs.update.header_at.Statement.{statement}
 use Rattle.fields.proofs.update.header_at.Tie as tie

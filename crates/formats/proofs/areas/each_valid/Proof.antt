@@ -6,7 +6,7 @@ use Prim.Native.Nat.{_-_, _*_, _≤_}
 use native.Mathlib.Omega.{arith}
 use borrow.Author.Tests.{lt-ltb, le-ltb}
 use Rattle.formats.specs.Areas.{infoCount, infoBytes, headsValid}
-use Rattle.formats.proofs.Heads.{together, heads-more, heads-all}
+use Rattle.formats.proofs.HeadsTested.{together, heads-more, heads-all}
 use Rattle.formats.proofs.areas.each_valid.Statement.{statement}
 use Rattle.formats.proofs.areas.each_valid.Tie as tie
 

@@ -6,7 +6,7 @@ use borrow.Author.Needs.{needs}
 use lib.Ieee.{Float}
 use Rattle.limiter.specs.Limiter.{0·0, lowered, grown, blockPeak, blockGain, scaledBlock}
 use Rattle.limiter.specs.Meters.{meets}
-use Rattle.limiter.specs.Places.{withChannels}
+use Rattle.limiter.specs.ChannelPlaces.{withChannels}
 use Rattle.store.specs.Steps.{emptiedBy}
 use Rattle.frame.specs.Give.{rowChannels}
 use Rattle.frame.proofs.RowsPeak.{rows-peak}

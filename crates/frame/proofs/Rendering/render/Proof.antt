@@ -15,7 +15,7 @@ use Rattle.rules.specs.Refusals.{Args, argsOf}
 use Rattle.rules.specs.Calls.{frameOf}
 use Rattle.rules.specs.Samples.{updated, slotted}
 use Rattle.theorem.specs.Instance.{sentOf, hall}
-use Rattle.refusals.specs.Contracts.{argsWith}
+use Rattle.refusals.specs.FirstFound.{argsWith}
 use Rattle.store.specs.declared.renderer.Renderer714.{Renderer714}
 use Rattle.frame.specs.Held.{held, Leads}
 use Rattle.frame.specs.declared.Rendering.{Rendering}
@@ -138,7 +138,7 @@ next-offset-requires c κs = taken (c .before .before .before .before .before .b
 -- the next update or the frame's end
 ends : (c : tie.After-next-offset Inv-loop μ-loop) → let a = c .before .before .before .before .before .before .before .before .before .before .before in
     c .next-offset .result .0
-    ≡ Rattle.records.specs.Order.nextOffset (Rattle.records.specs.Answers.offsetAt (a .before .before .before .before .before .before .before .before .before .args .l))
+    ≡ Rattle.records.specs.UpdateWalk.nextOffset (Rattle.records.specs.LayoutAnswers.offsetAt (a .before .before .before .before .before .before .before .before .before .args .l))
     (a .before .before .before .before .before .before .before .before .before .args .l .count) (c .before .before .before .before .before .before .before .before .loop .t .0)
     (args a .samples)
 ends c = let x = c .before .before .before .before .before .before .before .before .loop in rw (x .inv .1) at (c .next-offset .ensures)

@@ -6,8 +6,8 @@ use native.Mathlib.Omega.{arith}
 use borrow.Author.Needs.{needs}
 use borrow.Author.Tests.{ltb-true, ltb-false}
 use lib.Dec.{ltb}
-use Rattle.records.specs.Order.{FirstAt}
-use Rattle.records.specs.Answers.{offsetAt}
+use Rattle.records.specs.UpdateWalk.{FirstAt}
+use Rattle.records.specs.LayoutAnswers.{offsetAt}
 use Rattle.frame.proofs.Begins.{past}
 use Rattle.frame.proofs.push.is_sent.Statement.{statement}
 use Rattle.frame.proofs.push.is_sent.Tie as tie

@@ -1,7 +1,7 @@
 -- `render`: the push of the rules, saved.
 use mathlib.Core.Path.{refl, ap, _∙_}
 use native.Mathlib.Omega.{arith}
-use Rattle.refusals.specs.Contracts.{argsWith}
+use Rattle.refusals.specs.FirstFound.{argsWith}
 use Rattle.limiter.specs.Meters.{shown}
 use Rattle.hall.proofs.Done.{rendered-left}
 use borrow.Author.Needs.{needs}

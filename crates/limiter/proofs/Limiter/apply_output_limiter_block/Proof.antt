@@ -4,7 +4,7 @@ use mathlib.Core.List.{List}
 use lib.Dec.{lit≤}
 use lib.Ieee.{Float}
 use Rattle.limiter.specs.Limiter.{0·0, lowered, grown, blockPeak, blockGain, scaledBlock}
-use Rattle.limiter.specs.Places.{channels, channelsAt, withChannels}
+use Rattle.limiter.specs.ChannelPlaces.{channels, channelsAt, withChannels}
 use Rattle.limiter.proofs.Blocks.{channels-laid, channels-at-lengths}
 use borrow.Author.Needs.{needs}
 use Rattle.limiter.proofs.Limiter.apply_output_limiter_block.Statement.{statement}

@@ -5,7 +5,7 @@ use mathlib.Core.Path.{_≡_, refl, ap, _∙_}
 use mathlib.Core.List.{_++_}
 use Prim.Native.Nat.{_+_, _*_, _≤_}
 use lib.ListN.{length, take, drop}
-use Rattle.limiter.specs.Places.{overlaid, floatsAt, channelsAt}
+use Rattle.limiter.specs.ChannelPlaces.{overlaid, floatsAt, channelsAt}
 use Rattle.limiter.proofs.Blocks.{part-length, load-next, load-end}
 use Rattle.limiter.proofs.places.load_block.Statement.{statement}
 use Rattle.limiter.proofs.places.load_block.Tie as tie

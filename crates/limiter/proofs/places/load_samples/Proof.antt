@@ -6,7 +6,7 @@ use mathlib.Core.Path.{_≡_, sym, ap, _∙_}
 use Prim.Native.Nat.{_-_, _≤_, _<_}
 use lib.ListN.{length, take, length-set}
 use lib.Seq.{take-suc-set, take-all}
-use Rattle.limiter.specs.Places.{floatsAt}
+use Rattle.limiter.specs.ChannelPlaces.{floatsAt}
 use Rattle.words.proofs.Runs.{floats-more}
 use Rattle.limiter.proofs.places.load_samples.Statement.{statement}
 use Rattle.limiter.proofs.places.load_samples.Tie as tie

@@ -5,7 +5,7 @@ use mathlib.Core.Path.{_≡_, refl, _∙_}
 use Prim.Native.Nat.{_*_, _-_, _≤_}
 use lib.ListN.{length, drop}
 use Rattle.limiter.specs.Limiter.{scaled}
-use Rattle.limiter.specs.Places.{withFloats}
+use Rattle.limiter.specs.ChannelPlaces.{withFloats}
 use Rattle.limiter.proofs.Scaled.{write-more, write-end}
 use Rattle.limiter.proofs.places.scale_slice_into.Statement.{statement}
 use Rattle.limiter.proofs.places.scale_slice_into.Tie as tie

@@ -5,7 +5,7 @@ use mathlib.Core.Path.{_≡_, refl, sym, ap, _∙_}
 use Prim.Native.Nat.{ℕ, _+_, _*_, _≤_}
 use lib.ListN.{length, drop}
 use Rattle.limiter.specs.Limiter.{scaledBlock}
-use Rattle.limiter.specs.Places.{channels, withChannels}
+use Rattle.limiter.specs.ChannelPlaces.{channels, withChannels}
 use Rattle.limiter.proofs.Blocks.{part-length, store-part, store-next, store-end, room-next}
 use Rattle.limiter.proofs.places.store_block.Statement.{statement}
 use Rattle.limiter.proofs.places.store_block.Tie as tie

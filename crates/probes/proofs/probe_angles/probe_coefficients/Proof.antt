@@ -3,7 +3,7 @@ use mathlib.Core.Path.{refl}
 use lib.Ieee.{ofBits}
 use native.Mathlib.Omega.{arith}
 use borrow.Author.Needs.{needs}
-use Rattle.probes.proofs.Cases.{listed-within, unlisted-below, unlisted-above}
+use Rattle.probes.proofs.ProbeAnswers.{listed-within, unlisted-below, unlisted-above}
 use Rattle.probes.proofs.probe_angles.probe_coefficients.Statement.{statement}
 use Rattle.probes.proofs.probe_angles.probe_coefficients.Tie as tie
 

@@ -1,5 +1,5 @@
 -- The count of at most 18 codes.
-use Rattle.probes.proofs.Cases.{fits, unfit}
+use Rattle.probes.proofs.ProbeAnswers.{fits, unfit}
 use borrow.Author.Needs.{needs}
 use Rattle.probes.proofs.probe_beds.probe_count_matching.Statement.{statement}
 use Rattle.probes.proofs.probe_beds.probe_count_matching.Tie as tie

@@ -1,5 +1,5 @@
 -- Mixed where the lengths fit.
-use Rattle.probes.proofs.Cases.{fits, unfit}
+use Rattle.probes.proofs.ProbeAnswers.{fits, unfit}
 use borrow.Author.Needs.{needs}
 use Rattle.probes.proofs.probe_mixing.probe_mix_full_channel.Statement.{statement}
 use Rattle.probes.proofs.probe_mixing.probe_mix_full_channel.Tie as tie

@@ -1,5 +1,5 @@
 -- Mixed where the segment fits.
-use Rattle.probes.proofs.Cases.{fits, unfit}
+use Rattle.probes.proofs.ProbeAnswers.{fits, unfit}
 use native.Mathlib.Omega.{arith}
 use Prim.Native.Nat.{_+_, _≤_, _<_}
 use lib.ListN.{length}

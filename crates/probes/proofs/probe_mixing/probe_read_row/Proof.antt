@@ -5,7 +5,7 @@ use native.Mathlib.Omega.{arith}
 use Prim.Native.Nat.{_*_, _≤_, _<_}
 use lib.ListN.{length}
 use Rattle.mixing.proofs.Passes.{pass-plain}
-use Rattle.probes.proofs.Cases.{chosen, passed-over, fits-and, unfit-and}
+use Rattle.probes.proofs.ProbeAnswers.{chosen, passed-over, fits-and, unfit-and}
 use Rattle.probes.proofs.probe_mixing.probe_read_row.Statement.{statement}
 use Rattle.probes.proofs.probe_mixing.probe_read_row.Tie as tie
 

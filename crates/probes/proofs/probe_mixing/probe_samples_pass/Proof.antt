@@ -1,5 +1,5 @@
 -- The test of the samples that are there.
-use Rattle.probes.proofs.Cases.{fits-and, unfit-and}
+use Rattle.probes.proofs.ProbeAnswers.{fits-and, unfit-and}
 use native.Mathlib.Omega.{arith}
 use Prim.Native.Nat.{_*_, _≤_, _<_}
 use lib.ListN.{length}

@@ -3,8 +3,8 @@ use mathlib.Core.Path.{ap, _∙_}
 use Prim.Native.Nat.{ℕ}
 use Rattle.fields.specs.Update.{offset}
 use Rattle.records.specs.Laid.{updateAt, count}
-use Rattle.records.specs.Order.{nextOffset}
-use Rattle.records.specs.Answers.{offsetAt}
+use Rattle.records.specs.UpdateWalk.{nextOffset}
+use Rattle.records.specs.LayoutAnswers.{offsetAt}
 use Rattle.records.proofs.Theorems.{next-same}
 use borrow.Author.Needs.{needs}
 use Rattle.probes.proofs.probe_records.probe_next_offset.Statement.{statement}

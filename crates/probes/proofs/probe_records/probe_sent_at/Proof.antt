@@ -5,8 +5,8 @@ use borrow.Author.Tests.{le-leb, lt-leb}
 use borrow.Author.Needs.{needs}
 use Rattle.fields.specs.Update.{offset}
 use Rattle.records.specs.Laid.{updateAt, count}
-use Rattle.records.specs.Order.{FirstAt}
-use Rattle.records.specs.Answers.{offsetAt}
+use Rattle.records.specs.UpdateWalk.{FirstAt}
+use Rattle.records.specs.LayoutAnswers.{offsetAt}
 use Rattle.records.proofs.Theorems.{first-same}
 use Rattle.probes.proofs.probe_records.probe_sent_at.Statement.{statement}
 use Rattle.probes.proofs.probe_records.probe_sent_at.Tie as tie

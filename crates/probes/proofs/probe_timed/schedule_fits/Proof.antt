@@ -6,7 +6,7 @@ use native.Mathlib.Omega.{arith}
 use lib.ListN.{getD}
 use borrow.Author.Tests.{le-leb, lt-leb}
 use borrow.Author.Needs.{needs}
-use Rattle.fields.specs.Bytes.{all}
+use Rattle.fields.specs.RecordBytes.{all}
 use Rattle.fields.proofs.All.{all-none, all-more, all-fails, all-passed}
 use Rattle.timed.specs.Slot.{noBlock}
 use Rattle.probes.specs.Timed.{blockFits, scheduleFits}

@@ -4,7 +4,7 @@ use native.Mathlib.Omega.{arith}
 use lib.ListN.{length}
 use borrow.Author.Tests.{le-leb}
 use borrow.Author.Needs.{needs}
-use Rattle.probes.proofs.Cases.{unfit}
+use Rattle.probes.proofs.ProbeAnswers.{unfit}
 use Rattle.probes.proofs.probe_words.probe_i64_at.Statement.{statement}
 use Rattle.probes.proofs.probe_words.probe_i64_at.Tie as tie
 

@@ -6,7 +6,7 @@ use native.Mathlib.Omega.{arith}
 use lib.ListN.{length}
 use borrow.Author.Needs.{needs}
 use Rattle.words.specs.Words.{withSigned}
-use Rattle.probes.proofs.Cases.{fits, unfit}
+use Rattle.probes.proofs.ProbeAnswers.{fits, unfit}
 use Rattle.probes.proofs.probe_words.probe_put_i64.Statement.{statement}
 use Rattle.probes.proofs.probe_words.probe_put_i64.Tie as tie
 

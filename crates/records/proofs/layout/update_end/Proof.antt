@@ -6,9 +6,9 @@ use native.Mathlib.Omega.{arith}
 use lib.ListN.{length}
 use borrow.Author.Needs.{needs}
 use borrow.Author.Tests.{not-true, not-false}
-use Rattle.records.specs.Answers.{endIf}
+use Rattle.records.specs.LayoutAnswers.{endIf}
 use Rattle.fields.specs.declared.update.Header.{Header}
-use Rattle.fields.specs.Bytes.{all}
+use Rattle.fields.specs.RecordBytes.{all}
 use Rattle.fields.specs.Update.{objects, elements, isUpdate}
 use Rattle.records.specs.Laid.{isWholeElement, isWholeUpdate, elementAt}
 use Rattle.fields.proofs.All.{all-none, all-more}

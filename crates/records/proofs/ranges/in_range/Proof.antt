@@ -6,8 +6,8 @@ use native.Mathlib.Omega.{arith}
 use lib.ListN.{length}
 use borrow.Author.Needs.{needs}
 use borrow.Author.Tests.{not-true, not-false}
-use Rattle.fields.specs.Bytes.{all}
-use Rattle.records.specs.Ranges.{recordInRange, inRange}
+use Rattle.fields.specs.RecordBytes.{all}
+use Rattle.records.specs.ValuesInRange.{recordInRange, inRange}
 use Rattle.fields.proofs.All.{all-none, all-more, all-fails, all-passed}
 use Rattle.records.proofs.ranges.in_range.Statement.{statement}
 use Rattle.records.proofs.ranges.in_range.Tie as tie

@@ -1,6 +1,6 @@
 -- `records::ranges::record_in_range`: by the kind. Assumes nothing.
 use borrow.Author.Tests.{eq-eqb, ne-eqb}
-use Rattle.records.specs.Ranges.{recordInRange}
+use Rattle.records.specs.ValuesInRange.{recordInRange}
 use borrow.Author.Needs.{needs}
 use Rattle.records.proofs.ranges.record_in_range.Statement.{statement}
 use Rattle.records.proofs.ranges.record_in_range.Tie as tie

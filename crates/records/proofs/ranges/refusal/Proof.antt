@@ -2,7 +2,7 @@
 use mathlib.Core.Path.{sym, _∙_}
 use borrow.Author.Needs.{needs}
 use borrow.Author.Tests.{not-true, not-false}
-use Rattle.records.specs.Ranges.{refusal}
+use Rattle.records.specs.ValuesInRange.{refusal}
 use Rattle.records.proofs.ranges.refusal.Statement.{statement}
 use Rattle.records.proofs.ranges.refusal.Tie as tie
 

@@ -6,7 +6,7 @@ use borrow.Author.Tests.{not-true, not-false}
 use denote.Ref.{now}
 use Rattle.fields.specs.Update.{objects}
 use Rattle.fields.specs.declared.update.Header.{Header}
-use Rattle.refusals.specs.Contracts.{matched}
+use Rattle.refusals.specs.FirstFound.{matched}
 use borrow.Author.Needs.{needs}
 use Rattle.refusals.proofs.checks.update_refusal.Statement.{statement}
 use Rattle.refusals.proofs.checks.update_refusal.Tie as tie

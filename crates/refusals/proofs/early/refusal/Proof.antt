@@ -5,7 +5,7 @@ use mathlib.Core.List.{List}
 use lib.ListN.{length, take}
 use borrow.Author.Needs.{needs}
 use Rattle.rules.specs.Refusals.{Args, room}
-use Rattle.refusals.specs.Contracts.{argsWith}
+use Rattle.refusals.specs.FirstFound.{argsWith}
 use Rattle.refusals.proofs.First.{failed, passed}
 use Rattle.refusals.proofs.LowestFirst.{Test, Hold, more, tests, refuses, refuses-none, pcm-samples}
 use Rattle.refusals.proofs.early.refusal.Statement.{statement}

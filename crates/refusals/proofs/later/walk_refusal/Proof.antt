@@ -5,7 +5,7 @@ use native.Mathlib.Omega.{arith}
 use native.Mathlib.Numerals.{unary-clauses}
 use borrow.Author.Tests.{ltb-true, ltb-false}
 use denote.Ref.{now}
-use Rattle.records.specs.Answers.{offsetAt}
+use Rattle.records.specs.LayoutAnswers.{offsetAt}
 use Rattle.records.proofs.Theorems.{next-within, next-above}
 use Rattle.rules.specs.Leaves.{Shape}
 use Rattle.rules.specs.Refusals.{Found, walk, _then_}

@@ -4,7 +4,7 @@ use mathlib.Core.Path.{_≡_}
 use native.Mathlib.Omega.{arith}
 use Prim.Native.Nat.{_+_, _*_}
 use lib.ListN.{length, drop}
-use Rattle.limiter.specs.Places.{channels, withChannels}
+use Rattle.limiter.specs.ChannelPlaces.{channels, withChannels}
 use Rattle.render.proofs.WrittenRows.{channel-step, channels-done}
 use Rattle.render.proofs.places.append_rows.Statement.{statement}
 use Rattle.render.proofs.places.append_rows.Tie as tie

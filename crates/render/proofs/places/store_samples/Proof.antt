@@ -4,7 +4,7 @@ use mathlib.Core.Path.{_≡_, refl}
 use native.Mathlib.Omega.{arith}
 use Prim.Native.Nat.{_+_, _-_, _*_, _≤_}
 use lib.ListN.{length, drop}
-use Rattle.limiter.specs.Places.{withFloats}
+use Rattle.limiter.specs.ChannelPlaces.{withFloats}
 use Rattle.render.proofs.WrittenRows.{store-start, store-step, store-done}
 use Rattle.render.proofs.places.store_samples.Statement.{statement}
 use Rattle.render.proofs.places.store_samples.Tie as tie

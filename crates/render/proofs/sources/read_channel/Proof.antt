@@ -5,7 +5,7 @@ use mathlib.Core.List.{List, _++_}
 use lib.ListN.{length, take, drop}
 use lib.Seq.{length-take-le}
 use lib.Ieee.{Float}
-use Rattle.mixing.specs.Samples.{samples}
+use Rattle.mixing.specs.FrameSamples.{samples}
 use Rattle.render.specs.MixedSources.{channelStart}
 use Rattle.render.proofs.sources.read_channel.Statement.{statement}
 use Rattle.render.proofs.sources.read_channel.Tie as tie

@@ -3,7 +3,7 @@ use mathlib.Core.Path.{ap}
 use Prim.Native.Nat.{ℕ, _*_, _+_, _%_, _<_}
 use native.Mathlib.Omega.{arith}
 use borrow.Author.Needs.{needs}
-use Rattle.roots.proofs.Near.{ranged-fourth}
+use Rattle.roots.proofs.NearestWhole.{ranged-fourth}
 use Rattle.roots.proofs.Rests.{fourth-factor, fourth-range, between}
 use Rattle.roots.proofs.bits.fourth_rest.Statement.{statement}
 use Rattle.roots.proofs.bits.fourth_rest.Tie as tie

@@ -2,7 +2,7 @@
 use mathlib.Core.Path.{ap, _∙_}
 use mathlib.Core.Bool.{Bool, cond}
 use Rattle.roots.specs.Root.{rootUnits}
-use Rattle.ieee.specs.Patterns.{unitsOf}
+use Rattle.ieee.specs.FloatBits.{unitsOf}
 use borrow.Author.Needs.{needs}
 use Rattle.roots.proofs.bits.root_bits.Statement.{statement}
 use Rattle.roots.proofs.bits.root_bits.Tie as tie

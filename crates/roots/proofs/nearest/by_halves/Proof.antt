@@ -4,7 +4,7 @@ use mathlib.Core.Bool.{Bool}
 use Prim.Native.Nat.{ℕ, _+_, _-_, _≤_, _<_}
 use native.Mathlib.Omega.{arith}
 use Rattle.roots.specs.Whole.{topOf}
-use Rattle.roots.proofs.Near.{below, not-below}
+use Rattle.roots.proofs.NearestWhole.{below, not-below}
 use Rattle.roots.proofs.nearest.by_halves.Statement.{statement}
 use Rattle.roots.proofs.nearest.by_halves.Tie as tie
 

@@ -2,7 +2,7 @@
 use mathlib.Core.Path.{refl}
 use mathlib.Core.Bool.{false}
 use borrow.Author.Needs.{needs}
-use Rattle.roots.proofs.Near.{near, below-square, up-to-square}
+use Rattle.roots.proofs.NearestWhole.{near, below-square, up-to-square}
 use Rattle.roots.proofs.nearest.nearest_root.Statement.{statement}
 use Rattle.roots.proofs.nearest.nearest_root.Tie as tie
 

@@ -1,6 +1,6 @@
 -- `roots::nearest::nearest_whole` meets its contract: the tests on both sides of what is returned. Assumes nothing.
 use native.Mathlib.Omega.{arith}
-use Rattle.roots.proofs.Near.{near, large, below, not-below}
+use Rattle.roots.proofs.NearestWhole.{near, large, below, not-below}
 use borrow.Author.Needs.{needs}
 use Rattle.roots.proofs.nearest.nearest_whole.Statement.{statement}
 use Rattle.roots.proofs.nearest.nearest_whole.Tie as tie

@@ -7,7 +7,7 @@ use native.Mathlib.Omega.{arith}
 use borrow.Author.Needs.{needs}
 use borrow.Author.Tests.{lt-ltb, le-ltb}
 use lib.Pow.{pow-add}
-use Rattle.ieee.specs.Patterns.{unitsOf}
+use Rattle.ieee.specs.FloatBits.{unitsOf}
 use Rattle.roots.specs.Whole.{Normal}
 use Rattle.roots.proofs.unpack.parts.Statement.{statement}
 use Rattle.roots.proofs.unpack.parts.Tie as tie

@@ -1,10 +1,10 @@
 -- The head, and a column of a table after the other. Assumes nothing.
 use borrow.Author.Needs.{needs}
 use Prim.Native.Nat.{_+_}
-use Rattle.formats.specs.Numbers.{inWords}
+use Rattle.formats.specs.NumberWords.{inWords}
 use Rattle.formats.specs.Format.{array}
 use Rattle.store.specs.Fields.{headFormat, blockFormat}
-use Rattle.store.proofs.Tables.{blocks-test, tracks-test}
+use Rattle.store.proofs.BlockTests.{blocks-test, tracks-test}
 use Rattle.store.proofs.ranges.element_fields.Statement.{statement}
 use Rattle.store.proofs.ranges.element_fields.Tie as tie
 

@@ -2,7 +2,7 @@
 use borrow.Author.Needs.{needs}
 use mathlib.Core.Path.{sym, _∙_}
 use borrow.Author.Tests.{not-true, not-false}
-use Rattle.store.proofs.Tables.{valid-in-block, wrong-length, bad-heads, good-heads}
+use Rattle.store.proofs.BlockTests.{valid-in-block, wrong-length, bad-heads, good-heads}
 use Rattle.store.proofs.ranges.is_valid.Statement.{statement}
 use Rattle.store.proofs.ranges.is_valid.Tie as tie
 

@@ -1,8 +1,8 @@
 -- Test by test; the numbers of two words are in range. Assumes nothing.
 use borrow.Author.Needs.{needs}
 use native.Mathlib.Omega.{arith}
-use Rattle.formats.specs.Numbers.{inWords}
-use Rattle.store.proofs.Tables.{longs, related-from}
+use Rattle.formats.specs.NumberWords.{inWords}
+use Rattle.store.proofs.BlockTests.{longs, related-from}
 use Rattle.store.proofs.ranges.related.Statement.{statement}
 use Rattle.store.proofs.ranges.related.Tie as tie
 

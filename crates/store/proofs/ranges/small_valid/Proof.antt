@@ -2,8 +2,8 @@
 use borrow.Author.Needs.{needs}
 use mathlib.Core.Path.{sym, _∙_}
 use borrow.Author.Tests.{not-true, not-false}
-use Rattle.formats.specs.Numbers.{inWords}
-use Rattle.store.proofs.Tables.{fields-good, fields-bad}
+use Rattle.formats.specs.NumberWords.{inWords}
+use Rattle.store.proofs.BlockTests.{fields-good, fields-bad}
 use Rattle.store.proofs.ranges.small_valid.Statement.{statement}
 use Rattle.store.proofs.ranges.small_valid.Tie as tie
 

@@ -4,7 +4,7 @@ use mathlib.Core.Path.{_≡_, refl, ap, _∙_}
 use Prim.Native.Nat.{ℕ, _+_, _-_, _*_, _%_, _≤_, _<_}
 use native.Mathlib.Omega.{arith}
 use lib.ListN.{length, take, length-set}
-use Rattle.formats.specs.Numbers.{inWords}
+use Rattle.formats.specs.NumberWords.{inWords}
 use Rattle.formats.specs.Format.{gets, array, u8To}
 use Rattle.formats.proofs.Theorems.{gets-filled, gets-full}
 use Rattle.store.proofs.read.codes.Statement.{statement}

@@ -1,8 +1,8 @@
 -- Field by field. Assumes nothing.
 use borrow.Author.Needs.{needs}
-use Rattle.formats.specs.Numbers.{inWords}
+use Rattle.formats.specs.NumberWords.{inWords}
 use Rattle.store.specs.Fields.{smallOf}
-use Rattle.store.proofs.Back.{lawful-small}
+use Rattle.store.proofs.SmallPartBack.{lawful-small}
 use Rattle.store.proofs.read.small.Statement.{statement}
 use Rattle.store.proofs.read.small.Tie as tie
 

@@ -4,11 +4,11 @@ use mathlib.Core.Path.{_≡_, refl}
 use Prim.Native.Nat.{_+_, _-_, _*_, _≤_, _<_}
 use native.Mathlib.Omega.{arith}
 use lib.ListN.{length, take, length-set}
-use Rattle.formats.specs.Numbers.{inWords}
+use Rattle.formats.specs.NumberWords.{inWords}
 use Rattle.formats.specs.Format.{gets, array}
 use Rattle.formats.proofs.Theorems.{gets-filled, gets-full}
 use Rattle.store.specs.Fields.{sourceFormat}
-use Rattle.store.proofs.Back.{lawful-source}
+use Rattle.store.proofs.SmallPartBack.{lawful-source}
 use Rattle.store.proofs.read.sources.Statement.{statement}
 use Rattle.store.proofs.read.sources.Tie as tie
 

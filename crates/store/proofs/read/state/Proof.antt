@@ -1,10 +1,10 @@
 -- Field by field. Assumes nothing.
 use borrow.Author.Needs.{needs}
 use mathlib.Core.List.{[], _∷_}
-use Rattle.formats.specs.Numbers.{inWords}
+use Rattle.formats.specs.NumberWords.{inWords}
 use Rattle.formats.specs.Format.{gets}
-use Rattle.store.specs.Places.{firstAt, secondAt}
-use Rattle.store.proofs.Back.{lawful-element}
+use Rattle.store.specs.FieldPlaces.{firstAt, secondAt}
+use Rattle.store.proofs.SmallPartBack.{lawful-element}
 use Rattle.store.proofs.read.state.Statement.{statement}
 use Rattle.store.proofs.read.state.Tie as tie
 

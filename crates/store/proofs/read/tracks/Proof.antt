@@ -4,11 +4,11 @@ use mathlib.Core.Path.{_≡_, refl}
 use Prim.Native.Nat.{_+_, _-_, _*_, _≤_, _<_}
 use native.Mathlib.Omega.{arith}
 use lib.ListN.{length, take, length-set}
-use Rattle.formats.specs.Numbers.{inWords}
+use Rattle.formats.specs.NumberWords.{inWords}
 use Rattle.formats.specs.Format.{gets, array}
 use Rattle.formats.proofs.Theorems.{gets-filled, gets-full}
 use Rattle.store.specs.Fields.{trackFormat}
-use Rattle.store.proofs.Back.{lawful-track}
+use Rattle.store.proofs.SmallPartBack.{lawful-track}
 use Rattle.store.proofs.read.tracks.Statement.{statement}
 use Rattle.store.proofs.read.tracks.Tie as tie
 

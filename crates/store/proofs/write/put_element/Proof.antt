@@ -8,7 +8,7 @@ use Rattle.words.specs.Words.{withWords}
 use Rattle.formats.specs.Format.{array}
 use Rattle.formats.proofs.Theorems.{spelled}
 use Rattle.store.specs.Fields.{elementHead, headFormat, blockFormat, trackFormat}
-use Rattle.store.proofs.Back.{lawful-head}
+use Rattle.store.proofs.SmallPartBack.{lawful-head}
 use Rattle.store.proofs.Stores.{element-stored}
 use Rattle.store.proofs.write.put_element.Statement.{statement}
 use Rattle.store.proofs.write.put_element.Tie as tie

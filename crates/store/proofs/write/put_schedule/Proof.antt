@@ -9,7 +9,7 @@ use Rattle.formats.specs.Format.{array}
 use Rattle.formats.proofs.Theorems.{store-turn, store-none, store-all}
 use Rattle.timed.specs.Slot.{noBlock}
 use Rattle.store.specs.Fields.{blockFormat}
-use Rattle.store.proofs.Back.{lawful-block}
+use Rattle.store.proofs.SmallPartBack.{lawful-block}
 use Rattle.store.proofs.write.put_schedule.Statement.{statement}
 use Rattle.store.proofs.write.put_schedule.Tie as tie
 

@@ -9,7 +9,7 @@ use Rattle.formats.specs.Format.{array}
 use Rattle.formats.proofs.Theorems.{store-turn, store-none, store-all}
 use Rattle.timed.specs.Objects.{noSource}
 use Rattle.store.specs.Fields.{sourceFormat}
-use Rattle.store.proofs.Back.{lawful-source}
+use Rattle.store.proofs.SmallPartBack.{lawful-source}
 use Rattle.store.proofs.write.put_sources.Statement.{statement}
 use Rattle.store.proofs.write.put_sources.Tie as tie
 

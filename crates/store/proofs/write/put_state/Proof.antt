@@ -8,8 +8,8 @@ use Rattle.words.specs.Words.{withWords}
 use Rattle.formats.specs.Format.{u8To, float, array}
 use Rattle.formats.proofs.Theorems.{spelled}
 use Rattle.store.specs.Fields.{sourceFormat, elementFormat, countsOf, countsFormat}
-use Rattle.store.specs.Places.{stateAt, tablesAt, gainsAt, sourcesAt, firstAt}
-use Rattle.store.proofs.Back.{lawful-counts}
+use Rattle.store.specs.FieldPlaces.{stateAt, tablesAt, gainsAt, sourcesAt, firstAt}
+use Rattle.store.proofs.SmallPartBack.{lawful-counts}
 use Rattle.store.proofs.Stores.{state-stored}
 use Rattle.store.proofs.write.put_state.Statement.{statement}
 use Rattle.store.proofs.write.put_state.Tie as tie

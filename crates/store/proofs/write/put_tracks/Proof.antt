@@ -9,7 +9,7 @@ use Rattle.formats.specs.Format.{array}
 use Rattle.formats.proofs.Theorems.{store-turn, store-none, store-all}
 use Rattle.timed.specs.Objects.{noTrack}
 use Rattle.store.specs.Fields.{trackFormat}
-use Rattle.store.proofs.Back.{lawful-track}
+use Rattle.store.proofs.SmallPartBack.{lawful-track}
 use Rattle.store.proofs.write.put_tracks.Statement.{statement}
 use Rattle.store.proofs.write.put_tracks.Tie as tie
 

@@ -7,8 +7,8 @@ use lib.ListN.{length}
 use Rattle.words.specs.Words.{withWords}
 use Rattle.formats.proofs.Theorems.{spelled}
 use Rattle.store.specs.Fields.{basicsOf, basicsFormat, stateFormat}
-use Rattle.store.specs.Places.{stateAt}
-use Rattle.store.proofs.Back.{lawful-basics}
+use Rattle.store.specs.FieldPlaces.{stateAt}
+use Rattle.store.proofs.SmallPartBack.{lawful-basics}
 use Rattle.store.proofs.Stores.{small-stored}
 use Rattle.store.proofs.write.save.Statement.{statement}
 use Rattle.store.proofs.write.save.Tie as tie

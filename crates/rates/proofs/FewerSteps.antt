@@ -5,7 +5,7 @@ use mathlib.Core.Path.{_≡_, refl, sym, ap, subst, _∙_}
 use mathlib.Core.Bool.{Bool, _&&_}
 use lib.Dec.{T}
 use lib.Ieee.Nearest.{closest}
-use Rattle.rates.specs.Sums.{stepOf, nextTerm}
+use Rattle.rates.specs.Series.{stepOf, nextTerm}
 use Rattle.rates.specs.Suffice.{sumsAlike, roundAlike, suffice}
 
 -- m is 2 ^ 64 × n

@@ -1,4 +1,4 @@
--- An object in a block as the state keeps it. `info-says-all` of proofs/Infos: it says all that the record says. Assumes nothing.
+-- An object in a block as the state keeps it. `info-says-all` of proofs/InfoSaysAll: it says all that the record says. Assumes nothing.
 use Prim.Native.Nat.{ℕ, _+_, _*_}
 use mathlib.Core.Bool.{cond}
 use mathlib.Core.List.{List}
@@ -7,7 +7,7 @@ use Rattle.words.specs.Words.{word, floatAt}
 use Rattle.vectors.specs.Head.{Head, headWord, headIn, anchorOf, has}
 use Rattle.vectors.specs.declared.Maybe.{Maybe}
 use Rattle.vectors.specs.declared.Maybe.the-variants.{Absent, Value}
-use Rattle.fields.specs.Bytes.{byte}
+use Rattle.fields.specs.RecordBytes.{byte}
 use Rattle.fields.specs.Object.{Same, At, Object, depthCode}
 use Rattle.fields.specs.declared.object.Info.{Info}
 

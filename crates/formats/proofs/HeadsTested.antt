@@ -14,7 +14,7 @@ use Rattle.formats.specs.Info.{headValid, infoFormat}
 use Rattle.formats.specs.Areas.{infoCount, infoBytes, headsValid}
 use Rattle.formats.proofs.Places.{word-of-run}
 use Rattle.formats.proofs.Loops.{and-true, and-assoc}
-use Rattle.formats.proofs.Infos.{head-within, head-exact, infos-test}
+use Rattle.formats.proofs.LawfulInfo.{head-within, head-exact, infos-test}
 
 or-below : (k a b : ℕ) → ltb (bitOr a b) (2 ^ k) ≡ (ltb a (2 ^ k) && ltb b (2 ^ k))
 or-below k a b = by (ltb a (2 ^ k)) refl (ltb b (2 ^ k)) refl

@@ -17,8 +17,8 @@ use Rattle.ieee.proofs.Grid.{le-or-lt}
 use Rattle.ieee.proofs.Constants.{sixteen-f32, sixteen-P}
 use Rattle.ieee.proofs.Bits.{bits-bounded}
 use Rattle.ieee.proofs.Bound.{between-bounded}
-use Rattle.mixing.specs.Samples.{16·0, within16, passes, allPass}
-use Rattle.mixing.specs.Patterns.{smallBits}
+use Rattle.mixing.specs.FrameSamples.{16·0, within16, passes, allPass}
+use Rattle.mixing.specs.SampleBits.{smallBits}
 use Rattle.mixing.proofs.Passes.{nan-outside, pass-at}
 
 same-test : (a b : Bool) → (T a → T b) → (T b → T a) → a ≡ b

@@ -2,7 +2,7 @@
 -- two or three parts, of which the last ends where they end. Assumes nothing.
 use Prim.Native.Nat.{ℕ}
 use lib.Dec.{T}
-use Rattle.rates.proofs.Quick.{quickFrom}
+use Rattle.rates.proofs.FewerSteps.{quickFrom}
 
 -- part after part: where one does not hold, those behind it are not worked out
 after : {A B : Type 0} → A → B → B

@@ -6,7 +6,7 @@ use mathlib.Core.List.{List, [], _∷_}
 use lib.ListN.{length}
 use Rattle.rules.specs.Samples.{fresh}
 use Rattle.rules.specs.Calls.{Call}
-use Rattle.rules.specs.Block.{made, finalOn}
+use Rattle.rules.specs.BlockCalls.{made, finalOn}
 use Rattle.theorem.specs.Instance.{hall, block}
 use Rattle.calls.specs.Asked.{outAfter, callOf, isCall}
 

@@ -9,9 +9,9 @@ use borrow.Author.Tests.{leb-true}
 use Rattle.words.specs.Words.{floatAt}
 use Rattle.vectors.specs.Head.{Head}
 use Rattle.vectors.proofs.Heads.{head-reads-back}
-use Rattle.fields.specs.Bytes.{byte, kind}
+use Rattle.fields.specs.RecordBytes.{byte, kind}
 use Rattle.fields.specs.Object.{isObject, maybeOf, positionOf, objectOf}
-use Rattle.fields.specs.Infos.{headSaid, storedInfo, objectFrom, objectOfInfo}
+use Rattle.fields.specs.ObjectInfos.{headSaid, storedInfo, objectFrom, objectOfInfo}
 use Rattle.fields.proofs.All.{and-left, and-right}
 
 module _ (m : List ℕ) (r : ℕ) (object : isObject m r ≡ true) where

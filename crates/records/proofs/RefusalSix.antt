@@ -7,13 +7,13 @@ use mathlib.Core.List.{List}
 use native.Mathlib.Omega.{arith}
 use lib.ListN.{length}
 use borrow.Author.Tests.{eq-eqb, ne-eqb}
-use Rattle.fields.specs.Bytes.{kind}
+use Rattle.fields.specs.RecordBytes.{kind}
 use Rattle.fields.specs.Update.{objects, elements}
 use Rattle.fields.specs.Block.{blocks, isBlock, blockOf, blockInRange}
 use Rattle.fields.specs.Object.{isObject, objectOf, objectInRange}
 use Rattle.fields.proofs.All.{all-at, all-true}
 use Rattle.records.specs.Laid.{blockAt, objectAt, elementAt, updateAt, laidOut, count, isWholeElement}
-use Rattle.records.specs.Ranges.{recordInRange, inRange}
+use Rattle.records.specs.ValuesInRange.{recordInRange, inRange}
 use Rattle.records.proofs.RecordKinds.{update-kind, element-kind, block-kind, object-kind, there-block, there-object}
 use Rattle.records.proofs.Reached.{whole-records, update-whole, update-is, element-whole, element-is, block-is, object-is}
 use Rattle.records.proofs.Placed.{every-record-placed}

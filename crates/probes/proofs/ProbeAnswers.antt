@@ -6,7 +6,7 @@ use native.Mathlib.Omega.{arith}
 use lib.Dec.{leb}
 use borrow.Author.Tests.{le-leb, lt-leb}
 use Rattle.rates.specs.Rates.{lowest, highest, listed}
-use Rattle.records.specs.Order.{FirstAt}
+use Rattle.records.specs.UpdateWalk.{FirstAt}
 
 module _ {A : Type 0} where
   pub fits : {a b : ℕ} {r x : A} (y : A) → a ≤ b → r ≡ x → r ≡ cond (leb a b) x y

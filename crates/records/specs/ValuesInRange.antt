@@ -5,7 +5,7 @@ use mathlib.Core.Bool.{Bool, true, cond}
 use mathlib.Core.List.{List}
 use lib.Dec.{eqb}
 use lib.ListN.{length}
-use Rattle.fields.specs.Bytes.{all, kind}
+use Rattle.fields.specs.RecordBytes.{all, kind}
 use Rattle.fields.specs.Block.{blockOf, blockInRange}
 use Rattle.fields.specs.Object.{objectOf, objectInRange}
 use Rattle.records.specs.Laid.{laidOut}

@@ -4,7 +4,7 @@ use mathlib.Core.Path.{_≡_, refl}
 use mathlib.Core.Bool.{true, false}
 use mathlib.Core.List.{List, [], _∷_, _++_}
 use lib.ListN.{length, replicate}
-use Rattle.fields.specs.Bytes.{all}
+use Rattle.fields.specs.RecordBytes.{all}
 use Rattle.records.specs.Runs.{some, last}
 use Rattle.fields.specs.Update.{codesFit, isUpdate}
 use Rattle.fields.specs.Block.{isElement, isBlock}

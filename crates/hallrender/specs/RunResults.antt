@@ -6,7 +6,7 @@ use mathlib.Core.List.{List}
 use lib.ListN.{length}
 use Rattle.framing.specs.Framing.{isFrame, isPlain, isBody, metadataBytes, pcmBytes}
 use Rattle.calls.specs.Asked.{pushOf, callOf, isCall}
-use Rattle.calls.specs.Contracts.{Called}
+use Rattle.calls.specs.CallResults.{Called}
 
 -- 1,200 metadata records and 968 of PCM; the PCM of 34 channels; twelve channels of 256 samples; `ready N` with up to 20 digits, and 256 lines
 abbrev pub Rooms : List ℕ → List ℕ → List ℕ → List ℕ → Type 0

@@ -15,7 +15,7 @@ use Rattle.formats.specs.Vector.{Singles, vecFormat}
 use Rattle.formats.specs.Info.{flagsBelow, anchorBelow, depthBelow, HeadIn, headValid, infoHead, InfoIn, infoFormat}
 use Rattle.formats.proofs.Places.{and-in}
 use Rattle.formats.proofs.Word.{lawful-one-word, lawful-float}
-use Rattle.formats.proofs.Parts.{lawful-pair, lawful-struct, lawful-ranged}
+use Rattle.formats.proofs.PairsAndArrays.{lawful-pair, lawful-struct, lawful-ranged}
 use Rattle.formats.proofs.Loops.{and-true, all-same}
 
 pub lawful-vec : Lawful vecFormat

@@ -10,17 +10,17 @@ use lib.ListN.{length, getD}
 pub use Rattle.formats.proofs.Theorems.{and-in}
 use Rattle.formats.specs.Areas.{infoCount}
 use Rattle.words.specs.Words.{wordsAt}
-use Rattle.formats.specs.Numbers.{inWords, longOf}
+use Rattle.formats.specs.NumberWords.{inWords, longOf}
 use Rattle.formats.specs.Format.{allAt, gets, u8To}
 use Rattle.formats.specs.Lawful.{Same}
 use Rattle.formats.proofs.Theorems.{word-of-run, word-of-bytes}
 use Rattle.formats.proofs.Theorems.{most, all-same, all-both, all-any, and-true, and-false}
 use Rattle.store.specs.Fields.{longest, sourceFormat, blockFormat, trackFormat, elementFormat, tablesFormat, smallFormat, smallOf}
-use Rattle.store.specs.Places.{phaseAt, positionAt, startAt, pendingAt, objectsAt, isfAt, bedsAt, inUseAt}
-use Rattle.store.specs.Places.{tablesAt, gainsAt, sourcesAt, placedIn, flagsIn, remainingIn, firstAt, secondAt}
+use Rattle.store.specs.FieldPlaces.{phaseAt, positionAt, startAt, pendingAt, objectsAt, isfAt, bedsAt, inUseAt}
+use Rattle.store.specs.FieldPlaces.{tablesAt, gainsAt, sourcesAt, placedIn, flagsIn, remainingIn, firstAt, secondAt}
 use Rattle.store.specs.Layout.{smallWidth, size, infosOf}
-use Rattle.store.specs.Ranges.{clockIn, countsIn, least, elementIn, related, smallValid, headsValid, valid}
-use Rattle.store.proofs.Back.{lawful-small, lawful-small-part}
+use Rattle.store.specs.ValidBlocks.{clockIn, countsIn, least, elementIn, related, smallValid, headsValid, valid}
+use Rattle.store.proofs.SmallPartBack.{lawful-small, lawful-small-part}
 
 module _ (w : List ℕ) where
   -- a column of the table

@@ -10,7 +10,7 @@ use lib.Ieee.{Float, binary32, round}
 use lib.Ieee.Fits.{and-l, and-r}
 use lib.Ieee.Positive.{num, den, den-pos}
 use Rattle.rates.specs.Rates.{Listed}
-use Rattle.rates.specs.Sums.{stepOf, angleOf, five, cosineSum, sineSum}
+use Rattle.rates.specs.Series.{stepOf, angleOf, five, cosineSum, sineSum}
 use Rattle.rates.specs.Suffice as test
 use Rattle.rates.proofs.Every.{every-rate}
 use Rattle.angles.specs.Angle.{w0, numeratorAt, down, Meant}
@@ -24,7 +24,7 @@ use Rattle.angles.proofs.Enclosed as enclosed
 use Rattle.angles.proofs.Settled.{Both}
 use Rattle.angles.proofs.Settled as settled
 use Rattle.angles.proofs.Quotient.{stepped, s-pos, fraction, square-small, angle-small, angle-large, at-most-one}
-use Rattle.angles.proofs.Unique.{meant-unique}
+use Rattle.angles.proofs.OneMeant.{meant-unique}
 
 -- the f32 that `nearest` makes of n steps of 2 ^ -60
 abbrev pub made : ℕ → Float

@@ -26,7 +26,7 @@ use Rattle.rules.specs.Samples.{Frame, State, After, opened, updated, slotted, 
 use Rattle.rules.specs.Refusals.{Args, Found, clear, stop}
 use Rattle.rules.specs.Calls as rules
 use Rattle.rules.specs.Calls.{Call, push, flush, reset, Answer, refused, rendered, nothing, cleared, Result, frameOf, found, step}
-use Rattle.rules.specs.Block.{written, outOf, strideOf, left, told}
+use Rattle.rules.specs.BlockCalls.{written, outOf, strideOf, left, told}
 use Rattle.rules.proofs.Theorems.{written-reads, length-map}
 use Rattle.theorem.specs.Instance.{hall, block, Sent}
 use Rattle.rows.specs.Rows.{ready, wordsOn, samplesOn, said, allSaid, Row, startingAt, calls, seen}

@@ -21,7 +21,7 @@ use Rattle.store.specs.Fields.{longest, smallWords, smallOf}
 use Rattle.store.specs.Fields.{vecFormat, sourceFormat, blockFormat, trackFormat, headFormat, elementFormat}
 use Rattle.store.specs.Fields.{filterFormat, payloadFormat, countsFormat, tablesFormat, stateFormat, basicsFormat, smallFormat}
 use Rattle.store.specs.Layout.{smallWidth}
-use Rattle.store.specs.Ranges.{related, smallPart}
+use Rattle.store.specs.ValidBlocks.{related, smallPart}
 
 -- ---- entries of tables
 

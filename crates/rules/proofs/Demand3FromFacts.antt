@@ -13,7 +13,7 @@ use Rattle.rules.specs.Refusals.{Args, Found, clear, stop, room}
 use Rattle.rules.specs.Calls.{Call, push, flush, reset, found, asked, drained, step, final}
 use Rattle.rules.specs.Promises.{CallHolds, AllHold}
 use Rattle.rules.specs.Ringing.{fedSince, AllRing}
-use Rattle.rules.specs.Block.{Layout, outOf, strideOf, left, finalOn, Seen, asSeen, seenOn, told}
+use Rattle.rules.specs.BlockCalls.{Layout, outOf, strideOf, left, finalOn, Seen, asSeen, seenOn, told}
 use Rattle.rules.specs.Demand3.{GivenOut, AllClean, Lent, AllLent, AllGivenOut, Demand3, EveryList}
 use Rattle.rules.proofs.Owed.{Facts, InRanges}
 use Rattle.rules.proofs.Invariant.{Rest, fresh-rest}

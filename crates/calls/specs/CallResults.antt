@@ -5,12 +5,12 @@ use mathlib.Core.Bool.{cond}
 use mathlib.Core.List.{List}
 use lib.Dec.{eqb}
 use Rattle.rules.specs.Calls.{Call}
-use Rattle.rules.specs.Block.{made}
+use Rattle.rules.specs.BlockCalls.{made}
 use Rattle.theorem.specs.Instance.{hall, block}
 use Rattle.hall.specs.declared.answer.Answer.{Answer}
 use Rattle.listing.specs.Text.{readyText, refusedText, noneText, resetText}
-use Rattle.listing.specs.Contracts.{Told}
-use Rattle.calls.specs.Text.{textOf}
+use Rattle.listing.specs.GrownText.{Told}
+use Rattle.calls.specs.AnswerText.{textOf}
 use Rattle.calls.specs.Asked.{outAfter}
 
 -- the text of an entry's answer
