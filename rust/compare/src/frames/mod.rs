@@ -66,7 +66,7 @@ impl Frames {
         frames
     }
 
-    /// Frames of at least one object, which blocks send to the bass feed.
+    /// Frames with sends, up to the first reset of at least one object.
     pub fn sending(seed: u64, most_samples: u64) -> Self {
         let mut frames = Frames::new(seed, most_samples);
         frames.set_sends(true);

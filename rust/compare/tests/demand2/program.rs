@@ -111,6 +111,13 @@ fn prints_what_the_oracle_has_it_print() {
     }
 }
 
+/// Whether an object record of the stream has a send.
+fn says_a_send(stream: &[u8]) -> bool {
+    stream
+        .chunks(40)
+        .any(|record| record[0] == 4 && record[36..40].iter().any(|&byte| byte != 0))
+}
+
 #[test]
 #[cfg_attr(no_sources, ignore = "Rust sources not at hand")]
 fn prints_what_is_sent_to_the_bass_feed() {
@@ -120,8 +127,10 @@ fn prints_what_is_sent_to_the_bass_feed() {
         [compared(even, streams::sending), other.join().unwrap()]
     });
     let ready: u64 = halves.iter().map(|half| half.0["ready"]).sum();
+    let sending = (0..STREAMS).filter(|&seed| says_a_send(&streams::sending(seed)));
     println!("{ready} frames with samples");
     assert!(!seeds::all() || ready > 50_000);
+    assert!(!seeds::all() || sending.count() > 9_000);
 }
 
 /// Document 01's example, as the document has it and as the oracle has it.

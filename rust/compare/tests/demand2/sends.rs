@@ -244,7 +244,7 @@ fn heard(calls: &[Call]) -> Vec<f32> {
     bass
 }
 
-/// What the low-pass makes of these samples.
+/// What the library's own low-pass makes of these samples: what is fed is tested here, not the filter.
 fn filtered(mut fed: Vec<f32>) -> Vec<f32> {
     lowpass::process_in_place(&mut lowpass::new(48_000), &mut fed);
     fed
@@ -320,10 +320,10 @@ fn ends_of_the_range() {
     }
 }
 
-/// The loudest that passes: 16 objects of gain 8 and send 1, 18 beds of gain 8, 17 of them of bass,
-/// samples of 16 that swing at `half` samples each way.
+/// The loudest that passes: 16 objects of gain 8 and send 1, 18 beds of bass of gain 8, samples of 16
+/// that swing at `half` samples each way.
 fn loudest(rate: u32, half: usize) -> Frame {
-    let beds: Vec<u8> = [[3, 17].repeat(8), vec![3, 2]].concat();
+    let beds: Vec<u8> = [3, 17].repeat(9);
     let object = Object {
         position_valid: true,
         position: Some([0.5; 3]),
