@@ -74,9 +74,9 @@ head-under n m whole flags anchor t =
 
 or-valid : (a b : ℕ) → T (headValid (bitOr a b)) → T (headValid a) × T (headValid b)
 or-valid a b t = (
-      head-under a (bitOr a b) (or-from-l a b) (rw (or-mod a b 8) (or-from-l (a % 256) (b % 256))) (rw (or-mod a b 16) (or-from-l (a % 65536) (b % 65536))) t,
-      head-under b (bitOr a b) (or-from-r a b) (rw (or-mod a b 8) (or-from-r (a % 256) (b % 256))) (rw (or-mod a b 16) (or-from-r (a % 65536) (b % 65536))) t,
-    )
+  head-under a (bitOr a b) (or-from-l a b) (rw (or-mod a b 8) (or-from-l (a % 256) (b % 256))) (rw (or-mod a b 16) (or-from-l (a % 65536) (b % 65536))) t,
+  head-under b (bitOr a b) (or-from-r a b) (rw (or-mod a b 8) (or-from-r (a % 256) (b % 256))) (rw (or-mod a b 16) (or-from-r (a % 65536) (b % 65536))) t,
+)
 
 -- ---- the heads of infos
 

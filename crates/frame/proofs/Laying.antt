@@ -82,7 +82,7 @@ module _ (rows : List Float) (pending k : ℕ) (short : pending + k ≤ 64) (b n
       let d = rest-long in
       let o : length (drop placesAt b) ≤ length b - placesAt = omega arith in
       ap (λ (t : List ℕ). take placesAt b ++ (new ++ t)) (drop-of-length-le (drop placesAt b) o)
-      ∙ ap (λ (t : List ℕ). take placesAt b ++ t) 
+      ∙ ap (λ (t : List ℕ). take placesAt b ++ t)
       (append-nil new ∙ p ∙ ap (withChannels (channels 12 k rows) 256 (4 * pending)) (take-all (length b - placesAt) (drop placesAt b) o))
 
   put-long : length (front ++ back) ≡ size

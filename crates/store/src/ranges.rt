@@ -45,7 +45,8 @@ fn counts_fields(s: &[u8]) -> bool
     (word_of(s, places::INITIALIZED) <= 1)
         & ((long(s, places::PAYLOAD) <= 1099511627776)
             & ((word_of(s, places::OBJECTS) <= 32)
-                & ((word_of(s, places::ISF) <= 255) & ((word_of(s, places::BEDS) <= 18) & (word_of(s, places::IN_USE) <= 2)))))
+                & ((word_of(s, places::ISF) <= 255)
+                    & ((word_of(s, places::BEDS) <= 18) & (word_of(s, places::IN_USE) <= 2)))))
 }
 
 // The element whose words start at `at`.
@@ -57,7 +58,8 @@ fn element_fields(s: &[u8], at: usize) -> bool
     let remaining = flags + 1;
     let blocks = at + places::HEAD;
     let rows = blocks + places::SCHEDULE;
-    let head = (word_of(s, at) <= 8) & ((word_of(s, flags) <= 16) & (long(s, remaining) <= 140737489403904));
+    let head = (word_of(s, at) <= 8)
+        & ((word_of(s, flags) <= 16) & (long(s, remaining) <= 140737489403904));
     let offsets = at_most(s, blocks, 0, places::BLOCK, 8, 2097152);
     let ramps = at_most(s, blocks, 1, places::BLOCK, 8, 2097152);
     let used = at_most(s, blocks, 2, places::BLOCK, 8, 1);
