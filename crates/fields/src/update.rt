@@ -2,7 +2,7 @@
 ghost use mathlib.Core.Path.{_≡_};
 ghost use Prim.Native.Nat.{_+_, _-_, _*_, _<_, _≤_};
 ghost use lib.ListN.{length};
-ghost use Rattle.fields.specs.Update.{offset, headerOf, code, countsFit, mostAt, codesFit, isUpdate};
+ghost use Rattle.fields.specs.Update.{offset, headerOf, countsFit, mostAt, codesFit, isUpdate};
 use crate::bytes::byte_at;
 use crate::bytes::zeros;
 use clock::FrameOffset;
@@ -37,14 +37,6 @@ pub fn header_at(meta: &[u8], u: usize) -> Header
         beds: byte_at(meta, at + 6),
         elements: byte_at(meta, at + 7),
     }
-}
-
-// The code of bed channel k.
-pub fn code_at(meta: &[u8], u: usize, k: usize) -> usize
-    requires { ⌜ (40 * u + 40 ≤ length (now meta)) × (k < 18) ⌝ }
-    ensures { λ r. ⌜ r ≡ code (now (meta .entry)) u k ⌝ }
-{
-    byte_at(meta, 40 * u + (8 + k))
 }
 
 // How many objects are dynamic.

@@ -8,7 +8,7 @@ ghost use mathlib.Core.Path.{_≡_};
 ghost use mathlib.Core.Bool.{cond, _&&_};
 ghost use Prim.Native.Nat.{_+_, _*_};
 ghost use lib.Dec.{leb, ltb};
-ghost use Rattle.fields.specs.Update.{offset, headerOf, code};
+ghost use Rattle.fields.specs.Update.{offset, headerOf};
 ghost use Rattle.fields.specs.Block.{blocks, blockOf};
 ghost use Rattle.fields.specs.ObjectInfos.{storedInfo};
 ghost use Rattle.records.specs.Laid.{updateAt, count, elementEnd, objectAt};
@@ -58,19 +58,6 @@ pub extern "C" fn probe_header(meta: &[u8], u: usize) -> Header
         };
     }
     fields::update::header_at(meta, u)
-}
-
-#[no_mangle]
-pub extern "C" fn probe_code(meta: &[u8], u: usize, k: usize) -> usize
-    ensures { λ r. ⌜ r ≡ cond (hasRecord (now (meta .entry)) u && ltb k 18) (code (now (meta .entry)) u k) 0 ⌝ }
-{
-    if u >= meta.len() / 40 {
-        return 0;
-    }
-    if k >= 18 {
-        return 0;
-    }
-    fields::update::code_at(meta, u, k)
 }
 
 #[no_mangle]

@@ -2,7 +2,7 @@ ghost use mathlib.Core.Path.{_≡_};
 ghost use mathlib.Core.Bool.{cond};
 ghost use lib.IntN.{pos};
 ghost use lib.Ieee.{binary32, ofBits, toBits};
-ghost use Rattle.words.specs.Words.{signedAt, withSigned};
+ghost use Rattle.words.specs.Words.{signedAt, withLong};
 ghost use Rattle.probes.specs.Taken.{hasLong};
 
 #[no_mangle]
@@ -33,10 +33,10 @@ pub extern "C" fn probe_i64_at(s: &[u8], at: usize) -> i64
     words::i64_at(s, at)
 }
 
-// Writes a signed number at byte `at`; nothing where it has no room.
+// Writes a number of 64 bits at byte `at`; nothing where it has no room.
 #[no_mangle]
-pub extern "C" fn probe_put_i64(s: &mut [u8], at: usize, z: i64)
-    ensures { λ _. ⌜ now (s .exit) ≡ cond (hasLong (now (s .entry)) at) (withSigned (now (s .entry)) at z) (now (s .entry)) ⌝ }
+pub extern "C" fn probe_put_u64(s: &mut [u8], at: usize, n: u64)
+    ensures { λ _. ⌜ now (s .exit) ≡ cond (hasLong (now (s .entry)) at) (withLong (now (s .entry)) at n) (now (s .entry)) ⌝ }
 {
     if s.len() < 8 {
         return;
@@ -44,5 +44,5 @@ pub extern "C" fn probe_put_i64(s: &mut [u8], at: usize, z: i64)
     if at > s.len() - 8 {
         return;
     }
-    words::put_i64(s, at, z);
+    words::put_u64(s, at, n);
 }

@@ -5,15 +5,11 @@ use Prim.Native.Nat.{ℕ, zero, suc, _+_, _*_, _/_, _%_, _^_, _<_, _≤_}
 use native.Mathlib.Nat.{mod-eq-of-lt, mod-one, pow-suc, div-div-eq-div-mul, mod-add-div}
 use native.Mathlib.Omega.{arith}
 use lib.Dec.{T}
-use lib.IntN.{ℤ}
 use lib.ListN.{length, set}
 use lib.Seq.{getD-set-same}
 use lib.Ieee.{Float, binary32, fits, ofBits, toBits}
 use lib.Ieee.Bits.{ofBits-toBits, toBits-lt}
-use mir.Syntax.{w64}
-use mir.Val.{SFits, toZ, ofZ}
-use mir.ValLaws.{ofZ-fits, toZ-ofZ}
-use Rattle.words.specs.Words.{Words, number, withNumber, withWord, wordsAt, withWords, signedAt, withSigned, floatAt, withFloat}
+use Rattle.words.specs.Words.{Words, number, withNumber, withWord, wordsAt, withWords, floatAt, withFloat}
 use Rattle.words.proofs.Numbers.{length-kept}
 use Rattle.words.proofs.Beside.{reads-before, byte-keeps, words-keep}
 
@@ -36,9 +32,6 @@ lowest-read s at (suc n) v h =
 
 pub reads-back : (s : List ℕ) (at n v : ℕ) → at + n ≤ length s → v < 256 ^ n → number (withNumber s at n v) at n ≡ v
 reads-back s at n v h l = lowest-read s at n v h ∙ mod-eq-of-lt l
-
-pub signed-reads-back : (s : List ℕ) (at : ℕ) (z : ℤ) → at + 8 ≤ length s → SFits w64 z → signedAt (withSigned s at z) at ≡ z
-signed-reads-back s at z h f = ap (toZ w64) (reads-back s at 8 (ofZ w64 z) h (ofZ-fits w64 z f .fits)) ∙ toZ-ofZ w64 z f
 
 pub float-reads-back : (s : List ℕ) (at : ℕ) (x : Float) → at + 4 ≤ length s → T (fits binary32 x) → floatAt (withFloat s at x) at ≡ x
 unfolding floatAt withFloat

@@ -6,7 +6,7 @@ use native.Mathlib.Nat.{not-suc-le-zero, le-of-suc-le-suc}
 use native.Mathlib.Omega.{arith}
 use lib.ListN.{length, getD}
 use lib.Ieee.{Float}
-use Rattle.words.specs.Words.{word, withWord, floatAt, wordsAt, withWords, floatsAt}
+use Rattle.words.specs.Words.{withWord, floatAt, withWords, floatsAt}
 use Rattle.words.proofs.Numbers.{length-kept}
 
 pub run-length-kept : (s : List ℕ) (at : ℕ) (ws : List ℕ) → length (withWords s at ws) ≡ length s
@@ -15,10 +15,6 @@ run-length-kept s at (w ∷ ws) = run-length-kept (withWord s at w) (at + 4) ws 
 
 place : (at i : ℕ) → at + 4 + 4 * i ≡ at + 4 * suc i
 place at i = omega arith
-
-pub read-more : (s : List ℕ) (at i : ℕ) → wordsAt s at (suc i) ≡ wordsAt s at i ++ (word s (at + 4 * i) ∷ [])
-read-more s at zero = ap (λ (k : ℕ). word s k ∷ []) (let e : at ≡ at + 4 * zero = omega arith in e)
-read-more s at (suc i) = ap (λ (t : List ℕ). word s at ∷ t) (read-more s (at + 4) i ∙ ap (λ (k : ℕ). wordsAt s (at + 4) i ++ (word s k ∷ [])) (place at i))
 
 pub write-more : (s : List ℕ) (at : ℕ) (ws : List ℕ) (w : ℕ) → withWord (withWords s at ws) (at + 4 * length ws) w ≡ withWords s at (ws ++ (w ∷ []))
 write-more s at [] w = ap (λ (k : ℕ). withWord s k w) (let e : at + 4 * zero ≡ at = omega arith in e)

@@ -1,7 +1,7 @@
 -- What others may cite of this crate, a line each. Assumes nothing.
 
--- what was written is read back: a number of n bytes, an i64, an f32, a run of words
-pub use Rattle.words.proofs.Back.{reads-back, signed-reads-back, float-reads-back, words-read-back}
+-- what was written is read back: a number of n bytes, an f32, a run of words
+pub use Rattle.words.proofs.Back.{reads-back, float-reads-back, words-read-back}
 -- `Kept`: a store changes no byte beside it; two stores into one range
 pub use Rattle.words.proofs.Beside.{Kept, kept-twice, number-keeps, words-keep}
 -- so what stands before or past it reads the same: a number, a run of words

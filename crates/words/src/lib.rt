@@ -5,10 +5,10 @@ ghost use Prim.Native.Nat.{_+_, _*_, _<_, _≤_};
 ghost use lib.ListN.{length, drop};
 ghost use lib.Ieee.{binary32, ofBits, toBits};
 ghost use mir.Syntax.{w64};
-ghost use mir.Val.{toZ, ofZ};
+ghost use mir.Val.{toZ};
 ghost use Rattle.words.specs.Words.{half, withHalf, word, withWord, long, withLong};
-ghost use Rattle.words.specs.Words.{signedAt, withSigned, floatAt, withFloat};
-ghost use Rattle.words.specs.Words.{wordsAt, withWords};
+ghost use Rattle.words.specs.Words.{signedAt, floatAt, withFloat};
+ghost use Rattle.words.specs.Words.{withWords};
 
 fn wide(x: u8) -> u16
     ensures { λ r. ⌜ (r ≡ x) × (r < 256) ⌝ }
@@ -85,29 +85,11 @@ pub fn signed_of(n: u64) -> i64
     -1 - (m as i64)
 }
 
-// The pattern of a signed number.
-pub fn bits_of_signed(z: i64) -> u64
-    ensures { λ r. ⌜ r ≡ ofZ w64 z ⌝ }
-{
-    if z >= 0 {
-        return z as u64;
-    }
-    let m = -1 - z;
-    18446744073709551615 - (m as u64)
-}
-
 pub fn i64_at(s: &[u8], at: usize) -> i64
     requires { ⌜ at + 8 ≤ length (now s) ⌝ }
     ensures { λ r. ⌜ r ≡ signedAt (now (s .entry)) at ⌝ }
 {
     signed_of(u64_at(s, at))
-}
-
-pub fn put_i64(s: &mut [u8], at: usize, z: i64)
-    requires { ⌜ at + 8 ≤ length (now s) ⌝ }
-    ensures { λ _. ⌜ now (s .exit) ≡ withSigned (now (s .entry)) at z ⌝ }
-{
-    put_u64(s, at, bits_of_signed(z));
 }
 
 // The float of a bit pattern; every NaN pattern gives a NaN.
@@ -143,18 +125,6 @@ pub fn put_f32(s: &mut [u8], at: usize, x: f32)
     ensures { λ _. ⌜ now (s .exit) ≡ withFloat (now (s .entry)) at x ⌝ }
 {
     put_u32(s, at, bits_of(x));
-}
-
-// The words from `at` on, as many as `ws` has.
-pub fn get_words(s: &[u8], at: usize, ws: &mut [u32])
-    requires { ⌜ at + 4 * length (now ws) ≤ length (now s) ⌝ }
-    ensures { λ _. ⌜ now (ws .exit) ≡ wordsAt (now (s .entry)) at (length (now (ws .entry))) ⌝ }
-{
-    let mut i = 0usize;
-    while i < ws.len() {
-        ws[i] = u32_at(s, at + 4 * i);
-        i += 1;
-    }
 }
 
 // The words of `ws` from `at` on.

@@ -34,7 +34,6 @@ unsafe extern "C" {
     fn probe_updates(meta: *const u8, length: usize) -> usize;
     fn probe_update_place(meta: *const u8, length: usize, i: usize) -> usize;
     fn probe_header(meta: *const u8, length: usize, u: usize) -> Header;
-    fn probe_code(meta: *const u8, length: usize, u: usize, k: usize) -> usize;
     fn probe_blocks(meta: *const u8, length: usize, e: usize) -> usize;
     fn probe_element_after(meta: *const u8, length: usize, objects: usize, e: usize) -> usize;
     fn probe_object_place(meta: *const u8, length: usize, e: usize, o: usize, b: usize) -> usize;
@@ -60,10 +59,6 @@ pub fn update_place(meta: &[u8], i: usize) -> usize {
 
 pub fn header(meta: &[u8], u: usize) -> Header {
     unsafe { probe_header(meta.as_ptr(), meta.len(), u) }
-}
-
-pub fn code(meta: &[u8], u: usize, k: usize) -> usize {
-    unsafe { probe_code(meta.as_ptr(), meta.len(), u, k) }
 }
 
 pub fn blocks(meta: &[u8], e: usize) -> usize {

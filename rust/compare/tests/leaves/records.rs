@@ -1,7 +1,8 @@
 //! Metadata records against an independent reading of the same bytes: a cursor that goes forward
 //! record by record. 2,000,000 lists: drawn ones, and drawn ones with up to three bytes changed, a
 //! record dropped, doubled or swapped, or the end cut off. The refusal of each is compared; of one
-//! in four that are laid out also every field of every record, and the order of the updates.
+//! in four that are laid out also every field of every record but the bed codes, and the order of
+//! the updates.
 //! And 138 lists with literal answers, sentence by sentence of documents 01 and 02 (`records.txt`).
 
 use compare::probe::records;
@@ -149,16 +150,13 @@ fn draw(inputs: &mut Generator) -> Vec<u8> {
 
 // ---- the comparison
 
-/// Every field of every record, by place.
+/// Every field of every record but the bed codes, by place.
 fn same_meaning(list: &[u8], updates: &[Update]) {
     assert_eq!(records::updates(list), updates.len());
     for (i, update) in updates.iter().enumerate() {
         let u = records::update_place(list, i);
         assert_eq!(u, update.place);
         assert_eq!(records::header(list, u), update.header);
-        for (k, &code) in update.codes.iter().enumerate() {
-            assert_eq!(records::code(list, u, k), code);
-        }
         let mut e = u + 1;
         for element in &update.elements {
             assert_eq!(e, element.place);

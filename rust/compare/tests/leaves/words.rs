@@ -1,5 +1,5 @@
-//! Words and bits. 1,000,000 floats and patterns; 1,000,000 signed numbers at places of a slice,
-//! each as two words of four halves.
+//! Words and bits. 1,000,000 floats and patterns; 1,000,000 numbers of 64 bits at places of a
+//! slice, each as two words of four halves, read back as signed ones.
 
 use compare::{drawn, probe::words};
 
@@ -31,7 +31,7 @@ fn numbers_are_little_endian() {
         let mut expected = bytes;
         let at = inputs.below(16) as usize;
         let z = inputs.bits() as i64 >> inputs.below(64);
-        words::put_i64(&mut bytes, at, z);
+        words::put_u64(&mut bytes, at, z as u64);
         if let Some(place) = expected.get_mut(at..at + 8) {
             place.copy_from_slice(&z.to_le_bytes());
             assert_eq!(words::i64_at(&bytes, at), z);

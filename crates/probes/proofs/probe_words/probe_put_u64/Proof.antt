@@ -1,14 +1,11 @@
 -- Written, where it has room. Assumes nothing.
 use Prim.Native.Nat.{_+_, _≤_, _<_}
-use mathlib.Core.Path.{ap, _∙_}
-use mir.Facts.{toZ-ofZ}
 use native.Mathlib.Omega.{arith}
 use lib.ListN.{length}
 use borrow.Author.Needs.{needs}
-use Rattle.words.specs.Words.{withSigned}
 use Rattle.probes.proofs.ProbeAnswers.{fits, unfit}
-use Rattle.probes.proofs.probe_words.probe_put_i64.Statement.{statement}
-use Rattle.probes.proofs.probe_words.probe_put_i64.Tie as tie
+use Rattle.probes.proofs.probe_words.probe_put_u64.Statement.{statement}
+use Rattle.probes.proofs.probe_words.probe_put_u64.Tie as tie
 
 returns : tie.Need-returns
 returns c =
@@ -24,13 +21,12 @@ returns-2 c =
 
 returns-3 : tie.Need-returns-3
 returns-3 c =
-    let s = c .before .before .before .before .before .before .before in
-    let a = s .args in
+    let a = c .before .before .before .before .before .before .before .args in
     let h : a .at + 8 ≤ length (a .s .now) = omega arith in
-    fits _ h (c .before .before .put-i64 .ensures ∙ ap (withSigned (a .s .now) (a .at)) (toZ-ofZ (s .fits .z)))
+    fits _ h (c .before .before .put-u64 .ensures)
 
-pub probe-put-i64-spec : {M : Type 1} → statement M
-probe-put-i64-spec =
+pub probe-put-u64-spec : {M : Type 1} → statement M
+probe-put-u64-spec =
     tie.close
     (tie.spec
     returns
