@@ -24,7 +24,7 @@ sum-zero a b p h = by (eqb a 0) (eqb b 0) refl refl
     by true false e f = let l = le-mul-of-pos-right b h in ne-eqb (a + b * p) 0 (λ z. eqb-false b 0 f (omega arith))
     by false t e f = ne-eqb (a + b * p) 0 (λ z. eqb-false a 0 e (omega arith))
 
-and-assoc : (a b c : Bool) → (a && (b && c)) ≡ ((a && b) && c)
+pub and-assoc : (a b c : Bool) → (a && (b && c)) ≡ ((a && b) && c)
 and-assoc true b c = refl
 and-assoc false b c = refl
 

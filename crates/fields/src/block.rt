@@ -65,11 +65,8 @@ pub fn block_in_range(meta: &[u8], r: usize) -> bool
     requires { ⌜ 40 * r + 40 ≤ length (now meta) ⌝ }
     ensures { λ b. ⌜ b ≡ blockInRange (blockOf (now (meta .entry)) r) ⌝ }
 {
-    let at = 40 * r;
-    if !within(words::i64_at(meta, at + 8)) {
-        return false;
-    }
-    within(words::i64_at(meta, at + 16))
+    let b = block_at(meta, r);
+    within(b.offset) & within(b.ramp)
 }
 
 // The same numbers, each plus 2^20.

@@ -36,18 +36,16 @@ fn values_fit(meta: &[u8], at: usize, flags: u8) -> bool
         & value_fits(meta, flags, 32, at + 24)
 }
 
-// Whether record r is an object in a block as laid out, with no branch: which values are present differs from record to record.
+// Whether record r is an object in a block as laid out, with no branch: which values are present differs from record to record. Kind, anchor and flags are judged by the
+// word of the first four bytes.
 pub fn is_object(meta: &[u8], r: usize) -> bool
     requires { ⌜ 40 * r + 40 ≤ length (now meta) ⌝ }
     ensures { λ b. ⌜ b ≡ isObject (now (meta .entry)) r ⌝ }
 {
     let at = 40 * r;
+    let head = words::u32_at(meta, at);
     let flags = meta[at + 2];
-    (meta[at] == 4)
-        & (meta[at + 1] <= 2)
-        & (flags <= 63)
-        & (meta[at + 3] == 0)
-        & values_fit(meta, at, flags)
+    (head % 256 == 4) & (head / 256 % 256 <= 2) & (head / 65536 <= 63) & values_fit(meta, at, flags)
 }
 
 // Whether the float of the bits w is from 0 to the one of the bits `most`: from 0 on floats are in the order of their bits, and -0.0 is no less than 0.
