@@ -5,7 +5,7 @@
 ghost use mathlib.Core.Path.{_≡_};
 ghost use Prim.Native.Nat.{ℕ, _+_, _*_, _%_, _<_, _≤_};
 ghost use lib.ListN.{length};
-ghost use Rattle.words.specs.Words.{word};
+ghost use Rattle.words.specs.Words.{word, floatAt};
 ghost use Rattle.mixing.specs.Mixing.{mixed, mixedFull};
 ghost use Rattle.mixing.specs.Part.{onPart};
 ghost use Rattle.mixing.specs.FrameSamples.{samples, allPass};
@@ -59,15 +59,27 @@ pub fn samples_pass(pcm: &[u8], at: usize, count: usize) -> bool
     pass
 }
 
-// The samples whose words stand from `at` on, as many as `row` has. None is a NaN's pattern, so that the loop has no branch.
+// The sample whose word stands at `at`: no NaN's pattern, so that there is no branch.
+fn sample_at(pcm: &[u8], at: usize) -> f32
+    requires { ⌜ (at + 4 ≤ length (now pcm)) × (word (now pcm) at % 0x8000_0000 ≤ 0x7f80_0000) ⌝ }
+    ensures { λ r. ⌜ r ≡ floatAt (now (pcm .entry)) at ⌝ }
+{
+    f32::from_bits(words::u32_at(pcm, at))
+}
+
+// The samples whose words stand from `at` on, as many as `row` has. One alone is read by itself: of the loop the compiler makes a call that copies bytes.
 pub fn read_row(pcm: &[u8], at: usize, row: &mut [f32])
     requires { ⌜ at + 4 * length (now row) ≤ length (now pcm) ⌝ }
     requires { ⌜ Plain (now pcm) at (length (now row)) ⌝ }
     ensures { λ _. ⌜ now (row .exit) ≡ samples (now (pcm .entry)) at (length (now (row .entry))) ⌝ }
 {
+    if row.len() == 1 {
+        row[0] = sample_at(pcm, at);
+        return;
+    }
     let mut i = 0usize;
     while i < row.len() {
-        row[i] = f32::from_bits(words::u32_at(pcm, at + 4 * i));
+        row[i] = sample_at(pcm, at + 4 * i);
         i += 1;
     }
 }

@@ -1,14 +1,12 @@
--- `read_row`: after i samples the row starts with them.
+-- `read_row`: after i samples the row starts with them; one alone is the first of them. Assumes nothing.
 use borrow.Author.Needs.{needs}
-use mathlib.Core.Path.{_≡_, ap, _∙_}
+use mathlib.Core.Path.{_≡_, refl, _∙_}
 use mathlib.Core.List.{_++_}
 use native.Mathlib.Omega.{arith}
-use Prim.Native.Nat.{_-_, _≤_}
+use Prim.Native.Nat.{ℕ, _+_, _-_, _*_, _≤_}
 use lib.ListN.{length, drop}
-use lib.Ieee.{binary32, ofBits}
-use Rattle.words.specs.Words.{floatAt}
-use Rattle.words.proofs.Nan.{not-above}
 use Rattle.mixing.specs.FrameSamples.{samples}
+use Rattle.mixing.specs.SampleBits.{Plain}
 use Rattle.mixing.proofs.Samples.{samples-step, samples-all}
 use Rattle.mixing.proofs.read_row.Statement.{statement}
 use Rattle.mixing.proofs.read_row.Tie as tie
@@ -19,22 +17,35 @@ Inv-loop pcm at row₀ i₀ row i = (i ≤ length row₀) × (length row ≡ len
 abbrev μ-loop : tie.MeasureT-loop
 μ-loop pcm at row₀ i₀ row i = length row₀ - i
 
-float-from-bits-row : tie.Need-float-from-bits-row Inv-loop μ-loop
-float-from-bits-row c =
-    let l = c .before .before in
-    not-above (c .u32-at .result) (rw (c .u32-at .ensures) (l .before .before .before .pre .1 (l .loop .i) (omega arith)))
+-- the first sample's place
+first : (at : ℕ) → at + 4 * 0 ≡ at
+first at = omega arith
 
-loop-again : tie.Need-loop-again Inv-loop μ-loop
-unfolding floatAt
-loop-again c =
-    let l = c .before .before in
-    let a = l .before .before .before .args in
-    (search needs, search needs, samples-step (a .pcm .now) (a .at) (l .loop .i) (a .row .now) _ _ (omega arith) (l .loop .inv .2) (ap (ofBits binary32) (c .u32-at .ensures)))
+sample-at-requires : tie.Need-sample-at-requires Inv-loop μ-loop
+sample-at-requires c κs =
+    let a = c .before .before .before .args in
+    let w : Plain (a .pcm .now) (a .at) (length (a .row .now)) = c .before .before .before .pre .1 in
+    (omega arith, rw (first (a .at)) at (w 0 (omega arith)))
 
 returns : tie.Need-returns Inv-loop μ-loop
 returns c =
+    let a = c .before .before .before .before .args in
+    samples-step (a .pcm .now) (a .at) 0 (a .row .now) (a .row .now) (c .sample-at .result) (omega arith) refl (rw (first (a .at)) (c .sample-at .ensures))
+    ∙ samples-all (a .pcm .now) (a .at) 1 (a .row .now) (omega arith) (omega arith)
+
+sample-at-requires-2 : tie.Need-sample-at-requires-2 Inv-loop μ-loop
+sample-at-requires-2 c κs = (omega arith, c .before .before .before .before .before .pre .1 (c .before .loop .i) (omega arith))
+
+loop-again : tie.Need-loop-again Inv-loop μ-loop
+loop-again c =
+    let l = c .before .before in
+    let a = l .before .before .before .before .args in
+    (search needs, search needs, samples-step (a .pcm .now) (a .at) (l .loop .i) (a .row .now) _ _ (omega arith) (l .loop .inv .2) (c .sample-at2 .ensures))
+
+returns-2 : tie.Need-returns-2 Inv-loop μ-loop
+returns-2 c =
     let l = c .before in
-    let a = l .before .before .before .args in
+    let a = l .before .before .before .before .args in
     l .loop .inv .2 ∙ samples-all (a .pcm .now) (a .at) (l .loop .i) (a .row .now) (omega arith) (omega arith)
 
 pub read-row-spec : {M : Type 1} → statement M
@@ -43,10 +54,12 @@ read-row-spec =
     (tie.spec
     Inv-loop
     μ-loop
+    sample-at-requires
+    (λ c. search needs) (λ c. search needs)
+    returns
     (λ c. search needs) (λ c. search needs) (λ c. search needs)
-    (λ c κs. search needs)
-    float-from-bits-row
+    sample-at-requires-2
     (λ c. search needs) (λ c. search needs) (λ c. search needs) (λ c. search needs)
     loop-again
     (λ c. search needs)
-    returns)
+    returns-2)
