@@ -16,3 +16,5 @@ pub use Rattle.timed.proofs.SendSet.{block-sets-send, ramp-keeps-send}
 pub use Rattle.timed.proofs.LoopTurns.{Leads, leads, leads-on, leads-to}
 -- what every turn keeps, what both ways of a test keep, what holds of every entry of a table
 pub use Rattle.timed.proofs.Invariants.{times-in, times-keeps, cond-keeps, set-each, set-keeps}
+-- a slot that rests changes nothing
+pub use Rattle.timed.proofs.Resting.{slot-rests}

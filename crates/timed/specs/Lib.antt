@@ -6,5 +6,6 @@ pub mod Rules
 pub mod Shifted
 pub mod Slot
 pub mod State
+pub mod Resting
 pub mod Preconditions
 pub mod TimedResults

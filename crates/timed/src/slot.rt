@@ -8,6 +8,7 @@ ghost use lib.ListN.{length};
 ghost use Rattle.timed.specs.InfoSizes.{mostBlocks, allBytes};
 ghost use Rattle.timed.specs.Rules.{remainingOf, keptAs, due, leftAfter, share, active, begins};
 ghost use Rattle.timed.specs.Slot.{blockApplied, blocksApplied, rampApplied, updatedSources};
+ghost use Rattle.timed.specs.Resting.{resting};
 ghost use Rattle.timed.specs.Preconditions.{InTime, InRange, Reaches};
 ghost use Rattle.timed.specs.TimedResults.{IsSlotWork, IsUpdated};
 use crate::objects;
@@ -193,6 +194,27 @@ impl ElementRendererState {
         let schedule = self.schedule;
         let block = schedule[0];
         1048576 <= block.offset
+    }
+
+    // Whether a slot of this element changes nothing: no ramp remains, and no block is due.
+    pub fn rests(self, when: Timing) -> bool
+        requires { ⌜ (self .blocks ≤ mostBlocks) × InTime when ⌝ }
+        ensures { λ r. ⌜ r ≡ resting when self ⌝ }
+    {
+        if self.remaining > 140737488355328 {
+            return false;
+        }
+        let schedule = self.schedule;
+        let n = self.blocks;
+        let mut b = 0usize;
+        while b < n {
+            let block = schedule[b];
+            if block.due(when) {
+                return false;
+            }
+            b += 1;
+        }
+        true
     }
 
     // A slot of this element.

@@ -7,6 +7,7 @@ ghost use Prim.Native.Nat.{_+_, _<_, _≤_};
 ghost use lib.ListN.{length};
 ghost use Rattle.timed.specs.InfoSizes.{mostElements, allBytes};
 ghost use Rattle.timed.specs.State.{elementTaken, slotOf, slotAt};
+ghost use Rattle.timed.specs.Resting.{restsAt};
 ghost use Rattle.timed.specs.Preconditions.{InTime, Within};
 ghost use Rattle.timed.specs.TimedResults.{IsTimed};
 use crate::infos::BLOCKS;
@@ -72,6 +73,28 @@ impl MetadataRendererState {
             states: states,
             sources: moved,
         }
+    }
+
+    // Whether the slot that starts at a sample of the stream changes nothing.
+    pub fn rests(self, start: StreamSample) -> bool
+        requires { ⌜ (start .0 ≤ 1099511627776) × Within 1099511627776 self ⌝ }
+        ensures { λ r. ⌜ r ≡ restsAt (start .0) self ⌝ }
+    {
+        if self.elements == 0 {
+            return true;
+        }
+        let payload = self.payload;
+        let when = Timing {
+            start: start,
+            payload: payload,
+        };
+        let index = self.element_at(when);
+        let states = self.states;
+        let element = states[index];
+        if element.active() {
+            return element.rests(when);
+        }
+        true
     }
 
     // The slot that starts at a sample of the stream.
