@@ -9,7 +9,7 @@ ghost use Prim.Native.Nat.{ℕ, _+_, _≤_};
 ghost use lib.ListN.{length};
 ghost use Rattle.formats.specs.Areas.{rowPlaces, placeCount};
 ghost use Rattle.theorem.specs.Instance.{Sent};
-ghost use Rattle.render.specs.Run.{Framed, sceneAt, Passed};
+ghost use Rattle.render.specs.Run.{Framed, silentRows, sceneAt, Passed};
 ghost use Rattle.store.specs.Layout.{size};
 ghost use Rattle.frame.specs.Pass.{CanPass, Laid, sceneOf, frameWith, momentHere, Waits};
 use crate::Rendering;
@@ -26,7 +26,7 @@ fn audible(started: bool, count: usize) -> usize
     if started { count } else { 0 }
 }
 
-// The rows of the chunk, and the filter after it. Before the first update nothing is heard.
+// The rows of the chunk, in which nothing sounds yet, and the filter after it. Before the first update nothing is heard.
 fn mix(
     m: MetadataRendererState,
     filter: BiquadLowpassState,
@@ -36,7 +36,7 @@ fn mix(
     objects: usize,
     span: Span,
 ) -> BiquadLowpassState
-    requires { ⌜ Framed (now pcm) (length (now codes) + objects) span × (length (now rows) ≡ placeCount) × (length (now codes) ≤ 18) × (m .beds ≤ 18) × (objects ≤ 16) ⌝ }
+    requires { ⌜ Framed (now pcm) (length (now codes) + objects) span × (now rows ≡ silentRows) × (length (now codes) ≤ 18) × (m .beds ≤ 18) × (objects ≤ 16) ⌝ }
     ensures { λ r. ⌜ Passed (sceneAt (sceneOf m objects) (now (codes .entry)) (now (pcm .entry)) (span .frame)) filter (span .first) (span .count) (now (rows .exit)) r ⌝ }
 {
     let wanted = m.codes;
@@ -75,7 +75,7 @@ impl Rendering {
         t: FrameOffset,
         k: usize,
     ) -> Rendering
-        requires { ⌜ CanPass (self .renderer) (now pcm) (now codes) objects n (t .0) k × (length (now rows) ≡ placeCount) ⌝ }
+        requires { ⌜ CanPass (self .renderer) (now pcm) (now codes) objects n (t .0) k × (now rows ≡ silentRows) ⌝ }
         ensures { λ r. ⌜ ((rate : ℕ) (us : List Sent) (b : List ℕ)
             → Waits (momentHere (frameWith rate us (now (codes .entry)) objects (now (pcm .entry)) n) (t .0) k (self .renderer) b) self (t .0) k (now (rows .exit)) r) ⌝ }
     {

@@ -4,7 +4,7 @@ use mathlib.Core.List.{List, [], _∷_, _++_}
 use Prim.Native.Nat.{ℕ, zero, suc, _+_, _*_, _<_, _≤_}
 use native.Mathlib.Omega.{arith}
 use native.Mathlib.Nat.{not-suc-le-zero, le-of-suc-le-suc}
-use lib.ListN.{length, getD, take, drop, replicate, length-drop, length-replicate, getD-replicate}
+use lib.ListN.{length, getD, take, drop, length-drop, length-replicate, getD-replicate}
 use lib.Seq.{getD-take, getD-drop, length-take-le, ext-getD}
 use lib.Ieee.{Float, nan}
 use Rattle.words.specs.Words.{floatAt}
@@ -21,7 +21,8 @@ use Rattle.rules.specs.Mix.{addedTerms, addsOf, sampleAt, samplesAt, scaledBy, 
 use Rattle.render.specs.MixedRows.{mixedTerms}
 use Rattle.render.specs.declared.Span.{Span}
 use Rattle.render.specs.MixedSources.{bedTerms, channelStart, channelRow, mixedFound, mixedBeds, mixedObjects}
-use Rattle.render.specs.Run.{momentOf, column, Heard}
+use Rattle.formats.specs.Areas.{placeCount}
+use Rattle.render.specs.Run.{silentRows, momentOf, column, Heard}
 use Rattle.render.proofs.BedTerms.{bed-adds}
 use Rattle.render.proofs.Adds.{Adds, scaledOn, adds-none, adds-then, adds-as, adds-terms}
 
@@ -39,6 +40,10 @@ column-at m c t (suc k) (suc i) h = let e : t + suc i ≡ suc t + i = omega arit
 heard-is : (m : Moment) (c : ℕ) → heard m c ≡ total 0·0 (bedsOn c (m .beds) (m .codes) (m .inputs) ++ objectsOn c (m .objects) (m .own))
 unfolding heard
 heard-is m c = refl
+
+pub silent-long : length silentRows ≡ placeCount
+unfolding silentRows
+silent-long = length-replicate placeCount 0·0
 
 -- ---- beds and objects
 
@@ -95,10 +100,7 @@ module _ (pcm : List ℕ) (s : Span) (short : s .count ≤ 64) where
 
   -- ---- rows of +0.0, then the beds, then the objects
 
-  module _ (beds : List Bed) (objects : List Source) (codes : List ℕ) (places : ℕ) (e : places ≡ 768) where
-    blank : List Float
-    blank = replicate places 0·0
-
+  module _ (beds : List Bed) (objects : List Source) (codes : List ℕ) where
     abbrev at : ℕ → Moment
     at = momentOf beds objects codes pcm (s .frame)
 
@@ -109,23 +111,23 @@ module _ (pcm : List ℕ) (s : Span) (short : s .count ≤ 64) where
     terms : ℕ → ℕ → List sums.Addend
     terms c i = bedsOn c beds codes (within i .inputs) ++ objectsOn c objects (within i .own)
 
-    run-adds : Adds k terms blank (mixedObjects pcm s (length codes) objects (mixedBeds pcm s codes beds blank))
-    unfolding terms blank
+    run-adds : Adds k terms silentRows (mixedObjects pcm s (length codes) objects (mixedBeds pcm s codes beds silentRows))
+    unfolding terms
     run-adds =
-        let mid = mixedBeds pcm s codes beds blank in
-        let a = adds-beds codes beds blank (length-replicate places 0·0 ∙ e) in
-        adds-then k (λ c i. bedsOn c beds codes (within i .inputs)) (λ c i. objectsOn c objects (within i .own)) blank mid
+        let mid = mixedBeds pcm s codes beds silentRows in
+        let a = adds-beds codes beds silentRows silent-long in
+        adds-then k (λ c i. bedsOn c beds codes (within i .inputs)) (λ c i. objectsOn c objects (within i .own)) silentRows mid
         (mixedObjects pcm s (length codes) objects mid) a (adds-objects (length codes) objects mid (a .whole))
 
-    blank-at : (c i : ℕ) → c < 12 → i < 64 → getD blank (64 * c + i) nan ≡ 0·0
-    unfolding blank
-    blank-at c i l m = getD-replicate places (64 * c + i) 0·0 nan (omega arith)
+    silent-at : (c i : ℕ) → c < 12 → i < 64 → getD silentRows (64 * c + i) nan ≡ 0·0
+    unfolding silentRows
+    silent-at c i l m = getD-replicate placeCount (64 * c + i) 0·0 nan (omega arith)
 
-    run-at : (rows : List Float) → Adds k terms blank rows → (c i : ℕ) → c < 12 → i < k → getD rows (64 * c + i) nan ≡ heard (within i) c
+    run-at : (rows : List Float) → Adds k terms silentRows rows → (c i : ℕ) → c < 12 → i < k → getD rows (64 * c + i) nan ≡ heard (within i) c
     unfolding terms
-    run-at rows g c i l m = g .at c i l m ∙ ap (λ (x : Float). total x (terms c i)) (blank-at c i l (omega arith)) ∙ sym (heard-is (within i) c)
+    run-at rows g c i l m = g .at c i l m ∙ ap (λ (x : Float). total x (terms c i)) (silent-at c i l (omega arith)) ∙ sym (heard-is (within i) c)
 
-    run-columns : (rows : List Float) → Adds k terms blank rows → (c : ℕ) → c < 12 → take k (drop (64 * c) rows) ≡ column at c (s .first) k
+    run-columns : (rows : List Float) → Adds k terms silentRows rows → (c : ℕ) → c < 12 → take k (drop (64 * c) rows) ≡ column at c (s .first) k
     run-columns rows g c l =
         let w = g .whole in
         let m : k ≤ length (drop (64 * c) rows) = rw length-drop (omega arith) in
@@ -135,12 +137,11 @@ module _ (pcm : List ℕ) (s : Span) (short : s .count ≤ 64) where
         let b : i < k = omega arith in
         getD-take k (drop (64 * c) rows) i nan b ∙ getD-drop (64 * c) rows i nan ∙ run-at rows g c i l b ∙ sym (column-at at c (s .first) k i b))
 
-    pub run-heard : {rows : List Float} → rows ≡ mixedObjects pcm s (length codes) objects (mixedBeds pcm s codes beds (replicate places 0·0)) → Heard at (s .first) k rows
-    unfolding blank
+    pub run-heard : {rows : List Float} → rows ≡ mixedObjects pcm s (length codes) objects (mixedBeds pcm s codes beds silentRows) → Heard at (s .first) k rows
     run-heard {rows} p =
-        let g = subst (Adds k terms blank) (sym p) run-adds in
+        let g = subst (Adds k terms silentRows) (sym p) run-adds in
         record {
           whole = g .whole;
           columns = run-columns rows g;
-          rest = λ c i l m o. g .past c i l m o ∙ blank-at c i l o;
+          rest = λ c i l m o. g .past c i l m o ∙ silent-at c i l o;
         }

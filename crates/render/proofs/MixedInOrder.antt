@@ -1,11 +1,11 @@
 -- One bed and one object more of their loops: what is left to mix still gives `end`. Assumes nothing.
-use mathlib.Core.Path.{_≡_, refl, sym, ap, _∙_}
-use mathlib.Core.List.{List, [], _∷_, _++_, append-nil}
-use Prim.Native.Nat.{ℕ, zero, suc, _+_, _-_, _<_, _≤_}
+use mathlib.Core.Path.{_≡_}
+use mathlib.Core.List.{List}
+use Prim.Native.Nat.{ℕ, suc, _+_, _-_, _<_, _≤_}
 use native.Mathlib.Omega.{arith}
 use native.Mathlib.Numerals.{add-one}
-use lib.ListN.{length, getD, set, drop, replicate, length-replicate}
-use lib.Seq.{drop-cons, drop-length, set-at}
+use lib.ListN.{length, getD, drop}
+use lib.Seq.{drop-cons}
 use lib.Ieee.{Float, nan}
 use Rattle.beds.specs.Matching.{matching}
 use Rattle.timed.specs.declared.state.DynamicSourceState.{DynamicSourceState}
@@ -14,29 +14,6 @@ use Rattle.render.specs.MixedRows.{mixedTerms}
 use Rattle.render.specs.declared.Span.{Span}
 use Rattle.render.specs.Run.{bedWith, bedsOf, plainSource, sourcesOf}
 use Rattle.render.specs.MixedSources.{bedTerms, channelRow, mixedFound, mixedBeds, mixedObjects}
-
--- ---- rows set to one value
-
-module _ {A : Type 0} (x d : A) where
-  more : (i : ℕ) → replicate (suc i) x ≡ replicate i x ++ (x ∷ [])
-  more zero = refl
-  more (suc i) = ap (λ (l : List A). x ∷ l) (more i)
-
-  cleared : (i : ℕ) (os : List A) → i < length os → set (replicate i x ++ drop i os) i x ≡ replicate (i + 1) x ++ drop (i + 1) os
-  cleared i os h =
-      ap (λ (l : List A). set (replicate i x ++ l) i x) (drop-cons os i d h)
-      ∙ set-at (replicate i x) (getD os i d) (drop (suc i) os) x i (length-replicate i x)
-      ∙ sym (mathlib.Core.List.append-assoc (replicate i x) (x ∷ []) (drop (suc i) os))
-      ∙ ap (λ (l : List A). l ++ drop (suc i) os) (sym (more i))
-      ∙ ap (λ (j : ℕ). replicate j x ++ drop j os) (sym (add-one i))
-
-  pub clear-step : (i : ℕ) (os rows : List A) → i < length os → rows ≡ replicate i x ++ drop i os → set rows i x ≡ replicate (i + 1) x ++ drop (i + 1) os
-  clear-step i os rows h p = ap (λ (l : List A). set l i x) p ∙ cleared i os h
-
-  pub clear-done : (i : ℕ) (os rows : List A) → i ≤ length os → length os ≤ i → rows ≡ replicate i x ++ drop i os → rows ≡ replicate (length os) x
-  clear-done i os rows h k p =
-      let e : i ≡ length os = omega arith in
-      p ∙ rw (e, drop-length) (append-nil (replicate (length os) x))
 
 -- ---- beds and objects
 

@@ -1,7 +1,7 @@
 -- What others may cite of this crate, a line each. Assumes nothing.
 
--- rows of +0.0 into which the beds and then the objects are mixed hold what is heard at each moment of the run
-pub use Rattle.render.proofs.HeardRows.{run-heard}
+-- rows of +0.0, all of them, into which the beds and then the objects are mixed hold what is heard at each moment of the run
+pub use Rattle.render.proofs.HeardRows.{silent-long, run-heard}
 -- with the bass row filtered they hold what the rules give
 pub use Rattle.render.proofs.BassRow.{passed}
 -- moments at which the same is heard leave the same rows and the same filter

@@ -2,7 +2,7 @@
 use Prim.Native.Nat.{ℕ, zero, suc, _+_, _*_, _≤_, _<_}
 use mathlib.Core.Path.{_≡_}
 use mathlib.Core.List.{List, [], _∷_, _++_, map}
-use lib.ListN.{length, getD, take, drop}
+use lib.ListN.{length, getD, take, drop, replicate}
 use lib.Ieee.{Float, nan}
 use Rattle.formats.specs.Areas.{rowCount, rowPlaces, placeCount}
 use Rattle.mixing.specs.SampleBits.{Plain}
@@ -25,10 +25,14 @@ pub record Framed (pcm : List ℕ) (m : ℕ) (s : Span) : Type 0 where
   pub span : s .first + s .count ≤ s .frame
   pub short : s .count ≤ rowPlaces
 
--- PCM for the frame's inputs and the objects that sound, all rows, and no count above what its table holds
+-- twelve rows of +0.0
+unfoldable pub silentRows : List Float
+silentRows = replicate placeCount 0·0
+
+-- PCM for the frame's inputs and the objects that sound, rows in which nothing sounds yet, and no count above what its table holds
 pub record CanMix (pcm codes : List ℕ) (scene : Scene) (s : Span) (rows : List Float) : Type 0 where
   pub framed : Framed pcm (length codes + scene .objects) s
-  pub whole : length rows ≡ placeCount
+  pub silent : rows ≡ silentRows
   pub inputs : length codes ≤ 18
   pub beds : scene .beds ≤ 18
   pub objects : scene .objects ≤ 16

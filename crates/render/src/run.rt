@@ -4,32 +4,20 @@
 // A run of at most 64 samples, within which no update falls and no slot starts.
 ghost use mathlib.Core.Path.{_≡_};
 ghost use Prim.Native.Nat.{_≤_};
-ghost use lib.ListN.{length, take, drop, replicate};
+ghost use lib.ListN.{length, take, drop};
 ghost use Rattle.formats.specs.Areas.{rowPlaces, placeCount};
 ghost use Rattle.mixing.specs.Part.{onPart};
 ghost use Rattle.lowpass.specs.Lowpass.{filtered, afterAll};
-ghost use Rattle.rules.specs.Parts.{0·0};
 ghost use Rattle.render.specs.Run.{CanMix, sceneAt, Heard, Passed};
 use crate::Scene;
 use crate::Span;
 use lowpass::BiquadLowpassState;
-
-fn clear(rows: &mut [f32])
-    ensures { λ _. ⌜ now (rows .exit) ≡ replicate (length (now (rows .entry))) 0·0 ⌝ }
-{
-    let mut i = 0usize;
-    while i < rows.len() {
-        rows[i] = 0.0;
-        i += 1;
-    }
-}
 
 // What sounds in the span, into row c from place 64 c on.
 fn mix_run(rows: &mut [f32], pcm: &[u8], codes: &[u8], scene: Scene, span: Span)
     requires { ⌜ CanMix (now pcm) (now codes) scene span (now rows) ⌝ }
     ensures { λ _. ⌜ Heard (sceneAt scene (now (codes .entry)) (now (pcm .entry)) (span .frame)) (span .first) (span .count) (now (rows .exit)) ⌝ }
 {
-    clear(rows);
     crate::sources::mix_beds(rows, pcm, codes, scene, span);
     crate::sources::mix_sources(rows, pcm, codes.len(), scene, span);
 }

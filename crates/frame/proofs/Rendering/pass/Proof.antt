@@ -1,8 +1,9 @@
 -- `pass`: rows, low-pass and the clock. Assumes nothing.
 use borrow.Author.Needs.{needs}
-use mathlib.Core.Path.{_≡_, sym, _∙_}
+use mathlib.Core.Path.{_≡_, sym, ap, _∙_}
 use lib.ListN.{length, length-map}
 use native.Mathlib.Omega.{arith}
+use Rattle.render.proofs.Theorems.{silent-long}
 use Rattle.frame.specs.Pass.{frameWith}
 use Rattle.frame.proofs.ChunkOnBlock.{Full, mixed, same-heard, waits}
 use Rattle.frame.proofs.Rendering.pass.Statement.{statement}
@@ -47,7 +48,7 @@ settle-requires c κs =
     (omega (arith, p .phase, p .pending), p .start, p .position, p .pending)
 
 same-length : tie.Need-same-length
-same-length c = c .before .before .before .mix .ensures .whole ∙ sym (start c .pre .1)
+same-length c = c .before .before .before .mix .ensures .whole ∙ sym (ap length (start c .pre .1) ∙ silent-long)
 
 pub pass-spec : {M : Type 1} → statement M
 pass-spec =

@@ -5,6 +5,7 @@ use mathlib.Core.List.{List}
 use mathlib.Core.Bool.{Bool, true, false, _||_}
 use mathlib.Core.Logic.{⊎-elim}
 use lib.Dec.{T, ltb}
+use lib.Ieee.{ofBits}
 use native.Mathlib.Omega.{arith}
 use native.Mathlib.Nat.{le-of-lt}
 use borrow.Author.Needs.{needs}
@@ -16,6 +17,7 @@ use Rattle.rules.specs.Calls.{frameOf}
 use Rattle.rules.specs.Samples.{updated, slotted}
 use Rattle.theorem.specs.Instance.{sentOf, hall}
 use Rattle.refusals.specs.FirstFound.{argsWith}
+use Rattle.render.specs.Run.{silentRows}
 use Rattle.store.specs.declared.renderer.Renderer714.{Renderer714}
 use Rattle.frame.specs.Held.{held, Leads}
 use Rattle.frame.specs.declared.Rendering.{Rendering}
@@ -170,6 +172,7 @@ turning c =
     }
 
 pass-requires : tie.Need-pass-requires Inv-loop μ-loop
+unfolding ofBits silentRows
 pass-requires c κs = (turn-passes (turning (c .before .before)) .passes, search needs)
 
 -- back to the start and to the turn's

@@ -14,7 +14,7 @@ pass-run-requires c κs =
     let d = c .before .audible2 .ensures in
     record {
       framed = framed-within q (a .pcm .now) (length (a .codes .now)) (a .objects) (a .span) d (s .pre .0);
-      whole = s .pre .1;
+      silent = s .pre .1;
       inputs = s .pre .2;
       beds = count-within q n (s .pre .3);
       objects = count-within q d (s .pre .4);
