@@ -9,6 +9,7 @@ use borrow.Author.Tests.{eq-eqb, ne-eqb}
 use lib.Dec.{eqb}
 use lib.ListN.{length, getD}
 use Rattle.timed.specs.State.{Timed, slotAt}
+use Rattle.timed.specs.Resting.{restsAt}
 use Rattle.timed.specs.TimedResults.{IsTimed}
 use Rattle.timed.specs.declared.state.MetadataRendererState.{MetadataRendererState}
 use Rattle.timed.proofs.Theorems as timed
@@ -68,6 +69,11 @@ module _ (s : Renderer714) (b : List ℕ) where
   -- no slot starts
   pub slot-rests : length b ≡ size → (s .state .initialized && eqb (s .clock .phase) 0) ≡ false → IsNext (slotted hall (held s b)) b s b
   slot-rests whole e = record { holds = record { is = by-slot false _ e refl; long = whole }; small = refl }
+
+  -- a slot starts that changes nothing
+  pub slot-changes-nothing : length b ≡ size → Starts s → restsAt (s .clock .start .0) (s .state) ≡ true → IsNext (slotted hall (held s b)) b s b
+  slot-changes-nothing whole e h =
+      record { holds = record { is = by-slot true (record { state = s .state; infos = infosOf b }) e (timed.slot-rests _ _ h); long = whole }; small = refl }
 
   pub slot-starts :
       (m : MetadataRendererState) (is : List ℕ) (r : Renderer714) → length b ≡ size → length is ≡ infosBytes → Starts s →

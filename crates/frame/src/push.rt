@@ -105,7 +105,9 @@ impl Rendering {
                 work = work.apply_sent(state, meta, l, t, at);
             }
             if slot_starts(work.renderer.state.initialized, work.renderer.clock.phase) {
-                work = work.start_slot(state);
+                if !work.renderer.state.rests(work.renderer.clock.start) {
+                    work = work.start_slot(state);
+                }
             }
             let next = next_offset(l, t, end);
             let k = run_length(

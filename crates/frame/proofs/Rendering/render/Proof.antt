@@ -9,22 +9,23 @@ use lib.Ieee.{ofBits}
 use native.Mathlib.Omega.{arith}
 use native.Mathlib.Nat.{le-of-lt}
 use borrow.Author.Needs.{needs}
-use borrow.Author.Tests.{ltb-true, ltb-false}
+use borrow.Author.Tests.{ltb-true, ltb-false, not-false}
 use denote.Ref.{now}
 use Rattle.limiter.specs.Meters.{unmet}
 use Rattle.rules.specs.Refusals.{Args, argsOf}
 use Rattle.rules.specs.Calls.{frameOf}
-use Rattle.rules.specs.Samples.{updated, slotted}
+use Rattle.rules.specs.Samples.{Renderer, updated, slotted}
+use Rattle.timed.specs.State.{Timed}
 use Rattle.theorem.specs.Instance.{sentOf, hall}
 use Rattle.refusals.specs.FirstFound.{argsWith}
 use Rattle.render.specs.Run.{silentRows}
 use Rattle.store.specs.declared.renderer.Renderer714.{Renderer714}
-use Rattle.frame.specs.Held.{held, Leads}
+use Rattle.frame.specs.Held.{held, IsNext, Leads}
 use Rattle.frame.specs.declared.Rendering.{Rendering}
-use Rattle.frame.specs.Begin.{CanBegin}
+use Rattle.frame.specs.Begin.{CanStart, CanBegin}
 use Rattle.frame.specs.Give.{GaveRows}
 use Rattle.frame.specs.Pass.{momentHere, Laid, Waits}
-use Rattle.frame.proofs.Begins.{can-start, slotted-after, none-applied, slot-rests}
+use Rattle.frame.proofs.Begins.{can-start, slotted-after, none-applied, slot-rests, slot-changes-nothing}
 use Rattle.frame.proofs.Running.{Taken, takes, starts-at, is-rate, Running, opens, can-begin, end-above, few, Turning, turn-some, turn-within, turn-passes}
 use Rattle.frame.proofs.Running.{turn-runs, turn-skips, rendered}
 use Rattle.frame.proofs.ChunkOnBlock.{can-give-rows, can-give, passes-on, passes-given, passes-whole}
@@ -112,10 +113,22 @@ updates-done c =
     }))
     (c .if2 .came)
 
+-- the slot that starts may
+slot-at : (c : tie.Then3 Inv-loop μ-loop) → let j = c .before .before in CanStart (held (j .if2 .work .renderer) (j .if2 .state))
+slot-at c = let j = c .before .before in can-start (updates-done j .next .holds) (may-begin (j .before .before) .slot)
+
+rests-requires : tie.Need-rests-requires Inv-loop μ-loop
+rests-requires c κs = let s = slot-at c in (s .start, s .within)
+
 start-slot-requires : tie.Need-start-slot-requires Inv-loop μ-loop
 start-slot-requires c κs =
-    let e = updates-done (c .before .before .before) .next .holds in
-    (e .long, can-start e (may-begin (c .before .before .before .before .before) .slot), sym (c .before .before .slot-starts .ensures) ∙ c .before .if3 .taken)
+    let t = c .before .before .before in
+    (updates-done (t .before .before) .next .holds .long, slot-at t, sym (t .before .slot-starts .ensures) ∙ t .if3 .taken)
+
+-- with no slot, or one that changes nothing, what the updates left goes on
+leads-on : {r : Renderer Timed} {w w′ : Rendering} {b b′ : List ℕ} → Leads r w b w′ b′ → IsNext (slotted hall (held (w′ .renderer) b′)) b′ (w′ .renderer) b′
+    → Leads (slotted hall r) w b w′ b′
+leads-on a n = record { next = slotted-after (a .next) n; ready = a .ready; meters = a .meters }
 
 begun : (c : tie.Joined3 Inv-loop μ-loop) → let x = c .before .before .before .before .before .before .before .loop in
     Leads (slotted hall (updated hall (x .t .0) (sentOf (args (c .before .before .before .before .before .before .before .before .before .before) .meta))
@@ -123,15 +136,13 @@ begun : (c : tie.Joined3 Inv-loop μ-loop) → let x = c .before .before .before
 begun c =
     let j = c .before .before in
     let a = updates-done j in
+    let slot = sym (c .before .slot-starts .ensures) in
     ⊎-elim
-    (λ w. let b = w .2 .ensures in
-    rw (w .5, w .6) (record { next = slotted-after (a .next) (b .next); ready = b .ready ∙ a .ready; meters = b .meters ∙ a .meters }))
-    (λ w. rw (w .1, w .2)
-    (record {
-      next = slotted-after (a .next) (slot-rests (j .if2 .work .renderer) (j .if2 .state) (a .next .holds .long) (sym (c .before .slot-starts .ensures) ∙ w .0 .left));
-      ready = a .ready;
-      meters = a .meters;
-    }))
+    (λ w. let b = w .4 .ensures in
+    rw (w .7, w .8) (record { next = slotted-after (a .next) (b .next); ready = b .ready ∙ a .ready; meters = b .meters ∙ a .meters }))
+    (⊎-elim
+    (λ w. rw (w .3, w .4) (leads-on a (slot-changes-nothing _ _ (a .next .holds .long) (slot ∙ w .0 .taken) (sym (w .1 .ensures) ∙ not-false _ (w .2 .left)))))
+    (λ w. rw (w .1, w .2) (leads-on a (slot-rests _ _ (a .next .holds .long) (slot ∙ w .0 .left)))))
     (c .if3 .came)
 
 next-offset-requires : tie.Need-next-offset-requires Inv-loop μ-loop
@@ -204,27 +215,27 @@ neither true b e = absurd (subst T e tt)
 neither false b e = (refl, e)
 
 -- where it is no whole block, it was laid
-laid-part : (c : tie.Joined4 Inv-loop μ-loop) → let r = c .before .before .before .before .before .before .before in let v = r .before .before .if3 in
+laid-part : (c : tie.Joined5 Inv-loop μ-loop) → let r = c .before .before .before .before .before .before .before in let v = r .before .before .if3 in
     (r .run-length .result ≡ 64 → ⊥)
-    → Laid (c .before .before .before .before .pass .last .1 .0) (v .work .renderer .pending) (r .run-length .result) (v .state) (c .if4 .state)
+    → Laid (c .before .before .before .before .pass .last .1 .0) (v .work .renderer .pending) (r .run-length .result) (v .state) (c .if5 .state)
 laid-part c h =
     let r = c .before .before .before .before .before .before .before in
     let p = turn-passes (turning r) .passes .pending in
     ⊎-elim (λ w. rw (w .6) (w .3 .ensures))
     (λ w. let x = ltb-false (r .run-length .result) 64 (neither (ltb (r .run-length .result) 64) _ (sym (c .before .is-kept .ensures) ∙ w .0 .left) .0) in absurd (h (omega arith)))
-    (c .if4 .came)
+    (c .if5 .came)
 
 give-rows-requires : tie.Need-give-rows-requires Inv-loop μ-loop
 give-rows-requires c κs =
     let u = c .before .before .before .before .before .before .before .before .before .before in
     can-give-rows (frameOf hall (args (opening u))) (turn-passes (turning u)) (waiting (c .before .before .before .before .before .before .before))
-    (c .before .before .if5 .taken)
+    (c .before .before .if6 .taken)
 
 give-requires : tie.Need-give-requires Inv-loop μ-loop
 give-requires c κs =
     let u = c .before .before .before .before .before .before .before .before .before .before .before .before in
     can-give (frameOf hall (args (opening u))) (turn-passes (turning u)) (waiting (c .before .before .before .before .before .before .before .before .before))
-    (laid-part (c .before .before .before .before .before) (c .before .before .before .before .if5 .left)) (c .before .before .if6 .taken)
+    (laid-part (c .before .before .before .before .before) (c .before .before .before .before .if6 .left)) (c .before .before .if7 .taken)
 
 cast-plus : tie.Need-cast-plus Inv-loop μ-loop
 cast-plus c = let u = c .before .before .before .before .before .before .before .before in omega (arith, taken (opening u) .samples, turn-within (turning u))
@@ -236,11 +247,11 @@ loop-less : tie.Need-loop-less Inv-loop μ-loop
 loop-less c = let u = turning (c .before .before .before .before .before .before .before .before .before) in omega (arith, turn-some u, turn-within u, c .plus .ensures)
 
 -- a whole block: laid, or as much follows
-whole-runs : (c : tie.Joined4 Inv-loop μ-loop) (r : Rendering) (o : List ℕ) → let u = c .before .before .before .before .before .before .before in
+whole-runs : (c : tie.Joined5 Inv-loop μ-loop) (r : Rendering) (o : List ℕ) → let u = c .before .before .before .before .before .before .before in
     let s = opening u .before .before .before .before .before .before .before .before .before .args in
     u .run-length .result ≡ 64 → GaveRows (c .before .before .before .before .pass .result) (c .before .before .before .before .pass .last .1 .0) (s .n .stride)
     (turnOf u .loop .out) r o
-    → Running (now (s .state)) (args (opening u)) (turnOf u .loop .t .0 + u .run-length .result) r (c .if4 .state) o
+    → Running (now (s .state)) (args (opening u)) (turnOf u .loop .t .0 + u .run-length .result) r (c .if5 .state) o
 whole-runs c r o e g =
     let u = c .before .before .before .before .before .before .before in
     let f = frameOf hall (args (opening u)) in
@@ -258,7 +269,7 @@ whole-runs c r o e g =
     rw (w .1)
     (turn-skips q r (l .0) o (passes-whole f p y (l .1) e g) (l .1 .infos) (ap (λ (s : Renderer714). s .pending) (g .renderer))
     (omega (arith, x, c .before .before .up-to .ensures, turnOf u .loop .inv .1))))
-    (c .if4 .came)
+    (c .if5 .came)
 
 loop-again : tie.Need-loop-again Inv-loop μ-loop
 loop-again c =
@@ -266,12 +277,12 @@ loop-again c =
     let a = opening u in
     let s = a .before .before .before .before .before .before .before .before .before .args in
     let j = c .before .before in
-    let z = c .before .if5 in
+    let z = c .before .if6 in
     let q = turning u in
     let p = turn-passes q in
     let f = frameOf hall (args a) in
     let y = waiting (c .before .before .before .before .before .before) in (
-      subst (λ (t : ℕ). Running (now (s .state)) (args a) t (z .work) (j .if4 .state) (z .out)) (sym (c .plus .ensures))
+      subst (λ (t : ℕ). Running (now (s .state)) (args a) t (z .work) (j .if5 .state) (z .out)) (sym (c .plus .ensures))
           (⊎-elim (λ w. rw (w .6, w .7) (whole-runs j _ _ (w .0 .taken) (w .3 .ensures)))
           (⊎-elim (λ w. rw (w .8, w .9) (turn-runs q _ _ _ (passes-given f p y (laid-part j (w .0 .left)) (w .2 .taken) (w .5 .ensures))))
           (λ w. rw (w .3, w .4) (turn-runs q _ _ _ (passes-on f p y (laid-part j (w .0 .left)) (w .2 .left)))))
@@ -310,6 +321,7 @@ render-spec =
     is-sent-requires
     apply-sent-requires
     (λ c κs. search needs)
+    rests-requires
     start-slot-requires
     next-offset-requires
     run-length-requires
