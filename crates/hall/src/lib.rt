@@ -1,8 +1,10 @@
-// The entries that the host calls. Contracts: the answer, the state block and the output at exit are those of the rules' `made`, for arguments of any kind.
+// The entries that the host calls. Contracts: the answer, the state block and the output at exit are those of the rules' `made`, for arguments of any kind. `appends` says
+// of a push that completes no block which bytes of the places stay (R-4).
 ghost use mathlib.Core.Path.{_≡_};
 ghost use Rattle.rules.specs.Calls.{push, flush, reset};
 ghost use Rattle.rules.specs.BlockCalls.{made};
 ghost use Rattle.theorem.specs.Instance.{hall, block};
+ghost use Rattle.theorem.specs.Appends.{AppendsIfOpen};
 ghost use Rattle.store.specs.Layout.{size};
 ghost use Rattle.hall.specs.Answers.{Left, codeOf, version};
 ghost use Rattle.rules.specs.Refusals.{argsOf};
@@ -35,6 +37,8 @@ pub extern "C" fn hall_push(
     ensures { λ r. ⌜ Left
         (made hall block (push (argsOf (now (pcm .entry)) (now (meta .entry)) (now (out .entry)) (now (codes .entry)) rate samples objects stride)) (now (state .entry))) r
         (now (state .exit)) (now (out .exit)) ⌝ }
+    ensures appends { λ r. ⌜ (r .kind ≡ 0 → AppendsIfOpen
+        (argsOf (now (pcm .entry)) (now (meta .entry)) (now (out .entry)) (now (codes .entry)) rate samples objects stride) (now (state .entry)) (now (state .exit))) ⌝ }
 {
     if !store::ranges::is_valid(state) {
         return answer::refusal(Refusal::Lent);

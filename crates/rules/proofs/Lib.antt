@@ -16,7 +16,9 @@ pub mod Written
 pub mod Erased
 pub mod StateBlocks
 pub mod Moments
+pub mod OneMore
 pub mod Sounding
+pub mod OpenBlock
 pub mod Order
 pub mod Accepted
 pub mod Unused

@@ -28,7 +28,8 @@ use Rattle.rules.proofs.Frames.{admitted, pushed-fine}
 use Rattle.rules.proofs.Clock.{Alike, alike-self, met-alike, passed-alike}
 use Rattle.rules.proofs.Moments.{momentOf, moments-count, next-at, moment-at}
 use Rattle.rules.proofs.Order.{updated-in-order}
-use Rattle.rules.proofs.Sounding.{moment-is, hearable-at, line, sounds-at, enters-at}
+use Rattle.rules.proofs.OneMore.{moment-is}
+use Rattle.rules.proofs.Sounding.{hearable-at, line, sounds-at, enters-at}
 use Rattle.rules.proofs.PushShapes.{started-at, objects-there, beds-there}
 use Rattle.rules.proofs.Quiet as silence
 use Rattle.rules.proofs.Quiet.{Hush}
@@ -79,7 +80,7 @@ module _ (L : Leaves) (B : Layout L) (F : Facts L B) (r : State L) (a : Args) (b
   -- ---- sample t
   module _ (hush : Hush L r) (t : ℕ) (h : t < a .samples) where
     abbrev heard-at : momentAt L r a t ≡ momentOf L f t (before L r a t)
-    heard-at = moment-is L B F r a k good at-rate t h
+    heard-at = moment-is L r a t h
 
     begun-at : started L (met L r a t .meta) ≡ begun L r a t
     begun-at = started-at L B F r a passes k good t h
@@ -138,7 +139,7 @@ module _ (L : Leaves) (B : Layout L) (F : Facts L B) (r : State L) (a : Args) (b
         let u = framed L g t 0 start .next in
         let q = met-alike L t (f .updates) s u (alike t) .meta in
         let i = hearable-at L B F r a k good at-rate t h .sources .objects in
-        let here = moment-is L B F r a k good at-rate t h in
+        let here = moment-is L r a t h in
         ap fed (moment-at L g start (a .samples) t h)
         ∙ sym (same-bass (momentOf L f t s) (momentOf L g t u)
         (record {

@@ -25,7 +25,8 @@ use Rattle.rules.proofs.Judged.{Passed}
 use Rattle.rules.proofs.Invariant.{Good, Admitted}
 use Rattle.rules.proofs.Begun as begins
 use Rattle.rules.proofs.PushShapes.{inv, started-at}
-use Rattle.rules.proofs.Sounding.{good-at, moment-is, enters-at}
+use Rattle.rules.proofs.OneMore.{moment-is}
+use Rattle.rules.proofs.Sounding.{good-at, enters-at}
 
 new-still : (rate : ℕ) → Still (new rate)
 unfolding new
@@ -51,7 +52,7 @@ module _ (L : Leaves) where
       unfolding heard
       silent-at c =
           let m = met L r a t .meta in
-          ap (λ (x : Moment). heard x c) (moment-is L B F r a k good at-rate t h)
+          ap (λ (x : Moment). heard x c) (moment-is L r a t h)
           ∙ ap (λ (b : Bool). heard (record {
             beds = cond b (L .beds m) [];
             objects = cond b (L .objects m) [];

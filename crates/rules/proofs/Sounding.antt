@@ -7,17 +7,16 @@ use native.Mathlib.Nat.{le-of-lt, le-of-eq, le-trans}
 use native.Mathlib.Omega.{arith}
 use borrow.Author.Tests.{leb-true, leb-false}
 use lib.Dec.{T, eqb, leb}
-use lib.ListN.{length, take, drop, getD, set, length-append, length-set, drop-of-length-le}
+use lib.ListN.{length, take, drop, getD, length-append, length-set, drop-of-length-le}
 use lib.Seq.{length-take-le, take-all, take-take, drop-append-le, getD-set-same}
 use lib.Ieee.{Float, binary32, fits, toBits, ofBits}
-use Rattle.lowpass.specs.Lowpass.{output, next}
+use Rattle.lowpass.specs.Lowpass.{next}
 use Rattle.lowpass.proofs.Calm.{output-bounded}
-use Rattle.lowpass.specs.declared.BiquadLowpassState.{BiquadLowpassState}
 use Rattle.limiter.specs.declared.meters.Meters.{Meters}
-use Rattle.rules.specs.Parts.{Channels, none, floats, laid}
+use Rattle.rules.specs.Parts.{Channels, none, floats}
 use Rattle.rules.specs.Leaves.{Leaves}
-use Rattle.rules.specs.Mix.{Moment, heard, fed}
-use Rattle.rules.specs.Samples.{Frame, State, limited, metered, gainAfter, row, updated, slotted, After, passed, sampled, framed, opened, waiting, pushed}
+use Rattle.rules.specs.Mix.{fed}
+use Rattle.rules.specs.Samples.{Frame, State, limited, metered, gainAfter, framed, opened, waiting}
 use Rattle.rules.specs.Refusals.{Args}
 use Rattle.rules.specs.Calls.{frameOf}
 use Rattle.rules.specs.Sounds.{nthBlock, gainBefore, limitedBlocks, blocksMetered, before, met, momentAt, soundAt, sounds}
@@ -25,49 +24,12 @@ use Rattle.rules.specs.BlockCalls.{Layout}
 use Rattle.rules.proofs.EachOf.{length-map, either}
 use Rattle.rules.proofs.Owed.{Facts}
 use Rattle.rules.proofs.ChannelBound.{most-range, Hearable, heard-bounded}
-use Rattle.rules.proofs.Clock.{untouched}
 use Rattle.rules.proofs.Invariant.{Good, Admitted, before-good, moment-hearable}
 use Rattle.rules.proofs.Frames.{framed-fine}
-use Rattle.rules.proofs.Moments.{momentOf, next-at, given-at, meters-at, moment-at}
+use Rattle.rules.proofs.OneMore.{moment-is, more, next-is, given-is, meters-are, places-are}
 use Rattle.rules.proofs.Blockwise.{Same, same-limited, same-gain, same-metered, behind, gain-behind, blocks-behind, metered-behind, laid-behind}
 
--- ---- a row is one sample
-abbrev sound : Moment → BiquadLowpassState → ℕ → Float
-sound m low c = cond (eqb c 3) (output low (fed m)) (heard m c)
-
-row-is : (m : Moment) (low : BiquadLowpassState) (c : ℕ) → row m low c ≡ sound m low c ∷ []
-row-is m low c = go (eqb c 3)
-  where
-    go : (b : Bool) → cond b (output low (fed m) ∷ []) (heard m c ∷ []) ≡ cond b (output low (fed m)) (heard m c) ∷ []
-    go true = refl
-    go false = refl
-
 module _ (L : Leaves) where
-  -- v, which updates and a slot left of s
-  abbrev over : State L → State L → State L
-  over s v =
-      record {
-        rate = s .rate;
-        clock = record { position = s .clock .position; phase = v .clock .phase; start = v .clock .start };
-        limiter = s .limiter;
-        filter = s .filter;
-        meta = v .meta;
-        pending = s .pending;
-      }
-
-  met-is : (t : ℕ) (us : List (L .Update)) (s : State L) → slotted L (updated L t us s) ≡ over s (slotted L (updated L t us s))
-  met-is t us s =
-      let v = slotted L (updated L t us s) in
-      let u = untouched L t us s in
-      λ i. record {
-        rate = u .rate i;
-        clock = record { position = u .position i; phase = v .clock .phase; start = v .clock .start };
-        limiter = u .limiter i;
-        filter = u .filter i;
-        meta = v .meta;
-        pending = u .pending i;
-      }
-
   module _ (B : Layout L) (F : Facts L B) (r : State L) (a : Args) (k : Admitted L B F (frameOf L a)) (good : Good L B F (opened L (a .rate) r))
       (at-rate : opened L (a .rate) r .rate ≡ a .rate) where
     abbrev f : Frame (L .Update)
@@ -82,30 +44,10 @@ module _ (L : Leaves) where
     pub good-at : (t : ℕ) → t ≤ a .samples → Good L B F (s t)
     good-at t h = framed-fine L B F f k t 0 (omega arith) start good .next
 
-    pub moment-is : (t : ℕ) → t < a .samples → momentAt L r a t ≡ momentOf L f t (s t)
-    unfolding pushed
-    moment-is t h = moment-at L f start (a .samples) t h
-
     pub hearable-at : (t : ℕ) → t < a .samples → Hearable (momentAt L r a t)
     hearable-at t h =
         let i = before-good L B F t (f .updates) (s t) (k .updates) (good-at t (le-of-lt h)) in
-        subst Hearable (sym (moment-is t h)) (moment-hearable L B F f k t h (met L r a t .meta) (i .steady .meta))
-
-    -- one sample more
-    abbrev more : ℕ → After L
-    more t = passed L (momentAt L r a t) (over (s t) (met L r a t))
-
-    sampled-is : (t : ℕ) → t < a .samples → sampled L f t (s t) ≡ more t
-    sampled-is t h = ap₂ (passed L) (sym (moment-is t h)) (met-is t (f .updates) (s t))
-
-    pub next-is : (t : ℕ) → t < a .samples → s (suc t) ≡ more t .next
-    next-is t h = next-at L f start t ∙ ap (λ (x : After L). x .next) (sampled-is t h)
-
-    given-is : (t c : ℕ) → t < a .samples → framed L f (suc t) 0 start .given c ≡ framed L f t 0 start .given c ++ more t .given c
-    given-is t c h = given-at L f start t c ∙ ap (λ (x : After L). framed L f t 0 start .given c ++ x .given c) (sampled-is t h)
-
-    meters-are : (t : ℕ) → t < a .samples → framed L f (suc t) 0 start .meters ≡ framed L f t 0 start .meters ++ more t .meters
-    meters-are t h = meters-at L f start t ∙ ap (λ (x : After L). framed L f t 0 start .meters ++ x .meters) (sampled-is t h)
+        subst Hearable (sym (moment-is L r a t h)) (moment-hearable L B F f k t h (met L r a t .meta) (i .steady .meta))
 
     -- ---- the sample that is laid
     sound-fits : (t c : ℕ) → t < a .samples → T (fits binary32 (soundAt L r a c t))
@@ -114,18 +56,15 @@ module _ (L : Leaves) where
         either (λ (x : Float). T (fits binary32 x)) (eqb c 3)
         (output-bounded most-range (good-at t (le-of-lt h) .calm) (heard-bounded (momentAt L r a t) m 3) .f32 .fit) (heard-bounded (momentAt L r a t) m c .f32 .fit)
 
-    places-are : (t c : ℕ) → more t .next .pending .places c ≡ set (s t .pending .places c) (s t .pending .count) (toBits binary32 (soundAt L r a c t))
-    places-are t c = ap (λ (xs : List Float). laid (s t .pending .count) xs (s t .pending .places c)) (row-is (momentAt L r a t) (s t .filter) c)
-
     long-at : (t c : ℕ) → t ≤ a .samples → c < 12 → length (s t .pending .places c) ≡ 64
     long-at t c h l = good-at t h .steady .long c l
 
     -- with the sample behind them, the samples that wait
-    filled : (t c : ℕ) → t < a .samples → c < 12 → take (s t .pending .count + 1) (floats (more t .next .pending .places) c) ≡ waiting L (s t) c ++ (soundAt L r a c t ∷ [])
+    filled : (t c : ℕ) → t < a .samples → c < 12 → take (s t .pending .count + 1) (floats (more L r a t .next .pending .places) c) ≡ waiting L (s t) c ++ (soundAt L r a c t ∷ [])
     filled t c h l =
         let few = good-at t (le-of-lt h) .steady .few in
         let e = long-at t c (le-of-lt h) l in
-        ap (λ (ws : List ℕ). take (s t .pending .count + 1) (Rattle.rules.specs.Parts.floats (λ d. ws) c)) (places-are t c)
+        ap (λ (ws : List ℕ). take (s t .pending .count + 1) (Rattle.rules.specs.Parts.floats (λ d. ws) c)) (places-are L r a t c)
         ∙ laid-behind (s t .pending .count) (s t .pending .places c) (soundAt L r a c t) (omega arith) (sound-fits t c h)
 
     -- ---- the limiter's blocks, after t samples
@@ -153,7 +92,7 @@ module _ (L : Leaves) where
       one c = soundAt L r a c t ∷ []
 
       abbrev block : Channels
-      block = floats (more t .next .pending .places)
+      block = floats (more L r a t .next .pending .places)
 
       few : p < 64
       few = good-at t (le-of-lt h) .steady .few
@@ -184,7 +123,7 @@ module _ (L : Leaves) where
           ∙ ap (λ (x : Channels). blocksMetered (a .rate) (r .limiter .gain) x (blocks t)) grows
 
       -- the samples from the last whole block on
-      open-block : Same (λ c. take (p + 1) (floats (more t .next .pending .places) c)) (λ c. drop (64 * blocks t) (met-by (suc t) c))
+      open-block : Same (λ c. take (p + 1) (floats (more L r a t .next .pending .places) c)) (λ c. drop (64 * blocks t) (met-by (suc t) c))
       open-block c l =
           filled t c h l
           ∙ ap (λ (xs : List Float). xs ++ one c) (i .waits c l)
@@ -192,26 +131,26 @@ module _ (L : Leaves) where
 
       -- by whether the block is whole
       gain-by : (b : Bool) → leb 64 (p + 1) ≡ b → s (suc t) .limiter .gain ≡ cond b (gainAfter 64 (s t .rate) (s t .limiter .gain) block) (s t .limiter .gain)
-      gain-by b e = ap (λ (x : State L). x .limiter .gain) (next-is t h) ∙ ap (λ (b : Bool). cond b (gainAfter 64 (s t .rate) (s t .limiter .gain) block) (s t .limiter .gain)) e
+      gain-by b e = ap (λ (x : State L). x .limiter .gain) (next-is L r a t h) ∙ ap (λ (b : Bool). cond b (gainAfter 64 (s t .rate) (s t .limiter .gain) block) (s t .limiter .gain)) e
 
       given-by : (b : Bool) → leb 64 (p + 1) ≡ b → (c : ℕ) → framed L f (suc t) 0 start .given c
           ≡ framed L f t 0 start .given c ++ cond b (limited (s t .limiter .gain) block) none c
-      given-by b e c = given-is t c h ∙ ap (λ (b : Bool). framed L f t 0 start .given c ++ cond b (limited (s t .limiter .gain) block) none c) e
+      given-by b e c = given-is L r a t c h ∙ ap (λ (b : Bool). framed L f t 0 start .given c ++ cond b (limited (s t .limiter .gain) block) none c) e
 
       meters-by : (b : Bool) → leb 64 (p + 1) ≡ b → framed L f (suc t) 0 start .meters ≡ framed L f t 0 start .meters ++ cond b (metered (s t .limiter .gain) block) []
-      meters-by b e = meters-are t h ∙ ap (λ (b : Bool). framed L f t 0 start .meters ++ cond b (metered (s t .limiter .gain) block) []) e
+      meters-by b e = meters-are L r a t h ∙ ap (λ (b : Bool). framed L f t 0 start .meters ++ cond b (metered (s t .limiter .gain) block) []) e
 
       waiting-by : (b : Bool) → leb 64 (p + 1) ≡ b → (c : ℕ) → waiting L (s (suc t)) c ≡ take (cond b 0 (p + 1)) (block c)
-      waiting-by b e c = ap (λ (x : State L). waiting L x c) (next-is t h) ∙ ap (λ (b : Bool). take (cond b 0 (p + 1)) (block c)) e
+      waiting-by b e c = ap (λ (x : State L). waiting L x c) (next-is L r a t h) ∙ ap (λ (b : Bool). take (cond b 0 (p + 1)) (block c)) e
 
       pending-by : (b : Bool) → leb 64 (p + 1) ≡ b → s (suc t) .pending .count ≡ cond b 0 (p + 1)
-      pending-by b e = ap (λ (x : State L). x .pending .count) (next-is t h) ∙ ap (λ (b : Bool). cond b 0 (p + 1)) e
+      pending-by b e = ap (λ (x : State L). x .pending .count) (next-is L r a t h) ∙ ap (λ (b : Bool). cond b 0 (p + 1)) e
 
       rate-next : s (suc t) .rate ≡ a .rate
-      rate-next = ap (λ (x : State L). x .rate) (next-is t h) ∙ i .rate
+      rate-next = ap (λ (x : State L). x .rate) (next-is L r a t h) ∙ i .rate
 
       position-next : s (suc t) .clock .position ≡ r .clock .position + suc t
-      position-next = let e = i .position in ap (λ (x : State L). x .clock .position) (next-is t h) ∙ omega arith
+      position-next = let e = i .position in ap (λ (x : State L). x .clock .position) (next-is L r a t h) ∙ omega arith
 
       stays-open : leb 64 (p + 1) ≡ false → Line (suc t)
       stays-open e =
@@ -233,7 +172,7 @@ module _ (L : Leaves) where
       -- the block is whole
       is-block : p ≡ 63 → Same block (nthBlock (met-by (suc t)) (blocks t))
       is-block e c l =
-          let n = length-map (ofBits binary32) (more t .next .pending .places c) ∙ ap length (places-are t c)
+          let n = length-map (ofBits binary32) (more L r a t .next .pending .places c) ∙ ap length (places-are L r a t c)
           ∙ length-set (s t .pending .places c) p (toBits binary32 (soundAt L r a c t)) ∙ long-at t c (le-of-lt h) l in
           sym (take-all 64 (block c) (omega arith))
           ∙ sym (take-take 64 (p + 1) (block c) (omega arith)) ∙ ap (take 64) (open-block c l)
@@ -300,9 +239,9 @@ module _ (L : Leaves) where
           let i = line t (le-of-lt h) in
           let few = good-at t (le-of-lt h) .steady .few in
           let e = long-at t c (le-of-lt h) l in
-          ap₂ (λ (x : State L) (p : ℕ). getD (x .pending .places c) p 0) (next-is t h) (sym (i .pending))
-          ∙ ap (λ (ws : List ℕ). getD ws (s t .pending .count) 0) (places-are t c)
+          ap₂ (λ (x : State L) (p : ℕ). getD (x .pending .places c) p 0) (next-is L r a t h) (sym (i .pending))
+          ∙ ap (λ (ws : List ℕ). getD ws (s t .pending .count) 0) (places-are L r a t c)
           ∙ getD-set-same (s t .pending .places c) (s t .pending .count) (toBits binary32 (soundAt L r a c t)) 0 (omega arith)
 
       pub enters-at : s (suc t) .filter ≡ next (s t .filter) (fed (momentAt L r a t))
-      enters-at = ap (λ (x : State L). x .filter) (next-is t h)
+      enters-at = ap (λ (x : State L). x .filter) (next-is L r a t h)

@@ -10,7 +10,7 @@ pub use Rattle.rules.proofs.Judged.{Passed, is-passed, is-early, is-lis
 -- 7 never occurs
 pub use Rattle.rules.proofs.Unused.{numberOf, never-seven}
 -- ranges of a renderer, floats of any bits, kept by updates, slots, frames and flushes
-pub use Rattle.rules.proofs.Ranged.{R, updated-ranged, slotted-ranged, framed-ranged, opened-ranged, pushed-ranged, flushed-ranged}
+pub use Rattle.rules.proofs.Ranged.{R, fresh-ranged, updated-ranged, slotted-ranged, framed-ranged, opened-ranged, pushed-ranged, flushed-ranged}
 -- what updates and a slot leave alone, and the shape that they give
 pub use Rattle.rules.proofs.Clock.{untouched}
 pub use Rattle.rules.proofs.PushShapes.{Matches, matches-on, judged, updated-shape, slotted-shape}
@@ -18,3 +18,5 @@ pub use Rattle.rules.proofs.PushShapes.{Matches, matches-on, judged, up
 pub use Rattle.rules.proofs.Limited.{length-limited}
 pub use Rattle.rules.proofs.EachOf.{all-append, length-map, length-laid}
 pub use Rattle.rules.proofs.Written.{written-reads}
+-- a push that completes no block, on any renderer: which bits stand where
+pub use Rattle.rules.proofs.OpenBlock.{Behind, behind}

@@ -2,9 +2,9 @@
 use mathlib.Core.Path.{refl}
 use Rattle.words.specs.Words.{Bytes}
 use Rattle.rules.specs.Demand3.{EveryList, Keeps}
-use Rattle.rules.proofs.Theorems.{Facts, Passed, pushed-ranged, flushed-ranged, every-list}
+use Rattle.rules.proofs.Theorems.{Facts, Passed, fresh-ranged, pushed-ranged, flushed-ranged, every-list}
 use Rattle.rules.specs.Refusals.{Args}
-use Rattle.rules.specs.Samples.{State, pushed, flushed}
+use Rattle.rules.specs.Samples.{State, fresh, pushed, flushed}
 use Rattle.rules.specs.Ranges.{Ranged}
 use Rattle.rules.specs.Calls.{frameOf}
 use Rattle.rules.proofs.Keeps as rules
@@ -53,6 +53,10 @@ pub keeps : Keeps hall block
 keeps = rules.keeps hall block facts
 
 -- the same of the renderers between blocks
+pub fresh-within : Ranged hall Within (fresh hall)
+unfolding facts
+fresh-within = fresh-ranged hall block facts
+
 pub pushed-within : (r : State hall) (a : Args) → Bytes (a .meta) → Passed hall r a → Ranged hall Within r → Ranged hall Within (pushed hall (frameOf hall a) r .next)
 unfolding facts
 pushed-within = pushed-ranged hall block facts

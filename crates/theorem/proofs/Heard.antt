@@ -38,7 +38,7 @@ abbrev pub calls : Args → List Call
 calls f = push f ∷ flush (replicate 3072 0) 64 ∷ []
 
 -- one update at offset 0 without elements: of one object that is a bed channel with the code 0; of one dynamic object, which starts at gain 0.707 and the origin
-abbrev oneBed : List ℕ
+abbrev pub oneBed : List ℕ
 oneBed = 1 ∷ 0 ∷ 0 ∷ 0 ∷ 1 ∷ 1 ∷ 1 ∷ replicate 33 0
 
 abbrev pub bed : Args
@@ -81,7 +81,7 @@ Reduced s = T (lt 1·0 (metersOf (s .answer) .peak) && lt (metersOf (s .answer) 
 abbrev Told : Args → (Seen hall block → Type 0) → Type 0
 Told f Q = Q (getD (told hall block (fresh hall) (calls f)) 1 unseen)
 
-accepted-bed : found hall (fresh hall) bed ≡ clear
+pub accepted-bed : found hall (fresh hall) bed ≡ clear
 unfolding everything
 accepted-bed = refl
 
@@ -107,16 +107,16 @@ told-sent = tt
 
 -- ---- what is lent is bytes
 
-abbrev small : List ℕ → Bool
+abbrev pub small : List ℕ → Bool
 small [] = true
 small (x ∷ l) = ltb x 256 && small l
 
-small-bytes : (l : List ℕ) → T (small l) → Bytes l
+pub small-bytes : (l : List ℕ) → T (small l) → Bytes l
 small-bytes [] h i = lit< tt
 small-bytes (x ∷ l) h zero = ltb→lt x 256 (and-l (ltb x 256) (small l) h)
 small-bytes (x ∷ l) h (suc i) = small-bytes l (and-r (ltb x 256) (small l) h) i
 
-lent : (pcm meta codes : List ℕ) (objects : ℕ) → T (small pcm) → T (small meta) → T (small codes) → AllLent (calls (frame pcm meta codes objects))
+pub lent : (pcm meta codes : List ℕ) (objects : ℕ) → T (small pcm) → T (small meta) → T (small codes) → AllLent (calls (frame pcm meta codes objects))
 lent pcm meta codes objects p m c = ((small-bytes pcm p, small-bytes meta m, zero-bytes 3072, small-bytes codes c), (zero-bytes 3072, tt))
 
 -- ---- from what reset leaves of any block, the host sees it of the flush

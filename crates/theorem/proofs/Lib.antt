@@ -12,8 +12,10 @@ pub mod TimedShapes
 pub mod Blank
 pub mod BlockRanges
 pub mod Demand3
+pub mod Appends
 pub mod Opened
 pub mod Heard
+pub mod Waiting
 pub mod Players
 pub mod Marked
 pub mod Theorems

@@ -4,6 +4,9 @@
 pub use Rattle.theorem.proofs.Demand3.{demand3, keeps}
 pub use Rattle.theorem.proofs.Players.{not-silent, not-all-refused, all-mixed, every-block, ready-counts, flush-gives}
 pub use Rattle.theorem.proofs.Heard.{meters-show}
+-- R-4: a push that completes no block leaves every place but those of its samples alone; two samples that stand behind each other
+pub use Rattle.theorem.proofs.Appends.{appends}
+pub use Rattle.theorem.proofs.Waiting.{both-wait}
 -- 01's cases marked P
 pub use Rattle.theorem.proofs.Marked.{table}
 -- what a valid block holds is within its ranges, and what a push or a flush leaves of it

@@ -1,2 +1,3 @@
 pub mod Instance
+pub mod Appends
 pub mod Marked

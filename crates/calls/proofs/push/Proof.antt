@@ -16,7 +16,7 @@ returns c =
     let a = w .before .before .before .before .before .before .before .args in
     pushed (a .rec .now) (a .meta .now) (a .pcm .now) (a .out .now) (a .state .now) {n = 14 + b .beds .result - 14}
     (omega (arith, b .beds .ensures .0)) (w .u32-at .ensures) (h .u16-at .ensures) (y .byte-at .ensures .0)
-    (u .hall-push .ensures) (c .before .before .tell .ensures)
+    (u .hall-push .ensures .0) (c .before .before .tell .ensures)
 
 pub push-spec : {M : Type 1} → statement M
 push-spec =
