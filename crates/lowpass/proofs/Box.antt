@@ -217,7 +217,7 @@ module _ {cos sin : Float} {N C v a : ℕ} (l : Listed N) (whole : C + v ≡ 167
   box = record { stiffness = stiffness; rate-low = omega (arith, l .low); slope-low = slope-low; slope-high = slope-high; stiff-low = stiff-low; stiff-high = stiff-high }
 
   -- ---- the gain
-  pub gain : Q * (m .β₂ + m .β₁ + m .β₂) ≤ 169624139315235782656
+  pub gain : Q * (m .β₂ + m .β₁ + m .β₂) ≤ 160800000000000000000
   gain =
       let b = m .β₂ + m .β₁ + m .β₂ in
       last (Q * b) (v * m .δ * Q) (v * Q) Q Q-high (s .v-high) (turn b (v * m .δ) (mul-le-mul-right Q (all (m .β₁) (m .β₂) (v * m .δ) u-some (m .β₁-above) (m .β₂-above))))
@@ -229,5 +229,5 @@ module _ {cos sin : Float} {N C v a : ℕ} (l : Listed N) (whole : C + v ≡ 167
       turn : (b u : ℕ) → 10000 * b * Q ≤ 20001 * u * Q → 10000 * (Q * b) ≤ 20001 * (u * Q)
       turn b u h = omega arith
 
-      last : (g x y q : ℕ) → q ≤ 36864000000 → 2 * y ≤ 9538000000000 + q → 10000 * g ≤ 20001 * x → x ≤ y * 16777216 → g ≤ 169624139315235782656
+      last : (g x y q : ℕ) → q ≤ 36864000000 → 2 * y ≤ 9538000000000 + q → 10000 * g ≤ 20001 * x → x ≤ y * 16777216 → g ≤ 160800000000000000000
       last g x y q b c d e = omega arith

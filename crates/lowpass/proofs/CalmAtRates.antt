@@ -1,8 +1,8 @@
 -- At every rate that is accepted a new filter is calm for every bound on the samples, and stays so: so its outputs are at most twice the largest sample. Assumes nothing.
 use mathlib.Core.Path.{_≡_, refl, sym, ap, subst}
 use mathlib.Core.List.{List, [], _∷_, _++_}
-use Prim.Native.Nat.{ℕ, _+_, _*_, _^_, _≤_}
-use native.Mathlib.Nat.{le-trans, le-refl, le-max-left, le-max-right}
+use Prim.Native.Nat.{ℕ, _+_, _*_, _^_, _≤_, zero-le}
+use native.Mathlib.Nat.{le-trans, le-refl, le-max-left, le-max-right, max-le}
 use native.Mathlib.Omega.{arith}
 use lib.Ieee.{Float}
 use Rattle.ieee.specs.Units.{One, F32, mag}
@@ -19,7 +19,7 @@ use Rattle.lowpass.specs.Lowpass.{BiquadLowpassState, unfed, new, next, 
 use Rattle.lowpass.specs.Bound.{Bounded, All, Range, largest, Twice}
 use Rattle.lowpass.proofs.Passing.{Passing}
 use Rattle.lowpass.proofs.Box as box
-use Rattle.lowpass.proofs.Calm.{Calm, last-bounded, calm-start, calm-all}
+use Rattle.lowpass.proofs.Calm.{Calming, Calm, in-range, last-bounded, calming-all, calming-start}
 
 -- ---- the coefficients lie in the box
 one-48 : One ≡ 281474976710656 * 2 ^ 101
@@ -58,22 +58,33 @@ pub new-meant : {rate : ℕ} → Listed rate → {c : Coefficients} → LowpassA
 unfolding new
 new-meant l m = ap unfed (sym (lowpass-only l m))
 
-pub calm-listed : {rate : ℕ} → Listed rate → (X : ℕ) → Calm X (new rate)
+pub calming-listed : {rate : ℕ} → Listed rate → (X : ℕ) → Calming rate X X (new rate)
 unfolding new
-calm-listed {rate} l X = calm-start rate X (coefficientsAt rate) (listed-passes l)
+calming-listed {rate} l X = calming-start rate X (coefficientsAt rate) (listed-passes l)
+
+pub calm-listed : {rate : ℕ} → Listed rate → (X : ℕ) → Calm X (new rate)
+calm-listed {rate} l X = record { rate = rate; held = calming-listed l X }
 
 -- ---- fed xs: calm for every X that is in range and not below the largest of them
-within : {X : ℕ} (xs : List Float) → All F32 xs → largest xs ≤ X → All (Bounded X) xs
+pub within : {X : ℕ} (xs : List Float) → All F32 xs → largest xs ≤ X → All (Bounded X) xs
 within [] h l = tt
 within (x ∷ xs) h l = (record { f32 = h .0; most = le-trans (le-max-left (mag x) (largest xs)) l }, within xs (h .1) (le-trans (le-max-right (mag x) (largest xs)) l))
 
-pub calm-fed : {rate X : ℕ} → Listed rate → Range X → (xs : List Float) → All F32 xs → largest xs ≤ X → Calm X (afterAll (new rate) xs)
-calm-fed {rate} {X} l r xs h k = calm-all r (calm-listed l X) xs (within xs h k)
+-- and back
+pub within-back : {X : ℕ} (xs : List Float) → All (Bounded X) xs → All F32 xs × (largest xs ≤ X)
+within-back [] h = (tt, zero-le)
+within-back (x ∷ xs) h = let t = within-back xs (h .1) in ((h .0 .f32, t .0), max-le (h .0 .most) (t .1))
 
--- one sample more
+pub calm-fed : {rate X : ℕ} → Listed rate → Range X → (xs : List Float) → All F32 xs → largest xs ≤ X → Calming rate X X (afterAll (new rate) xs)
+calm-fed {rate} {X} l r xs h k = calming-all (in-range r) (calming-listed l X) xs (within xs h k)
+
+-- one list, then another; one sample more
+pub fed-then : (f : BiquadLowpassState) (xs ys : List Float) → afterAll f (xs ++ ys) ≡ afterAll (afterAll f xs) ys
+fed-then f [] ys = refl
+fed-then f (x ∷ xs) ys = fed-then (next f x) xs ys
+
 pub fed-more : (f : BiquadLowpassState) (xs : List Float) (x : Float) → afterAll f (xs ++ (x ∷ [])) ≡ next (afterAll f xs) x
-fed-more f [] x = refl
-fed-more f (y ∷ xs) x = fed-more (next f y) xs x
+fed-more f xs x = fed-then f xs (x ∷ [])
 
 -- document 02, R-7
 pub lowpass-twice : {rate : ℕ} → Listed rate → Twice rate

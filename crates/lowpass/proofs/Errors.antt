@@ -1,6 +1,6 @@
 -- What rounding adds to a step, b2 x2 + b1 x1 + b0 x - a1 y1 - a2 y2 summed from the left, each of its nine operations rounded: with |x|, |x1|, |x2| ≤ X and
--- |y1|, |y2| ≤ 2 X its residue is at most 1.15 * 754² M X / N². Values are whole numbers of units; a1 = -A / 2^24, a2 = α / 2^24, b0, b1, b2 in steps of 2^-48.
--- Assumes nothing.
+-- |y1|, |y2| ≤ 2 Y its residue is at most 754² M (1.0055 X + 0.0658 Y) / N². The samples' part goes with X, the rounding of past outputs with Y. Values are whole numbers of
+-- units; a1 = -A / 2^24, a2 = α / 2^24, b0, b1, b2 in steps of 2^-48. Assumes nothing.
 use mathlib.Core.Path.{_≡_}
 use mathlib.Core.List.{[], _∷_}
 use Prim.Native.Nat.{ℕ, _+_, _*_, _≤_}
@@ -11,6 +11,10 @@ use Rattle.ieee.proofs.Ring.{var, _⊕_, _⊖_, _⊗_, neg, ring}
 use Rattle.ieee.proofs.NotNegative.{abs-add, abs-minus, abs-from, abs-mul, abs-neg-mul}
 use Rattle.ieee.proofs.Near.{Near, Sum}
 use Rattle.lowpass.proofs.Boxed.{residue}
+
+-- what drives a step at most, times N², with |x|, |x1|, |x2| ≤ X and |y1|, |y2| ≤ 2 Y
+abbrev pub force : (X Y : ℕ) → ℕ
+force X Y = 9590000000000 * X + 627000000000 * Y
 
 -- the results of the operations: P the products with samples, Q those with past outputs, S the sums
 pub record Steps (α A b₀ b₁ b₂ : ℕ) (x₀ x₁ x₂ y₁ y₂ y : ℤ) : Type 0 where
@@ -68,32 +72,32 @@ sums′ s p e = omega arith
 back′ : (q Z : ℕ) → 16777216 * q ≤ 16777217 * Z + 8388608 → 8388608 ≤ Z → 1048576 * q ≤ 1048577 * Z
 back′ q Z e h = omega arith
 
-gather : (X f δ₃ δ₄ s₂ s₃ e₁ e₂ q₁ q₂ : ℕ) → f ≤ 16777216 * δ₄ + 16777216 * δ₃ + 16777216 * s₂ + e₁ + e₂ →
-    16777216 * δ₄ ≤ s₃ + q₂ → 16777216 * δ₃ ≤ s₂ + q₁ → s₃ ≤ δ₃ + (s₂ + q₁) → e₁ ≤ 4 * X + 8388608 → e₂ ≤ 2 * X + 8388608 →
-    1048576 * q₁ ≤ 1048577 * (4 * X) → 1048576 * q₂ ≤ 1048577 * (2 * X) → f ≤ 16777219 * s₂ + 17 * X + 16777216
-gather X f δ₃ δ₄ s₂ s₃ e₁ e₂ q₁ q₂ h₁ h₂ h₃ h₄ h₅ h₆ h₇ h₈ = omega arith
+gather : (Y f δ₃ δ₄ s₂ s₃ e₁ e₂ q₁ q₂ : ℕ) → f ≤ 16777216 * δ₄ + 16777216 * δ₃ + 16777216 * s₂ + e₁ + e₂ →
+    16777216 * δ₄ ≤ s₃ + q₂ → 16777216 * δ₃ ≤ s₂ + q₁ → s₃ ≤ δ₃ + (s₂ + q₁) → e₁ ≤ 4 * Y + 8388608 → e₂ ≤ 2 * Y + 8388608 →
+    1048576 * q₁ ≤ 1048577 * (4 * Y) → 1048576 * q₂ ≤ 1048577 * (2 * Y) → f ≤ 16777219 * s₂ + 17 * Y + 16777216
+gather Y f δ₃ δ₄ s₂ s₃ e₁ e₂ q₁ q₂ h₁ h₂ h₃ h₄ h₅ h₆ h₇ h₈ = omega arith
 
-inputs : (X f s₂ p₀ p₁ p₂ β₀ β₁ β₂ : ℕ) → f ≤ 16777219 * s₂ + 17 * X + 16777216 → 16777219 * s₂ ≤ 16777222 * (p₀ + p₁ + p₂) →
+inputs : (Y f s₂ p₀ p₁ p₂ β₀ β₁ β₂ : ℕ) → f ≤ 16777219 * s₂ + 17 * Y + 16777216 → 16777219 * s₂ ≤ 16777222 * (p₀ + p₁ + p₂) →
     4722366482869645213696 * p₀ ≤ 16777217 * β₀ + 2361183241434822606848 → 4722366482869645213696 * p₁ ≤ 16777217 * β₁ + 2361183241434822606848
     → 4722366482869645213696 * p₂ ≤ 16777217 * β₂ + 2361183241434822606848 →
-    562949953421312 * f ≤ 33554448 * (β₀ + β₁ + β₂) + 562949953421312 * (17 * X + 41943081)
-inputs X f s₂ p₀ p₁ p₂ β₀ β₁ β₂ e₀ e₁ e₂ e₃ e₄ = omega arith
+    562949953421312 * f ≤ 33554448 * (β₀ + β₁ + β₂) + 562949953421312 * (17 * Y + 41943081)
+inputs Y f s₂ p₀ p₁ p₂ β₀ β₁ β₂ e₀ e₁ e₂ e₃ e₄ = omega arith
 
 -- times n = N²
-scaled : (X n f β : ℕ) → n ≤ 36864000000 → 8388608 ≤ X → n * β ≤ 169624139315235782656 * X →
-    562949953421312 * f ≤ 33554448 * β + 562949953421312 * (17 * X + 41943081) → n * f ≤ 10968833091174 * X
-scaled X n f β hn hX hβ e = last (n * f) (n * X) (first (n * f) (n * β) (n * X) (spread (mul-le-mul-left n e)) hβ) (mul-le-mul-right X hn)
+scaled : (X Y n f β : ℕ) → n ≤ 36864000000 → 8589934592 ≤ Y → n * β ≤ 160800000000000000000 * X →
+    562949953421312 * f ≤ 33554448 * β + 562949953421312 * (17 * Y + 41943081) → n * f ≤ force X Y
+scaled X Y n f β hn hY hβ e = last (n * f) (n * Y) (first (n * f) (n * β) (n * Y) (spread (mul-le-mul-left n e)) hβ) (mul-le-mul-right Y hn)
   where
-    spread : n * (562949953421312 * f) ≤ n * (33554448 * β + 562949953421312 * (17 * X + 41943081)) →
-        562949953421312 * (n * f) ≤ 33554448 * (n * β) + 562949953421312 * (17 * (n * X) + 41943081 * n)
+    spread : n * (562949953421312 * f) ≤ n * (33554448 * β + 562949953421312 * (17 * Y + 41943081)) →
+        562949953421312 * (n * f) ≤ 33554448 * (n * β) + 562949953421312 * (17 * (n * Y) + 41943081 * n)
     spread h = omega arith
 
-    first : (nf nβ nX : ℕ) → 562949953421312 * nf ≤ 33554448 * nβ + 562949953421312 * (17 * nX + 41943081 * n) → nβ ≤ 169624139315235782656 * X
-        → nf ≤ 10110391390224 * X + 17 * nX + 41943081 * n
-    first nf nβ nX e₁ e₂ = omega arith
+    first : (nf nβ nY : ℕ) → 562949953421312 * nf ≤ 33554448 * nβ + 562949953421312 * (17 * nY + 41943081 * n) → nβ ≤ 160800000000000000000 * X
+        → nf ≤ 9590000000000 * X + 17 * nY + 41943081 * n
+    first nf nβ nY e₁ e₂ = omega arith
 
-    last : (nf nX : ℕ) → nf ≤ 10110391390224 * X + 17 * nX + 41943081 * n → nX ≤ 36864000000 * X → nf ≤ 10968833091174 * X
-    last nf nX e₁ e₂ = omega arith
+    last : (nf nY : ℕ) → nf ≤ 9590000000000 * X + 17 * nY + 41943081 * n → nY ≤ 36864000000 * Y → nf ≤ force X Y
+    last nf nY e₁ e₂ = omega arith
 
 -- ---- the residue is the input's part S₂ with four errors
 parts : (M α A S₂ S₃ Q₁ Q₂ y y₁ y₂ : ℤ) → M *ℤ y +ℤ α *ℤ y₂ -ℤ A *ℤ y₁ ≡
@@ -118,12 +122,12 @@ five M a b c d e =
       abs-mul M c,
     )
 
-module _ (N α A b₀ b₁ b₂ X : ℕ) (x₀ x₁ x₂ y₁ y₂ y : ℤ) (hα : α ≤ 16777216) (hA : A ≤ 33554432) (hX : 8388608 ≤ X) (k₁ : natAbs y₁ ≤ 2 * X) (k₂ : natAbs y₂ ≤ 2 * X)
+module _ (N α A b₀ b₁ b₂ X Y : ℕ) (x₀ x₁ x₂ y₁ y₂ y : ℤ) (hα : α ≤ 16777216) (hA : A ≤ 33554432) (hY : 8589934592 ≤ Y) (k₁ : natAbs y₁ ≤ 2 * Y) (k₂ : natAbs y₂ ≤ 2 * Y)
     (c : Steps α A b₀ b₁ b₂ x₀ x₁ x₂ y₁ y₂ y) where
-  weight : (a c y : ℕ) → a ≤ c → y ≤ 2 * X → a * y ≤ c * (2 * X)
+  weight : (a c y : ℕ) → a ≤ c → y ≤ 2 * Y → a * y ≤ c * (2 * Y)
   weight a c y h k = le-trans (mul-le-mul-right y h) (mul-le-mul-left c k)
 
-  recursion : natAbs (residue α A y y₁ y₂) ≤ 16777219 * natAbs (c .S₂) + 17 * X + 16777216
+  recursion : natAbs (residue α A y y₁ y₂) ≤ 16777219 * natAbs (c .S₂) + 17 * Y + 16777216
   recursion =
       let S₂ : ℤ = c .S₂ in
       let S₃ : ℤ = c .S₃ in
@@ -131,26 +135,26 @@ module _ (N α A b₀ b₁ b₂ X : ℕ) (x₀ x₁ x₂ y₁ y₂ y : ℤ) (hα
       let Q₂ : ℤ = c .Q₂ in
       let E₁ : ℤ = pos 16777216 *ℤ Q₁ -ℤ negℤ (pos A) *ℤ y₁ in
       let E₂ : ℤ = pos 16777216 *ℤ Q₂ -ℤ pos α *ℤ y₂ in
-      let a₁ : (natAbs E₁ ≤ 4 * X + 8388608) × (16777216 * natAbs Q₁ ≤ 16777217 * (4 * X) + 8388608) =
-      back Q₁ (negℤ (pos A) *ℤ y₁) (4 * X) (rw abs-neg-mul (le-trans (weight A 33554432 (natAbs y₁) hA k₁) (omega arith))) (c .q₁) in
-      let a₂ : (natAbs E₂ ≤ 2 * X + 8388608) × (16777216 * natAbs Q₂ ≤ 16777217 * (2 * X) + 8388608) =
-      back Q₂ (pos α *ℤ y₂) (2 * X) (rw abs-mul (weight α 16777216 (natAbs y₂) hα k₂)) (c .q₂) in
-      gather X (natAbs (residue α A y y₁ y₂)) (natAbs (S₃ -ℤ (S₂ -ℤ Q₁))) (natAbs (y -ℤ (S₃ -ℤ Q₂))) (natAbs S₂) (natAbs S₃) (natAbs E₁) (natAbs E₂) (natAbs Q₁) (natAbs Q₂)
+      let a₁ : (natAbs E₁ ≤ 4 * Y + 8388608) × (16777216 * natAbs Q₁ ≤ 16777217 * (4 * Y) + 8388608) =
+      back Q₁ (negℤ (pos A) *ℤ y₁) (4 * Y) (rw abs-neg-mul (le-trans (weight A 33554432 (natAbs y₁) hA k₁) (omega arith))) (c .q₁) in
+      let a₂ : (natAbs E₂ ≤ 2 * Y + 8388608) × (16777216 * natAbs Q₂ ≤ 16777217 * (2 * Y) + 8388608) =
+      back Q₂ (pos α *ℤ y₂) (2 * Y) (rw abs-mul (weight α 16777216 (natAbs y₂) hα k₂)) (c .q₂) in
+      gather Y (natAbs (residue α A y y₁ y₂)) (natAbs (S₃ -ℤ (S₂ -ℤ Q₁))) (natAbs (y -ℤ (S₃ -ℤ Q₂))) (natAbs S₂) (natAbs S₃) (natAbs E₁) (natAbs E₂) (natAbs Q₁) (natAbs Q₂)
       (rw (parts (pos 16777216) (pos α) (pos A) S₂ S₃ Q₁ Q₂ y y₁ y₂) (five 16777216 (y -ℤ (S₃ -ℤ Q₂)) (S₃ -ℤ (S₂ -ℤ Q₁)) S₂ E₁ E₂))
       (le-trans (c .s .near) (abs-minus S₃ Q₂)) (le-trans (c .s₃ .near) (abs-minus S₂ Q₁))
       (le-trans (abs-from S₃ (S₂ -ℤ Q₁)) (add-le-add (le-refl (natAbs (S₃ -ℤ (S₂ -ℤ Q₁)))) (abs-minus S₂ Q₁)))
-      (a₁ .0) (a₂ .0) (back′ (natAbs Q₁) (4 * X) (a₁ .1) (omega (arith, hX))) (back′ (natAbs Q₂) (2 * X) (a₂ .1) (omega (arith, hX)))
+      (a₁ .0) (a₂ .0) (back′ (natAbs Q₁) (4 * Y) (a₁ .1) (omega (arith, hY))) (back′ (natAbs Q₂) (2 * Y) (a₂ .1) (omega (arith, hY)))
 
-  pub small : N ≤ 192000 → N * N * (b₀ + b₁ + b₂) ≤ 169624139315235782656 → natAbs x₀ ≤ X → natAbs x₁ ≤ X → natAbs x₂ ≤ X
-      → N * N * natAbs (residue α A y y₁ y₂) ≤ 10968833091174 * X
+  pub small : N ≤ 192000 → N * N * (b₀ + b₁ + b₂) ≤ 160800000000000000000 → natAbs x₀ ≤ X → natAbs x₁ ≤ X → natAbs x₂ ≤ X
+      → N * N * natAbs (residue α A y y₁ y₂) ≤ force X Y
   small hN hb h₀ h₁ h₂ =
       let p₀ : ℕ = natAbs (c .P₀) in
       let p₁ : ℕ = natAbs (c .P₁) in
       let p₂ : ℕ = natAbs (c .P₂) in
       let t : 16777219 * natAbs (c .S₂) ≤ 16777222 * (p₀ + p₁ + p₂) =
       sums′ (natAbs (c .S₂)) (p₀ + p₁ + p₂) (sums (natAbs (c .S₁)) (natAbs (c .S₂)) p₀ p₁ p₂ (added (c .S₁) (c .P₂) (c .P₁) (c .s₁)) (added (c .S₂) (c .S₁) (c .P₀) (c .s₂))) in
-      scaled X (N * N) (natAbs (residue α A y y₁ y₂)) (b₀ * X + b₁ * X + b₂ * X) (square N hN) hX (omega (arith, mul-le-mul-right X hb))
-      (inputs X (natAbs (residue α A y y₁ y₂)) (natAbs (c .S₂)) p₀ p₁ p₂ (b₀ * X) (b₁ * X) (b₂ * X) recursion t
+      scaled X Y (N * N) (natAbs (residue α A y y₁ y₂)) (b₀ * X + b₁ * X + b₂ * X) (square N hN) hY (omega (arith, mul-le-mul-right X hb))
+      (inputs Y (natAbs (residue α A y y₁ y₂)) (natAbs (c .S₂)) p₀ p₁ p₂ (b₀ * X) (b₁ * X) (b₂ * X) recursion t
       (fed (c .P₀) x₀ b₀ X h₀ (c .p₀)) (fed (c .P₁) x₁ b₁ X h₁ (c .p₁)) (fed (c .P₂) x₂ b₂ X h₂ (c .p₂)))
     where
       square : (N : ℕ) → N ≤ 192000 → N * N ≤ 36864000000

@@ -21,7 +21,7 @@ pub record Passing (rate : ℕ) (a1 a2 b0 b1 b2 : Float) : Type 0 where
   pub b2-is : Ratio b2 (pos β₂) 281474976710656
   pub box : InBox rate α A k
   pub rate-high : rate ≤ 192000
-  pub gain : rate * rate * (β₀ + β₁ + β₂) ≤ 169624139315235782656
+  pub gain : rate * rate * (β₀ + β₁ + β₂) ≤ 160800000000000000000
 
 -- ---- sizes
 module _ {rate α A k : ℕ} (h : InBox rate α A k) where
@@ -31,8 +31,8 @@ module _ {rate α A k : ℕ} (h : InBox rate α A k) where
   pub A-high : A ≤ 33554432
   A-high = omega (arith, h .stiffness, α-high)
 
-  pub β-high : (β γ : ℕ) → β ≤ γ → rate * rate * γ ≤ 169624139315235782656 → β ≤ 281474976710656
+  pub β-high : (β γ : ℕ) → β ≤ γ → rate * rate * γ ≤ 160800000000000000000 → β ≤ 281474976710656
   β-high β γ l g = fit (le-trans (mul-le-mul (mul-le-mul (h .rate-low) (h .rate-low)) l) g)
     where
-      fit : 7540 * 7540 * β ≤ 169624139315235782656 → β ≤ 281474976710656
+      fit : 7540 * 7540 * β ≤ 160800000000000000000 → β ≤ 281474976710656
       fit h = omega arith

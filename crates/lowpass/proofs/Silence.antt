@@ -53,7 +53,7 @@ zero-sum false t = refl
 module _ {X : ℕ} {f : BiquadLowpassState} (c : Calm X f) (s : Still f) where
   pub still-output : output f 0·0 ≡ 0·0
   still-output =
-      let k = c .known in
+      let k = c .held .known in
       let z : Bool → Float = λ b. fin b 0 (pos 0) in
       let p2 : mul binary32 (f .b2) (f .x2) ≡ z (sign (f .b2)) = ap (mul binary32 (f .b2)) (s .x2) ∙ times-zero (f .b2) (k .b2-is .f32) in
       let p1 : mul binary32 (f .b1) (f .x1) ≡ z (sign (f .b1)) = ap (mul binary32 (f .b1)) (s .x1) ∙ times-zero (f .b1) (k .b1-is .f32) in

@@ -1,2 +1,3 @@
 pub mod Lowpass
 pub mod Bound
+pub mod Forgets

@@ -22,8 +22,9 @@ use Rattle.rules.proofs.Ringing.{Fed}
 
 calm-nine : {X : ℕ} (f : BiquadLowpassState) → Calm X f → All F32 (nine f)
 calm-nine f c =
-    let k = c .known in
-    let memory : All F32 (f .x1 ∷ f .x2 ∷ f .y1 ∷ f .y2 ∷ []) = (c .x1-small .f32, (c .x2-small .f32, (c .y1-f32, (c .y2-small .f32, tt)))) in
+    let h = c .held in
+    let k = h .known in
+    let memory : All F32 (f .x1 ∷ f .x2 ∷ f .y1 ∷ f .y2 ∷ []) = (h .x1-small .f32, (h .x2-small .f32, (h .y1-f32, (h .y2-small .f32, tt)))) in
     (k .a1-is .f32, (k .a2-is .f32, (k .b0-is .f32, (k .b1-is .f32, (k .b2-is .f32, memory)))))
 
 idle-nine : All F32 (nine idle)
