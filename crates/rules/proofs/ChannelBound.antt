@@ -2,7 +2,7 @@
 use mathlib.Core.Path.{_≡_, refl, ap, subst}
 use mathlib.Core.Bool.{Bool, true, _&&_}
 use mathlib.Core.List.{List, [], _∷_, _++_}
-use Prim.Native.Nat.{ℕ, zero, suc, _+_, _*_, _≤_, _<_}
+use Prim.Native.Nat.{ℕ, zero, suc, _+_, _*_, _^_, _≤_, _<_}
 use native.Mathlib.Nat.{le-trans, le-of-eq, le-refl}
 use native.Mathlib.Omega.{arith}
 use lib.Dec.{T, eqb, lit<, lit≤}
@@ -47,6 +47,10 @@ Most = 82688 * One
 pub most-range : Range Most
 unfolding One
 most-range = record { low = lit≤ tt; high = lit≤ tt }
+
+pub most-modest : Most ≤ 2 ^ 166
+unfolding One
+most-modest = lit≤ tt
 
 -- ---- beds
 abbrev fitting : Vec3 → Bool

@@ -1,9 +1,10 @@
--- The low-pass along a list of calls: it is a new one that was fed what its pushes fed, so its outputs are at most twice the largest of that. Assumes nothing beyond `Facts`.
+-- The low-pass along a list of calls: it is a new one that was fed what its pushes fed, so its outputs are at most twice the largest of that, and it
+-- forgets a loud past in time. Assumes nothing beyond `Facts`.
 use mathlib.Core.Path.{_≡_, refl, sym, ap, _∙_, subst}
 use mathlib.Core.Logic.{_⊎_, inl, inr}
 use mathlib.Core.Bool.{Bool, true, false, cond}
 use mathlib.Core.List.{List, [], _∷_, _++_, map, append-nil, append-assoc}
-use Prim.Native.Nat.{ℕ, zero, suc, _*_, _≤_, _<_, zero-le}
+use Prim.Native.Nat.{ℕ, zero, suc, _≤_, _<_}
 use native.Mathlib.Nat.{le-trans, le-of-eq, le-of-lt, le-refl, not-suc-le-zero}
 use native.Mathlib.Omega.{arith}
 use borrow.Author.Tests.{eq-eqb, ne-eqb}
@@ -12,19 +13,17 @@ use lib.ListN.{length, take, List·getD-map}
 use lib.Seq.{take-suc, take-all}
 use lib.Ieee.{Float}
 use Rattle.words.specs.Words.{Bytes}
-use Rattle.ieee.specs.Units.{F32}
 use Rattle.ieee.specs.Bounds.{Bounded, All}
 use Rattle.angles.specs.Angle.{Listed}
 use Rattle.lowpass.specs.Lowpass.{next, new, afterAll}
-use Rattle.lowpass.specs.Bound.{largest}
 use Rattle.lowpass.specs.declared.BiquadLowpassState.{BiquadLowpassState}
-use Rattle.lowpass.proofs.CalmAtRates.{fed-more, lowpass-twice}
+use Rattle.lowpass.proofs.Theorems.{within-back, fed-more, lowpass-twice, lowpass-forgets}
 use Rattle.rules.specs.Leaves.{Leaves}
-use Rattle.rules.specs.Mix.{Moment, fed}
+use Rattle.rules.specs.Mix.{fed}
 use Rattle.rules.specs.Samples.{State, idle, fresh, opened, pushed, flushed}
 use Rattle.rules.specs.Refusals.{Args, Found, clear, stop, room}
 use Rattle.rules.specs.Calls.{Call, push, flush, reset, frameOf, found, asked, drained, step}
-use Rattle.rules.specs.Sounds.{silent, before, momentAt}
+use Rattle.rules.specs.Sounds.{silent, before, momentAt, soundAt}
 use Rattle.rules.specs.Ringing.{fedSince, Rings, CallRings}
 use Rattle.rules.specs.BlockCalls.{Layout}
 use Rattle.rules.specs.Demand3.{Lent}
@@ -32,7 +31,7 @@ use Rattle.rules.proofs.EachOf.{all-append, length-map}
 use Rattle.rules.proofs.Owed.{Facts}
 use Rattle.rules.proofs.Invariant.{Admitted, Rest}
 use Rattle.rules.proofs.Moments.{moments-count}
-use Rattle.rules.proofs.ChannelBound.{heard-bounded}
+use Rattle.rules.proofs.ChannelBound.{Most, most-modest, heard-bounded}
 use Rattle.rules.proofs.Sounding.{hearable-at, line, enters-at}
 use Rattle.rules.proofs.Pushes as pushes
 
@@ -42,11 +41,11 @@ module _ (L : Leaves) where
   Since xs r = ((r .rate ≡ 0) × (xs ≡ []) × (r .filter ≡ idle)) ⊎ (Listed (r .rate) × (r .filter ≡ afterAll (new (r .rate)) xs))
 
   pub record Fed (xs : List Float) (r : State L) : Type 0 where
-    pub finite : All F32 xs
+    pub modest : All (Bounded Most) xs
     pub since : Since xs r
 
   pub fresh-fed : Fed [] (fresh L)
-  fresh-fed = record { finite = tt; since = inl (refl, refl, refl) }
+  fresh-fed = record { modest = tt; since = inl (refl, refl, refl) }
 
   module _ (B : Layout L) (F : Facts L B) (xs : List Float) (r : State L) where
     -- ---- a push that is accepted
@@ -87,20 +86,28 @@ module _ (L : Leaves) where
           ∙ ap (λ (f : BiquadLowpassState). next f x) (filter-at t (le-of-lt h))
           ∙ sym (fed-more (new (a .rate)) (up-to t) x) ∙ ap (afterAll (new (a .rate))) (sym (one-more t h))
 
-      finite-at : (t : ℕ) → t ≤ a .samples → All F32 (up-to t)
-      finite-at zero h = subst (All F32) (sym (append-nil xs)) (was .finite)
-      finite-at (suc t) h =
+      modest-at : (t : ℕ) → t ≤ a .samples → All (Bounded Most) (up-to t)
+      modest-at zero h = subst (All (Bounded Most)) (sym (append-nil xs)) (was .modest)
+      modest-at (suc t) h =
           let i = hearable-at L B F r a k (pushes.good L B F r a b m rest e) (pushes.at-rate L B F r a b m rest e) t h in
-          subst (All F32) (sym (one-more t h)) (all-append F32 (up-to t) (fed (momentAt L r a t) ∷ []) (finite-at t (le-of-lt h)) (heard-bounded (momentAt L r a t) i 3 .f32, tt))
+          subst (All (Bounded Most)) (sym (one-more t h))
+          (all-append (Bounded Most) (up-to t) (fed (momentAt L r a t) ∷ []) (modest-at t (le-of-lt h)) (heard-bounded (momentAt L r a t) i 3, tt))
+
+      -- what holds of the filter's last output, of the sound
+      gives : (t : ℕ) → t < a .samples → {X : ℕ} → Bounded X (afterAll (new (a .rate)) (up-to (suc t)) .y1) → Bounded X (soundAt L r a 3 t)
+      gives t n {X} =
+          subst (λ (f : BiquadLowpassState). Bounded X (f .y1))
+          (sym (filter-at (suc t) n) ∙ enters-at L B F r a k (pushes.good L B F r a b m rest e) (pushes.at-rate L B F r a b m rest e) t n)
 
       rings : (t : ℕ) → t < length fs → Rings L r a t (up-to (suc t))
       rings t h =
           let n : t < a .samples = le-trans h (le-of-eq long) in
-          let enters = enters-at L B F r a k (pushes.good L B F r a b m rest e) (pushes.at-rate L B F r a b m rest e) t n in
+          let ys = within-back (up-to (suc t)) (modest-at (suc t) n) in
           record {
             filter = filter-at (suc t) n;
-            twice = λ q. subst (λ (f : BiquadLowpassState). Bounded (2 * largest (up-to (suc t))) (f .y1)) (sym (filter-at (suc t) n) ∙ enters)
-                (lowpass-twice (k .rate) (up-to (suc t)) (finite-at (suc t) n) q);
+            twice = λ q. gives t n (lowpass-twice (k .rate) (up-to (suc t)) (ys .0) q);
+            forgets = λ j X q. gives t n (lowpass-forgets (k .rate) j X (up-to (suc t)) (ys .0) q);
+            modest = le-trans (ys .1) most-modest;
           }
 
       all-fed : up-to (a .samples) ≡ xs ++ fs
@@ -112,7 +119,7 @@ module _ (L : Leaves) where
           let n = le-refl (a .samples) in
           let rate = line L B F r a k (pushes.good L B F r a b m rest e) (pushes.at-rate L B F r a b m rest e) (a .samples) n .rate in
           record {
-            finite = subst (All F32) all-fed (finite-at (a .samples) n);
+            modest = subst (All (Bounded Most)) all-fed (modest-at (a .samples) n);
             since = inr (
               subst Listed (sym rate) (k .rate),
               filter-at (a .samples) n ∙ ap (afterAll (new (a .rate))) all-fed ∙ ap (λ (n : ℕ). afterAll (new n) (xs ++ fs)) (sym rate),
@@ -136,7 +143,7 @@ module _ (L : Leaves) where
     unfolding flushed
     drained-fed false e was = was
     drained-fed true true was = was
-    drained-fed true false was = record { finite = was .finite; since = was .since }
+    drained-fed true false was = record { modest = was .modest; since = was .since }
 
     pub call-rings : (c : Call) → Lent c → Rest L B F r → Fed xs r → CallRings L xs r c
     call-rings (push a) h rest was = asked-rings a h rest was (found L r a) refl

@@ -83,7 +83,7 @@ module _ (L : Leaves) (B : Layout L) where
     pub clean : AllClean L (fresh L) cs
     -- what accepted pushes sound like and what they owe their objects; flushes; resets
     pub calls : AllHold L (fresh L) cs
-    -- what the low-pass gives is at most twice the largest that it has been fed since the start or a reset
+    -- what the low-pass gives is at most twice the largest that it has been fed since the start or a reset, and a loud past leaves it in time
     pub rings : AllRing L [] (fresh L) cs
     -- "the list without its refused calls gives the same answers, samples and final state": on bytes, and for the rules' own results with their moments
     pub erased : runOn L B b (keptOn L B b cs) ≡ acceptedOn L B (runOn L B b cs)

@@ -16,6 +16,7 @@ pub mod Appends
 pub mod Opened
 pub mod Heard
 pub mod Waiting
+pub mod Forgotten
 pub mod Players
 pub mod Marked
 pub mod Theorems

@@ -7,6 +7,8 @@ pub use Rattle.theorem.proofs.Heard.{meters-show}
 -- R-4: a push that completes no block leaves every place but those of its samples alone; two samples that stand behind each other
 pub use Rattle.theorem.proofs.Appends.{appends}
 pub use Rattle.theorem.proofs.Waiting.{both-wait}
+-- a list of calls whose loud past has left the low-pass
+pub use Rattle.theorem.proofs.Forgotten.{past-gone}
 -- 01's cases marked P
 pub use Rattle.theorem.proofs.Marked.{table}
 -- what a valid block holds is within its ranges, and what a push or a flush leaves of it
