@@ -18,7 +18,7 @@ pub mod scale;
 pub mod seeds;
 pub mod streams;
 
-pub use frames::{Frames, largest_frame};
+pub use frames::{Frames, largest_frame, loudest_frame, set};
 pub use generator::{EDGES, Generator};
 pub use seeds::Drawn;
 

@@ -1,8 +1,11 @@
 //! Frames as a decoder sends them, from a seed.
 
 mod layout;
+mod loudest;
 mod parts;
 mod rates;
+
+pub use loudest::{loudest_frame, set};
 
 use crate::Generator;
 use layout::{Layout, changed, layout, layout_up_to, lifted};

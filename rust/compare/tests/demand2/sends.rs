@@ -6,8 +6,8 @@ use compare::entry;
 use compare::host::Host;
 use compare::model::{Judged, Model, Outcome, lifts};
 use compare::probe::lowpass;
-use compare::{all_same, block, floats, ranges, seeds};
-use oracle::frame::{Block, Element, Frame, Object, Update};
+use compare::{all_same, block, floats, loudest_frame, ranges, seeds, set};
+use oracle::frame::{Frame, Object, Update};
 use oracle::state::{Metadata, Source};
 use oracle::{Oracle, Pushed};
 
@@ -196,17 +196,6 @@ fn objects_are_sent_to_the_bass_feed() {
     }
 }
 
-/// An element whose objects are set at once: its block is due at timecode 0, behind a first one that
-/// is due much later.
-fn set(objects: Vec<Object>) -> Element {
-    let blocks = [1_048_576, -1].map(|offset| Block { offset, ramp: 0 });
-    let both = |object: Object| vec![Object::default(), object];
-    Element {
-        blocks: blocks.to_vec(),
-        objects: objects.into_iter().map(both).collect(),
-    }
-}
-
 /// So many samples, a half each, of one object with this send and gain, in the middle of the room.
 fn of_one(samples: usize, send: f32, gain: f32, size: f32) -> Call {
     let object = Object {
@@ -320,50 +309,15 @@ fn ends_of_the_range() {
     }
 }
 
-/// The loudest that passes: 16 objects of gain 8 and send 1, 18 beds of bass of gain 8, samples of 16
-/// that swing at `half` samples each way.
-fn loudest(rate: u32, half: usize) -> Frame {
-    let beds: Vec<u8> = [3, 17].repeat(9);
-    let object = Object {
-        position_valid: true,
-        position: Some([0.5; 3]),
-        gain: Some(8.0),
-        size: Some(1.0),
-        send: 1.0,
-        ..Object::default()
-    };
-    let samples = 1_536;
-    let swing = (0..samples).map(|i| {
-        if (i / half).is_multiple_of(2) {
-            16.0
-        } else {
-            -16.0
-        }
-    });
-    let channel: Vec<f32> = swing.collect();
-    Frame {
-        rate,
-        samples,
-        pcm: channel.repeat(34),
-        objects: 16,
-        updates: vec![Update {
-            offset: 0,
-            objects: 32,
-            bed_or_isf_objects: 16,
-            beds: beds.clone(),
-            elements: vec![set(vec![object; 32])],
-        }],
-        beds,
-    }
-}
-
 /// "the range of -1 to 1 covers the new path"
 #[test]
 fn the_loudest_stays_in_range() {
     for rate in [8_000, 48_000, 192_000] {
         let mut most = 0f32;
         for half in [1, 2, 5, 33, 200, 800, 1_536] {
-            let frame = loudest(rate, half);
+            let up = |i: usize| (i / half).is_multiple_of(2);
+            let swing = (0..1_536).map(|i| if up(i) { 16.0 } else { -16.0 });
+            let frame = loudest_frame(rate, &swing.collect::<Vec<_>>());
             let mut host = Host::new(1_536);
             let mut model = (!cfg!(no_sources)).then(Model::new);
             for k in 0..4 {
