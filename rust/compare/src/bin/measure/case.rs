@@ -6,7 +6,7 @@ use oracle::Input;
 use oracle::frame::{Block, Element, Frame, Object, Update};
 
 /// Samples between two updates of objects that move: 24 slots.
-const PERIOD: usize = 1_536;
+pub const PERIOD: usize = 1_536;
 /// Timed frames that differ, at most: all where a push has 64 samples or more.
 const FRAMES: usize = 48;
 const BEDS: [u8; 10] = [0, 1, 2, 3, 4, 5, 9, 10, 11, 12];

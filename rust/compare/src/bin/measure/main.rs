@@ -7,6 +7,7 @@ mod case;
 mod counts;
 mod fit;
 mod leaves;
+mod million;
 mod sends;
 mod sides;
 mod slowest;
@@ -22,8 +23,9 @@ use std::{env, fs, process, thread};
 use table::{Row, rows};
 
 const USAGE: &str = "\
-usage: measure [SECONDS] | sends | leaves
+usage: measure [SECONDS] | million | sends | leaves
   SECONDS   for each case (0.8)
+  million   only a million pushes of one sample
   sends     only what sends to the bass feed cost
   leaves    times of single functions";
 
@@ -118,6 +120,7 @@ fn all(seconds: f64) {
     println!("## Measured");
     table::print(&rows);
     sends::print(&sends(seconds));
+    million::print();
     table::print_functions(&rows);
     fit::print(&rows);
     threads::print();
@@ -145,6 +148,7 @@ fn main() {
     match words.as_slice() {
         [] => all(0.8),
         ["leaves"] => leaves::print(),
+        ["million"] => million::print(),
         ["sends"] => sends::print(&sends(0.8)),
         [SWEEP_SENDS, seconds] => sends::sweep(seconds.parse().unwrap()),
         [SWEEP, seconds] => sweep(seconds.parse().unwrap()),
