@@ -15,6 +15,7 @@ pub enum Policy {
 pub enum Picture {
     Map,
     Bass,
+    Decay,
     Limiter,
     Levels,
 }
@@ -58,7 +59,7 @@ pub enum Command {
 const COMMANDS: [&str; 10] = [
     "demo", "render", "check", "dump", "undump", "hex", "map", "plot", "version", "help",
 ];
-const PLOTS: [&str; 3] = ["bass", "limiter", "levels"];
+const PLOTS: [&str; 4] = ["bass", "decay", "limiter", "levels"];
 
 /// The seconds that a demo may have: a frame at least, an hour at most.
 const SECONDS: std::ops::RangeInclusive<f64> = 0.01..=3600.0;
@@ -249,10 +250,11 @@ impl Given {
     }
 
     fn plot(self) -> Result<Command, Trouble> {
-        let name = self.only("what to plot (bass, limiter or levels)")?;
+        let name = self.only("what to plot (bass, decay, limiter or levels)")?;
         let name = name.to_string_lossy();
         let what = match name.as_ref() {
             "bass" => Picture::Bass,
+            "decay" => Picture::Decay,
             "limiter" => Picture::Limiter,
             "levels" => Picture::Levels,
             _ => {
@@ -341,7 +343,7 @@ mod tests {
         }
     }
 
-    const TAKEN: [&str; 25] = [
+    const TAKEN: [&str; 26] = [
         "demo",
         "demo -o x -s 0.5",
         "demo -s20",
@@ -359,6 +361,7 @@ mod tests {
         "hex a",
         "map -o b",
         "plot bass -o b",
+        "plot decay -o b",
         "plot limiter -o -",
         "plot levels -o b",
         "version",
@@ -411,7 +414,7 @@ mod tests {
         ("plot bas -o b", "no plot of bas; did you mean bass?"),
         (
             "plot -o b",
-            "what to plot (bass, limiter or levels) is missing",
+            "what to plot (bass, decay, limiter or levels) is missing",
         ),
         ("version 2", "unexpected argument 2"),
         ("demo -o", "missing argument for option '-o'"),

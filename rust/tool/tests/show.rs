@@ -109,6 +109,7 @@ fn the_pictures_are_those_of_the_documents() {
     for (name, args) in [
         ("map", vec!["map"]),
         ("bass", vec!["plot", "bass"]),
+        ("decay", vec!["plot", "decay"]),
         ("limiter", vec!["plot", "limiter"]),
         ("levels", vec!["plot", "levels"]),
     ] {

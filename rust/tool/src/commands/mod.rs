@@ -30,6 +30,7 @@ pub fn run(command: Command) -> Result<(), Trouble> {
             let picture = match what {
                 Picture::Map => pictures::map()?,
                 Picture::Bass => pictures::bass()?,
+                Picture::Decay => pictures::decay()?,
                 Picture::Limiter => pictures::limiter()?,
                 Picture::Levels => pictures::levels()?,
             };

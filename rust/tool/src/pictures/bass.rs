@@ -1,23 +1,17 @@
 // SPDX-License-Identifier: Apache-2.0
 //! The bass feed's response: the spectrum of what one sample becomes.
-use super::heard;
+use super::{AREA, CURVES, heard};
 use crate::hall::renderer;
 use crate::numbers::grouped;
-use crate::svg::{Align, Area, Axis, Frame, RED, Scale, Svg};
+use crate::svg::{Align, Axis, Frame, RED, Scale, Svg};
 use crate::trouble::Trouble;
 use voqlisna::{Bed, Rate, Speaker};
 
 /// What a bass bed is multiplied by on its way into the low-pass.
-const FED: f64 = 0.316_227_76;
+pub const FED: f64 = 0.316_227_76;
 const LOWEST: f64 = 10.0;
 const HIGHEST: f64 = 4_000.0;
 const DEEPEST: f64 = -60.0;
-const AREA: Area = Area {
-    x: 70.0,
-    y: 48.0,
-    width: 760.0,
-    height: 370.0,
-};
 const ACROSS: Axis<'_> = Axis {
     scale: Scale::Log(LOWEST, HIGHEST),
     ticks: &[
@@ -30,16 +24,6 @@ const UP: Axis<'_> = Axis {
     ticks: &[-60.0, -48.0, -36.0, -24.0, -12.0, -3.0, 0.0, 6.0, 12.0],
     name: "level in dB, 0 is what is fed",
 };
-/// Rates, and how their curves are drawn.
-const CURVES: [(u32, &str); 3] = [
-    (8_000, "stroke=\"#b7791f\" stroke-width=\"2\""),
-    (48_000, "stroke=\"#1f4e9c\" stroke-width=\"3.5\""),
-    (
-        192_000,
-        "stroke=\"#7fd6c8\" stroke-width=\"1.5\" stroke-dasharray=\"5 4\"",
-    ),
-];
-
 pub fn bass() -> Result<String, Trouble> {
     let mut svg = Svg::new(860.0, 500.0);
     svg.title((70.0, 30.0), "The bass feed behind its low-pass");

@@ -47,6 +47,39 @@ pub fn bed(
     Ok(heard)
 }
 
+/// What the low-pass gives where all that may be fed to it is: 16 objects sent and 18 beds of bass at gain 8, each
+/// with these samples. Behind `LEAD` samples of silence the output goes block by block, over the gain that the limiter
+/// answers.
+pub fn low_pass(mut renderer: Renderer, rate: Rate, samples: &[f32]) -> Result<Vec<f64>, Unheard> {
+    let beds = [[Bed::Bass, Bed::Bass2]; 9];
+    let mut memory = [0; MetadataWriter::bytes_for(32, &[1])];
+    let mut writer = MetadataWriter::new(&mut memory);
+    writer
+        .update(Update {
+            at: 0,
+            objects: 32,
+            fixed: 16,
+            beds: beds.as_flattened(),
+        })?
+        .element(&[Block::default()], |_, _| {
+            Object::at(Room::CENTER).gain(8.0).send(1.0)
+        })?;
+    let mut metadata = writer.finish();
+    let mut fed = vec![0.0; LEAD];
+    fed.extend_from_slice(samples);
+    let (mut out, mut heard) = (Output::new(Stride::MIN), Vec::new());
+    for block in fed.chunks(Stride::MIN.samples()) {
+        let pcm = block.repeat(34);
+        let frame = Frame::new(rate, beds.as_flattened(), Pcm::packed(&pcm, 34)?, metadata)?;
+        let sound = renderer.push(&frame, &mut out)?;
+        let before = |x: &f32| f64::from(*x) / f64::from(sound.gain());
+        heard.extend(sound.channel(Speaker::Bass).iter().map(before));
+        metadata = Metadata::NONE;
+    }
+    heard.drain(..LEAD);
+    Ok(heard)
+}
+
 /// What each speaker gives of an object of gain 1 at a place.
 pub struct Placed {
     renderer: Renderer,
