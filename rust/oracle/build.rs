@@ -8,7 +8,7 @@ use std::{env, fs};
 
 const SOURCES: [&str; 3] = ["types.rs", "render_input.rs", "render.rs"];
 
-/// A text that a source has exactly once, and what stands in its place.
+/// A text that a source has exactly once unless said otherwise, and what stands in its place.
 type Substitution = (&'static str, &'static str);
 
 /// Calls of the machine's libm, each with the nearest value in its place (docs/DIFFERENCES.md).
@@ -99,11 +99,136 @@ const SENT: [Substitution; 11] = [
     ),
 ];
 
-/// The same in render_input.rs.
+/// R-3 in render_input.rs.
 const SENT_INPUT: [Substitution; 1] = [(
     "pub struct RenderMetadataObject {",
     "pub struct RenderMetadataObject {\n    pub send: f32,",
 )];
+
+/// Document 02's R-5 and R-6, the texts that occur once: a renderer has a hall, and hands it to the
+/// functions that mix. Corners and the size term are over the hall's speakers, the divisor is the
+/// number of its channels, a bed whose speaker is absent is folded, and a channel that is absent
+/// has no samples.
+const HALL: [Substitution; 19] = [
+    (
+        "pub struct Renderer714 {",
+        "pub struct Renderer714 {\n    hall: crate::Hall,",
+    ),
+    (
+        "            limiter_pending: vec![Vec::new(); RENDER_714_CHANNELS],",
+        "            hall: crate::Hall::built_in(),
+            limiter_pending: vec![Vec::new(); RENDER_714_CHANNELS],",
+    ),
+    (
+        "        prepare_render_channels(channels, samples);",
+        "        prepare_render_channels(channels, samples);\n        self.hall.leave_out(channels);",
+    ),
+    (
+        "mix_bed_objects_segment_to_714(\n                frame.bed_channels",
+        "mix_bed_objects_segment_to_714(\n                &self.hall,\n                frame.bed_channels",
+    ),
+    (
+        "mix_bed_objects_segment_to_714(\n        input_bed_channels",
+        "mix_bed_objects_segment_to_714(\n        &crate::Hall::built_in(),
+        input_bed_channels",
+    ),
+    (
+        "fn mix_bed_objects_segment_to_714(",
+        "fn mix_bed_objects_segment_to_714(\n    hall: &crate::Hall,",
+    ),
+    (
+        "=> mix_folded_bed_channel_to_714(",
+        "=> mix_folded_bed_channel_to_714(\n                hall,",
+    ),
+    (
+        "            _ => {\n                let output_channel",
+        "            _ if map_bed_channel_to_714(bed_channel).is_some_and(|c| !hall.has(c)) => {
+                mix_folded_bed_channel_to_714(
+                    hall,
+                    input_samples,
+                    output,
+                    output_offset,
+                    bed_channel,
+                    source.gain,
+                )
+            }
+            _ => {\n                let output_channel",
+    ),
+    (
+        "fn mix_folded_bed_channel_to_714(",
+        "fn mix_folded_bed_channel_to_714(\n    hall: &crate::Hall,",
+    ),
+    (
+        "render_object_timeslot_to_714(input,",
+        "render_object_timeslot_to_714(hall, input,",
+    ),
+    (
+        "render_object_timeslot_to_714(\n                    &object_samples",
+        "render_object_timeslot_to_714(\n                    &self.hall,
+                    &object_samples",
+    ),
+    (
+        "fn render_object_timeslot_to_714(",
+        "fn render_object_timeslot_to_714(\n    hall: &crate::Hall,",
+    ),
+    (
+        "    let direction = source.cubical_position;",
+        "    let positions = &hall.table.map(convert::vec3);
+    let direction = source.cubical_position;",
+    ),
+    (
+        "size / RENDER_714_CHANNELS as f32",
+        "size / hall.channels() as f32",
+    ),
+    (
+        "if channel_index != RENDER_714_LFE_INDEX {",
+        "if hall.pans(channel_index) {",
+    ),
+    (
+        "fn assign_lr(",
+        "fn assign_lr(\n    positions: &[Vec3; RENDER_714_CHANNELS],",
+    ),
+    (
+        "pending.split_off(ready_samples)",
+        "pending.split_off(ready_samples.min(pending.len()))",
+    ),
+    (
+        "max_abs_slice(&channel[block_start..block_end])",
+        "max_abs_slice(channel.get(block_start..block_end).unwrap_or_default())",
+    ),
+    (
+        "scale_slice_in_place(&mut channel[block_start..block_end], *last_gain);",
+        "let block = channel.get_mut(block_start..block_end);
+            scale_slice_in_place(block.unwrap_or_default(), *last_gain);",
+    ),
+];
+
+/// The texts of the same that occur more than once, and how often: the built-in table's places, its
+/// channels that are passed over, and the calls that are handed the positions.
+const HALL_PLACES: [(usize, Substitution); 4] = [
+    (16, ("RENDER_714_CHANNEL_POSITIONS[", "positions[")),
+    (
+        2,
+        (
+            "in RENDER_714_CHANNEL_POSITIONS.iter()",
+            "in positions.iter()",
+        ),
+    ),
+    (
+        2,
+        (
+            "if channel_index == RENDER_714_LFE_INDEX {",
+            "if !hall.pans(channel_index) {",
+        ),
+    ),
+    (
+        4,
+        (
+            "assign_lr(\n                    channel_index,",
+            "assign_lr(\n                    positions,\n                    channel_index,",
+        ),
+    ),
+];
 
 fn main() {
     println!("cargo::rustc-check-cfg=cfg(no_sources)");
@@ -140,7 +265,11 @@ fn main() {
         let amended = match *name {
             "render.rs" => {
                 let lifted = substituted(name, unchanged.clone(), &LIFTED);
-                substituted(name, lifted, &SENT)
+                let sent = substituted(name, lifted, &SENT);
+                let hall = substituted(name, sent, &HALL);
+                HALL_PLACES.iter().fold(hall, |text, &(times, pair)| {
+                    replaced(name, text, times, pair)
+                })
             }
             "render_input.rs" => substituted(name, unchanged.clone(), &SENT_INPUT),
             _ => unchanged.clone(),
@@ -167,11 +296,17 @@ fn find(folder: &Path, name: &str) -> Vec<PathBuf> {
     found
 }
 
-fn substituted(name: &str, mut text: String, substitutions: &[Substitution]) -> String {
-    for (from, to) in substitutions {
-        let count = text.matches(from).count();
-        assert_eq!(count, 1, "{name} has `{from}` {count} times, not once");
-        text = text.replace(from, to);
-    }
-    text
+fn substituted(name: &str, text: String, substitutions: &[Substitution]) -> String {
+    substitutions
+        .iter()
+        .fold(text, |text, &pair| replaced(name, text, 1, pair))
+}
+
+fn replaced(name: &str, text: String, times: usize, (from, to): Substitution) -> String {
+    let count = text.matches(from).count();
+    assert_eq!(
+        count, times,
+        "{name} has `{from}` {count} times, not {times}"
+    );
+    text.replace(from, to)
 }

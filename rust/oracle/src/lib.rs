@@ -1,6 +1,7 @@
 //! The oracle: `Renderer714` compiled from its own sources, with the nearest value where it calls
 //! the machine's libm, and references in exact arithmetic. `amended` is the same sources with the
-//! rules of document 02 that the Rust has not (build.rs): R-1's lifted channels, R-3's sends.
+//! rules of document 02 that the Rust has not (build.rs): R-1's lifted channels, R-3's sends, the
+//! halls of.
 //!
 //! Where the sources are not at hand (cfg `no_sources`, see build.rs) everything here compiles and
 //! only `exact` runs; tests that need the sources carry
@@ -25,6 +26,7 @@ macro_rules! over_sources {
 mod answer;
 pub mod exact;
 pub mod frame;
+mod hall;
 pub mod state;
 
 /// A file of the sources, unchanged but for the nearest values.
@@ -47,6 +49,24 @@ macro_rules! send_of {
     ($value:expr) => {
         0.0
     };
+}
+/// A value of the sources; these have no hall.
+#[cfg(not(no_sources))]
+macro_rules! with_hall {
+    ($hall:expr, $name:ident { $($fields:tt)* }) => {
+        $name { $($fields)* }
+    };
+}
+/// A call of the sources, in their one hall.
+#[cfg(not(no_sources))]
+macro_rules! in_built_in_hall {
+    ($name:ident($($args:tt)*)) => {
+        super::$name($($args)*)
+    };
+}
+/// Items over what only the amended sources have.
+macro_rules! amended_only {
+    ($($items:tt)*) => {};
 }
 mod renderer;
 
@@ -71,11 +91,32 @@ macro_rules! send_of {
         $value.send
     };
 }
+/// A value of the sources with its hall.
+#[cfg(not(no_sources))]
+macro_rules! with_hall {
+    ($hall:expr, $name:ident { $($fields:tt)* }) => {
+        $name { hall: $hall, $($fields)* }
+    };
+}
+/// A call of the sources in the hall that they have built in.
+#[cfg(not(no_sources))]
+macro_rules! in_built_in_hall {
+    ($name:ident($($args:tt)*)) => {
+        super::$name(&crate::Hall::built_in(), $($args)*)
+    };
+}
+/// Items over what only the amended sources have.
+macro_rules! amended_only {
+    ($($items:tt)*) => {
+        $($items)*
+    };
+}
 #[expect(clippy::duplicate_mod)]
 #[path = "renderer/mod.rs"]
 pub mod amended;
 
 pub use answer::{Pushed, Refusal, Slot, SlotSource};
+pub use hall::Hall;
 pub use renderer::{Input, Oracle, leaf};
 
 /// A position or direction: x, y, z.

@@ -1,6 +1,8 @@
 //! The sources' private functions over plain values.
 
 #[cfg(not(no_sources))]
+use super::super::types::BedChannel;
+#[cfg(not(no_sources))]
 use super::convert::{bed_channel, metadata, metadata_object, vec3, vector};
 #[cfg(not(no_sources))]
 use super::read;
@@ -46,12 +48,12 @@ over_sources! {
         output_offset: usize,
         source: &Source,
     ) {
-        super::render_object_timeslot_to_714(
+        in_built_in_hall!(render_object_timeslot_to_714(
             input,
             output,
             output_offset,
             &read::source_state(source),
-        );
+        ));
     }
 
     pub fn mix_add_scaled(input: &[f32], output: &mut [f32], gain: f32) {
@@ -101,16 +103,15 @@ over_sources! {
         output_offset: usize,
         samples: usize,
     ) -> Result<(), Refusal> {
-        let codes: Vec<_> = beds.iter().map(|&(code, _)| bed_channel(code)).collect();
-        let sources: Vec<_> = beds.iter().map(|&(_, gain)| super::BedSourceState { gain }).collect();
-        super::mix_bed_objects_segment_to_714(
+        let (codes, sources) = bed_sources(beds);
+        in_built_in_hall!(mix_bed_objects_segment_to_714(
             &input_channels(inputs, pcm),
             &codes,
             &sources,
             output,
             output_offset,
             samples,
-        )
+        ))
         .map_err(|error| super::run::refusal(&error))
     }
 
@@ -156,6 +157,51 @@ over_sources! {
         (*info, *source) = (read::info(&info_state), read::source(&source_state));
         vector(target)
     }
+}
+
+amended_only! { over_sources! {
+    /// Over the hall's channels: of the twelve, absent ones have no samples.
+    pub fn render_object_in_hall(
+        hall: &crate::Hall,
+        input: &[f32],
+        output: &mut [Vec<f32>],
+        output_offset: usize,
+        source: &Source,
+    ) {
+        let source = read::source_state(source);
+        super::render_object_timeslot_to_714(hall, input, output, output_offset, &source);
+    }
+
+    /// As `mix_bed_objects_segment_to_714`, over the hall's channels.
+    pub fn mix_beds_in_hall(
+        hall: &crate::Hall,
+        inputs: &[u8],
+        pcm: &[f32],
+        beds: &[(u8, f32)],
+        output: &mut [Vec<f32>],
+        output_offset: usize,
+        samples: usize,
+    ) -> Result<(), Refusal> {
+        let (codes, sources) = bed_sources(beds);
+        super::mix_bed_objects_segment_to_714(
+            hall,
+            &input_channels(inputs, pcm),
+            &codes,
+            &sources,
+            output,
+            output_offset,
+            samples,
+        )
+        .map_err(|error| super::run::refusal(&error))
+    }
+} }
+
+/// The metadata's codes and gains as the sources have them.
+#[cfg(not(no_sources))]
+fn bed_sources(beds: &[(u8, f32)]) -> (Vec<BedChannel>, Vec<super::BedSourceState>) {
+    beds.iter()
+        .map(|&(code, gain)| (bed_channel(code), super::BedSourceState { gain }))
+        .unzip()
 }
 
 #[cfg(not(no_sources))]

@@ -30,7 +30,7 @@ pub fn renderer(state: &State) -> Renderer714 {
         lfe_lowpass: state.lfe_lowpass.map(lowpass_state),
         metadata: metadata_state(&state.metadata),
         limiter_pending: state.limiter_pending.clone(),
-        pending_timeslot_debug: Vec::new(),
+        ..Renderer714::new()
     }
 }
 

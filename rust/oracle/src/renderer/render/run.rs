@@ -106,20 +106,46 @@ impl Oracle {
     }
 }
 
+amended_only! {
+    impl Oracle {
+        over_sources! {
+            /// A fresh renderer in that hall; reset keeps it.
+            pub fn in_hall(hall: &crate::Hall) -> Self {
+                Oracle::in_hall_and_state(hall, &Oracle::new().state())
+            }
+
+            /// A renderer in that hall and state. What waits in absent channels is left out.
+            pub fn in_hall_and_state(hall: &crate::Hall, state: &State) -> Self {
+                let mut renderer = read::renderer(state);
+                hall.leave_out(&mut renderer.limiter_pending);
+                renderer.hall = hall.clone();
+                Oracle { renderer }
+            }
+
+            pub fn hall(&self) -> crate::Hall {
+                self.renderer.hall.clone()
+            }
+        }
+    }
+}
+
 #[cfg(not(no_sources))]
 impl Clone for Renderer714 {
     fn clone(&self) -> Self {
-        Self {
-            sample_rate: self.sample_rate,
-            limiter_gain: self.limiter_gain,
-            stream_sample_offset: self.stream_sample_offset,
-            metadata_timeslot_phase: self.metadata_timeslot_phase,
-            metadata_timeslot_stream_sample: self.metadata_timeslot_stream_sample,
-            lfe_lowpass: self.lfe_lowpass.clone(),
-            metadata: self.metadata.clone(),
-            limiter_pending: self.limiter_pending.clone(),
-            pending_timeslot_debug: self.pending_timeslot_debug.clone(),
-        }
+        with_hall!(
+            self.hall.clone(),
+            Self {
+                sample_rate: self.sample_rate,
+                limiter_gain: self.limiter_gain,
+                stream_sample_offset: self.stream_sample_offset,
+                metadata_timeslot_phase: self.metadata_timeslot_phase,
+                metadata_timeslot_stream_sample: self.metadata_timeslot_stream_sample,
+                lfe_lowpass: self.lfe_lowpass.clone(),
+                metadata: self.metadata.clone(),
+                limiter_pending: self.limiter_pending.clone(),
+                pending_timeslot_debug: self.pending_timeslot_debug.clone(),
+            }
+        )
     }
 }
 
