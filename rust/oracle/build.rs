@@ -189,17 +189,17 @@ const HALL: [Substitution; 19] = [
         "fn assign_lr(\n    positions: &[Vec3; RENDER_714_CHANNELS],",
     ),
     (
-        "pending.split_off(ready_samples)",
-        "pending.split_off(ready_samples.min(pending.len()))",
+        "let remainder = pending.split_off(ready_samples);",
+        "let absent = pending.is_empty();
+            let remainder = pending.split_off(if absent { 0 } else { ready_samples });",
     ),
     (
-        "max_abs_slice(&channel[block_start..block_end])",
-        "max_abs_slice(channel.get(block_start..block_end).unwrap_or_default())",
+        "for channel in channels.iter() {\n        max",
+        "for channel in channels.iter().filter(|c| !c.is_empty()) {\n        max",
     ),
     (
-        "scale_slice_in_place(&mut channel[block_start..block_end], *last_gain);",
-        "let block = channel.get_mut(block_start..block_end);
-            scale_slice_in_place(block.unwrap_or_default(), *last_gain);",
+        "for channel in channels.iter_mut() {\n            scale",
+        "for channel in channels.iter_mut().filter(|c| !c.is_empty()) {\n            scale",
     ),
 ];
 
