@@ -1,101 +1,46 @@
 -- A chunk on a state block is the rules' chunk. Assumes nothing.
 use mathlib.Core.Path.{_≡_, refl, sym, ap, ap₂, fun-ext, _∙_}
-use mathlib.Core.Bool.{Bool, true, false, cond}
+use mathlib.Core.Bool.{Bool, true, false}
 use mathlib.Core.List.{List, [], map}
 use Prim.Native.Nat.{ℕ, _+_, _-_, _*_, _<_, _≤_}
-use native.Mathlib.Nat.{add-zero}
 use native.Mathlib.Omega.{arith}
-use borrow.Author.Tests.{ltb-true, ltb-false, lt-ltb, lt-leb, ne-eqb}
+use borrow.Author.Tests.{ltb-true, ltb-false, lt-leb, ne-eqb}
 use lib.Dec.{T, leb, ltb}
-use lib.ListN.{length, getD, take, drop, length-map, length-drop}
+use lib.ListN.{length, take, drop, length-map, length-drop}
 use lib.Seq.{take-all, length-take-le}
-use lib.Ieee.{Float, binary32, fits, ofBits, nan}
-use Rattle.words.specs.Words.{wordsAt}
-use Rattle.lowpass.specs.declared.BiquadLowpassState.{BiquadLowpassState}
-use Rattle.timed.specs.Objects.{noSource}
-use Rattle.timed.specs.declared.state.MetadataRendererState.{MetadataRendererState}
-use Rattle.records.specs.Runs.{each}
+use lib.Ieee.{Float, binary32, fits, ofBits}
 use Rattle.limiter.specs.Meters.{meetsAll}
 use Rattle.rules.specs.Parts.{Channels, Places, none, floats, laid}
-use Rattle.rules.specs.Leaves.{Source, Bed}
-use Rattle.rules.specs.Mix.{sampleAt, samplesAt, Moment, heard}
-use Rattle.rules.specs.Samples.{Frame, Renderer, moment, metered, flushed, gainAfter}
+use Rattle.rules.specs.Mix.{Moment}
+use Rattle.rules.specs.Samples.{Frame, Renderer, metered, flushed, gainAfter}
 use Rattle.timed.specs.State.{Timed}
 use Rattle.theorem.specs.Instance.{Sent, hall}
 use Rattle.store.specs.declared.renderer.Renderer714.{Renderer714}
-use Rattle.store.specs.Layout.{placesAt, size, assembled, infosOf, placesOf}
+use Rattle.store.specs.Layout.{placesAt, size, assembled, placesOf}
 use Rattle.store.specs.Steps.{settledBy}
 use Rattle.store.proofs.Theorems.{places-row, no-places, words-long}
-use Rattle.render.specs.declared.Span.{Span}
-use Rattle.render.specs.Run.{Framed, bedWith, bedsOf, plainSource, sourcesOf, momentOf, sceneAt, filterAfter, rowRun, Passed}
-use Rattle.render.proofs.Theorems.{Fit, fewer, beds-each, sources-each, filter-as, run-as}
-use Rattle.frame.specs.declared.Rendering.{Rendering}
-use Rattle.frame.specs.Held.{held}
+use Rattle.render.specs.Run.{filterAfter, rowRun}
+use Rattle.render.proofs.Theorems.{Fit}
+use Rattle.rendering.specs.declared.Rendering.{Rendering}
+use Rattle.rendering.specs.Held.{held}
 use Rattle.frame.specs.Chunk.{chunk}
-use Rattle.frame.specs.Out.{behind}
-use Rattle.frame.specs.Give.{CanGive, Gave, CanGiveRows, GaveRows}
-use Rattle.frame.specs.Pass as pass
-use Rattle.frame.specs.Pass.{readyAfter, CanPass, Laid, sceneOf, frameWith, Waits, Passes}
-use Rattle.frame.proofs.Given.{none-behind, gave-rows}
-use Rattle.frame.proofs.RowsPeak.{all-take, all-drop}
-use Rattle.frame.proofs.Laying.{laid-nil, length-laid, laid-floats, fit-all}
-
--- ---- a count, or none before the first update
-
-pub count-within : (q : Bool) {r count limit : ℕ} → r ≡ cond q count 0 → count ≤ limit → r ≤ limit
-count-within true e h = rw e h
-count-within false e h = rw e (omega arith)
-
-pub framed-within : (q : Bool) (pcm : List ℕ) (m count : ℕ) (s : Span) {r : ℕ} → r ≡ cond q count 0 → Framed pcm (m + count) s → Framed pcm (m + r) s
-framed-within true pcm m count s e h = rw e h
-framed-within false pcm m count s e h = rw (e, add-zero) (fewer pcm s m count h)
-
--- ---- the moments of a run are the rules'
-
--- tables with at least as many entries as are in use
-pub record Full (m : MetadataRendererState) (objects : ℕ) : Type 0 where
-  pub codes : m .beds ≤ length (m .codes)
-  pub gains : m .beds ≤ length (m .gains)
-  pub sources : objects ≤ length (m .sources)
-
--- what is mixed: nothing before the first update
-abbrev pub mixed : MetadataRendererState → List ℕ → ℕ → List ℕ → ℕ → ℕ → Moment
-mixed m codes objects = sceneAt (sceneOf m objects) codes
-
-module _ (codes pcm : List ℕ) (objects n t c : ℕ) where
-  -- the same beds and objects, each with its own sample
-  heard-same : (bs : List Bed) (ss : List Source) (beds : List Bed) (sources : List Source) → bs ≡ beds → ss ≡ sources → length ss ≡ objects
-      → heard (momentOf bs ss codes pcm n t) c
-      ≡ heard (record { beds = beds; objects = sources; codes = codes; inputs = λ i. sampleAt pcm n i t; own = samplesAt pcm n objects (length codes) t }) c
-  heard-same bs ss beds sources p q e =
-      ap₂ (λ (x : List Bed) (y : List Source). heard
-      (record { beds = x; objects = y; codes = codes; inputs = λ i. sampleAt pcm n i t; own = samplesAt pcm n (length ss) (length codes) t }) c) p q
-      ∙ ap (λ (k : ℕ). heard (record { beds = beds; objects = sources; codes = codes; inputs = λ i. sampleAt pcm n i t; own = samplesAt pcm n k (length codes) t }) c) e
-
-  mixed-heard : (b : Bool) (m : MetadataRendererState) → Full m objects → (b ≡ true → m .objects - m .isf ≡ objects)
-      → heard (momentOf (bedsOf (cond b (m .beds) 0) (m .codes) (m .gains)) (sourcesOf (cond b objects 0) (m .sources)) codes pcm n t) c
-      ≡ heard (record {
-        beds = cond b (each (λ k. bedWith (getD (m .codes) k 0) (getD (m .gains) k nan)) (m .beds)) [];
-        objects = cond b (each (λ k. plainSource (getD (m .sources) k noSource)) (m .objects - m .isf)) [];
-        codes = codes;
-        inputs = λ i. sampleAt pcm n i t;
-        own = samplesAt pcm n objects (length codes) t;
-      }) c
-  unfolding heard
-  mixed-heard true m h d =
-      let e : length (sourcesOf objects (m .sources)) ≡ objects = length-map (take objects (m .sources)) plainSource ∙ length-take-le objects (m .sources) (h .sources) in
-      heard-same (bedsOf (m .beds) (m .codes) (m .gains)) (sourcesOf objects (m .sources)) _ _ (sym (beds-each (m .beds) (m .codes) (m .gains) (h .codes) (h .gains)))
-      (sym (sources-each objects (m .sources) (h .sources)) ∙ ap (each (λ k. plainSource (getD (m .sources) k noSource))) (sym (d refl))) e
-  mixed-heard false m h d = refl
+use Rattle.rendering.specs.Out.{behind}
+use Rattle.rendering.specs.Give.{CanGive, Gave, CanGiveRows, GaveRows}
+use Rattle.chunk.specs.Rows.{Laid}
+use Rattle.rendering.specs.Pass.{CanPass, momentHere, Waits}
+use Rattle.frame.specs.Turn.{readyAfter, settledAt, Passes}
+use Rattle.rendering.proofs.Theorems.{none-behind, gave-rows}
+use Rattle.rendering.proofs.Theorems.{all-take, all-drop}
+use Rattle.chunk.proofs.Theorems.{laid-nil, length-laid, laid-floats, fit-all}
 
 -- ---- the renderer after a chunk, before a whole block is given out
 
 module _ (f : Frame Sent) (t k : ℕ) (s : Renderer714) (b : List ℕ) where
   abbrev at : ℕ → Moment
-  at = pass.momentHere f t k s b
+  at = momentHere f t k s b
 
   abbrev settled : Renderer Timed
-  settled = pass.settledAt f t k s b
+  settled = settledAt f t k s b
 
   abbrev rows : Places
   rows = settled .pending .places
@@ -173,28 +118,6 @@ stays-ready ready pending h = rw (ne-eqb pending 0 (λ e. omega arith)) refl
 adds-ready : (ready : ℕ) {pending : ℕ} → pending ≡ 0 → ready + 64 ≡ readyAfter ready pending
 adds-ready ready e = rw e refl
 
--- the moments that `mix` hears
-pub same-heard : (rate : ℕ) (us : List Sent) (codes pcm : List ℕ) (objects n : ℕ) (s : Renderer714) (b : List ℕ) → Full (s .state) objects
-    → (s .state .initialized ≡ true → s .state .objects - s .state .isf ≡ objects)
-    → (t c : ℕ) → heard (mixed (s .state) codes objects pcm n t) c ≡ heard (moment hall (frameWith rate us codes objects pcm n) t (record { state = s .state; infos = infosOf b }))
-    c
-same-heard rate us codes pcm objects n s b h d t c = mixed-heard codes pcm objects n t c (s .state .initialized) (s .state) h d
-
--- what `mix` leaves, by the rules' moments
-pub waits : (f : Frame Sent) (t k : ℕ) (w : Rendering) (b : List ℕ) (m : ℕ → Moment) → ((t c : ℕ) → heard (m t) c ≡ heard (pass.momentHere f t k (w .renderer) b t) c)
-    → (ys : List Float) (low : BiquadLowpassState) → Passed m (w .renderer .filter) t k ys low → {r : Renderer714} → r ≡ settledBy (w .renderer) low k
-    → Waits (pass.momentHere f t k (w .renderer) b) w t k ys (record { renderer = r; ready = w .ready; meters = w .meters })
-waits f t k w b m same ys low p e =
-    let here = pass.momentHere f t k (w .renderer) b in
-    record {
-      whole = p .whole;
-      columns = λ c l. p .columns c l ∙ run-as m here same (w .renderer .filter) c t k;
-      rest = p .rest;
-      renderer = e ∙ ap (λ (f : BiquadLowpassState). settledBy (w .renderer) f k) (p .filter ∙ filter-as m here same (w .renderer .filter) t k);
-      ready = refl;
-      meters = refl;
-    }
-
 -- what a turn of the frame's loop may do: pass its samples, and where a block gets whole, give it out behind those that are ready
 pub record Passable (w : Rendering) (b pcm out codes : List ℕ) (objects n t k stride : ℕ) : Type 0 where
   pub block : length b ≡ size
@@ -210,7 +133,7 @@ abbrev Fits : Float → Type 0
 Fits x = T (fits binary32 x)
 
 module _ (f : Frame Sent) {w v : Rendering} {b pcm out codes : List ℕ} {objects n t k stride : ℕ} (h : Passable w b pcm out codes objects n t k stride) {ys : List Float}
-    (y : Waits (pass.momentHere f t k (w .renderer) b) w t k ys v) where
+    (y : Waits (momentHere f t k (w .renderer) b) w t k ys v) where
   -- a block of rows can be given out
   pub can-give-rows : k ≡ 64 → CanGiveRows v ys out stride
   can-give-rows e =
@@ -226,7 +149,7 @@ module _ (f : Frame Sent) {w v : Rendering} {b pcm out codes : List ℕ} {object
       }
 
 module _ (f : Frame Sent) {w v : Rendering} {b pcm out codes : List ℕ} {objects n t k stride : ℕ} (h : Passable w b pcm out codes objects n t k stride) {ys : List Float}
-    (y : Waits (pass.momentHere f t k (w .renderer) b) w t k ys v) {b' : List ℕ} (l : Laid ys (w .renderer .pending) k b b') where
+    (y : Waits (momentHere f t k (w .renderer) b) w t k ys v) {b' : List ℕ} (l : Laid ys (w .renderer .pending) k b b') where
   abbrev s : Renderer714
   s = w .renderer
 

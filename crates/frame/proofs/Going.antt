@@ -21,7 +21,7 @@ use Rattle.rules.specs.BlockCalls.{Layout, written}
 use Rattle.rules.proofs.Theorems.{Facts, Passed, is-roomy, samples-fit, untouched, R, updated-ranged, slotted-ranged, framed-ranged, opened-ranged, Matches, matches-on, judged}
 use Rattle.rules.proofs.Theorems.{updated-shape, slotted-shape}
 use Rattle.frame.specs.Chunk.{chunk}
-use Rattle.frame.specs.Out.{behind}
+use Rattle.rendering.specs.Out.{behind}
 use Rattle.frame.proofs.Chunks.{both, Turn, chunk-passes, chunk-whole, turn}
 use Rattle.frame.proofs.Outs.{behind-joined, behind-nothing, behind-none, length-behind}
 use Rattle.frame.proofs.Replaced.{Agree, replaced, framed-replaced}

@@ -1,13 +1,8 @@
 pub mod Chunks
 pub mod Outs
 pub mod Counted
-pub mod Laying
 pub mod Replaced
 pub mod Going
-pub mod Given
-pub mod RowsPeak
 pub mod ChunkOnBlock
-pub mod Changed
-pub mod Begins
 pub mod Opening
 pub mod Running

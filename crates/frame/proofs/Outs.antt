@@ -12,7 +12,7 @@ use Rattle.words.proofs.Runs.{run-length-kept}
 use Rattle.rules.specs.Parts.{Channels, none, joined}
 use Rattle.rules.specs.BlockCalls.{writtenFrom, written}
 use Rattle.rules.proofs.Theorems.{length-map}
-use Rattle.frame.specs.Out.{behindFrom, behind}
+use Rattle.rendering.specs.Out.{behindFrom, behind}
 
 -- ---- stores into ranges that do not meet, in either order
 

@@ -19,7 +19,7 @@ use Rattle.rules.specs.Leaves.{Leaves, started}
 use Rattle.rules.specs.Mix.{Moment, heard, fed}
 use Rattle.rules.specs.Samples.{Frame, Pending, State, After, row, ticked, appliedAt, updated, slotted, moment, closing, passed, sampled, framed}
 use Rattle.rules.proofs.Theorems.{untouched}
-use Rattle.frame.proofs.Laying.{length-laid}
+use Rattle.chunk.proofs.Theorems.{length-laid}
 
 -- ---- places that agree on the first n of each channel
 

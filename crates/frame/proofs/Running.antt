@@ -34,15 +34,15 @@ use Rattle.store.specs.Layout.{smallWidth, size, assembled, infosOf, placesOf, 
 use Rattle.store.specs.ValidBlocks.{smallValid, headsValid, valid}
 use Rattle.theorem.specs.Instance.{hall, block, sentAt, sentOf}
 use Rattle.theorem.proofs.Theorems.{each-all, codes-long, shape-apply, shape-slot, facts}
-use Rattle.frame.specs.declared.Rendering.{Rendering}
-use Rattle.frame.specs.Held.{held, smallBytes, Leads}
+use Rattle.rendering.specs.declared.Rendering.{Rendering}
+use Rattle.chunk.specs.Rows.{smallBytes}
+use Rattle.rendering.specs.Held.{held, Leads}
 use Rattle.frame.specs.Chunk.{chunk}
-use Rattle.frame.specs.Out.{behind}
-use Rattle.frame.specs.Begin.{CanBegin}
-use Rattle.frame.specs.Pass.{readyAfter, Passes}
+use Rattle.rendering.specs.Out.{behind}
+use Rattle.frame.specs.Turn.{CanBegin, readyAfter, Passes}
 use Rattle.frame.proofs.ChunkOnBlock.{Passable}
 use Rattle.frame.specs.Loop.{runLength, Accepted, IsRendered}
-use Rattle.frame.proofs.Begins.{ranged-starts}
+use Rattle.rendering.proofs.Theorems.{ranged-starts}
 use Rattle.frame.proofs.Chunks.{NoneAt, Turn}
 use Rattle.frame.proofs.Going.{Shaped, Going, Begun, begun, step, swapped, starts, ends}
 use Rattle.frame.proofs.Opening.{RunLength, run-length-is}

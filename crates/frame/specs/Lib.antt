@@ -1,7 +1,3 @@
-pub mod Held
 pub mod Chunk
-pub mod Out
+pub mod Turn
 pub mod Loop
-pub mod Begin
-pub mod Give
-pub mod Pass

@@ -17,8 +17,8 @@ use Rattle.store.specs.Fields.{smallOf}
 use Rattle.store.specs.Layout.{smallWidth, decode}
 use Rattle.store.specs.ValidBlocks.{valid}
 use Rattle.theorem.specs.Instance.{hall}
-use Rattle.frame.specs.declared.Rendering.{Rendering}
-use Rattle.frame.specs.Held.{IsNext}
+use Rattle.rendering.specs.declared.Rendering.{Rendering}
+use Rattle.rendering.specs.Held.{IsNext}
 
 -- ---- the samples of a turn
 

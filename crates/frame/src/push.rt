@@ -11,11 +11,10 @@ ghost use Rattle.rules.specs.Samples.{pushed};
 ghost use Rattle.rules.specs.Calls.{frameOf};
 ghost use Rattle.store.specs.Layout.{decode};
 ghost use Rattle.theorem.specs.Instance.{hall};
-ghost use Rattle.frame.specs.Begin.{NoneSent};
+ghost use Rattle.rendering.specs.Begin.{NoneSent};
 ghost use Rattle.refusals.specs.FirstFound.{argsWith};
 ghost use Rattle.frame.specs.Loop.{lesser, runLength, Accepted, IsRendered};
-use crate::Rendering;
-use crate::chunk::lay;
+use chunk::lay;
 use clock::FrameOffset;
 use clock::START;
 use formats::areas;
@@ -23,6 +22,7 @@ use records::layout::Layout;
 use records::order::next_offset;
 use records::order::sent_at;
 use refusals::Numbers;
+use rendering::Rendering;
 
 fn least(a: usize, b: usize) -> usize
     ensures { λ r. ⌜ r ≡ lesser a b ⌝ }
@@ -74,64 +74,62 @@ fn is_kept(k: usize, left: usize) -> bool
     left < 128
 }
 
-impl Rendering {
-    // Infos and places are left in `state`, the rest is answered: its bytes in `state` stay.
-    pub fn render(
-        self,
-        state: &mut [u8],
-        pcm: &[u8],
-        meta: &[u8],
-        out: &mut [u8],
-        codes: &[u8],
-        l: Layout,
-        n: Numbers,
-    ) -> Rendering
-        requires { ⌜ Accepted self (now state) l (argsWith (now pcm) (now meta) (now out) (now codes) n) ⌝ }
-        ensures { λ r. ⌜ IsRendered
-            (pushed hall (frameOf hall (argsWith (now (pcm .entry)) (now (meta .entry)) (now (out .entry)) (now (codes .entry)) n)) (decode (now (state .entry)))) (n .stride)
-            (now (state .entry)) (now (out .entry)) r (now (state .exit)) (now (out .exit)) ⌝ }
-    {
-        let rate = n.rate;
-        let samples = n.samples as usize;
-        let objects = n.objects as usize;
-        let stride = n.stride as usize;
-        let end = FrameOffset(n.samples);
-        let start = self.renderer.clock.position;
-        let mut work = Rendering::of(self.renderer.open(rate));
-        let mut t = START;
-        while t.is_before(end) {
-            let at = start.at(t);
-            if is_sent(l, t) {
-                work = work.apply_sent(state, meta, l, t, at);
-            }
-            if slot_starts(work.renderer.state.initialized, work.renderer.clock.phase) {
-                if !work.renderer.state.rests(work.renderer.clock.start) {
-                    work = work.start_slot(state);
-                }
-            }
-            let next = next_offset(l, t, end);
-            let k = run_length(
-                work.renderer.state.initialized,
-                work.renderer.clock.phase,
-                work.renderer.pending,
-                t,
-                next,
-            );
-            let mut rows = [0.0f32; areas::PLACE_COUNT];
-            let pending = work.renderer.pending as usize;
-            work = work.pass(&mut rows, pcm, codes, objects, samples, t, k);
-            if is_kept(k, t.up_to(end)) {
-                lay(state, &rows, pending, k);
-            }
-            if k == 64 {
-                work = work.give_rows(&rows, out, stride);
-            } else {
-                if work.renderer.pending == 64 {
-                    work = work.give(state, out, stride);
-                }
-            }
-            t = t.plus(k as u32);
+// Infos and places are left in `state`, the rest is answered: its bytes in `state` stay.
+pub fn render(
+    idle: Rendering,
+    state: &mut [u8],
+    pcm: &[u8],
+    meta: &[u8],
+    out: &mut [u8],
+    codes: &[u8],
+    l: Layout,
+    n: Numbers,
+) -> Rendering
+    requires { ⌜ Accepted idle (now state) l (argsWith (now pcm) (now meta) (now out) (now codes) n) ⌝ }
+    ensures { λ r. ⌜ IsRendered
+        (pushed hall (frameOf hall (argsWith (now (pcm .entry)) (now (meta .entry)) (now (out .entry)) (now (codes .entry)) n)) (decode (now (state .entry)))) (n .stride)
+        (now (state .entry)) (now (out .entry)) r (now (state .exit)) (now (out .exit)) ⌝ }
+{
+    let rate = n.rate;
+    let samples = n.samples as usize;
+    let objects = n.objects as usize;
+    let stride = n.stride as usize;
+    let end = FrameOffset(n.samples);
+    let start = idle.renderer.clock.position;
+    let mut work = Rendering::of(idle.renderer.open(rate));
+    let mut t = START;
+    while t.is_before(end) {
+        let at = start.at(t);
+        if is_sent(l, t) {
+            work = work.apply_sent(state, meta, l, t, at);
         }
-        work
+        if slot_starts(work.renderer.state.initialized, work.renderer.clock.phase) {
+            if !work.renderer.state.rests(work.renderer.clock.start) {
+                work = work.start_slot(state);
+            }
+        }
+        let next = next_offset(l, t, end);
+        let k = run_length(
+            work.renderer.state.initialized,
+            work.renderer.clock.phase,
+            work.renderer.pending,
+            t,
+            next,
+        );
+        let mut rows = [0.0f32; areas::PLACE_COUNT];
+        let pending = work.renderer.pending as usize;
+        work = work.pass(&mut rows, pcm, codes, objects, samples, t, k);
+        if is_kept(k, t.up_to(end)) {
+            lay(state, &rows, pending, k);
+        }
+        if k == 64 {
+            work = work.give_rows(&rows, out, stride);
+        } else {
+            if work.renderer.pending == 64 {
+                work = work.give(state, out, stride);
+            }
+        }
+        t = t.plus(k as u32);
     }
+    work
 }

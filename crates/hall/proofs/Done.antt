@@ -28,10 +28,10 @@ use Rattle.store.specs.Layout.{smallWidth, decode}
 use Rattle.store.specs.ValidBlocks.{valid}
 use Rattle.theorem.specs.Instance.{hall, block}
 use Rattle.theorem.proofs.Theorems.{Within, decoded-of, pushed-within, flushed-within}
-use Rattle.frame.specs.Held.{held, IsHeld}
+use Rattle.rendering.specs.Held.{held, IsHeld}
 use Rattle.hall.specs.declared.answer.Answer.{Answer}
 use Rattle.hall.specs.Answers.{Left, readyOf}
-use Rattle.frame.specs.Give.{CanGive}
+use Rattle.rendering.specs.Give.{CanGive}
 use Rattle.hall.proofs.WaysOut.{leaves-as, accepted, flushes}
 use Rattle.refusals.proofs.Theorems.{loaded}
 use Rattle.hall.proofs.Known.{valid-long, loaded-pending, loaded-ranged, saved}

@@ -22,7 +22,7 @@ use Rattle.store.proofs.Whole.{small-full, saved-encode}
 use Rattle.theorem.specs.Instance.{hall}
 use Rattle.theorem.proofs.Theorems.{Within, ranged, decoded-of}
 use Rattle.refusals.proofs.Theorems.{loaded}
-use Rattle.frame.specs.Held.{held, IsHeld}
+use Rattle.rendering.specs.Held.{held, IsHeld}
 
 pub valid-long : (b : List ℕ) → valid b ≡ true → length b ≡ size
 unfolding valid

@@ -6,9 +6,9 @@ ghost use Rattle.hall.specs.Answers.{Waiting, Cleared, Left};
 ghost use Rattle.refusals.specs.FirstFound.{argsWith};
 use crate::answer;
 use crate::answer::Answer;
-use frame::Rendering;
 use records::layout::Layout;
 use refusals::Numbers;
+use rendering::Rendering;
 use store::renderer::Renderer714;
 
 // A push that no refusal turned away.
@@ -27,7 +27,7 @@ pub fn render(
         (now (state .exit)) (now (out .exit)) ⌝ }
 {
     let work = Rendering::of(s);
-    let done = work.render(state, pcm, meta, out, codes, l, n);
+    let done = frame::push::render(work, state, pcm, meta, out, codes, l, n);
     let next = done.renderer;
     store::write::save(state, next);
     answer::ready(done.ready, done.meters.shown())

@@ -1,5 +1,5 @@
 -- `is_sent`: by the first update sent for the offset. Assumes nothing.
-use Prim.Native.Nat.{ℕ, _<_}
+use Prim.Native.Nat.{ℕ}
 use mathlib.Core.Path.{_≡_, refl}
 use mathlib.Core.Bool.{Bool, true, false, cond}
 use native.Mathlib.Omega.{arith}
@@ -8,7 +8,7 @@ use borrow.Author.Tests.{ltb-true, ltb-false}
 use lib.Dec.{ltb}
 use Rattle.records.specs.UpdateWalk.{FirstAt}
 use Rattle.records.specs.LayoutAnswers.{offsetAt}
-use Rattle.frame.proofs.Begins.{past}
+use Rattle.rendering.proofs.Theorems.{past}
 use Rattle.frame.proofs.push.is_sent.Statement.{statement}
 use Rattle.frame.proofs.push.is_sent.Tie as tie
 

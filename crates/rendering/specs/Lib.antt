@@ -1,0 +1,5 @@
+pub mod Held
+pub mod Out
+pub mod Begin
+pub mod Give
+pub mod Pass
