@@ -27,7 +27,7 @@ use Rattle.records.specs.Runs.{each}
 use Rattle.records.specs.Laid.{laidOut, count, updateAt, elementAt, objectAt}
 use Rattle.records.specs.ValuesInRange.{inRange}
 use Rattle.records.proofs.Theorems.{whole-records, update-whole, update-is, element-whole, object-is, all-within}
-use Rattle.updates.specs.Stored.{headOf}
+use Rattle.info.specs.Written.{headOf}
 use Rattle.updates.specs.WholeRecords.{WholeUpdate}
 use Rattle.updates.proofs.Passed.{passes}
 use Rattle.store.specs.ValidBlocks.{headValid}

@@ -14,7 +14,8 @@ use Rattle.words.proofs.Numbers.{length-kept}
 use Rattle.fields.specs.declared.object.Info.{Info}
 use Rattle.timed.proofs.Theorems.{times-in}
 use Rattle.updates.specs.Said.{Element}
-use Rattle.updates.specs.Stored.{headOf, cleared, withPlace, withHead, withInfo, infoGiven, objectStored, objectGiven, objectsStored}
+use Rattle.info.specs.Written.{headOf, cleared, withPlace, withHead, withInfo}
+use Rattle.updates.specs.Stored.{infoGiven, objectStored, objectGiven, objectsStored}
 use Rattle.updates.proofs.Theorems.{Stored, one, twice, places-stored}
 use Rattle.timed.specs.InfoSizes.{infoBytes, allBytes, positionByte, sendByte}
 

@@ -24,7 +24,7 @@ use Rattle.timed.proofs.InfoFields.{gain-read, size-read, distance-read, screen
 use Rattle.fields.specs.ObjectInfos.{storedInfo}
 use Rattle.fields.specs.Object.{depthCode}
 use Rattle.fields.specs.declared.object.Info.{Info}
-use Rattle.updates.specs.Stored.{withThree, cleared, withPlace, headOf, withHead, withInfo}
+use Rattle.info.specs.Written.{withThree, cleared, withPlace, headOf, withHead, withInfo}
 use Rattle.updates.specs.InfoAfter.{headSent, positionSent, infoAfter, InfoWords}
 use Rattle.updates.proofs.StoredInfos.{three, cleared-stored, head-stored, place-stored, places-stored}
 

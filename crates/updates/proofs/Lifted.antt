@@ -25,7 +25,8 @@ use Rattle.timed.specs.declared.state.BlockState.{BlockState}
 use Rattle.timed.specs.declared.state.MetadataRendererState.{MetadataRendererState}
 use Rattle.timed.proofs.Theorems.{remaining-shifted}
 use Rattle.updates.specs.Said.{Element, Update}
-use Rattle.updates.specs.Stored.{withThree, cleared, withPlace, headOf, withHead, withInfo, infoGiven, objectStored, objectGiven, objectsStored}
+use Rattle.info.specs.Written.{withThree, cleared, withPlace, headOf, withHead, withInfo}
+use Rattle.updates.specs.Stored.{infoGiven, objectStored, objectGiven, objectsStored}
 use Rattle.updates.specs.Applied.{Work, isSame, scheduled, elementNext, elementGiven, elementsApplied, applied}
 use Rattle.updates.specs.Lifted.{WithinCounts, Afresh}
 use Rattle.updates.proofs.StoredInfos.{Stored, one, head-stored, place-stored, three, info-stored, object-stored, objects-stored}

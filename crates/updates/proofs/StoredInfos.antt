@@ -14,7 +14,8 @@ use Rattle.fields.specs.declared.object.Info.{Info}
 use Rattle.timed.proofs.Theorems.{times-in, cond-keeps}
 use Rattle.timed.specs.InfoSizes.{mostBlocks, elementInfos, infoBytes, positionByte, sendByte}
 use Rattle.updates.specs.Said.{Element}
-use Rattle.updates.specs.Stored.{withThree, cleared, withPlace, headOf, withHead, withInfo, infoGiven, objectStored, objectGiven, objectsStored}
+use Rattle.info.specs.Written.{withThree, cleared, withPlace, headOf, withHead, withInfo}
+use Rattle.updates.specs.Stored.{infoGiven, objectStored, objectGiven, objectsStored}
 
 -- ---- what a store leaves: length, bytes, and all but a range
 

@@ -1,4 +1,3 @@
-// Updates of the timed state (document 01, item 5): `apply_update`, `apply_element`, `apply_parsed_update`.
+// Updates of the timed state (document 01, item 5): `apply_update`, `apply_element`.
 pub mod element;
-pub mod info;
 pub mod update;

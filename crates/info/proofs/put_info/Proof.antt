@@ -1,8 +1,8 @@
--- `updates::info::put_info`: the four stores in order. Assumes nothing.
+-- `info::put_info`: the four stores in order. Assumes nothing.
 use borrow.Author.Needs.{needs}
-use Rattle.updates.specs.Stored.{withInfo}
-use Rattle.updates.proofs.info.put_info.Statement.{statement}
-use Rattle.updates.proofs.info.put_info.Tie as tie
+use Rattle.info.specs.Written.{withInfo}
+use Rattle.info.proofs.put_info.Statement.{statement}
+use Rattle.info.proofs.put_info.Tie as tie
 
 returns : tie.Need-returns
 unfolding withInfo

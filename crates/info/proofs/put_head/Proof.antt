@@ -1,8 +1,8 @@
--- `updates::info::put_head`: the five words in order. Assumes nothing.
+-- `info::put_head`: the five words in order. Assumes nothing.
 use borrow.Author.Needs.{needs}
-use Rattle.updates.specs.Stored.{withHead}
-use Rattle.updates.proofs.info.put_head.Statement.{statement}
-use Rattle.updates.proofs.info.put_head.Tie as tie
+use Rattle.info.specs.Written.{withHead}
+use Rattle.info.proofs.put_head.Statement.{statement}
+use Rattle.info.proofs.put_head.Tie as tie
 
 returns : tie.Need-returns
 unfolding withHead

@@ -1,8 +1,8 @@
--- `updates::info::clear`: by whether the info is new. Assumes nothing.
+-- `info::clear`: by whether the info is new. Assumes nothing.
 use borrow.Author.Needs.{needs}
-use Rattle.updates.specs.Stored.{cleared}
-use Rattle.updates.proofs.info.clear.Statement.{statement}
-use Rattle.updates.proofs.info.clear.Tie as tie
+use Rattle.info.specs.Written.{cleared}
+use Rattle.info.proofs.clear.Statement.{statement}
+use Rattle.info.proofs.clear.Tie as tie
 
 returns : tie.Need-returns
 unfolding cleared

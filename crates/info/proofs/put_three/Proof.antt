@@ -1,8 +1,8 @@
--- `updates::info::put_three`: the three words in order. Assumes nothing.
+-- `info::put_three`: the three words in order. Assumes nothing.
 use borrow.Author.Needs.{needs}
-use Rattle.updates.specs.Stored.{withThree}
-use Rattle.updates.proofs.info.put_three.Statement.{statement}
-use Rattle.updates.proofs.info.put_three.Tie as tie
+use Rattle.info.specs.Written.{withThree}
+use Rattle.info.proofs.put_three.Statement.{statement}
+use Rattle.info.proofs.put_three.Tie as tie
 
 returns : tie.Need-returns
 unfolding withThree

@@ -6,7 +6,7 @@ ghost use mathlib.Core.Path.{_≡_};
 ghost use Prim.Native.Nat.{_+_, _≤_};
 ghost use lib.ListN.{length};
 ghost use Rattle.timed.specs.InfoSizes.{infoBytes};
-ghost use Rattle.updates.specs.Stored.{withThree, cleared, withPlace, headOf, withHead, withInfo};
+ghost use Rattle.info.specs.Written.{withThree, cleared, withPlace, headOf, withHead, withInfo};
 use fields::object::Info;
 use timed::infos::DISTANCE;
 use timed::infos::GAIN;

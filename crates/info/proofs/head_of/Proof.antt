@@ -1,7 +1,7 @@
--- `updates::info::head_of`: by whether the object is a bed or ISF. Assumes nothing.
+-- `info::head_of`: by whether the object is a bed or ISF. Assumes nothing.
 use borrow.Author.Needs.{needs}
-use Rattle.updates.proofs.info.head_of.Statement.{statement}
-use Rattle.updates.proofs.info.head_of.Tie as tie
+use Rattle.info.proofs.head_of.Statement.{statement}
+use Rattle.info.proofs.head_of.Tie as tie
 
 returns : tie.Need-returns
 returns c = rw (c .before .before .if1 .taken)

@@ -1,10 +1,10 @@
--- `updates::info::put_place`: by the position's flag. Assumes nothing.
+-- `info::put_place`: by the position's flag. Assumes nothing.
 use Prim.Native.Nat.{_/_, _%_}
 use borrow.Author.Tests.{eq-eqb, ne-eqb}
 use borrow.Author.Needs.{needs}
-use Rattle.updates.specs.Stored.{withPlace}
-use Rattle.updates.proofs.info.put_place.Statement.{statement}
-use Rattle.updates.proofs.info.put_place.Tie as tie
+use Rattle.info.specs.Written.{withPlace}
+use Rattle.info.proofs.put_place.Statement.{statement}
+use Rattle.info.proofs.put_place.Tie as tie
 
 returns : tie.Need-returns
 unfolding withPlace
