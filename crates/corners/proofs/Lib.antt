@@ -1,0 +1,3 @@
+pub mod Rising
+pub mod Segments
+pub mod Walk
