@@ -1,3 +1,4 @@
 pub mod Rising
 pub mod Segments
 pub mod Walk
+pub mod Corners

@@ -3,6 +3,10 @@
 // The corners about a place in any hall: the speakers are sorted once, and then the runs of equal coordinates are walked.
 ghost use mathlib.Core.Path.{_≡_};
 ghost use Prim.Native.Nat.{ℕ, _+_, _<_, _≤_};
+ghost use mathlib.Core.List.{List, map};
+ghost use Rattle.panning.specs.Choice.{corner, corners};
+ghost use Rattle.vectors.specs.declared.Vec3.{Vec3};
+ghost use Rattle.corners.specs.Walkable.{RowRuns, LayerRuns, Walkable, StandAt, RowAt, LayerAt};
 ghost use Rattle.corners.specs.Runs.{coordinateAt, indexAt, Runs, EndsAt, SidesAt};
 use vectors::Vec3;
 
@@ -47,4 +51,75 @@ fn sides(c: &[f32; 12], a: usize, b: usize, v: f32) -> Neighbours
         i += 1;
     }
     Neighbours { low, high: low }
+}
+
+// The channels on the two sides of the row that begins at `a`.
+fn row(x: &[f32; 12], channel: &[usize; 12], rows: &[usize; 12], a: usize, v: f32) -> Neighbours
+    requires { ⌜ RowRuns (coordinateAt (now x)) (indexAt (now rows)) a ⌝ }
+    ensures { λ r. ⌜ RowAt (coordinateAt (now (x .entry))) (indexAt (now (channel .entry))) a (indexAt (now (rows .entry)) a) v r ⌝ }
+{
+    let s = sides(x, a, rows[a], v);
+    let low = s.low;
+    let high = s.high;
+    Neighbours {
+        low: channel[low],
+        high: channel[high],
+    }
+}
+
+// The corners in one layer.
+struct Quad {
+    front: Neighbours,
+    rear: Neighbours,
+}
+
+// Those of the layer that begins at `a`.
+fn layer(x: &[f32; 12], z: &[f32; 12], channel: &[usize; 12], layers: &[usize; 12], rows: &[usize; 12], a: usize, place: Vec3) -> Quad
+    requires { ⌜ LayerRuns (coordinateAt (now x)) (coordinateAt (now z)) (indexAt (now layers)) (indexAt (now rows)) a ⌝ }
+    ensures {
+        λ r. ⌜ LayerAt (coordinateAt (now (x .entry))) (coordinateAt (now (z .entry))) (indexAt (now (channel .entry))) a (indexAt (now (layers .entry)) a) place r ⌝
+    }
+{
+    let found = ends(z, rows, a, layers[a], place.z);
+    Quad {
+        front: row(x, channel, rows, found.high, place.x),
+        rear: row(x, channel, rows, found.low, place.x),
+    }
+}
+
+// The eight corners about a place, in the order in which they are mixed: the `count` speakers stand in the order of (y, z, x), and `layers` and `rows` have the ends of the
+// runs of equal y, and of equal y and z.
+pub fn cube(
+    x: &[f32; 12],
+    y: &[f32; 12],
+    z: &[f32; 12],
+    channel: &[usize; 12],
+    layers: &[usize; 12],
+    rows: &[usize; 12],
+    count: usize,
+    place: Vec3,
+) -> [usize; 8]
+    requires {
+        ⌜ Walkable (coordinateAt (now x)) (coordinateAt (now y)) (coordinateAt (now z)) (indexAt (now layers)) (indexAt (now rows)) count ⌝
+    }
+    ensures {
+        λ r.
+            ⌜ ((sp : ℕ → Vec3) (l : List ℕ) →
+                    StandAt sp l (coordinateAt (now (x .entry))) (coordinateAt (now (y .entry))) (coordinateAt (now (z .entry))) (indexAt (now (channel .entry))) count →
+                    r ≡ map (corner sp l place) corners) ⌝
+    }
+{
+    let found = ends(y, layers, 0, count, place.y);
+    let bottom = layer(x, z, channel, layers, rows, found.low, place);
+    let top = layer(x, z, channel, layers, rows, found.high, place);
+    [
+        bottom.front.low,
+        bottom.front.high,
+        bottom.rear.low,
+        bottom.rear.high,
+        top.front.low,
+        top.front.high,
+        top.rear.low,
+        top.rear.high,
+    ]
 }
