@@ -2,3 +2,4 @@ pub mod Rising
 pub mod Segments
 pub mod Walk
 pub mod Corners
+pub mod Writes

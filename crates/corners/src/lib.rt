@@ -7,6 +7,7 @@ ghost use mathlib.Core.List.{List, map};
 ghost use Rattle.panning.specs.Choice.{corner, corners};
 ghost use Rattle.vectors.specs.declared.Vec3.{Vec3};
 ghost use Rattle.corners.specs.Walkable.{RowRuns, LayerRuns, Walkable, StandAt, RowAt, LayerAt};
+ghost use Rattle.corners.specs.Order.{precedes, placeAmong, Inserted, Gathered, runEnd, RunEnds};
 ghost use Rattle.corners.specs.Runs.{coordinateAt, indexAt, Runs, EndsAt, SidesAt};
 use vectors::Vec3;
 
@@ -122,4 +123,95 @@ pub fn cube(
         top.rear.low,
         top.rear.high,
     ]
+}
+
+// ---- sorting
+
+fn place_at(x: &[f32; 12], y: &[f32; 12], z: &[f32; 12], k: usize) -> Vec3
+    requires { ⌜ k < 12 ⌝ }
+    ensures { λ r. ⌜ r ≡ placeAmong (now (x .entry)) (now (y .entry)) (now (z .entry)) k ⌝ }
+{
+    Vec3 {
+        x: x[k],
+        y: y[k],
+        z: z[k],
+    }
+}
+
+// Whether a speaker at `v` comes before one at `w`.
+fn precedes(v: Vec3, w: Vec3) -> bool
+    ensures { λ r. ⌜ r ≡ precedes v w ⌝ }
+{
+    if v.y == w.y {
+        if v.z == w.z {
+            return v.x < w.x;
+        }
+        return v.z < w.z;
+    }
+    v.y < w.y
+}
+
+// Channel `k` is put in its place among the first `n`.
+fn insert(channel: [usize; 12], x: &[f32; 12], y: &[f32; 12], z: &[f32; 12], n: usize, k: usize) -> [usize; 12]
+    requires { ⌜ (n < 12) × (k < 12) × ((i : ℕ) → indexAt channel i < 12) ⌝ }
+    ensures { λ r. ⌜ Inserted (placeAmong (now (x .entry)) (now (y .entry)) (now (z .entry))) (indexAt channel) n k (indexAt r) ⌝ }
+{
+    let place = place_at(x, y, z, k);
+    let mut r = channel;
+    let mut i = n;
+    while i > 0 {
+        let other = r[i - 1];
+        if !precedes(place, place_at(x, y, z, other)) {
+            r[i] = k;
+            return r;
+        }
+        r[i] = other;
+        i -= 1;
+    }
+    r[0] = k;
+    r
+}
+
+// The end of the run at `j` of equal coordinates that stops at `bound[j]` at the latest, `e` having those of the later ones.
+fn run_end(c: &[f32; 12], bound: &[usize; 12], e: &[usize; 12], j: usize) -> usize
+    requires { ⌜ (j < 12) × (indexAt (now bound) j ≤ 12) ⌝ }
+    ensures { λ r. ⌜ r ≡ runEnd (coordinateAt (now (c .entry))) (indexAt (now (bound .entry))) (indexAt (now (e .entry))) j ⌝ }
+{
+    let i = j + 1;
+    if i < bound[j] {
+        if c[i] == c[j] {
+            return e[i];
+        }
+    }
+    i
+}
+
+// The ends of the runs of equal coordinates, each within its bound.
+fn run_ends(c: &[f32; 12], bound: &[usize; 12], n: usize) -> [usize; 12]
+    requires { ⌜ (n ≤ 12) × ((i : ℕ) → i < n → indexAt (now bound) i ≤ 12) ⌝ }
+    ensures { λ r. ⌜ RunEnds (coordinateAt (now (c .entry))) (indexAt (now (bound .entry))) n (indexAt r) ⌝ }
+{
+    let mut e = [0usize; 12];
+    let mut j = n;
+    while j > 0 {
+        j -= 1;
+        let last = run_end(c, bound, &e, j);
+        e[j] = last;
+    }
+    e
+}
+
+// The coordinates of the channels, in their order.
+fn gathered(c: &[f32; 12], channel: &[usize; 12]) -> [f32; 12]
+    requires { ⌜ ((i : ℕ) → indexAt (now channel) i < 12) ⌝ }
+    ensures { λ r. ⌜ Gathered (coordinateAt (now (c .entry))) (indexAt (now (channel .entry))) (coordinateAt r) ⌝ }
+{
+    let mut r = [0.0f32; 12];
+    let mut i = 0;
+    while i < 12 {
+        let k = channel[i];
+        r[i] = c[k];
+        i += 1;
+    }
+    r
 }
