@@ -3,3 +3,7 @@ pub mod Segments
 pub mod Walk
 pub mod Corners
 pub mod Writes
+pub mod Lexical
+pub mod Lined
+pub mod RunEnds
+pub mod Making

@@ -98,11 +98,11 @@ module _ {c : ℕ → Float} {e : ℕ → ℕ} {a b : ℕ} (ch : ℕ → ℕ) (C
     last = elim (q .last) [
       | inl h ↦ inl h
       | inr h ↦ let lb = lt-of-lt-of-le (h .less) (q .to) in inr (record {
-          from = h .from;
-          less = h .less;
-          next = h .next;
-          start = λ j aj jl t. h .start j aj jl (at2 (sym (s low (h .from) lb)) (sym (s j aj (lt-of-lt-of-le jl (le-of-lt lb)))) t);
-        })
+        from = h .from;
+        less = h .less;
+        next = h .next;
+        start = λ j aj jl t. h .start j aj jl (at2 (sym (s low (h .from) lb)) (sym (s j aj (lt-of-lt-of-le jl (le-of-lt lb)))) t);
+      })
     ];
   }
 
@@ -189,10 +189,10 @@ module _ (ch : ℕ → ℕ) (C : ℕ → Float) {e : ℕ → ℕ} {a b : ℕ} {v
         none : (j : ℕ) → a ≤ j → j < b → T (eq (C (ch j)) v) → ⊥
         none j aj jb d = elim (less-or-not j i) [
           | inl ji ↦ elim (q .last) [
-              | inl z ↦ empty aj ji (z .0)
-              | inr z ↦ let jl : j ≤ low = before-next ji (sym (z .next) ∙ one low) in T-not (eq (C (ch low)) v) t (squeezed (C (ch j)) (C (ch low)) v (r .fine j aj jb)
-                  (r .fine low (low-in .0) (low-in .1)) w d (r .rising j low aj jl (low-in .1)) (q .up low (low-in .0) (z .less)))
-            ]
+            | inl z ↦ empty aj ji (z .0)
+            | inr z ↦ let jl : j ≤ low = before-next ji (sym (z .next) ∙ one low) in T-not (eq (C (ch low)) v) t (squeezed (C (ch j)) (C (ch low)) v (r .fine j aj jb)
+                (r .fine low (low-in .0) (low-in .1)) w d (r .rising j low aj jl (low-in .1)) (q .up low (low-in .0) (z .less)))
+          ]
           | inr ij ↦ on j ij jb (eq-le (C (ch j)) v d)
         ]
           where

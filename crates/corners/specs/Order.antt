@@ -39,14 +39,13 @@ pub record Inserted (sp : ℕ → Vec3) (before : ℕ → ℕ) (n k : ℕ) (afte
 -- the first n channels are those below k that are marked, in order
 pub record InLine (sp : ℕ → Vec3) (here : ℕ → Bool) (k n : ℕ) (channel : ℕ → ℕ) : Type 0 where
   pub few : n ≤ k
-  pub channels : (i : ℕ) → channel i < 12
   pub into : (i : ℕ) → i < n → (channel i < k) × T (here (channel i))
   pub out : (j : ℕ) → j < k → T (here j) → (i : ℕ) × (i < n) × (j ≡ channel i)
   pub rising : (i j : ℕ) → i < j → j < n → T (precedes (sp (channel i)) (sp (channel j)))
 
--- the coordinates of the channels
-abbrev pub Gathered : (ℕ → Float) → (ℕ → ℕ) → (ℕ → Float) → Type 0
-Gathered c channel r = (i : ℕ) → i < 12 → r i ≡ c (channel i)
+-- the coordinates of the first n channels
+abbrev pub Gathered : (ℕ → Float) → (ℕ → ℕ) → ℕ → (ℕ → Float) → Type 0
+Gathered c channel n r = (i : ℕ) → i < n → r i ≡ c (channel i)
 
 -- the end of the run at j, from that at j + 1: where the next is in bounds and at an equal coordinate, the run goes on
 abbrev pub runEnd : (ℕ → Float) → (ℕ → ℕ) → (ℕ → ℕ) → ℕ → ℕ

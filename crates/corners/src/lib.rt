@@ -7,7 +7,9 @@ ghost use mathlib.Core.List.{List, map};
 ghost use Rattle.panning.specs.Choice.{corner, corners};
 ghost use Rattle.vectors.specs.declared.Vec3.{Vec3};
 ghost use Rattle.corners.specs.Walkable.{RowRuns, LayerRuns, Walkable, StandAt, RowAt, LayerAt};
-ghost use Rattle.corners.specs.Order.{precedes, placeAmong, Inserted, Gathered, runEnd, RunEnds};
+ghost use Rattle.panning.specs.Table.{Table};
+ghost use Rattle.corners.specs.Sorted.{Sorted};
+ghost use Rattle.corners.specs.Order.{precedes, placeAmong, isMarked, speakersOf, Inserted, InLine, Gathered, runEnd, RunEnds};
 ghost use Rattle.corners.specs.Runs.{coordinateAt, indexAt, Runs, EndsAt, SidesAt};
 use vectors::Vec3;
 
@@ -75,11 +77,17 @@ struct Quad {
 }
 
 // Those of the layer that begins at `a`.
-fn layer(x: &[f32; 12], z: &[f32; 12], channel: &[usize; 12], layers: &[usize; 12], rows: &[usize; 12], a: usize, place: Vec3) -> Quad
+fn layer(
+    x: &[f32; 12],
+    z: &[f32; 12],
+    channel: &[usize; 12],
+    layers: &[usize; 12],
+    rows: &[usize; 12],
+    a: usize,
+    place: Vec3,
+) -> Quad
     requires { ⌜ LayerRuns (coordinateAt (now x)) (coordinateAt (now z)) (indexAt (now layers)) (indexAt (now rows)) a ⌝ }
-    ensures {
-        λ r. ⌜ LayerAt (coordinateAt (now (x .entry))) (coordinateAt (now (z .entry))) (indexAt (now (channel .entry))) a (indexAt (now (layers .entry)) a) place r ⌝
-    }
+    ensures { λ r. ⌜ LayerAt (coordinateAt (now (x .entry))) (coordinateAt (now (z .entry))) (indexAt (now (channel .entry))) a (indexAt (now (layers .entry)) a) place r ⌝ }
 {
     let found = ends(z, rows, a, layers[a], place.z);
     Quad {
@@ -100,15 +108,11 @@ pub fn cube(
     count: usize,
     place: Vec3,
 ) -> [usize; 8]
-    requires {
-        ⌜ Walkable (coordinateAt (now x)) (coordinateAt (now y)) (coordinateAt (now z)) (indexAt (now layers)) (indexAt (now rows)) count ⌝
-    }
-    ensures {
-        λ r.
-            ⌜ ((sp : ℕ → Vec3) (l : List ℕ) →
-                    StandAt sp l (coordinateAt (now (x .entry))) (coordinateAt (now (y .entry))) (coordinateAt (now (z .entry))) (indexAt (now (channel .entry))) count →
-                    r ≡ map (corner sp l place) corners) ⌝
-    }
+    requires { ⌜ Walkable (coordinateAt (now x)) (coordinateAt (now y)) (coordinateAt (now z)) (indexAt (now layers)) (indexAt (now rows)) count ⌝ }
+    ensures { λ r.
+        ⌜ ((sp : ℕ → Vec3) (l : List ℕ) →
+        StandAt sp l (coordinateAt (now (x .entry))) (coordinateAt (now (y .entry))) (coordinateAt (now (z .entry))) (indexAt (now (channel .entry))) count →
+        r ≡ map (corner sp l place) corners) ⌝ }
 {
     let found = ends(y, layers, 0, count, place.y);
     let bottom = layer(x, z, channel, layers, rows, found.low, place);
@@ -152,8 +156,15 @@ fn precedes(v: Vec3, w: Vec3) -> bool
 }
 
 // Channel `k` is put in its place among the first `n`.
-fn insert(channel: [usize; 12], x: &[f32; 12], y: &[f32; 12], z: &[f32; 12], n: usize, k: usize) -> [usize; 12]
-    requires { ⌜ (n < 12) × (k < 12) × ((i : ℕ) → indexAt channel i < 12) ⌝ }
+fn insert(
+    channel: [usize; 12],
+    x: &[f32; 12],
+    y: &[f32; 12],
+    z: &[f32; 12],
+    n: usize,
+    k: usize,
+) -> [usize; 12]
+    requires { ⌜ (n < 12) × (k < 12) × ((i : ℕ) → i < n → indexAt channel i < 12) ⌝ }
     ensures { λ r. ⌜ Inserted (placeAmong (now (x .entry)) (now (y .entry)) (now (z .entry))) (indexAt channel) n k (indexAt r) ⌝ }
 {
     let place = place_at(x, y, z, k);
@@ -201,17 +212,102 @@ fn run_ends(c: &[f32; 12], bound: &[usize; 12], n: usize) -> [usize; 12]
     e
 }
 
-// The coordinates of the channels, in their order.
-fn gathered(c: &[f32; 12], channel: &[usize; 12]) -> [f32; 12]
-    requires { ⌜ ((i : ℕ) → indexAt (now channel) i < 12) ⌝ }
-    ensures { λ r. ⌜ Gathered (coordinateAt (now (c .entry))) (indexAt (now (channel .entry))) (coordinateAt r) ⌝ }
+// The coordinates of the first `n` channels, in their order.
+fn gathered(c: &[f32; 12], channel: &[usize; 12], n: usize) -> [f32; 12]
+    requires { ⌜ (n ≤ 12) × ((i : ℕ) → i < n → indexAt (now channel) i < 12) ⌝ }
+    ensures { λ r. ⌜ Gathered (coordinateAt (now (c .entry))) (indexAt (now (channel .entry))) n (coordinateAt r) ⌝ }
 {
     let mut r = [0.0f32; 12];
     let mut i = 0;
-    while i < 12 {
+    while i < n {
         let k = channel[i];
         r[i] = c[k];
         i += 1;
     }
     r
+}
+
+// The channels that were tried so far, in order.
+struct Line {
+    channel: [usize; 12],
+    count: usize,
+}
+
+// With channel `k`, if it is marked.
+fn joined(
+    line: Line,
+    x: &[f32; 12],
+    y: &[f32; 12],
+    z: &[f32; 12],
+    present: &[bool; 12],
+    k: usize,
+) -> Line
+    requires { ⌜ InLine (placeAmong (now x) (now y) (now z)) (isMarked (now present)) k (line .count) (indexAt (line .channel)) ×
+        (k < 12) ×
+        Table (placeAmong (now x) (now y) (now z)) (speakersOf (now present)) ⌝ }
+    ensures { λ r.
+        ⌜ InLine (placeAmong (now (x .entry)) (now (y .entry)) (now (z .entry))) (isMarked (now (present .entry))) (k + 1) (r .count) (indexAt (r .channel)) ⌝ }
+{
+    if !present[k] {
+        return line;
+    }
+    let channel = line.channel;
+    let n = line.count;
+    Line {
+        channel: insert(channel, x, y, z, n, k),
+        count: n + 1,
+    }
+}
+
+// The marked channels in the order of (y, z, x).
+fn line_of(x: &[f32; 12], y: &[f32; 12], z: &[f32; 12], present: &[bool; 12]) -> Line
+    requires { ⌜ Table (placeAmong (now x) (now y) (now z)) (speakersOf (now present)) ⌝ }
+    ensures { λ r. ⌜ InLine (placeAmong (now (x .entry)) (now (y .entry)) (now (z .entry))) (isMarked (now (present .entry))) 12 (r .count) (indexAt (r .channel)) ⌝ }
+{
+    let mut line = Line {
+        channel: [0; 12],
+        count: 0,
+    };
+    let mut k = 0usize;
+    while k < 12 {
+        line = joined(line, x, y, z, present, k);
+        k += 1;
+    }
+    line
+}
+
+// The marked speakers in the order of (y, z, x), with the ends of the runs of equal y, and of equal y and z.
+pub struct Hall {
+    pub x: [f32; 12],
+    pub y: [f32; 12],
+    pub z: [f32; 12],
+    pub channel: [usize; 12],
+    pub layers: [usize; 12],
+    pub rows: [usize; 12],
+    pub count: usize,
+}
+
+// The hall of the marked speakers at the coordinates x, y and z.
+pub fn hall_of(x: &[f32; 12], y: &[f32; 12], z: &[f32; 12], present: &[bool; 12]) -> Hall
+    requires { ⌜ Table (placeAmong (now x) (now y) (now z)) (speakersOf (now present)) ⌝ }
+    ensures { λ r. ⌜ Sorted (placeAmong (now (x .entry)) (now (y .entry)) (now (z .entry))) (speakersOf (now (present .entry))) r ⌝ }
+{
+    let line = line_of(x, y, z, present);
+    let n = line.count;
+    let channel = line.channel;
+    let bounds = [n; 12];
+    let a = gathered(x, &channel, n);
+    let b = gathered(y, &channel, n);
+    let c = gathered(z, &channel, n);
+    let layers = run_ends(&b, &bounds, n);
+    let rows = run_ends(&c, &layers, n);
+    Hall {
+        x: a,
+        y: b,
+        z: c,
+        channel,
+        layers,
+        rows,
+        count: n,
+    }
 }

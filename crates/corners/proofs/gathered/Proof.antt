@@ -14,10 +14,10 @@ none : {j : ℕ} → j < 0 → ⊥
 none h = omega arith
 
 abbrev Inv-loop : tie.InvT-loop
-Inv-loop c channel r₀ i₀ r i = (i ≤ 12) × (length r ≡ 12) × ((j : ℕ) → j < i → coordinateAt r j ≡ coordinateAt c (indexAt channel j))
+Inv-loop c channel n r₀ i₀ r i = (i ≤ n) × (length r ≡ 12) × ((j : ℕ) → j < i → coordinateAt r j ≡ coordinateAt c (indexAt channel j))
 
 abbrev μ-loop : tie.MeasureT-loop
-μ-loop c channel r₀ i₀ r i = 12 - i
+μ-loop c channel n r₀ i₀ r i = n - i
 
 loop-holds : tie.Need-loop-holds Inv-loop μ-loop
 loop-holds c = (search needs, refl, λ j q. absurd (none q))
@@ -38,6 +38,6 @@ returns c = λ i q. c .before .loop .inv .2 i (omega (arith, c .loop-test .left)
 pub gathered-spec : {M : Type 1} → statement M
 gathered-spec =
     tie.close
-    (tie.spec Inv-loop μ-loop loop-holds (λ c. search needs) (λ c. search needs) (λ c. let h = c .before .before .before .pre (c .before .before .loop .i) in search needs)
-    (λ c. c .before .before .before .pre (c .before .before .loop .i)) (λ c. search needs) (λ c. search needs) (λ c. search needs) (λ c. search needs)
+    (tie.spec Inv-loop μ-loop loop-holds (λ c. search needs) (λ c. search needs) (λ c. let h = c .before .before .before .pre .1 (c .before .before .loop .i) (c .before .loop-test .taken) in search needs)
+    (λ c. c .before .before .before .pre .1 (c .before .before .loop .i) (c .before .loop-test .taken)) (λ c. search needs) (λ c. search needs) (λ c. search needs) (λ c. search needs)
     loop-again returns)

@@ -28,7 +28,7 @@ place-at-requires-2 c κs =
     let l = c .before in
     let s = l .before .before in
     let t = c .loop-test .taken in
-    omega (arith, l .loop .inv .low (l .loop .i - 1) (omega arith), s .pre .2 (l .loop .i - 1))
+    omega (arith, l .loop .inv .low (l .loop .i - 1) (omega arith), s .pre .2 (l .loop .i - 1) (omega (arith, l .loop .inv .most)))
 
 said : (c : tie.After-precedes Inv-loop μ-loop) → let l = c .before .before .before in let a = l .before .before .args in
     c .precedes .result ≡ precedes (placeAmong (a .x .now) (a .y .now) (a .z .now) (a .k)) (placeAmong (a .x .now) (a .y .now) (a .z .now) (indexAt (l .loop .r) (l .loop .i - 1)))
