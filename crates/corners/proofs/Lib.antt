@@ -7,3 +7,4 @@ pub mod Lexical
 pub mod Lined
 pub mod RunEnds
 pub mod Making
+pub mod Walk714

@@ -8,6 +8,8 @@ ghost use Rattle.panning.specs.Choice.{corner, corners};
 ghost use Rattle.vectors.specs.declared.Vec3.{Vec3};
 ghost use Rattle.corners.specs.Walkable.{RowRuns, LayerRuns, Walkable, StandAt, RowAt, LayerAt};
 ghost use Rattle.panning.specs.Table.{Table};
+ghost use Rattle.panning.specs.Found.{chosen};
+ghost use Rattle.panning.specs.Corners714.{cube714};
 ghost use Rattle.corners.specs.Sorted.{Sorted};
 ghost use Rattle.corners.specs.Order.{precedes, placeAmong, isMarked, speakersOf, Inserted, InLine, Gathered, runEnd, RunEnds};
 ghost use Rattle.corners.specs.Runs.{coordinateAt, indexAt, Runs, EndsAt, SidesAt};
@@ -98,13 +100,13 @@ fn layer(
 
 // The eight corners about a place, in the order in which they are mixed: the `count` speakers stand in the order of (y, z, x), and `layers` and `rows` have the ends of the
 // runs of equal y, and of equal y and z.
-pub fn cube(
-    x: &[f32; 12],
-    y: &[f32; 12],
-    z: &[f32; 12],
-    channel: &[usize; 12],
-    layers: &[usize; 12],
-    rows: &[usize; 12],
+pub fn cube<'a>(
+    x: &'a [f32; 12],
+    y: &'a [f32; 12],
+    z: &'a [f32; 12],
+    channel: &'a [usize; 12],
+    layers: &'a [usize; 12],
+    rows: &'a [usize; 12],
     count: usize,
     place: Vec3,
 ) -> [usize; 8]
@@ -310,4 +312,77 @@ pub fn hall_of(x: &[f32; 12], y: &[f32; 12], z: &[f32; 12], present: &[bool; 12]
         rows,
         count: n,
     }
+}
+
+// The corners in the 7.1.4 hall, by sorting and walking: those of `panning`.
+pub fn walk_714(place: Vec3) -> [usize; 8]
+    ensures { λ r. ⌜ r ≡ map (chosen (cube714 place)) corners ⌝ }
+{
+    let x = [
+        -0.70710677f32,
+        0.70710677,
+        0.0,
+        0.0,
+        -0.70710677,
+        0.70710677,
+        -1.0,
+        1.0,
+        -1.0,
+        1.0,
+        -0.70710677,
+        0.70710677,
+    ];
+    let y = [
+        0.0f32,
+        0.0,
+        0.0,
+        0.0,
+        0.0,
+        0.0,
+        0.0,
+        0.0,
+        1.0,
+        1.0,
+        1.0,
+        1.0,
+    ];
+    let z = [
+        1.0f32,
+        1.0,
+        1.0,
+        1.0,
+        -1.0,
+        -1.0,
+        -0.48368952,
+        -0.48368952,
+        0.48368952,
+        0.48368952,
+        -1.0,
+        -1.0,
+    ];
+    let present = [
+        true,
+        true,
+        true,
+        false,
+        true,
+        true,
+        true,
+        true,
+        true,
+        true,
+        true,
+        true,
+    ];
+    let h = hall_of(&x, &y, &z, &present);
+    cube(
+        &h.x,
+        &h.y,
+        &h.z,
+        &h.channel,
+        &h.layers,
+        &h.rows,
+        h.count,
+        place,
+    )
 }
