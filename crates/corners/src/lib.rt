@@ -39,15 +39,15 @@ fn ends(c: &[f32; 12], next: &[usize; 12], a: usize, b: usize, v: f32) -> Neighb
 }
 
 // The two sides of the row from `a` up to `b`; a speaker at `v` itself is both.
-fn sides(c: &[f32; 12], a: usize, b: usize, v: f32) -> Neighbours
-    requires { ⌜ Runs (coordinateAt (now c)) (λ i. i + 1) a b × (a < b) × (b ≤ 12) ⌝ }
-    ensures { λ r. ⌜ SidesAt (coordinateAt (now (c .entry))) a b v r ⌝ }
+fn sides(x: &[f32; 12], a: usize, b: usize, v: f32) -> Neighbours
+    requires { ⌜ Runs (coordinateAt (now x)) (λ i. i + 1) a b × (a < b) × (b ≤ 12) ⌝ }
+    ensures { λ r. ⌜ SidesAt (coordinateAt (now (x .entry))) a b v r ⌝ }
 {
     let mut low = a;
     let mut i = a;
     while i < b {
-        if !(c[i] <= v) {
-            if c[low] == v {
+        if !(x[i] <= v) {
+            if x[low] == v {
                 return Neighbours { low, high: low };
             }
             return Neighbours { low, high: i };
