@@ -56,8 +56,10 @@ module _ {x y z : ℕ → Float} {layers rows : ℕ → ℕ} {n : ℕ} (r : Walk
     where
       bottom : (front right : Bool) → neighbour right (quadRow front b) ≡ first (side right sp p (rowAmong front sp p (choice.layer false sp p l)))
       bottom front right = f .is sp (choice.layer false sp p l) (along-part ch (λ k. sp k .x) (k .from false) (r .layers .inside (e .low) (k .from false) (k .to false)) (s .at-x))
-          (along-part ch (λ k. sp k .z) (k .from false) (r .layers .inside (e .low) (k .from false) (k .to false)) (s .at-z)) (k .is ch (λ k. sp k .y) l (s .at-y) (s .members) false) front right
+          (along-part ch (λ k. sp k .z) (k .from false) (r .layers .inside (e .low) (k .from false) (k .to false)) (s .at-z))
+          (k .is ch (λ k. sp k .y) l (s .at-y) (s .members) false) front right
 
       top : (front right : Bool) → neighbour right (quadRow front t) ≡ first (side right sp p (rowAmong front sp p (choice.layer true sp p l)))
       top front right = g .is sp (choice.layer true sp p l) (along-part ch (λ k. sp k .x) (k .from true) (r .layers .inside (e .high) (k .from true) (k .to true)) (s .at-x))
-          (along-part ch (λ k. sp k .z) (k .from true) (r .layers .inside (e .high) (k .from true) (k .to true)) (s .at-z)) (k .is ch (λ k. sp k .y) l (s .at-y) (s .members) true) front right
+          (along-part ch (λ k. sp k .z) (k .from true) (r .layers .inside (e .high) (k .from true) (k .to true)) (s .at-z))
+          (k .is ch (λ k. sp k .y) l (s .at-y) (s .members) true) front right

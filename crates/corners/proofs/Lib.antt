@@ -8,3 +8,4 @@ pub mod Lined
 pub mod RunEnds
 pub mod Making
 pub mod Walk714
+pub mod Theorems

@@ -137,7 +137,8 @@ module _ {sp : ℕ → Vec3} {here : ℕ → Bool} {k n : ℕ} {was after : ℕ 
   -- those before it come before it
   left-of : (i : ℕ) → i < s .at → T (precedes (sp (was i)) (sp k))
   left-of i q = of-lex (sp (was i)) (sp k) (fine-was i (omega (arith, s .most))) fine-k (elim (less-or-not i last) [
-    | inl h ↦ lex-chain (sp (was i)) (sp (was last)) (sp k) (lex-of (sp (was i)) (sp (was last)) (fine-was i (omega (arith, s .most))) (fine-was last inside) (r .rising i last h inside)) base
+    | inl h ↦ lex-chain (sp (was i)) (sp (was last)) (sp k)
+        (lex-of (sp (was i)) (sp (was last)) (fine-was i (omega (arith, s .most))) (fine-was last inside) (r .rising i last h inside)) base
     | inr h ↦ let e : last ≡ i = omega arith in subst (λ (x : ℕ). Lex (sp (was x)) (sp k)) e base
   ])
     where

@@ -8,14 +8,16 @@ use native.Mathlib.Omega.{arith}
 use lib.ListN.{replicate, getD-replicate}
 use lib.Ieee.{Float}
 use Rattle.vectors.specs.declared.Vec3.{Vec3}
+use Rattle.panning.specs.Choice.{Corner, corner}
 use Rattle.panning.specs.Table.{Table}
 use Rattle.panning.proofs.Lists.{some-of}
+use Rattle.panning.proofs.Corners.{corner-in}
 use Rattle.corners.specs.Runs.{coordinateAt, indexAt}
 use Rattle.corners.specs.Walkable.{Walkable, StandAt}
 use Rattle.corners.specs.Order.{placeAmong, isMarked, speakersOf, InLine, Gathered, RunEnds}
 use Rattle.corners.specs.Sorted.{Sorted}
 use Rattle.corners.proofs.Lexical.{Fine, Lex, lex-of}
-use Rattle.corners.proofs.Lined.{fine-marked, all-lined}
+use Rattle.corners.proofs.Lined.{in-speaker, fine-marked, all-lined}
 use Rattle.corners.proofs.RunEnds.{layer-most, walkable}
 
 module _ (X Y Z : List Float) (p : List Bool) (t : Table (placeAmong X Y Z) (speakersOf p)) (n : ℕ) (ch : List ℕ)
@@ -60,6 +62,10 @@ module _ (X Y Z : List Float) (p : List Bool) (t : Table (placeAmong X Y Z) (spe
       pub made : (rows : List ℕ) → RunEnds (coordinateAt z) (indexAt layers) n (indexAt rows) →
           Sorted (placeAmong X Y Z) (speakersOf p) (record { x = x; y = y; z = z; channel = ch; layers = layers; rows = rows; count = n })
       made rows r = record {
-        walk = walkable (coordinateAt x) (coordinateAt y) (coordinateAt z) (indexAt layers) (indexAt (replicate 12 n)) n bounds-are fine rising l (indexAt rows) r some-there (line .few);
+        walk = walkable (coordinateAt x) (coordinateAt y) (coordinateAt z) (indexAt layers) (indexAt (replicate 12 n)) n bounds-are fine rising l
+            (indexAt rows) r some-there (line .few);
         stand = record { members = all-lined p t line; at-x = λ i o q. gx i q; at-y = λ i o q. gy i q; at-z = λ i o q. gz i q };
       }
+
+pub corner-below : (sp : ℕ → Vec3) (p : List Bool) → Table sp (speakersOf p) → (v : Vec3) (c : Corner) → corner sp (speakersOf p) v c < 12
+corner-below sp p t v c = in-speaker p (corner sp (speakersOf p) v c) (corner-in sp (speakersOf p) t v (c .top) (c .front) (c .right)) .0

@@ -65,7 +65,8 @@ module _ (c : ℕ → Float) (bound e : ℕ → ℕ) (n : ℕ) (fine : (i : ℕ)
           let f = fine (j + 1) nn in
           let g = fine j jn in
           let down = through (c (j + 1)) (c k) (c j) f (fine k kn) (g .fit) (rising (j + 1) k nn ek (lt-of-lt-of-le kb (le-of-eq (sym (same j jn jb))))) u in
-          T-not (eq (c (j + 1)) (c j)) (t jb) (→eq (c (j + 1)) (c j) f g (le-antisymm (le→ (c (j + 1)) (c j) f g down) (le→ (c j) (c (j + 1)) g f (rising j (j + 1) jn (omega arith) jb))))
+          let up = rising j (j + 1) jn (omega arith) jb in
+          T-not (eq (c (j + 1)) (c j)) (t jb) (→eq (c (j + 1)) (c j) f g (le-antisymm (le→ (c (j + 1)) (c j) f g down) (le→ (c j) (c (j + 1)) g f up)))
 
   run-step : (j : ℕ) → j < n → (j + 1 < n → RunAt c bound e (j + 1)) → RunAt c bound e j
   run-step j jn ih = go (ltb (j + 1) (bound j)) (eq (c (j + 1)) (c j)) (ltb→lt (j + 1) (bound j)) (nltb→le (j + 1) (bound j)) (λ t. t) (λ t. t) (r j jn)

@@ -111,7 +111,8 @@ module _ (ch : ℕ → ℕ) (C : ℕ → Float) (a b : ℕ) (l : List ℕ) (h : 
             (→every (λ j. le (C j) (c i)) (keep upTo l) (λ k m. let w = keep→ upTo l m in
             each-member h (λ k. T (le (C k) v) → T (le (C k) (c i)))
             (λ j aj jb t. elim (less-or-not i j) [
-              | inl q ↦ let js = before-s j jb t in through (c j) (c lo) (c i) (fine j aj jb) (fine lo al lob) (fine i ai ib .fit) (run j (le-trans li (le-of-lt q)) js) (rising lo i al li ib)
+              | inl q ↦ let js = before-s j jb t in
+                  through (c j) (c lo) (c i) (fine j aj jb) (fine lo al lob) (fine i ai ib .fit) (run j (le-trans li (le-of-lt q)) js) (rising lo i al li ib)
               | inr q ↦ rising j i aj q ib
             ]) k (w .0) (w .1)))
 

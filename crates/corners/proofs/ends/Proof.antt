@@ -27,7 +27,8 @@ returns c =
     let l = c .before .before .before in
     let s = l .before in
     let w : T (fits binary32 (s .args .v)) = search (needs, s .good) in
-    ends-at w (s .pre .0) (s .pre .1) (l .loop .inv) (λ q. T-not (le (coordinateAt (s .args .c .now) (l .loop .i)) (s .args .v)) (passed (c .if1 .taken))) (inl (c .before .before .loop-test .taken, refl))
+    ends-at w (s .pre .0) (s .pre .1) (l .loop .inv) (λ q. T-not (le (coordinateAt (s .args .c .now) (l .loop .i)) (s .args .v)) (passed (c .if1 .taken)))
+    (inl (c .before .before .loop-test .taken, refl))
 
 loop-less : tie.Need-loop-less Inv-loop μ-loop
 loop-less c =
@@ -41,7 +42,8 @@ loop-again c =
     let l = c .before .before .before .before in
     let s = l .before in
     let w : T (fits binary32 (s .args .v)) = search (needs, s .good) in
-    walk-step w (s .pre .0) (l .loop .inv) (c .before .before .before .loop-test .taken) (passed-not (le (coordinateAt (s .args .c .now) (l .loop .i)) (s .args .v)) (c .before .if1 .left))
+    walk-step w (s .pre .0) (l .loop .inv) (c .before .before .before .loop-test .taken)
+    (passed-not (le (coordinateAt (s .args .c .now) (l .loop .i)) (s .args .v)) (c .before .if1 .left))
 
 returns-2 : tie.Need-returns-2 Inv-loop μ-loop
 returns-2 c =

@@ -29,15 +29,20 @@ loop-again c =
     let v = l .loop .inv in (
       search needs,
       length-set (l .loop .r) _ _ ∙ v .1,
-      filled-more nan (λ j. coordinateAt (a .c .now) (indexAt (a .channel .now) j)) (l .loop .r) (l .loop .i) _ (omega (arith, v .1, c .before .before .loop-test .taken)) (v .2) refl,
+      filled-more nan (λ j. coordinateAt (a .c .now) (indexAt (a .channel .now) j)) (l .loop .r) (l .loop .i) _
+          (omega (arith, v .1, c .before .before .loop-test .taken)) (v .2) refl,
     )
 
 returns : tie.Need-returns Inv-loop μ-loop
 returns c = λ i q. c .before .loop .inv .2 i (omega (arith, c .loop-test .left))
 
+below : (c : tie.In-loop Inv-loop μ-loop) → indexAt (c .before .before .args .channel .now) (c .before .loop .i) < 12
+below c = c .before .before .pre .1 (c .before .loop .i) (c .loop-test .taken)
+
 pub gathered-spec : {M : Type 1} → statement M
 gathered-spec =
     tie.close
-    (tie.spec Inv-loop μ-loop loop-holds (λ c. search needs) (λ c. search needs) (λ c. let h = c .before .before .before .pre .1 (c .before .before .loop .i) (c .before .loop-test .taken) in search needs)
-    (λ c. c .before .before .before .pre .1 (c .before .before .loop .i) (c .before .loop-test .taken)) (λ c. search needs) (λ c. search needs) (λ c. search needs) (λ c. search needs)
-    loop-again returns)
+    (tie.spec Inv-loop μ-loop loop-holds (λ c. search needs) (λ c. search needs)
+    (λ c. let h = below (c .before) in search needs)
+    (λ c. below (c .before))
+    (λ c. search needs) (λ c. search needs) (λ c. search needs) (λ c. search needs) loop-again returns)

@@ -33,21 +33,29 @@ run-ends-requires c κs =
 
 run-ends-requires-2 : tie.Need-run-ends-requires-2
 run-ends-requires-2 c κs =
-    let s = c .before .before .before .before .before .before .before .before .before .before .before .before in
+    let r = c .before .before in
+    let g3 = r .before .before .before in
+    let g2 = g3 .before .before in
+    let g = g2 .before .before in
+    let s = g .before .before .before in
     let a = s .before .args in
     let l = s .line-of .result in (
       s .line-of .ensures .few,
-      layer-below (a .x .now) (a .y .now) (a .z .now) (a .present .now) (s .before .pre) (l .count) (l .channel) (s .line-of .ensures) (c .before .before .before .before .before .before .before .before .before .gathered .result)
-          (c .before .before .before .before .before .before .before .gathered2 .result) (c .before .before .before .before .before .gathered3 .result) (c .before .before .before .before .before .before .before .before .before .gathered .ensures) (c .before .before .before .before .before .before .before .gathered2 .ensures) (c .before .before .before .before .before .gathered3 .ensures) (c .before .before .run-ends .result) (c .before .before .run-ends .ensures),
+      layer-below (a .x .now) (a .y .now) (a .z .now) (a .present .now) (s .before .pre) (l .count) (l .channel) (s .line-of .ensures) (g .gathered .result)
+          (g2 .gathered2 .result) (g3 .gathered3 .result) (g .gathered .ensures) (g2 .gathered2 .ensures) (g3 .gathered3 .ensures) (r .run-ends .result) (r .run-ends .ensures),
     )
 
 returns : tie.Need-returns
 returns c =
-    let s = c .before .before .before .before .before .before .before .before .before .before .before .before .before in
+    let r = c .before .before .before in
+    let g3 = r .before .before .before in
+    let g2 = g3 .before .before in
+    let g = g2 .before .before in
+    let s = g .before .before .before in
     let a = s .before .args in
     let l = s .line-of .result in
-    made (a .x .now) (a .y .now) (a .z .now) (a .present .now) (s .before .pre) (l .count) (l .channel) (s .line-of .ensures) (c .before .before .before .before .before .before .before .before .before .before .gathered .result) (c .before .before .before .before .before .before .before .before .gathered2 .result)
-    (c .before .before .before .before .before .before .gathered3 .result) (c .before .before .before .before .before .before .before .before .before .before .gathered .ensures) (c .before .before .before .before .before .before .before .before .gathered2 .ensures) (c .before .before .before .before .before .before .gathered3 .ensures) (c .before .before .before .run-ends .result) (c .before .before .before .run-ends .ensures) (c .run-ends2 .result)
+    made (a .x .now) (a .y .now) (a .z .now) (a .present .now) (s .before .pre) (l .count) (l .channel) (s .line-of .ensures) (g .gathered .result) (g2 .gathered2 .result)
+    (g3 .gathered3 .result) (g .gathered .ensures) (g2 .gathered2 .ensures) (g3 .gathered3 .ensures) (r .run-ends .result) (r .run-ends .ensures) (c .run-ends2 .result)
     (c .run-ends2 .ensures)
 
 pub hall-of-spec : {M : Type 1} → statement M

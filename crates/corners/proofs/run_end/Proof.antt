@@ -6,10 +6,14 @@ use Rattle.corners.proofs.run_end.Statement.{statement}
 use Rattle.corners.proofs.run_end.Tie as tie
 
 returns : tie.Need-returns
-returns c = let a = c .before .before .before .before .before .before .args in run-on (coordinateAt (a .c .now)) (indexAt (a .bound .now)) (indexAt (a .e .now)) (a .j) (c .before .before .before .before .if1 .taken) (c .before .if2 .taken)
+returns c =
+    let a = c .before .before .before .before .before .before .args in
+    run-on (coordinateAt (a .c .now)) (indexAt (a .bound .now)) (indexAt (a .e .now)) (a .j) (c .before .before .before .before .if1 .taken) (c .before .if2 .taken)
 
 returns-2 : tie.Need-returns-2
-returns-2 c = let a = c .before .before .before .before .before .args in run-apart (coordinateAt (a .c .now)) (indexAt (a .bound .now)) (indexAt (a .e .now)) (a .j) (c .before .before .before .if1 .taken) (c .if2 .left)
+returns-2 c =
+    let a = c .before .before .before .before .before .args in
+    run-apart (coordinateAt (a .c .now)) (indexAt (a .bound .now)) (indexAt (a .e .now)) (a .j) (c .before .before .before .if1 .taken) (c .if2 .left)
 
 returns-3 : tie.Need-returns-3
 returns-3 c = let a = c .before .before .args in run-out (coordinateAt (a .c .now)) (indexAt (a .bound .now)) (indexAt (a .e .now)) (a .j) (c .if1 .left)
