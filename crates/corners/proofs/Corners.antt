@@ -9,8 +9,8 @@ use lib.Ieee.{Float}
 use Rattle.vectors.specs.declared.Vec3.{Vec3}
 use Rattle.panning.specs.Choice.{first, end, flank, rowAmong, side, corner, corners}
 use Rattle.panning.specs.Choice as choice
-use Rattle.corners.specs.declared.Neighbours.{Neighbours}
-use Rattle.corners.specs.declared.Quad.{Quad}
+use Rattle.corners.specs.declared.walk.Neighbours.{Neighbours}
+use Rattle.corners.specs.declared.walk.Quad.{Quad}
 use Rattle.corners.specs.Runs.{Members, Runs, Along, neighbour, EndsAt, SidesAt}
 use Rattle.corners.specs.Walkable.{RowRuns, LayerRuns, Walkable, StandAt, RowAt, quadRow, LayerAt}
 

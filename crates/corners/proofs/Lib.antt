@@ -1,6 +1,6 @@
 pub mod Rising
 pub mod Segments
-pub mod Walk
+pub mod Stops
 pub mod Corners
 pub mod Writes
 pub mod Lexical

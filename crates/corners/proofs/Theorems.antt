@@ -3,7 +3,7 @@
 -- where channels stand in order along an axis, the ends of a list with these members are runs of indexes; the order in the list, and repetition, do not matter
 pub use Rattle.corners.proofs.Segments.{part, or-some, or-none, only-first, below-run, above-run}
 -- a walk over runs that has stopped has found the two ends, or the two sides, of the choice
-pub use Rattle.corners.proofs.Walk.{Walked, walk-start, walk-step, ends-at, level-at, sides-at, row-passed}
+pub use Rattle.corners.proofs.Stops.{Walked, walk-start, walk-step, ends-at, level-at, sides-at, row-passed}
 -- the order by (y, z, x) of finite places can be chained, and two that differ stand in it one way round
 pub use Rattle.corners.proofs.Lexical.{Fine, Lex, lex-of, of-lex, lex-chain, other-way}
 -- the marked channels, and what a table says of each

@@ -13,7 +13,7 @@ use Rattle.panning.specs.Speakers.{positions714, hall714, fullRange}
 use Rattle.panning.specs.Found.{chosen}
 use Rattle.panning.specs.Corners714.{cube714}
 use Rattle.panning.proofs.Theorems.{chosen-is, hall714-table}
-use Rattle.corners.specs.declared.Hall.{Hall}
+use Rattle.corners.specs.declared.sort.Hall.{Hall}
 use Rattle.corners.specs.Runs.{coordinateAt, indexAt}
 use Rattle.corners.specs.Walkable.{StandAt}
 use Rattle.corners.specs.Order.{placeAmong, speakersOf}

@@ -10,7 +10,7 @@ use lib.ListN.{getD}
 use lib.Ieee.{Float, nan, le}
 use Rattle.ieee.specs.Units.{F32}
 use Rattle.panning.specs.Choice.{first, end, flank}
-use Rattle.corners.specs.declared.Neighbours.{Neighbours}
+use Rattle.corners.specs.declared.walk.Neighbours.{Neighbours}
 
 -- what stands in an array
 abbrev pub coordinateAt : List Float → ℕ → Float

@@ -7,8 +7,8 @@ use mathlib.Core.List.{List}
 use lib.Ieee.{Float}
 use Rattle.vectors.specs.declared.Vec3.{Vec3}
 use Rattle.panning.specs.Choice.{first, flank, rowAmong, side}
-use Rattle.corners.specs.declared.Neighbours.{Neighbours}
-use Rattle.corners.specs.declared.Quad.{Quad}
+use Rattle.corners.specs.declared.walk.Neighbours.{Neighbours}
+use Rattle.corners.specs.declared.walk.Quad.{Quad}
 use Rattle.corners.specs.Runs.{Members, Runs, Along, neighbour}
 
 -- the row at a

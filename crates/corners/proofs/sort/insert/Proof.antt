@@ -1,4 +1,4 @@
--- `corners::insert` meets its contract: the channels that come after k move up one by one. Assumes nothing.
+-- `corners::sort::insert` meets its contract: the channels that come after k move up one by one. Assumes nothing.
 use Prim.Native.Nat.{ℕ, _≤_, _<_, _-_}
 use native.Mathlib.Omega.{arith}
 use borrow.Author.Needs.{needs}
@@ -8,8 +8,8 @@ use Rattle.corners.specs.Runs.{indexAt}
 use Rattle.corners.specs.Order.{placeAmong, precedes}
 use Rattle.corners.proofs.Rising.{passed-not}
 use Rattle.corners.proofs.Writes.{Shifted, unshifted, shift-on, put-in, not-before}
-use Rattle.corners.proofs.insert.Statement.{statement}
-use Rattle.corners.proofs.insert.Tie as tie
+use Rattle.corners.proofs.sort.insert.Statement.{statement}
+use Rattle.corners.proofs.sort.insert.Tie as tie
 
 abbrev Inv-loop : tie.InvT-loop
 Inv-loop x y z n k place r₀ i₀ r i = Shifted (placeAmong x y z) r₀ n k i r

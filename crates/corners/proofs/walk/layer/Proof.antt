@@ -1,9 +1,9 @@
--- `corners::layer` meets its contract. Assumes nothing.
+-- `corners::walk::layer` meets its contract. Assumes nothing.
 use borrow.Author.Needs.{needs}
 use mathlib.Core.Bool.{true, false}
 use Rattle.corners.proofs.Corners.{row-runs, layer-at}
-use Rattle.corners.proofs.layer.Statement.{statement}
-use Rattle.corners.proofs.layer.Tie as tie
+use Rattle.corners.proofs.walk.layer.Statement.{statement}
+use Rattle.corners.proofs.walk.layer.Tie as tie
 
 row-requires : tie.Need-row-requires
 row-requires c κs = let e = c .ends .ensures in row-runs (c .before .before .pre) _ (e .from true) (e .to true)

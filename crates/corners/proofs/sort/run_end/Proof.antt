@@ -1,9 +1,9 @@
--- `corners::run_end` meets its contract, by its tests. Assumes nothing.
+-- `corners::sort::run_end` meets its contract, by its tests. Assumes nothing.
 use borrow.Author.Needs.{needs}
 use Rattle.corners.specs.Runs.{coordinateAt, indexAt}
 use Rattle.corners.proofs.Writes.{run-on, run-apart, run-out}
-use Rattle.corners.proofs.run_end.Statement.{statement}
-use Rattle.corners.proofs.run_end.Tie as tie
+use Rattle.corners.proofs.sort.run_end.Statement.{statement}
+use Rattle.corners.proofs.sort.run_end.Tie as tie
 
 returns : tie.Need-returns
 returns c =

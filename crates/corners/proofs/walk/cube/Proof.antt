@@ -1,9 +1,9 @@
--- `corners::cube` meets its contract. Assumes nothing.
+-- `corners::walk::cube` meets its contract. Assumes nothing.
 use borrow.Author.Needs.{needs}
 use mathlib.Core.Bool.{true, false}
 use Rattle.corners.proofs.Corners.{layer-runs, cube-is}
-use Rattle.corners.proofs.cube.Statement.{statement}
-use Rattle.corners.proofs.cube.Tie as tie
+use Rattle.corners.proofs.walk.cube.Statement.{statement}
+use Rattle.corners.proofs.walk.cube.Tie as tie
 
 layer-requires : tie.Need-layer-requires
 layer-requires c κs = let e = c .ends .ensures in layer-runs (c .before .pre) _ (e .from false) (e .to false)

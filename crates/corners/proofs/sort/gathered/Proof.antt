@@ -1,4 +1,4 @@
--- `corners::gathered` meets its contract. Assumes nothing.
+-- `corners::sort::gathered` meets its contract. Assumes nothing.
 use mathlib.Core.Path.{_≡_, refl, _∙_}
 use Prim.Native.Nat.{ℕ, _≤_, _<_, _-_}
 use native.Mathlib.Omega.{arith}
@@ -7,8 +7,8 @@ use lib.Ieee.{nan}
 use borrow.Author.Needs.{needs}
 use Rattle.corners.specs.Runs.{coordinateAt, indexAt}
 use Rattle.corners.proofs.Writes.{filled-more}
-use Rattle.corners.proofs.gathered.Statement.{statement}
-use Rattle.corners.proofs.gathered.Tie as tie
+use Rattle.corners.proofs.sort.gathered.Statement.{statement}
+use Rattle.corners.proofs.sort.gathered.Tie as tie
 
 none : {j : ℕ} → j < 0 → ⊥
 none h = omega arith

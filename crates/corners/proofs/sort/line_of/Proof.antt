@@ -1,4 +1,4 @@
--- `corners::line_of` meets its contract. Assumes nothing.
+-- `corners::sort::line_of` meets its contract. Assumes nothing.
 use Prim.Native.Nat.{ℕ, _≤_, _-_}
 use native.Mathlib.Omega.{arith}
 use borrow.Author.Needs.{needs}
@@ -7,8 +7,8 @@ use native.Mathlib.Nat.{le-antisymm}
 use Rattle.corners.specs.Runs.{indexAt}
 use Rattle.corners.specs.Order.{placeAmong, isMarked, InLine}
 use Rattle.corners.proofs.Lined.{line-start}
-use Rattle.corners.proofs.line_of.Statement.{statement}
-use Rattle.corners.proofs.line_of.Tie as tie
+use Rattle.corners.proofs.sort.line_of.Statement.{statement}
+use Rattle.corners.proofs.sort.line_of.Tie as tie
 
 abbrev Inv-loop : tie.InvT-loop
 Inv-loop x y z present line₀ k₀ line k = (k ≤ 12) × InLine (placeAmong x y z) (isMarked present) k (line .count) (indexAt (line .channel))

@@ -1,4 +1,4 @@
--- `corners::run_ends` meets its contract. Assumes nothing.
+-- `corners::sort::run_ends` meets its contract. Assumes nothing.
 use mathlib.Core.Path.{_≡_, refl, _∙_}
 use Prim.Native.Nat.{ℕ, _≤_, _<_, _-_}
 use native.Mathlib.Omega.{arith}
@@ -7,8 +7,8 @@ use borrow.Author.Needs.{needs}
 use Rattle.corners.specs.Runs.{coordinateAt, indexAt}
 use Rattle.corners.specs.Order.{runEnd}
 use Rattle.corners.proofs.Writes.{ends-more}
-use Rattle.corners.proofs.run_ends.Statement.{statement}
-use Rattle.corners.proofs.run_ends.Tie as tie
+use Rattle.corners.proofs.sort.run_ends.Statement.{statement}
+use Rattle.corners.proofs.sort.run_ends.Tie as tie
 
 abbrev Inv-loop : tie.InvT-loop
 Inv-loop c bound n e₀ j₀ e j = (j ≤ n) × (length e ≡ 12) × ((i : ℕ) → j ≤ i → i < n → indexAt e i ≡ runEnd (coordinateAt c) (indexAt bound) (indexAt e) i)

@@ -1,4 +1,4 @@
--- `corners::ends` meets its contract: at each run the walk has found what is up to v. Assumes nothing.
+-- `corners::walk::ends` meets its contract: at each run the walk has found what is up to v. Assumes nothing.
 use Prim.Native.Nat.{_≤_, _<_, _-_}
 use native.Mathlib.Nat.{le-antisymm}
 use native.Mathlib.Omega.{arith}
@@ -9,9 +9,9 @@ use lib.Ieee.{binary32, fits, le}
 use borrow.Author.Needs.{needs}
 use Rattle.corners.specs.Runs.{coordinateAt, indexAt}
 use Rattle.corners.proofs.Rising.{passed, passed-not}
-use Rattle.corners.proofs.Walk.{Walked, walk-start, walk-step, ends-at}
-use Rattle.corners.proofs.ends.Statement.{statement}
-use Rattle.corners.proofs.ends.Tie as tie
+use Rattle.corners.proofs.Stops.{Walked, walk-start, walk-step, ends-at}
+use Rattle.corners.proofs.walk.ends.Statement.{statement}
+use Rattle.corners.proofs.walk.ends.Tie as tie
 
 abbrev Inv-loop : tie.InvT-loop
 Inv-loop c next a b v low₀ i₀ low i = Walked (coordinateAt c) (indexAt next) a b v low i

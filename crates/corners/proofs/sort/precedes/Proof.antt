@@ -1,7 +1,7 @@
--- `corners::precedes` meets its contract, by its tests. Assumes nothing.
+-- `corners::sort::precedes` meets its contract, by its tests. Assumes nothing.
 use Rattle.corners.proofs.Writes.{by-x, by-z, by-y}
-use Rattle.corners.proofs.precedes.Statement.{statement}
-use Rattle.corners.proofs.precedes.Tie as tie
+use Rattle.corners.proofs.sort.precedes.Statement.{statement}
+use Rattle.corners.proofs.sort.precedes.Tie as tie
 
 returns : tie.Need-returns
 returns c = by-x _ _ (c .before .before .before .before .before .if1 .taken) (c .before .before .if2 .taken)

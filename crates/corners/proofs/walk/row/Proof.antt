@@ -1,12 +1,12 @@
--- `corners::row` meets its contract. Assumes nothing.
+-- `corners::walk::row` meets its contract. Assumes nothing.
 use borrow.Author.Needs.{needs}
 use Prim.Native.Nat.{_<_}
 use native.Mathlib.Omega.{arith}
 use mathlib.Core.Bool.{true, false}
 use Rattle.corners.specs.Runs.{indexAt}
 use Rattle.corners.proofs.Corners.{row-at}
-use Rattle.corners.proofs.row.Statement.{statement}
-use Rattle.corners.proofs.row.Tie as tie
+use Rattle.corners.proofs.walk.row.Statement.{statement}
+use Rattle.corners.proofs.walk.row.Tie as tie
 
 low-below : (c : tie.After-sides) → c .sides .result .low < 12
 low-below c = omega (arith, c .sides .ensures .to false, c .before .before .pre .few)

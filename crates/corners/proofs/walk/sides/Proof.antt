@@ -1,4 +1,4 @@
--- `corners::sides` meets its contract: the walk over runs of one speaker. Assumes nothing.
+-- `corners::walk::sides` meets its contract: the walk over runs of one speaker. Assumes nothing.
 use Prim.Native.Nat.{_+_, _≤_, _<_, _-_}
 use native.Mathlib.Nat.{le-antisymm}
 use native.Mathlib.Omega.{arith}
@@ -9,9 +9,9 @@ use lib.Ieee.{binary32, fits, le}
 use borrow.Author.Needs.{needs}
 use Rattle.corners.specs.Runs.{coordinateAt}
 use Rattle.corners.proofs.Rising.{passed, passed-not, failed}
-use Rattle.corners.proofs.Walk.{Walked, walk-start, walk-step, low-inside, level-at, sides-at, row-passed}
-use Rattle.corners.proofs.sides.Statement.{statement}
-use Rattle.corners.proofs.sides.Tie as tie
+use Rattle.corners.proofs.Stops.{Walked, walk-start, walk-step, low-inside, level-at, sides-at, row-passed}
+use Rattle.corners.proofs.walk.sides.Statement.{statement}
+use Rattle.corners.proofs.walk.sides.Tie as tie
 
 abbrev Inv-loop : tie.InvT-loop
 Inv-loop x a b v low₀ i₀ low i = Walked (coordinateAt x) (λ i. i + 1) a b v low i

@@ -1,12 +1,12 @@
--- `corners::hall_of` meets its contract. Assumes nothing.
+-- `corners::sort::hall_of` meets its contract. Assumes nothing.
 use borrow.Author.Needs.{needs}
 use Prim.Native.Nat.{ℕ, _≤_, _<_}
 use native.Mathlib.Nat.{le-trans, le-of-eq, lt-of-lt-of-le}
 use lib.ListN.{getD-replicate}
 use Rattle.corners.specs.Runs.{indexAt}
 use Rattle.corners.proofs.Making.{channel-below, layer-below, made}
-use Rattle.corners.proofs.hall_of.Statement.{statement}
-use Rattle.corners.proofs.hall_of.Tie as tie
+use Rattle.corners.proofs.sort.hall_of.Statement.{statement}
+use Rattle.corners.proofs.sort.hall_of.Tie as tie
 
 -- what the sorted channels answer to a call
 below : (c : tie.After-line-of) → (c .line-of .result .count ≤ 12) × ((i : ℕ) → i < c .line-of .result .count → indexAt (c .line-of .result .channel) i < 12)

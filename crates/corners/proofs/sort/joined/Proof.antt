@@ -1,11 +1,11 @@
--- `corners::joined` meets its contract. Assumes nothing.
+-- `corners::sort::joined` meets its contract. Assumes nothing.
 use borrow.Author.Needs.{needs}
 use native.Mathlib.Omega.{arith}
 use Rattle.corners.specs.Order.{isMarked}
 use Rattle.corners.proofs.Rising.{passed, passed-not}
 use Rattle.corners.proofs.Lined.{line-past, line-in, fine-marked, away-marked}
-use Rattle.corners.proofs.joined.Statement.{statement}
-use Rattle.corners.proofs.joined.Tie as tie
+use Rattle.corners.proofs.sort.joined.Statement.{statement}
+use Rattle.corners.proofs.sort.joined.Tie as tie
 
 returns : tie.Need-returns
 returns c = line-past (c .before .before .pre .0) (passed (c .if1 .taken))
