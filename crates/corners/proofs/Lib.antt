@@ -8,4 +8,5 @@ pub mod Lined
 pub mod RunEnds
 pub mod Making
 pub mod Walk714
+pub mod Parts
 pub mod Theorems
