@@ -1,4 +1,4 @@
--- The order in which the speakers are sorted, by (y, z, x), and what the functions that sort them answer. Assumes nothing.
+-- The order in which the speakers are sorted, by (y, z, x), and which they are. A reader may skip the rest: the contracts of the functions that sort them. Assumes nothing.
 use Prim.Native.Nat.{ℕ, _+_, _≤_, _<_}
 use mathlib.Core.Path.{_≡_}
 use mathlib.Core.Bool.{Bool, true, false, not, _&&_, cond}
@@ -25,6 +25,8 @@ isMarked present k = getD present k false
 unfoldable pub speakersOf : List Bool → List ℕ
 unfolding keep
 speakersOf present = keep (isMarked present) (0 ∷ 1 ∷ 2 ∷ 3 ∷ 4 ∷ 5 ∷ 6 ∷ 7 ∷ 8 ∷ 9 ∷ 10 ∷ 11 ∷ [])
+
+-- ---- contracts
 
 -- channel k is put among the first n channels at the index `at`: those from there on come after it and move up by one
 pub record Inserted (sp : ℕ → Vec3) (before : ℕ → ℕ) (n k : ℕ) (after : ℕ → ℕ) : Type 0 where

@@ -28,11 +28,14 @@ pub record Members (channel : ℕ → ℕ) (a b : ℕ) (l : List ℕ) : Type 0 w
 pub record Runs (c : ℕ → Float) (e : ℕ → ℕ) (a b : ℕ) : Type 0 where
   pub fine : (i : ℕ) → a ≤ i → i < b → F32 (c i)
   pub rising : (i j : ℕ) → a ≤ i → i ≤ j → j < b → T (le (c i) (c j))
+  -- a run ends after its speaker, and not after b
   pub further : (i : ℕ) → a ≤ i → i < b → i < e i
   pub inside : (i : ℕ) → a ≤ i → i < b → e i ≤ b
+  -- up to its end the coordinates do not rise, so they are equal; from there on they are greater
   pub equal : (i j : ℕ) → a ≤ i → i ≤ j → j < e i → i < b → T (le (c j) (c i))
   pub beyond : (i j : ℕ) → a ≤ i → e i ≤ j → i < b → j < b → T (le (c j) (c i)) → ⊥
 
+-- the low one (false) and the high one (true)
 abbrev pub neighbour : Bool → Neighbours → ℕ
 neighbour false r = r .low
 neighbour true r = r .high
@@ -48,7 +51,7 @@ pub record EndsAt (c : ℕ → Float) (e : ℕ → ℕ) (a b : ℕ) (v : Float) 
   pub is : (channel : ℕ → ℕ) (C : ℕ → Float) (l : List ℕ) → Along c a b channel C → Members channel a b l → (high : Bool) →
       Members channel (neighbour high r) (e (neighbour high r)) (end high C v l)
 
--- r is where the two sides of a row are
+-- r is where the two sides of a row are: for any channels at the coordinates c, the channel there is the side of the choice
 pub record SidesAt (c : ℕ → Float) (a b : ℕ) (v : Float) (r : Neighbours) : Type 0 where
   pub from : (right : Bool) → a ≤ neighbour right r
   pub to : (right : Bool) → neighbour right r < b

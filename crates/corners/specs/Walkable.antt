@@ -1,5 +1,5 @@
--- The speakers of a hall in the order of (y, z, x): what the arrays must be for a walk over them, and what it finds there. The contracts of `row`, `layer` and `cube`.
--- Assumes nothing.
+-- The speakers of a hall in the order of (y, z, x): what the arrays must be for a walk over them (`Walkable`), and who stands in them (`StandAt`). A reader may skip the rest:
+-- the contracts of `row` and `layer`. Assumes nothing.
 use Prim.Native.Nat.{ℕ, _+_, _≤_, _<_}
 use mathlib.Core.Path.{_≡_}
 use mathlib.Core.Bool.{Bool, true, false}
