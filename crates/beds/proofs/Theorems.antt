@@ -6,5 +6,7 @@ pub use Rattle.beds.proofs.Matches.{Judged, judged}
 pub use Rattle.beds.proofs.Matches.{counted-none}
 -- a direct channel is one of the twelve, and not the bass channel
 pub use Rattle.beds.proofs.Channels.{direct-channel}
+-- a hall that has all twelve channels routes each bed as document 01 does
+pub use Rattle.beds.proofs.Channels.{route-all-here}
 -- what holds at each number of a range, shown one by one
 pub use Rattle.beds.proofs.Range.{Each, between}

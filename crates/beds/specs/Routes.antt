@@ -1,6 +1,6 @@
 -- How each bed is put out. Assumes nothing.
 use Prim.Native.Nat.{ℕ}
-use mathlib.Core.Bool.{false}
+use mathlib.Core.Bool.{Bool, false, cond}
 use mathlib.Core.List.{List, [], _∷_}
 use lib.ListN.{getD}
 use lib.Ieee.{Float, binary32, mul, round}
@@ -34,6 +34,16 @@ routes =
 -- a code above 17 is no bed
 unfoldable pub routeOf : ℕ → Route
 routeOf code = getD routes code Unsupported
+
+-- Document 02, R-5: "A bed whose speaker is absent is panned": `here k` says whether the hall has channel k
+abbrev pub foldedUnless : (ℕ → Bool) → Route → Route
+foldedUnless here Bass = Bass
+foldedUnless here Folded = Folded
+foldedUnless here (Direct k) = cond (here k) (Direct k) Folded
+foldedUnless here Unsupported = Unsupported
+
+unfoldable pub routeIn : (ℕ → Bool) → ℕ → Route
+routeIn here code = foldedUnless here (routeOf code)
 
 -- gain × 0.31622776
 abbrev pub bassGain : Float → Float

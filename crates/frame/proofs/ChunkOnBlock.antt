@@ -77,6 +77,7 @@ module _ (f : Frame Sent) (t k : ℕ) (s : Renderer714) (b : List ℕ) where
         rw e
         (ap
         (λ (w : Channels). record {
+          setup = settled .setup;
           rate = settled .rate;
           clock = settled .clock;
           limiter = record { gain = gainAfter 64 (s .rate) (s .limiter .gain) w };

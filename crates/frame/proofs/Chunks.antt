@@ -53,26 +53,27 @@ module _ (L : Leaves) where
 
   -- a sample whose updates and slot are done, and n more
   abbrev follow : Frame (L .Update) → ℕ → ℕ → State L → After L
-  follow f n t r = let a = passed L (moment L f t (r .meta)) r in both a (framed L f n (suc t) (a .next))
+  follow f n t r = let a = passed L (moment L f t (r .setup) (r .meta)) r in both a (framed L f n (suc t) (a .next))
 
   -- in the middle of a chunk; the clock may be at rest
   abbrev middle : Bool → Frame (L .Update) → ℕ → State L → State L
   middle run f t r =
       record {
+        setup = r .setup;
         rate = r .rate;
         clock = record { position = r .clock .position + 1; phase = cond run (r .clock .phase + 1) (r .clock .phase); start = r .clock .start };
         limiter = r .limiter;
-        filter = next (r .filter) (fed (moment L f t (r .meta)));
+        filter = next (r .filter) (fed (moment L f t (r .setup) (r .meta)));
         meta = r .meta;
-        pending = appended 1 (row (moment L f t (r .meta)) (r .filter)) (r .pending);
+        pending = appended 1 (row (moment L f t (r .setup) (r .meta)) (r .filter)) (r .pending);
       }
 
   -- what its first sample leaves
   abbrev opening : Bool → Frame (L .Update) → ℕ → State L → After L
-  opening run f t r = record { next = middle run f t r; given = none; meters = []; moments = moment L f t (r .meta) ∷ [] }
+  opening run f t r = record { next = middle run f t r; given = none; meters = []; moments = moment L f t (r .setup) (r .meta) ∷ [] }
 
   module _ (f : Frame (L .Update)) (t : ℕ) (r : State L) (room : r .pending .count + 1 < 64) where
-    middle-is : (run : Bool) → started L (r .meta) ≡ run → (run ≡ true → r .clock .phase + 1 < 64) → passed L (moment L f t (r .meta)) r ≡ opening run f t r
+    middle-is : (run : Bool) → started L (r .meta) ≡ run → (run ≡ true → r .clock .phase + 1 < 64) → passed L (moment L f t (r .setup) (r .meta)) r ≡ opening run f t r
     middle-is true e h = rw (lt-leb 64 (r .pending .count + 1) room, e, lt-leb 64 (r .clock .phase + 1) (h refl)) refl
     middle-is false e h = rw (lt-leb 64 (r .pending .count + 1) room, e) refl
 
@@ -88,10 +89,11 @@ module _ (L : Leaves) where
   -- what a chunk of n samples leaves: whether the clock runs, the position and the phase after it, the phase where it rests, the number pending, the places
   abbrev shut : Frame (L .Update) → ℕ → ℕ → State L → Bool → ℕ → ℕ → ℕ → ℕ → Places → After L
   shut f n t r run position phase rest pending places =
-      let m : ℕ → Moment = λ t. moment L f t (r .meta) in
+      let m : ℕ → Moment = λ t. moment L f t (r .setup) (r .meta) in
       let end = leb 64 phase in
       closing L
       (record {
+        setup = r .setup;
         rate = r .rate;
         clock = record { position = position; phase = cond run (cond end 0 phase) rest; start = cond (run && end) (r .clock .start + 64) (r .clock .start) };
         limiter = r .limiter;
@@ -112,7 +114,7 @@ module _ (L : Leaves) where
       ∙ (λ i. shut f (suc (suc n)) t r (sym go i) (r .clock .position + suc (suc n)) (r .clock .phase + suc (suc n)) (r .clock .phase) (r .pending .count + suc (suc n)) after)
     where
       m : ℕ → Moment
-      m t = moment L f t (r .meta)
+      m t = moment L f t (r .setup) (r .meta)
 
       past : (a : ℕ) → a + 1 + suc n ≡ a + suc (suc n)
       past a = omega arith
@@ -141,7 +143,7 @@ module _ (L : Leaves) where
       ∙ (λ i. closing L (settled L 1 (next (r .filter) (fed (m t))) (λ c. sym (append-nil (row (m t) (r .filter) c)) i) r) (m t ∷ []))
     where
       m : ℕ → Moment
-      m t = moment L f t (r .meta)
+      m t = moment L f t (r .setup) (r .meta)
 
   -- no update falls on the n samples after t
   abbrev pub Quiet : Frame (L .Update) → ℕ → ℕ → Type 0

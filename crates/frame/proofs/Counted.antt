@@ -71,7 +71,7 @@ module _ (L : Leaves) where
       s = slotted L (updated L t (f .updates) r)
 
       m : Moment
-      m = moment L f t (s .meta)
+      m = moment L f t (s .setup) (s .meta)
 
       same : s .pending .count ≡ r .pending .count
       same = ap (λ (p : Pending). p .count) (untouched L t (f .updates) r .pending)

@@ -61,6 +61,7 @@ module _ (L : Leaves) where
   abbrev pub replaced : Places → State L → State L
   replaced q r =
       record {
+        setup = r .setup;
         rate = r .rate;
         clock = r .clock;
         limiter = r .limiter;
@@ -89,6 +90,7 @@ module _ (L : Leaves) where
     closes p =
         closing L
         (record {
+          setup = s .setup;
           rate = s .rate;
           clock = ticked (started L (s .meta)) 1 (s .clock);
           limiter = s .limiter;
@@ -132,10 +134,10 @@ module _ (L : Leaves) where
         let s = slotted L (updated L t (f .updates) r) in
         let u : s .pending ≡ r .pending = untouched L t (f .updates) r .pending in
         let n : s .pending .count ≡ r .pending .count = ap (λ (p : Pending). p .count) u in
-        let k = moment L f t (s .meta) in
+        let k = moment L f t (s .setup) (s .meta) in
         let b : Agree (s .pending .count) (s .pending .places) q = subst (λ (p : Pending). Agree (p .count) (p .places) q) (sym u) a in
         let e : sampled L f t (replaced q r) ≡ passed L k (replaced q s) =
-        ap (λ (x : State L). passed L (moment L f t (x .meta)) x) (ap (slotted L) (updated-replaced q t (f .updates) r)) in
+        ap (λ (x : State L). passed L (moment L f t (x .setup) (x .meta)) x) (ap (slotted L) (updated-replaced q t (f .updates) r)) in
         go (framed-replaced m (suc t)) (leb 64 (s .pending .count + 1)) s refl k b e refl (omega arith) (omega arith)
       where
         go : ((x : State L) (p : Places) → Agree (x .pending .count) (x .pending .places) p → x .pending .count < 64 → 64 ≤ x .pending .count + m

@@ -301,6 +301,7 @@ module _ {b : List ℕ} {a : Args} {l : Layout} {t : ℕ} {w : Rendering} {state
             (ap (λ (is : List ℕ). assembled (r .renderer) is (placesOf state′)) i)
             (swapped hall block facts (decode b) a (placesOf state′) (t + n) (held (r .renderer) c) (r .ready) (r .meters) o (x .going) z m
             (record {
+              setup = g .setup;
               rate = g .rate;
               position = g .position;
               phase = g .phase;

@@ -15,5 +15,5 @@ module _ (L : Leaves) where
   -- what the n samples from t on leave and give out, once the updates at t are applied and the slot has started: `sampled` of the rules, n times
   unfoldable pub chunk : Frame (L .Update) → ℕ → ℕ → State L → After L
   chunk f n t r =
-      let m : ℕ → Moment = λ t. moment L f t (r .meta) in
+      let m : ℕ → Moment = λ t. moment L f t (r .setup) (r .meta) in
       closing L (settled L n (filterAfter m (r .filter) t n) (λ c. rowRun m (r .filter) c t n) r) (moments m t n)

@@ -77,6 +77,7 @@ module _ (out : List ℕ) (stride : ℕ) (b : List ℕ) (v : valid b ≡ true) w
 -- ---- reset
 
 pub resets : (b : List ℕ) → eqb (length b) size ≡ true → made hall block reset b ≡ record { answer = cleared; state = encode freshRenderer; out = [] }
+unfolding decode
 resets b e = taken reset b _ e refl
 
 -- ---- R-1: "7 never occurs again"

@@ -4,7 +4,7 @@ use mathlib.Core.Path.{_≡_}
 use mathlib.Core.Bool.{true}
 use mathlib.Core.List.{List, [], _∷_}
 use lib.ListN.{length}
-use Rattle.rules.specs.Samples.{fresh}
+use Rattle.rules.specs.Samples.{builtIn, fresh}
 use Rattle.rules.specs.Calls.{Call}
 use Rattle.rules.specs.BlockCalls.{made, finalOn}
 use Rattle.theorem.specs.Instance.{hall, block}
@@ -29,7 +29,7 @@ outOn (x ∷ xs) b o = let c = callOf (x .rec) (x .body) o in outOn xs (made hal
 
 -- the block of a renderer to which nothing was said
 unfoldable pub newBlock : List ℕ
-newBlock = block .encode (fresh hall)
+newBlock = block .encode (fresh hall builtIn)
 
 -- a run of the program on the block b and the output o: calls of records as laid out, and no other change
 pub record Ran (b o state out : List ℕ) : Type 0 where

@@ -13,5 +13,6 @@ pub mod Audible
 pub mod Roots
 pub mod Facts
 pub mod Speakers
+pub mod Setup
 pub mod Shared
 pub mod Theorems

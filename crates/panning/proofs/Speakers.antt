@@ -3,18 +3,15 @@ use mathlib.Core.Bool.{Bool, true, false, not, _&&_, cond}
 use mathlib.Core.List.{List, [], _∷_}
 use Prim.Native.Nat.{ℕ}
 use lib.Dec.{T, eqb}
-use mathlib.Core.Path.{_≡_}
-use lib.Ieee.{Float, fits, lt, le, eq}
+use lib.Ieee.{fits, lt, le, eq}
 use lib.Ieee.Fits.{and-i, and-l, and-r}
 use Rattle.vectors.specs.declared.Vec3.{Vec3}
 use Rattle.panning.specs.Choice.{keep, everyOf}
 use Rattle.panning.specs.Table.{Table, Position, between, placedInside, alike, distinct, occupied}
-use Rattle.panning.specs.Speakers.{positions714, hall714, fullRange, 12·0, terms714}
-use Rattle.panning.specs.Terms.{onChannel}
+use Rattle.panning.specs.Speakers.{positions714, hall714, fullRange, 12·0}
 use Rattle.panning.specs.Facts.{Pans}
 use Rattle.panning.proofs.Lists.{keep→, every→, →every}
 use Rattle.panning.proofs.Facts.{pans}
-use Rattle.panning.proofs.Audible.{absent-none, absent-of}
 
 pub hall714-table : Table hall714 fullRange
 unfolding positions714 hall714 everyOf distinct between fits lt le eq
@@ -23,11 +20,6 @@ hall714-table = record { some = tt; placed = tt; distinct = tt }
 pub pans714 : (p : Vec3) → Position p → Pans hall714 fullRange 12·0 p
 unfolding fits lt le eq
 pans714 p q = pans hall714 fullRange hall714-table p q 12·0 (record { fine = tt; fit = tt }) tt
-
--- panning puts nothing into the bass channel
-pub no-bass : (p : Vec3) → Position p → (g s : Float) → onChannel 3 (terms714 p g s) ≡ []
-unfolding everyOf
-no-bass p q g s = absent-none 3 (terms714 p g s) (absent-of 3 (terms714 p g s) (λ t m. every→ (λ k. not (eqb 3 k)) fullRange tt (t .channel) (pans714 p q .named g s t m)))
 
 -- ---- halls with fewer speakers
 module _ (sp : ℕ → Vec3) (f : ℕ → Bool) where

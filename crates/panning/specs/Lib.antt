@@ -3,6 +3,7 @@ pub mod Terms
 pub mod Coefficients
 pub mod Table
 pub mod Speakers
+pub mod Setup
 pub mod Corners714
 pub mod Found
 pub mod Facts

@@ -14,10 +14,12 @@ use Rattle.beds.specs.BedTerms.{routed, bedAdds}
 use Rattle.beds.specs.Matching.{matching}
 use Rattle.beds.proofs.Matches.{Judged, judged}
 use Rattle.panning.specs.Terms.{Term, onChannel}
-use Rattle.panning.specs.Speakers.{pan714}
+use Rattle.panning.specs.Setup.{builtIn, panIn}
+use Rattle.panning.proofs.Theorems.{pan-built-in}
 use Rattle.rules.specs.Parts.{0·0}
 use Rattle.rules.specs.Leaves.{Bed}
 use Rattle.rules.specs.Mix.{addsOf}
+use Rattle.rules.proofs.Theorems.{route-built-in}
 use Rattle.render.specs.MixedRows.{mixedTerms}
 use Rattle.render.specs.declared.Span.{Span}
 use Rattle.render.specs.Run.{bedWith}
@@ -37,13 +39,13 @@ by-found pcm s ts os e p = p ∙ ap (λ (g : Found). mixedFound pcm s ts g os) (
 pub found-inside : (code : ℕ) (codes : List ℕ) {i : ℕ} → matching code codes ≡ At i → i < length codes
 found-inside code codes e = subst (Judged code codes) e (judged code codes) .0
 
--- on each channel a bed's terms have the coefficients that the rules add
-pub bed-adds : (b : Bed) (c : ℕ) → onChannel c (bedTerms b) ≡ addsOf b c
+-- on each channel a bed's terms have the coefficients that the rules add in the built-in hall
+pub bed-adds : (b : Bed) (c : ℕ) → onChannel c (bedTerms b) ≡ addsOf builtIn b c
 unfolding bedAdds routeTerms onChannel
-bed-adds b c = go (routeOf (b .code))
+bed-adds b c = go (routeOf (b .code)) ∙ ap (λ (r : Route). routed (λ p g d. panIn builtIn p g 0·0 d) (bedPosition (b .code)) r (b .gain) c) (sym (route-built-in (b .code)))
   where
-    go : (r : Route) → onChannel c (routeTerms r (b .code) (b .gain)) ≡ routed (λ p g d. pan714 p g 0·0 d) (bedPosition (b .code)) r (b .gain) c
+    go : (r : Route) → onChannel c (routeTerms r (b .code) (b .gain)) ≡ routed (λ p g d. panIn builtIn p g 0·0 d) (bedPosition (b .code)) r (b .gain) c
     go Bass = refl
-    go Folded = refl
+    go Folded = sym (pan-built-in (bedPosition (b .code)) (b .gain) 0·0 c)
     go (Direct k) = refl
     go Unsupported = refl

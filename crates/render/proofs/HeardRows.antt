@@ -14,6 +14,7 @@ use Rattle.mixing.proofs.Theorems.{length-samples, sample-at}
 use Rattle.beds.specs.declared.Found.{Found}
 use Rattle.beds.specs.declared.Found.the-variants.{At, Nothing}
 use Rattle.beds.specs.Matching.{matching}
+use Rattle.panning.specs.Setup.{builtIn}
 use Rattle.panning.specs.Terms.{Term, onChannel}
 use Rattle.rules.specs.Parts.{0·0}
 use Rattle.rules.specs.Leaves.{Source, Bed}
@@ -37,7 +38,7 @@ column-at m c t zero i h = absurd (not-suc-le-zero h)
 column-at m c t (suc k) zero h = let e : t + 0 ≡ t = omega arith in rw e
 column-at m c t (suc k) (suc i) h = let e : t + suc i ≡ suc t + i = omega arith in rw e (column-at m c (suc t) k i (le-of-suc-le-suc h))
 
-heard-is : (m : Moment) (c : ℕ) → heard m c ≡ total 0·0 (bedsOn c (m .beds) (m .codes) (m .inputs) ++ objectsOn c (m .objects) (m .own))
+heard-is : (m : Moment) (c : ℕ) → heard m c ≡ total 0·0 (bedsOn (m .hall) c (m .beds) (m .codes) (m .inputs) ++ objectsOn (m .hall) c (m .objects) (m .own))
 unfolding heard
 heard-is m c = refl
 
@@ -74,28 +75,28 @@ module _ (pcm : List ℕ) (s : Span) (short : s .count ≤ 64) where
   adds-found ts (At j) os h = adds-row j ts os h
   adds-found ts Nothing os h = adds-none k os h
 
-  adds-beds : (codes : List ℕ) (bs : List Bed) (os : List Float) → length os ≡ 768 → Adds k (λ c i. bedsOn c bs codes (input i)) os (mixedBeds pcm s codes bs os)
+  adds-beds : (codes : List ℕ) (bs : List Bed) (os : List Float) → length os ≡ 768 → Adds k (λ c i. bedsOn builtIn c bs codes (input i)) os (mixedBeds pcm s codes bs os)
   adds-beds codes [] os h = adds-none k os h
   adds-beds codes (b ∷ bs) os h =
       let f = matching (b .code) codes in
       let mid = mixedFound pcm s (bedTerms b) f os in
-      let G : ℕ → ℕ → List sums.Addend = λ c i. fedBy (addsOf b c) f (input i) in
+      let G : ℕ → ℕ → List sums.Addend = λ c i. fedBy (addsOf builtIn b c) f (input i) in
       let a =
       adds-as k (λ c i. fedBy (onChannel c (bedTerms b)) f (input i)) G os mid
       (λ c i l m. ap (λ (ks : List Float). fedBy ks f (input i)) (bed-adds b c)) (adds-found (bedTerms b) f os h)
       in
-      adds-then k G (λ c i. bedsOn c bs codes (input i)) os mid (mixedBeds pcm s codes bs mid) a (adds-beds codes bs mid (a .whole))
+      adds-then k G (λ c i. bedsOn builtIn c bs codes (input i)) os mid (mixedBeds pcm s codes bs mid) a (adds-beds codes bs mid (a .whole))
 
   -- the objects are the channels from j on
   abbrev own : ℕ → ℕ → ℕ → List Float
   own m j i = samplesAt pcm (s .frame) m j (s .first + i)
 
-  adds-objects : (j : ℕ) (ss : List Source) (os : List Float) → length os ≡ 768 → Adds k (λ c i. objectsOn c ss (own (length ss) j i)) os (mixedObjects pcm s j ss os)
+  adds-objects : (j : ℕ) (ss : List Source) (os : List Float) → length os ≡ 768 → Adds k (λ c i. objectsOn builtIn c ss (own (length ss) j i)) os (mixedObjects pcm s j ss os)
   adds-objects j [] os h = adds-none k os h
   adds-objects j (o ∷ ss) os h =
-      let mid = mixedTerms (channelRow pcm s j) (addedTerms o) os in
-      let a = adds-row j (addedTerms o) os h in
-      adds-then k (λ c i. scaledOn c (addedTerms o) (input i j)) (λ c i. objectsOn c ss (own (length ss) (suc j) i)) os mid
+      let mid = mixedTerms (channelRow pcm s j) (addedTerms builtIn o) os in
+      let a = adds-row j (addedTerms builtIn o) os h in
+      adds-then k (λ c i. scaledOn c (addedTerms builtIn o) (input i j)) (λ c i. objectsOn builtIn c ss (own (length ss) (suc j) i)) os mid
       (mixedObjects pcm s (suc j) ss mid) a (adds-objects (suc j) ss mid (a .whole))
 
   -- ---- rows of +0.0, then the beds, then the objects
@@ -109,14 +110,14 @@ module _ (pcm : List ℕ) (s : Span) (short : s .count ≤ 64) where
     within i = at (s .first + i)
 
     terms : ℕ → ℕ → List sums.Addend
-    terms c i = bedsOn c beds codes (within i .inputs) ++ objectsOn c objects (within i .own)
+    terms c i = bedsOn builtIn c beds codes (within i .inputs) ++ objectsOn builtIn c objects (within i .own)
 
     run-adds : Adds k terms silentRows (mixedObjects pcm s (length codes) objects (mixedBeds pcm s codes beds silentRows))
     unfolding terms
     run-adds =
         let mid = mixedBeds pcm s codes beds silentRows in
         let a = adds-beds codes beds silentRows silent-long in
-        adds-then k (λ c i. bedsOn c beds codes (within i .inputs)) (λ c i. objectsOn c objects (within i .own)) silentRows mid
+        adds-then k (λ c i. bedsOn builtIn c beds codes (within i .inputs)) (λ c i. objectsOn builtIn c objects (within i .own)) silentRows mid
         (mixedObjects pcm s (length codes) objects mid) a (adds-objects (length codes) objects mid (a .whole))
 
     silent-at : (c i : ℕ) → c < 12 → i < 64 → getD silentRows (64 * c + i) nan ≡ 0·0

@@ -9,6 +9,7 @@ use lib.Seq.{drop-cons}
 use lib.Ieee.{Float, nan}
 use Rattle.beds.specs.Matching.{matching}
 use Rattle.timed.specs.declared.state.DynamicSourceState.{DynamicSourceState}
+use Rattle.panning.specs.Setup.{builtIn}
 use Rattle.rules.specs.Mix.{addedTerms}
 use Rattle.render.specs.MixedRows.{mixedTerms}
 use Rattle.render.specs.declared.Span.{Span}
@@ -45,7 +46,7 @@ module _ (pcm : List ℕ) (s : Span) where
       rw e at q
 
   pub object-step : (first j m : ℕ) (d : DynamicSourceState) (ds : List DynamicSourceState) (os : List Float) {new end : List Float} → j < m → j < length ds
-      → new ≡ mixedTerms (channelRow pcm s (first + j)) (addedTerms (plainSource (getD ds j d))) os
+      → new ≡ mixedTerms (channelRow pcm s (first + j)) (addedTerms builtIn (plainSource (getD ds j d))) os
       → mixedObjects pcm s (first + j) (sourcesOf (m - j) (drop j ds)) os ≡ end
       → mixedObjects pcm s (first + (j + 1)) (sourcesOf (m - (j + 1)) (drop (j + 1) ds)) new ≡ end
   object-step first j m d ds os h a p q =

@@ -14,6 +14,7 @@ use Rattle.beds.specs.Routes.{routeOf, bassGain}
 use Rattle.beds.specs.Positions.{bedPosition}
 use Rattle.beds.specs.Matching.{matching}
 use Rattle.panning.specs.Terms.{Term, term}
+use Rattle.panning.specs.Setup.{builtIn}
 use Rattle.panning.specs.Speakers.{terms714}
 use Rattle.rules.specs.Parts.{0·0}
 use Rattle.rules.specs.Leaves.{Source, Bed}
@@ -21,7 +22,7 @@ use Rattle.rules.specs.Mix.{addedTerms}
 use Rattle.render.specs.declared.Span.{Span}
 use Rattle.render.specs.MixedRows.{mixedTerms}
 
--- the terms of a bed, by its route: on each channel the coefficients of the rules' `addsOf` (`bed-adds`)
+-- the terms of a bed, by its route: on each channel the coefficients of the rules' `addsOf` in the built-in hall (`bed-adds`)
 unfoldable pub routeTerms : Route → ℕ → Float → List Term
 routeTerms Bass code gain = term 3 (bassGain gain) ∷ []
 routeTerms Folded code gain = terms714 (bedPosition code) gain 0·0
@@ -56,4 +57,4 @@ module _ (pcm : List ℕ) (s : Span) where
   -- the first of the objects is channel i
   abbrev pub mixedObjects : ℕ → List Source → List Float → List Float
   mixedObjects i [] os = os
-  mixedObjects i (o ∷ os) rows = mixedObjects (suc i) os (mixedTerms (channelRow i) (addedTerms o) rows)
+  mixedObjects i (o ∷ os) rows = mixedObjects (suc i) os (mixedTerms (channelRow i) (addedTerms builtIn o) rows)

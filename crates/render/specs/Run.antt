@@ -8,6 +8,7 @@ use Rattle.formats.specs.Areas.{rowCount, rowPlaces, placeCount}
 use Rattle.mixing.specs.SampleBits.{Plain}
 use Rattle.lowpass.specs.Lowpass.{next}
 use Rattle.lowpass.specs.declared.BiquadLowpassState.{BiquadLowpassState}
+use Rattle.panning.specs.Setup.{builtIn}
 use Rattle.timed.specs.declared.state.DynamicSourceState.{DynamicSourceState}
 use Rattle.rules.specs.Parts.{0·0}
 use Rattle.rules.specs.Leaves.{Source, Bed}
@@ -60,10 +61,12 @@ sourcesOf m ds = map plainSource (take m ds)
 
 -- ---- moments
 
--- Document 01: "PCM comes channel after channel, beds then objects". The moment at sample t of a frame of n samples a channel.
+-- Document 01: "PCM comes channel after channel, beds then objects". The moment at sample t of a frame of n samples a channel, in the
+-- built-in hall.
 abbrev pub momentOf : List Bed → List Source → List ℕ → List ℕ → ℕ → ℕ → Moment
 momentOf beds objects codes pcm n t =
     record {
+      hall = builtIn;
       beds = beds;
       objects = objects;
       codes = codes;

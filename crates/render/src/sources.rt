@@ -8,6 +8,7 @@ ghost use Prim.Native.Nat.{_+_, _≤_};
 ghost use lib.ListN.{length, drop};
 ghost use Rattle.formats.specs.Areas.{rowPlaces, placeCount};
 ghost use Rattle.beds.specs.Matching.{matching};
+ghost use Rattle.panning.specs.Setup.{builtIn};
 ghost use Rattle.rules.specs.Mix.{addedTerms};
 ghost use Rattle.render.specs.Run.{Framed, bedWith, bedsOf, plainSource, sourcesOf};
 ghost use Rattle.render.specs.MixedRows.{Sized, mixedTerms};
@@ -71,7 +72,7 @@ fn mix_bed(rows: &mut [f32], pcm: &[u8], codes: &[u8], code: u8, gain: f32, span
 // All that an object adds: what it is panned to, then its send on channel 3.
 fn mix_added(rows: &mut [f32], samples: &[f32], source: DynamicSourceState)
     requires { ⌜ Sized (now samples) (now rows) ⌝ }
-    ensures { λ _. ⌜ now (rows .exit) ≡ mixedTerms (now (samples .entry)) (addedTerms (plainSource source)) (now (rows .entry)) ⌝ }
+    ensures { λ _. ⌜ now (rows .exit) ≡ mixedTerms (now (samples .entry)) (addedTerms builtIn (plainSource source)) (now (rows .entry)) ⌝ }
 {
     let place = source.place;
     crate::terms::mix_object(rows, samples, place, source.gain, source.size);
@@ -81,7 +82,7 @@ fn mix_added(rows: &mut [f32], samples: &[f32], source: DynamicSourceState)
 // An object, fed by channel i.
 fn mix_source(rows: &mut [f32], pcm: &[u8], i: usize, source: DynamicSourceState, span: Span)
     requires { ⌜ Reached (now pcm) span i × (span .count ≤ rowPlaces) × (length (now rows) ≡ placeCount) ⌝ }
-    ensures { λ _. ⌜ now (rows .exit) ≡ mixedTerms (channelRow (now (pcm .entry)) span i) (addedTerms (plainSource source)) (now (rows .entry)) ⌝ }
+    ensures { λ _. ⌜ now (rows .exit) ≡ mixedTerms (channelRow (now (pcm .entry)) span i) (addedTerms builtIn (plainSource source)) (now (rows .entry)) ⌝ }
 {
     let mut row = [0.0f32; areas::ROW_PLACES];
     read_channel(&mut row, pcm, i, span);

@@ -12,7 +12,7 @@ use Rattle.timed.specs.declared.state.MetadataRendererState.{MetadataRendererSt
 use Rattle.records.specs.Runs.{each}
 use Rattle.rules.specs.Leaves.{Source, Bed}
 use Rattle.rules.specs.Mix.{sampleAt, samplesAt, Moment, heard}
-use Rattle.rules.specs.Samples.{Frame, moment}
+use Rattle.rules.specs.Samples.{builtIn, Frame, moment}
 use Rattle.theorem.specs.Instance.{Sent, hall}
 use Rattle.store.specs.declared.renderer.Renderer714.{Renderer714}
 use Rattle.store.specs.Layout.{infosOf}
@@ -38,15 +38,16 @@ module _ (codes pcm : List ℕ) (objects n t c : ℕ) where
   -- the same beds and objects, each with its own sample
   heard-same : (bs : List Bed) (ss : List Source) (beds : List Bed) (sources : List Source) → bs ≡ beds → ss ≡ sources → length ss ≡ objects
       → heard (momentOf bs ss codes pcm n t) c
-      ≡ heard (record { beds = beds; objects = sources; codes = codes; inputs = λ i. sampleAt pcm n i t; own = samplesAt pcm n objects (length codes) t }) c
+      ≡ heard (record { hall = builtIn; beds = beds; objects = sources; codes = codes; inputs = λ i. sampleAt pcm n i t; own = samplesAt pcm n objects (length codes) t }) c
   heard-same bs ss beds sources p q e =
       ap₂ (λ (x : List Bed) (y : List Source). heard
-      (record { beds = x; objects = y; codes = codes; inputs = λ i. sampleAt pcm n i t; own = samplesAt pcm n (length ss) (length codes) t }) c) p q
-      ∙ ap (λ (k : ℕ). heard (record { beds = beds; objects = sources; codes = codes; inputs = λ i. sampleAt pcm n i t; own = samplesAt pcm n k (length codes) t }) c) e
+      (record { hall = builtIn; beds = x; objects = y; codes = codes; inputs = λ i. sampleAt pcm n i t; own = samplesAt pcm n (length ss) (length codes) t }) c) p q
+      ∙ ap (λ (k : ℕ). heard (record { hall = builtIn; beds = beds; objects = sources; codes = codes; inputs = λ i. sampleAt pcm n i t; own = samplesAt pcm n k (length codes) t }) c) e
 
   mixed-heard : (b : Bool) (m : MetadataRendererState) → Full m objects → (b ≡ true → m .objects - m .isf ≡ objects)
       → heard (momentOf (bedsOf (cond b (m .beds) 0) (m .codes) (m .gains)) (sourcesOf (cond b objects 0) (m .sources)) codes pcm n t) c
       ≡ heard (record {
+        hall = builtIn;
         beds = cond b (each (λ k. bedWith (getD (m .codes) k 0) (getD (m .gains) k nan)) (m .beds)) [];
         objects = cond b (each (λ k. plainSource (getD (m .sources) k noSource)) (m .objects - m .isf)) [];
         codes = codes;
@@ -63,8 +64,8 @@ module _ (codes pcm : List ℕ) (objects n t c : ℕ) where
 -- the moments that `mix` hears
 pub same-heard : (rate : ℕ) (us : List Sent) (codes pcm : List ℕ) (objects n : ℕ) (s : Renderer714) (b : List ℕ) → Full (s .state) objects
     → (s .state .initialized ≡ true → s .state .objects - s .state .isf ≡ objects)
-    → (t c : ℕ) → heard (mixed (s .state) codes objects pcm n t) c ≡ heard (moment hall (frameWith rate us codes objects pcm n) t (record { state = s .state; infos = infosOf b }))
-    c
+    → (t c : ℕ) → heard (mixed (s .state) codes objects pcm n t) c
+    ≡ heard (moment hall (frameWith rate us codes objects pcm n) t builtIn (record { state = s .state; infos = infosOf b })) c
 same-heard rate us codes pcm objects n s b h d t c = mixed-heard codes pcm objects n t c (s .state .initialized) (s .state) h d
 
 -- what `mix` leaves, by the rules' moments

@@ -8,7 +8,7 @@ use lib.Ieee.{Float, nan}
 use Rattle.formats.specs.Areas.{rowCount, rowPlaces, placeCount}
 use Rattle.rules.specs.Parts.{0·0}
 use Rattle.rules.specs.Mix.{Moment}
-use Rattle.rules.specs.Samples.{Frame, moment}
+use Rattle.rules.specs.Samples.{builtIn, Frame, moment}
 use Rattle.theorem.specs.Instance.{Sent, hall}
 use Rattle.store.specs.declared.renderer.Renderer714.{Renderer714}
 use Rattle.store.specs.Layout.{infosOf}
@@ -34,7 +34,7 @@ frameWith rate us codes objects pcm n = record { rate = rate; samples = n; codes
 
 module _ (f : Frame Sent) (t k : ℕ) (s : Renderer714) (b : List ℕ) where
   abbrev pub momentHere : ℕ → Moment
-  momentHere t = moment hall f t (record { state = s .state; infos = infosOf b })
+  momentHere t = moment hall f t builtIn (record { state = s .state; infos = infosOf b })
 
 -- the k samples from t on of the moments m, in the rows, each with +0.0 past them: they wait on r, which was w
 pub record Waits (m : ℕ → Moment) (w : Rendering) (t k : ℕ) (rows : List Float) (r : Rendering) : Type 0 where

@@ -10,14 +10,18 @@ use Rattle.mixing.specs.Sums as sums
 use Rattle.mixing.specs.Sums.{total}
 use Rattle.beds.specs.declared.Found as input
 use Rattle.beds.specs.declared.Found.the-variants.{At, Nothing}
+use Rattle.beds.specs.BedTerms.{bedAdds}
 use Rattle.beds.specs.Matching.{matching}
-use Rattle.panning.specs.Terms.{Term, onChannel}
+use Rattle.panning.specs.Terms.{Term, term, panned, terms, onChannel}
+use Rattle.panning.specs.Setup.{placeIn, present, speakersIn, divisorIn}
+use Rattle.vectors.specs.declared.Vec3.{Vec3}
+use Rattle.timed.specs.Objects.{nowhere}
 use Rattle.timed.specs.State.{Timed}
 use Rattle.rules.specs.Parts.{0·0, Channels, Places, none as silent, joined, laid}
 use Rattle.rules.specs.Leaves.{Source, Bed, started}
-use Rattle.rules.specs.Mix.{addsOf, addedTerms, sampleAt, Moment}
+use Rattle.rules.specs.Mix.{sendOf, sampleAt, Moment}
 use Rattle.rules.specs.Samples as rules
-use Rattle.rules.specs.Samples.{Frame, State, After, opened, updated, slotted, sampled, moment, closing}
+use Rattle.rules.specs.Samples.{Setup, Frame, State, After, opened, updated, slotted, sampled, moment, closing}
 use Rattle.rules.specs.Refusals.{Args, Found, clear, stop}
 use Rattle.rules.specs.Calls.{Call, push, flush, reset, Answer, refused, rendered, nothing, cleared, Result, frameOf, found, answered, step}
 use Rattle.rules.specs.BlockCalls.{written, outOf, strideOf}
@@ -39,7 +43,15 @@ memo n d f = let xs = firsts n 0 f in λ i. let far = f i in cond (ltb i n) (get
 
 abbrev pub withPlaces : Places → State hall → State hall
 withPlaces p r =
-    record { rate = r .rate; clock = r .clock; limiter = r .limiter; filter = r .filter; meta = r .meta; pending = record { count = r .pending .count; places = p } }
+    record {
+      setup = r .setup;
+      rate = r .rate;
+      clock = r .clock;
+      limiter = r .limiter;
+      filter = r .filter;
+      meta = r .meta;
+      pending = record { count = r .pending .count; places = p };
+    }
 
 unfoldable pub settled : State hall → State hall
 unfolding memo
@@ -78,14 +90,19 @@ unfolding feeds
 fedFrom ks (At i) = feeds i ks
 fedFrom ks Nothing = []
 
-unfoldable pub bedFeeds : ℕ → List Bed → List ℕ → List Feed
-unfolding fedFrom
-bedFeeds c [] codes = []
-bedFeeds c (b ∷ bs) codes = fedFrom (addsOf b c) (matching (b .code) codes) ++ bedFeeds c bs codes
+-- a place, a gain and a size panned
+abbrev pub Pan : Type 0
+Pan = Vec3 → Float → Float → List Term
 
-unfoldable pub allTerms : List Source → List (List Term)
-allTerms [] = []
-allTerms (s ∷ ss) = addedTerms s ∷ allTerms ss
+unfoldable pub bedFeeds : (ℕ → Bool) → Pan → ℕ → List Bed → List ℕ → List Feed
+unfolding fedFrom
+bedFeeds here pan c [] codes = []
+bedFeeds here pan c (b ∷ bs) codes =
+    fedFrom (bedAdds here (λ p g c. onChannel c (pan p g 0·0)) (b .code) (b .gain) c) (matching (b .code) codes) ++ bedFeeds here pan c bs codes
+
+unfoldable pub allTerms : Pan → List Source → List (List Term)
+allTerms pan [] = []
+allTerms pan (s ∷ ss) = (pan (s .place) (s .gain) (s .size) ++ (term 3 (sendOf s) ∷ [])) ∷ allTerms pan ss
 
 -- objects by their terms; the frame has k rows for them, of which i is the first
 unfoldable pub objectFeeds : ℕ → List (List Term) → ℕ → ℕ → List Feed
@@ -94,13 +111,20 @@ objectFeeds c [] k i = []
 objectFeeds c (ts ∷ tss) zero i = []
 objectFeeds c (ts ∷ tss) (suc k) i = feeds i (onChannel c ts) ++ objectFeeds c tss k (suc i)
 
--- what the beds and objects of a timed state add to each channel
-unfoldable pub mixer : Frame Sent → Timed → ℕ → List Feed
+-- what the beds and objects of a timed state add to each channel, in a hall of layout n with its speakers at the places sp
+unfoldable pub mixerAt : ℕ → (ℕ → Vec3) → Frame Sent → Timed → ℕ → List Feed
 unfolding memo bedFeeds allTerms objectFeeds
-mixer f m =
+mixerAt n sp f m =
+    let l = speakersIn n in
+    let pan : Pan = λ p g z. terms l (panned sp l (divisorIn n) p g z) in
     let bs = cond (started hall m) (hall .beds m) [] in
-    let tss = allTerms (cond (started hall m) (hall .objects m) []) in
-    memo 12 [] (λ c. bedFeeds c bs (f .codes) ++ objectFeeds c tss (f .objects) (length (f .codes)))
+    let tss = allTerms pan (cond (started hall m) (hall .objects m) []) in
+    memo 12 [] (λ c. bedFeeds (present n) pan c bs (f .codes) ++ objectFeeds c tss (f .objects) (length (f .codes)))
+
+-- in the hall h, with the places worked out once
+unfoldable pub mixer : Frame Sent → Setup → Timed → ℕ → List Feed
+unfolding memo mixerAt
+mixer f h = mixerAt (h .layout) (memo 12 nowhere (placeIn h)) f
 
 unfoldable pub scaled : (ℕ → Float) → List Feed → List sums.Addend
 scaled xs [] = []
@@ -133,13 +157,13 @@ unfolding settled mixer mixed passing begins
 mixes f zero t r k = record { next = r; given = silent; meters = []; moments = [] }
 mixes f (suc n) t r k =
     let s = slotted hall (updated hall t (f .updates) r) in
-    let l : ℕ → List Feed = elim (begins f t r) [ true ↦ mixer f (s .meta) | false ↦ k ] in
-    let a = passing (mixed f l t) (moment hall f t (s .meta) ∷ []) s in
+    let l : ℕ → List Feed = elim (begins f t r) [ true ↦ mixer f (s .setup) (s .meta) | false ↦ k ] in
+    let a = passing (mixed f l t) (moment hall f t (s .setup) (s .meta) ∷ []) s in
     both a (mixes f n (suc t) (settled (a .next)) l)
 
 unfoldable pub quick : Run
 unfolding mixes
-quick f r = mixes f (f .samples) 0 (opened hall (f .rate) r) (mixer f (r .meta))
+quick f r = mixes f (f .samples) 0 (opened hall (f .rate) r) (mixer f (r .setup) (r .meta))
 
 -- ---- what is read from an output
 

@@ -18,11 +18,14 @@ use Rattle.beds.specs.declared.Found.the-variants.{At, Nothing}
 use Rattle.beds.specs.Matching.{matching}
 use Rattle.beds.proofs.Range.{Each, between}
 use Rattle.panning.specs.Terms.{onChannel}
+use Rattle.panning.specs.Setup.{placeIn, present, termsIn}
+use Rattle.vectors.specs.declared.Vec3.{Vec3}
+use Rattle.timed.specs.Objects.{nowhere}
 use Rattle.timed.specs.State.{Timed}
 use Rattle.rules.specs.Parts.{0·0, Channels, Places}
 use Rattle.rules.specs.Leaves.{Source, Bed, started}
-use Rattle.rules.specs.Mix.{addsOf, addedTerms, objectAdds, sampleAt, samplesAt, scaledBy, fedBy, bedsOn, objectsOn, heard}
-use Rattle.rules.specs.Samples.{Frame, State, After, opened, updated, slotted, moment, sampled, framed, pushed}
+use Rattle.rules.specs.Mix.{objectTerms, addsOf, addedTerms, objectAdds, sampleAt, samplesAt, scaledBy, fedBy, bedsOn, objectsOn, heard}
+use Rattle.rules.specs.Samples.{Setup, Frame, State, After, opened, updated, slotted, moment, sampled, framed, pushed}
 use Rattle.rules.specs.Refusals.{Args, Found, clear, stop}
 use Rattle.rules.specs.Calls as rules
 use Rattle.rules.specs.Calls.{Call, push, flush, reset, Answer, refused, rendered, nothing, cleared, Result, frameOf, found, step}
@@ -30,7 +33,8 @@ use Rattle.rules.specs.BlockCalls.{written, outOf, strideOf, left, told}
 use Rattle.rules.proofs.Theorems.{written-reads, length-map}
 use Rattle.theorem.specs.Instance.{hall, block, Sent}
 use Rattle.rows.specs.Rows.{ready, wordsOn, samplesOn, said, allSaid, Row, startingAt, calls, seen}
-use Rattle.rows.proofs.Quick.{firsts, memo, withPlaces, settled, both, Run, samples, plain, Feed, feeds, fedFrom, bedFeeds, allTerms, objectFeeds, mixer}
+use Rattle.rows.proofs.Quick.{firsts, memo, withPlaces, settled, both, Run, samples, plain, Feed, feeds, fedFrom, bedFeeds, allTerms, objectFeeds}
+use Rattle.rows.proofs.Quick.{mixerAt, mixer}
 use Rattle.rows.proofs.Quick.{scaled, mixed, passing, sentFor, begins, mixes, quick, small, level, line, lines, wordsOf, reading, read}
 use Rattle.rows.proofs.Quick.{asked, stepped, saidOf, saidBy, plainly, quickly}
 
@@ -85,36 +89,40 @@ module _ (xs : ℕ → Float) where
   scaled-fed ks (At i) = scaled-feeds i ks
   scaled-fed ks Nothing = refl
 
-  scaled-beds : (c : ℕ) (bs : List Bed) (codes : List ℕ) → scaled xs (bedFeeds c bs codes) ≡ bedsOn c bs codes xs
+  scaled-beds : (h : Setup) (c : ℕ) (bs : List Bed) (codes : List ℕ) → scaled xs (bedFeeds (present (h .layout)) (termsIn h) c bs codes) ≡ bedsOn h c bs codes xs
   unfolding scaled bedFeeds
-  scaled-beds c [] codes = refl
-  scaled-beds c (b ∷ bs) codes =
+  scaled-beds h c [] codes = refl
+  scaled-beds h c (b ∷ bs) codes =
       let i = matching (b .code) codes in
-      scaled-then (fedFrom (addsOf b c) i) (bedFeeds c bs codes) ∙ ap₂ _++_ (scaled-fed (addsOf b c) i) (scaled-beds c bs codes)
+      scaled-then (fedFrom (addsOf h b c) i) (bedFeeds (present (h .layout)) (termsIn h) c bs codes) ∙ ap₂ _++_ (scaled-fed (addsOf h b c) i) (scaled-beds h c bs codes)
 
-scaled-objects : (pcm : List ℕ) (n t c : ℕ) (ss : List Source) (k i : ℕ)
-    → scaled (λ i. sampleAt pcm n i t) (objectFeeds c (allTerms ss) k i) ≡ objectsOn c ss (samplesAt pcm n k i t)
-unfolding scaled allTerms objectFeeds
-scaled-objects pcm n t c [] k i = refl
-scaled-objects pcm n t c (s ∷ ss) zero i = refl
-scaled-objects pcm n t c (s ∷ ss) (suc k) i =
+scaled-objects : (pcm : List ℕ) (n t : ℕ) (h : Setup) (c : ℕ) (ss : List Source) (k i : ℕ)
+    → scaled (λ i. sampleAt pcm n i t) (objectFeeds c (allTerms (termsIn h) ss) k i) ≡ objectsOn h c ss (samplesAt pcm n k i t)
+unfolding scaled allTerms objectFeeds objectTerms
+scaled-objects pcm n t h c [] k i = refl
+scaled-objects pcm n t h c (s ∷ ss) zero i = refl
+scaled-objects pcm n t h c (s ∷ ss) (suc k) i =
     let xs : ℕ → Float = λ i. sampleAt pcm n i t in
-    scaled-then xs (feeds i (onChannel c (addedTerms s))) (objectFeeds c (allTerms ss) k (suc i))
-    ∙ ap₂ _++_ (scaled-feeds xs i (objectAdds s c)) (scaled-objects pcm n t c ss k (suc i))
+    scaled-then xs (feeds i (onChannel c (addedTerms h s))) (objectFeeds c (allTerms (termsIn h) ss) k (suc i))
+    ∙ ap₂ _++_ (scaled-feeds xs i (objectAdds h s c)) (scaled-objects pcm n t h c ss k (suc i))
 
 abbrev summed : (ℕ → List Feed) → (ℕ → Float) → ℕ → Float
 summed k xs c = total 0·0 (scaled xs (k c))
 
-mixed-is : (f : Frame Sent) (m : Timed) (t : ℕ) → mixed f (mixer f m) t ≡ heard (moment hall f t m)
-unfolding mixed mixer heard
-mixed-is f m t =
-    memo-is 12 0·0 (summed (mixer f m) (memo rows 0·0 xs))
-    ∙ ap (summed (mixer f m)) (memo-is rows 0·0 xs)
+mixed-is : (f : Frame Sent) (h : Setup) (m : Timed) (t : ℕ) → mixed f (mixer f h m) t ≡ heard (moment hall f t h m)
+unfolding mixed mixer mixerAt heard
+mixed-is f h m t =
+    ap (λ (sp : ℕ → Vec3). mixed f (mixerAt (h .layout) sp f m) t) (memo-is 12 nowhere (placeIn h))
+    ∙ memo-is 12 0·0 (summed here (memo rows 0·0 xs))
+    ∙ ap (summed here) (memo-is rows 0·0 xs)
     ∙ ap (λ (k : ℕ → List Feed). summed k xs) (memo-is 12 [] k)
     ∙ fun-ext (λ c. ap (total 0·0)
-    (scaled-then xs (bedFeeds c bs (f .codes)) (objectFeeds c (allTerms ss) (f .objects) (length (f .codes)))
-    ∙ ap₂ _++_ (scaled-beds xs c bs (f .codes)) (scaled-objects (f .pcm) (f .samples) t c ss (f .objects) (length (f .codes)))))
+    (scaled-then xs (bedFeeds (present (h .layout)) (termsIn h) c bs (f .codes)) (objectFeeds c (allTerms (termsIn h) ss) (f .objects) (length (f .codes)))
+    ∙ ap₂ _++_ (scaled-beds xs h c bs (f .codes)) (scaled-objects (f .pcm) (f .samples) t h c ss (f .objects) (length (f .codes)))))
   where
+    here : ℕ → List Feed
+    here = mixerAt (h .layout) (placeIn h) f m
+
     rows : ℕ
     rows = length (f .codes) + f .objects
 
@@ -128,7 +136,7 @@ mixed-is f m t =
     ss = cond (started hall m) (hall .objects m) []
 
     k : ℕ → List Feed
-    k c = bedFeeds c bs (f .codes) ++ objectFeeds c (allTerms ss) (f .objects) (length (f .codes))
+    k c = bedFeeds (present (h .layout)) (termsIn h) c bs (f .codes) ++ objectFeeds c (allTerms (termsIn h) ss) (f .objects) (length (f .codes))
 
 -- ---- a frame by its mixers
 
@@ -141,39 +149,40 @@ unfolding sentFor
 none-sent t [] r h = refl
 none-sent t (u ∷ us) r h = let e = neither (eqb (u .offset) t) (sentFor t us) h in rw (e .0) (none-sent t us r (e .1))
 
--- where no update is sent for t and no slot starts, the timed state stays
-stays : (f : Frame Sent) (t : ℕ) (r : State hall) → begins f t r ≡ false → slotted hall (updated hall t (f .updates) r) .meta ≡ r .meta
+-- where no update is sent for t and no slot starts, the timed state stays, and so does the mixer
+stays : (f : Frame Sent) (t : ℕ) (r : State hall) → begins f t r ≡ false
+    → (let s = slotted hall (updated hall t (f .updates) r) in mixer f (s .setup) (s .meta)) ≡ mixer f (r .setup) (r .meta)
 unfolding begins
 stays f t r h =
     let e = neither (sentFor t (f .updates)) (started hall (r .meta) && eqb (r .clock .phase) 0) h in
-    ap (λ (s : State hall). slotted hall s .meta) (none-sent t (f .updates) r (e .0))
-    ∙ ap (λ (b : Bool). cond b (hall .slot (r .clock .start) (r .meta)) (r .meta)) (e .1)
+    ap (λ (s : State hall). mixer f (slotted hall s .setup) (slotted hall s .meta)) (none-sent t (f .updates) r (e .0))
+    ∙ ap (λ (b : Bool). mixer f (r .setup) (cond b (hall .slot (r .clock .start) (r .meta)) (r .meta))) (e .1)
 
-module _ (f : Frame Sent) (t : ℕ) (r : State hall) (k : ℕ → List Feed) (e : k ≡ mixer f (r .meta)) where
-  abbrev begun : Timed
-  begun = slotted hall (updated hall t (f .updates) r) .meta
+module _ (f : Frame Sent) (t : ℕ) (r : State hall) (k : ℕ → List Feed) (e : k ≡ mixer f (r .setup) (r .meta)) where
+  abbrev begun : ℕ → List Feed
+  begun = let s = slotted hall (updated hall t (f .updates) r) in mixer f (s .setup) (s .meta)
 
   -- the mixer of the state once the updates at t are applied and the slot has started
-  mixer-is : (b : Bool) → begins f t r ≡ b → (elim b as (λ _. ℕ → List Feed) [ true ↦ mixer f begun | false ↦ k ]) ≡ mixer f begun
+  mixer-is : (b : Bool) → begins f t r ≡ b → (elim b as (λ _. ℕ → List Feed) [ true ↦ begun | false ↦ k ]) ≡ begun
   mixer-is true h = refl
-  mixer-is false h = e ∙ ap (mixer f) (sym (stays f t r h))
+  mixer-is false h = e ∙ sym (stays f t r h)
 
-mixes-are : (f : Frame Sent) (n t : ℕ) (r : State hall) (k : ℕ → List Feed) → k ≡ mixer f (r .meta) → mixes f n t r k ≡ framed hall f n t r
+mixes-are : (f : Frame Sent) (n t : ℕ) (r : State hall) (k : ℕ → List Feed) → k ≡ mixer f (r .setup) (r .meta) → mixes f n t r k ≡ framed hall f n t r
 unfolding mixes passing settled
 mixes-are f zero t r k e = refl
 mixes-are f (suc n) t r k e =
     let s = slotted hall (updated hall t (f .updates) r) in
-    let l : ℕ → List Feed = elim (begins f t r) [ true ↦ mixer f (s .meta) | false ↦ k ] in
-    let m = moment hall f t (s .meta) in
+    let l : ℕ → List Feed = elim (begins f t r) [ true ↦ mixer f (s .setup) (s .meta) | false ↦ k ] in
+    let m = moment hall f t (s .setup) (s .meta) in
     let a = passing (mixed f l t) (m ∷ []) s in
-    let is : l ≡ mixer f (s .meta) = mixer-is f t r k e (begins f t r) refl in
+    let is : l ≡ mixer f (s .setup) (s .meta) = mixer-is f t r k e (begins f t r) refl in
     ap (both a) (mixes-are f n (suc t) (settled (a .next)) l is ∙ ap (framed hall f n (suc t)) (settled-is (a .next)))
     ∙ ap (λ (h : ℕ → Float). both (passing h (m ∷ []) s) (framed hall f n (suc t) (passing h (m ∷ []) s .next)))
-    (ap (λ (l : ℕ → List Feed). mixed f l t) is ∙ mixed-is f (s .meta) t)
+    (ap (λ (l : ℕ → List Feed). mixed f l t) is ∙ mixed-is f (s .setup) (s .meta) t)
 
 quick-is : (f : Frame Sent) (r : State hall) → quick f r ≡ pushed hall f r
 unfolding quick pushed
-quick-is f r = mixes-are f (f .samples) 0 (opened hall (f .rate) r) (mixer f (r .meta)) refl
+quick-is f r = mixes-are f (f .samples) 0 (opened hall (f .rate) r) (mixer f (r .setup) (r .meta)) refl
 
 -- ---- what is read from an output
 

@@ -4,7 +4,7 @@ use mathlib.Core.Path.{_≡_}
 use mathlib.Core.List.{List, [], _∷_, map}
 use lib.ListN.{length}
 use Rattle.words.specs.Words.{word}
-use Rattle.rules.specs.Samples.{State, fresh}
+use Rattle.rules.specs.Samples.{builtIn, State, fresh}
 use Rattle.rules.specs.Calls.{Call, Answer, refused, rendered, nothing, cleared}
 use Rattle.rules.specs.BlockCalls.{Seen, strideOf, told}
 use Rattle.theorem.specs.Instance.{hall, block}
@@ -63,8 +63,9 @@ pub record Row : Type 0 where
 -- a fresh renderer, but for the stream's position
 abbrev pub startingAt : ℕ → State hall
 startingAt n =
-    let r = fresh hall in
+    let r = fresh hall builtIn in
     record {
+      setup = r .setup;
       rate = r .rate;
       clock = record { position = n; phase = r .clock .phase; start = r .clock .start };
       limiter = r .limiter;

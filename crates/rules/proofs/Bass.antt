@@ -22,6 +22,7 @@ use Rattle.beds.specs.declared.Found as matched
 use Rattle.beds.specs.declared.Found.the-variants.{At, Nothing}
 use Rattle.beds.specs.Matching.{matching}
 use Rattle.beds.proofs.Matches.{Judged, judged}
+use Rattle.panning.specs.Setup.{Setup, HallFits}
 use Rattle.rules.specs.Parts.{0·0}
 use Rattle.rules.specs.Leaves.{Leaves, Source, Bed}
 use Rattle.rules.specs.Mix.{Moment, sendOf, addsOf, sampleAt, samplesAt, scaledBy, fedBy, bedsOn, objectsOn, heard, fed, fedByBeds}
@@ -46,13 +47,14 @@ plus-same : (s : Source) → InHall s → (b x y : Float) → (x ≡ y) ⊎ T (u
 plus-same s h b x y (inl e) = ap (λ (x : Float). plus b (record { coef = sendOf s; sample = x })) e
 plus-same s h b x y (inr z) = not-added s h z b x ∙ sym (not-added s h z b y)
 
-same-sent : (ss : List Source) (xs ys : List Float) (b : Float) → All InHall ss → SameSent ss xs ys → total b (objectsOn 3 ss xs) ≡ total b (objectsOn 3 ss ys)
-same-sent [] xs ys b h e = refl
-same-sent (s ∷ ss) [] [] b h e = refl
-same-sent (s ∷ ss) [] (y ∷ ys) b h e = absurd e
-same-sent (s ∷ ss) (x ∷ xs) [] b h e = absurd e
-same-sent (s ∷ ss) (x ∷ xs) (y ∷ ys) b h e =
-    rw (sent-alone s (h .0), plus-same s (h .0) b x y (e .0)) (same-sent ss xs ys (plus b (record { coef = sendOf s; sample = y })) (h .1) (e .1))
+same-sent : (hall : Setup) → HallFits hall → (ss : List Source) (xs ys : List Float) (b : Float) → All InHall ss → SameSent ss xs ys
+    → total b (objectsOn hall 3 ss xs) ≡ total b (objectsOn hall 3 ss ys)
+same-sent hall f [] xs ys b h e = refl
+same-sent hall f (s ∷ ss) [] [] b h e = refl
+same-sent hall f (s ∷ ss) [] (y ∷ ys) b h e = absurd e
+same-sent hall f (s ∷ ss) (x ∷ xs) [] b h e = absurd e
+same-sent hall f (s ∷ ss) (x ∷ xs) (y ∷ ys) b h e =
+    rw (sent-alone s (h .0) hall f, plus-same s (h .0) b x y (e .0)) (same-sent hall f ss xs ys (plus b (record { coef = sendOf s; sample = y })) (h .1) (e .1))
 
 -- ---- beds read the rows below their number
 same-fed : (ks : List Float) (code : ℕ) (codes : List ℕ) (f : matched.Found) (x y : ℕ → Float) → Judged code codes f → ((i : ℕ) → i < length codes → x i ≡ y i)
@@ -60,30 +62,34 @@ same-fed : (ks : List Float) (code : ℕ) (codes : List ℕ) (f : matched.Found)
 same-fed ks code codes (At i) x y j h = ap (scaledBy ks) (h i (j .0))
 same-fed ks code codes Nothing x y j h = refl
 
-same-beds : (bs : List Bed) (codes : List ℕ) (x y : ℕ → Float) → ((i : ℕ) → i < length codes → x i ≡ y i) → bedsOn 3 bs codes x ≡ bedsOn 3 bs codes y
-same-beds [] codes x y h = refl
-same-beds (b ∷ bs) codes x y h =
-    ap₂ (λ (s t : List sums.Addend). s ++ t) (same-fed (addsOf b 3) (b .code) codes (matching (b .code) codes) x y (judged (b .code) codes) h) (same-beds bs codes x y h)
+same-beds : (hall : Setup) (bs : List Bed) (codes : List ℕ) (x y : ℕ → Float) → ((i : ℕ) → i < length codes → x i ≡ y i)
+    → bedsOn hall 3 bs codes x ≡ bedsOn hall 3 bs codes y
+same-beds hall [] codes x y h = refl
+same-beds hall (b ∷ bs) codes x y h =
+    ap₂ (λ (s t : List sums.Addend). s ++ t) (same-fed (addsOf hall b 3) (b .code) codes (matching (b .code) codes) x y (judged (b .code) codes) h)
+    (same-beds hall bs codes x y h)
 
--- two moments with the same sources, the same samples of beds and of the objects that are sent
+-- two moments in one hall with the same sources, the same samples of beds and of the objects that are sent
 pub record Akin (m n : Moment) : Type 0 where
+  pub hall : m .hall ≡ n .hall
   pub beds : m .beds ≡ n .beds
   pub objects : m .objects ≡ n .objects
   pub codes : m .codes ≡ n .codes
   pub inputs : (i : ℕ) → i < length (m .codes) → m .inputs i ≡ n .inputs i
   pub own : SameSent (m .objects) (m .own) (n .own)
 
-pub same-bass : (m n : Moment) → Akin m n → All InHall (m .objects) → fed m ≡ fed n
+pub same-bass : (m n : Moment) → Akin m n → HallFits (m .hall) → All InHall (m .objects) → fed m ≡ fed n
 unfolding heard
-same-bass m n a h =
-    let os = objectsOn 3 (m .objects) (m .own) in
-    let ps = objectsOn 3 (n .objects) (n .own) in
-    let beds = same-beds (m .beds) (m .codes) (m .inputs) (n .inputs) (a .inputs) ∙ ap₂ (λ (bs : List Bed) (cs : List ℕ). bedsOn 3 bs cs (n .inputs)) (a .beds) (a .codes) in
-    total-append (bedsOn 3 (m .beds) (m .codes) (m .inputs)) os 0·0
+same-bass m n a f h =
+    let os = objectsOn (m .hall) 3 (m .objects) (m .own) in
+    let ps = objectsOn (n .hall) 3 (n .objects) (n .own) in
+    let beds = same-beds (m .hall) (m .beds) (m .codes) (m .inputs) (n .inputs) (a .inputs)
+    ∙ (λ i. bedsOn (a .hall i) 3 (a .beds i) (a .codes i) (n .inputs)) in
+    total-append (bedsOn (m .hall) 3 (m .beds) (m .codes) (m .inputs)) os 0·0
     ∙ ap (λ (ts : List sums.Addend). total (total 0·0 ts) os) beds
-    ∙ same-sent (m .objects) (m .own) (n .own) (fedByBeds n) h (a .own)
-    ∙ ap (λ (ss : List Source). total (fedByBeds n) (objectsOn 3 ss (n .own))) (a .objects)
-    ∙ sym (total-append (bedsOn 3 (n .beds) (n .codes) (n .inputs)) ps 0·0)
+    ∙ same-sent (m .hall) f (m .objects) (m .own) (n .own) (fedByBeds n) h (a .own)
+    ∙ (λ i. total (fedByBeds n) (objectsOn (a .hall i) 3 (a .objects i) (n .own)))
+    ∙ sym (total-append (bedsOn (n .hall) 3 (n .beds) (n .codes) (n .inputs)) ps 0·0)
 
 -- ---- the PCM with a row replaced
 module _ (n j : ℕ) (pcm qcm : List ℕ) (p : Replaced n j pcm qcm) where

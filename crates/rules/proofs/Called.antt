@@ -114,4 +114,4 @@ module _ (L : Leaves) (B : Layout L) (F : Facts L B) where
     pub called : (c : Call) → Lent c → Called c (step L r c)
     called (push a) h = asked-called a h (found L r a) refl
     called (flush out stride) h = drained-called out stride (room stride (length out)) (eqb (r .pending .count) 0) refl refl
-    called reset h = record { rest = fresh-rest L B F; range = λ b. quiet 0 [] (left L B cleared (fresh L) [] 0 b) refl refl refl refl }
+    called reset h = record { rest = fresh-rest L B F (r .setup) (steady rest .hall); range = λ b. quiet 0 [] (left L B cleared (fresh L (r .setup)) [] 0 b) refl refl refl refl }

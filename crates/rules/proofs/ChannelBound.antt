@@ -19,7 +19,7 @@ use Rattle.beds.specs.declared.Route.{Route}
 use Rattle.beds.specs.declared.Route.the-variants.{Bass, Folded, Direct, Unsupported}
 use Rattle.beds.specs.declared.Found.{Found}
 use Rattle.beds.specs.declared.Found.the-variants.{At, Nothing}
-use Rattle.beds.specs.Routes.{routeOf, bassGain}
+use Rattle.beds.specs.Routes.{routeIn, bassGain}
 use Rattle.beds.specs.Positions.{positions, bedPosition}
 use Rattle.beds.specs.Matching.{matching}
 use Rattle.beds.specs.BedTerms.{alone, routed, bedAdds}
@@ -28,7 +28,7 @@ use Rattle.vectors.specs.declared.Vec3.{Vec3}
 use Rattle.lowpass.specs.Bound.{Range}
 use Rattle.panning.specs.Choice.{1·0}
 use Rattle.panning.specs.Table.{Position, between, 8·0}
-use Rattle.panning.specs.Speakers.{pan714}
+use Rattle.panning.specs.Setup.{Setup, HallFits, present, panIn}
 use Rattle.rules.specs.Parts.{0·0}
 use Rattle.rules.specs.Leaves.{Source, Bed}
 use Rattle.rules.specs.Mix.{Moment, objectAdds, addsOf, scaledBy, fedBy, bedsOn, objectsOn, heard}
@@ -70,7 +70,7 @@ at-fitting [] i d p t = p
 at-fitting (v ∷ vs) zero d p t = and-l (fitting v) (all-fitting vs) t
 at-fitting (v ∷ vs) (suc i) d p t = at-fitting vs i d p (and-r (fitting v) (all-fitting vs) t)
 
-bed-place : (code : ℕ) → Position (bedPosition code)
+pub bed-place : (code : ℕ) → Position (bedPosition code)
 unfolding bedPosition positions round fits neg ofBits
 bed-place code = fitting-position (bedPosition code) (at-fitting positions code (record { x = 0·0; y = 0·0; z = 0·0 }) tt tt)
 
@@ -86,15 +86,16 @@ zero-size : T (between 0·0 1·0 0·0)
 unfolding between fits le lt eq
 zero-size = tt
 
-routed-modest : (r : Route) (code : ℕ) (g : Float) (c : ℕ) → T (between 0·0 8·0 g) → Modest (routed (λ p g c. pan714 p g 0·0 c) (bedPosition code) r g c)
-routed-modest Bass code g c h = alone-modest 3 (bassGain g) c (bass-bounded g (eight-bounded g h))
-routed-modest Folded code g c h = panned-modest (bedPosition code) (bed-place code) g 0·0 h zero-size c
-routed-modest (Direct k) code g c h = alone-modest k g c (eight-bounded g h)
-routed-modest Unsupported code g c h = record { few = lit≤ tt; small = tt }
+module _ (hall : Setup) (f : HallFits hall) where
+  routed-modest : (r : Route) (code : ℕ) (g : Float) (c : ℕ) → T (between 0·0 8·0 g) → Modest (routed (λ p g c. panIn hall p g 0·0 c) (bedPosition code) r g c)
+  routed-modest Bass code g c h = alone-modest 3 (bassGain g) c (bass-bounded g (eight-bounded g h))
+  routed-modest Folded code g c h = panned-modest hall f (bedPosition code) (bed-place code) g 0·0 h zero-size c
+  routed-modest (Direct k) code g c h = alone-modest k g c (eight-bounded g h)
+  routed-modest Unsupported code g c h = record { few = lit≤ tt; small = tt }
 
-bed-modest : (b : Bed) (c : ℕ) → T (between 0·0 8·0 (b .gain)) → Modest (addsOf b c)
-unfolding bedAdds
-bed-modest b c h = routed-modest (routeOf (b .code)) (b .code) (b .gain) c h
+  bed-modest : (b : Bed) (c : ℕ) → T (between 0·0 8·0 (b .gain)) → Modest (addsOf hall b c)
+  unfolding bedAdds
+  bed-modest b c h = routed-modest (routeIn (present (hall .layout)) (b .code)) (b .code) (b .gain) c h
 
 -- ---- all of them
 -- at most n, and small
@@ -124,23 +125,27 @@ fed-fewer : (ks : List Float) (code : ℕ) (codes : List ℕ) (f : Found) (input
 fed-fewer ks code codes (At i) inputs j m h = modest-by ks (inputs i) m (h i (j .0))
 fed-fewer ks code codes Nothing inputs j m h = record { few = lit≤ tt; small = tt }
 
-beds-fewer : (c : ℕ) (bs : List Bed) (codes : List ℕ) (inputs : ℕ → Float) → All (λ (b : Bed). T (between 0·0 8·0 (b .gain))) bs
-    → ((i : ℕ) → i < length codes → Bounded (16 * One) (inputs i)) → Fewer (length bs * 19) (bedsOn c bs codes inputs)
-beds-fewer c [] codes inputs g h = record { few = lit≤ tt; small = tt }
-beds-fewer c (b ∷ bs) codes inputs g h =
-    subst (λ (n : ℕ). Fewer n (bedsOn c (b ∷ bs) codes inputs)) (one-more (length bs))
-    (joined (fedBy (addsOf b c) (matching (b .code) codes) inputs) (bedsOn c bs codes inputs)
-    (fed-fewer (addsOf b c) (b .code) codes (matching (b .code) codes) inputs (judged (b .code) codes) (bed-modest b c (g .0)) h) (beds-fewer c bs codes inputs (g .1) h))
+module _ (hall : Setup) (f : HallFits hall) (c : ℕ) where
+  beds-fewer : (bs : List Bed) (codes : List ℕ) (inputs : ℕ → Float) → All (λ (b : Bed). T (between 0·0 8·0 (b .gain))) bs
+      → ((i : ℕ) → i < length codes → Bounded (16 * One) (inputs i)) → Fewer (length bs * 19) (bedsOn hall c bs codes inputs)
+  beds-fewer [] codes inputs g h = record { few = lit≤ tt; small = tt }
+  beds-fewer (b ∷ bs) codes inputs g h =
+      subst (λ (n : ℕ). Fewer n (bedsOn hall c (b ∷ bs) codes inputs)) (one-more (length bs))
+      (joined (fedBy (addsOf hall b c) (matching (b .code) codes) inputs) (bedsOn hall c bs codes inputs)
+      (fed-fewer (addsOf hall b c) (b .code) codes (matching (b .code) codes) inputs (judged (b .code) codes) (bed-modest hall f b c (g .0)) h)
+      (beds-fewer bs codes inputs (g .1) h))
 
-objects-fewer : (c : ℕ) (ss : List Source) (own : List Float) → All InHall ss → All (Bounded (16 * One)) own → Fewer (length ss * 19) (objectsOn c ss own)
-objects-fewer c [] own g h = record { few = lit≤ tt; small = tt }
-objects-fewer c (s ∷ ss) [] g h = record { few = omega arith; small = tt }
-objects-fewer c (s ∷ ss) (x ∷ own) g h =
-    subst (λ (n : ℕ). Fewer n (objectsOn c (s ∷ ss) (x ∷ own))) (one-more (length ss))
-    (joined (scaledBy (objectAdds s c) x) (objectsOn c ss own) (modest-by (objectAdds s c) x (object-modest s (g .0) c) (h .0)) (objects-fewer c ss own (g .1) (h .1)))
+  objects-fewer : (ss : List Source) (own : List Float) → All InHall ss → All (Bounded (16 * One)) own → Fewer (length ss * 19) (objectsOn hall c ss own)
+  objects-fewer [] own g h = record { few = lit≤ tt; small = tt }
+  objects-fewer (s ∷ ss) [] g h = record { few = omega arith; small = tt }
+  objects-fewer (s ∷ ss) (x ∷ own) g h =
+      subst (λ (n : ℕ). Fewer n (objectsOn hall c (s ∷ ss) (x ∷ own))) (one-more (length ss))
+      (joined (scaledBy (objectAdds hall s c) x) (objectsOn hall c ss own) (modest-by (objectAdds hall s c) x (object-modest s (g .0) hall f c) (h .0))
+      (objects-fewer ss own (g .1) (h .1)))
 
--- a moment whose sources are in range and whose samples refusal 8 let pass
+-- a moment in a hall that fits, whose sources are in range and whose samples refusal 8 let pass
 pub record Hearable (m : Moment) : Type 0 where
+  pub hall : HallFits (m .hall)
   pub sources : Mixable (m .beds) (m .objects)
   pub inputs : (i : ℕ) → i < length (m .codes) → Bounded (16 * One) (m .inputs i)
   pub own : All (Bounded (16 * One)) (m .own)
@@ -148,9 +153,10 @@ pub record Hearable (m : Moment) : Type 0 where
 pub heard-bounded : (m : Moment) → Hearable m → (c : ℕ) → Bounded Most (heard m c)
 unfolding heard
 heard-bounded m h c =
-    let bs = bedsOn c (m .beds) (m .codes) (m .inputs) in
-    let os = objectsOn c (m .objects) (m .own) in
-    let j = joined bs os (beds-fewer c (m .beds) (m .codes) (m .inputs) (h .sources .beds) (h .inputs)) (objects-fewer c (m .objects) (m .own) (h .sources .objects) (h .own)) in
+    let bs = bedsOn (m .hall) c (m .beds) (m .codes) (m .inputs) in
+    let os = objectsOn (m .hall) c (m .objects) (m .own) in
+    let j = joined bs os (beds-fewer (m .hall) (h .hall) c (m .beds) (m .codes) (m .inputs) (h .sources .beds) (h .inputs))
+    (objects-fewer (m .hall) (h .hall) c (m .objects) (m .own) (h .sources .objects) (h .own)) in
     let b = h .sources .few-beds in
     let o = h .sources .few-objects in
     total-bounded 16 8 (lit< tt) 646 82688 (bs ++ os) (le-trans (j .few) (omega arith)) (lit≤ tt) (lit≤ tt) (j .small)

@@ -7,6 +7,8 @@ use Prim.Native.Nat.{ℕ}
 use lib.Dec.{eqb}
 use lib.ListN.{length}
 use lib.Ieee.{Float}
+use Rattle.panning.specs.Setup.{builtIn}
+use Rattle.panning.proofs.Theorems.{built-in-fits}
 use Rattle.rules.specs.Leaves.{Leaves}
 use Rattle.rules.specs.Samples.{State, fresh, flushed}
 use Rattle.rules.specs.Refusals.{Args, Found, clear, stop, room}
@@ -36,8 +38,9 @@ module _ (L : Leaves) (B : Layout L) (F : Facts L B) where
     hush : Hush L r
     fed : Fed L xs r
 
-  between-fresh : Between [] (fresh L)
-  between-fresh = record { rest = fresh-rest L B F; ranges = fresh-ranged L B F; hush = λ e. inl refl; fed = fresh-fed L }
+  between-fresh : Between [] (fresh L builtIn)
+  between-fresh =
+      record { rest = fresh-rest L B F builtIn built-in-fits; ranges = fresh-ranged L B F builtIn refl; hush = λ e. inl refl; fed = fresh-fed L builtIn }
 
   call-holds : {xs : List Float} (r : State L) (c : Call) → Between xs r → Lent c → CallHolds L r c
   call-holds r (push a) g h = (
@@ -99,9 +102,9 @@ module _ (L : Leaves) (B : Layout L) (F : Facts L B) where
         rings = (call-rings L B F xs r c (h .0) (g .rest) (g .fed), n .rings);
       }
 
-  from-fresh : (cs : List Call) → AllLent cs → Demand3 L B (B .encode (fresh L)) cs
+  from-fresh : (cs : List Call) → AllLent cs → Demand3 L B (B .encode (fresh L builtIn)) cs
   from-fresh cs h =
-      let n = runs cs [] (fresh L) between-fresh h in
+      let n = runs cs [] (fresh L builtIn) between-fresh h in
       record {
         start = refl;
         range = n .range;
@@ -110,11 +113,11 @@ module _ (L : Leaves) (B : Layout L) (F : Facts L B) where
         clean = n .clean;
         calls = n .calls;
         rings = n .rings;
-        erased = erased L B (B .encode (fresh L)) cs;
-        left = erased-left L B (B .encode (fresh L)) cs;
-        forgotten = forgotten L (fresh L) cs;
-        same = same L (fresh L) cs;
+        erased = erased L B (B .encode (fresh L builtIn)) cs;
+        left = erased-left L B (B .encode (fresh L builtIn)) cs;
+        forgotten = forgotten L (fresh L builtIn) cs;
+        same = same L (fresh L builtIn) cs;
       }
 
   pub every-list : EveryList L B
-  every-list b bytes e cs h = subst (λ (s : List ℕ). Demand3 L B s cs) (sym (reset-block L B b e)) (from-fresh cs h)
+  every-list b bytes e cs h = subst (λ (s : List ℕ). Demand3 L B s cs) (sym (reset-block L B F b e)) (from-fresh cs h)

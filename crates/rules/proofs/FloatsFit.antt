@@ -36,7 +36,7 @@ total-fits s (t ∷ ts) h = total-fits _ ts (either Fits (eq (t .coef) (ofBits b
 
 pub heard-fits : (m : Moment) (c : ℕ) → Fits (heard m c)
 unfolding heard
-heard-fits m c = total-fits 0·0 (bedsOn c (m .beds) (m .codes) (m .inputs) ++ objectsOn c (m .objects) (m .own)) zero-fits
+heard-fits m c = total-fits 0·0 (bedsOn (m .hall) c (m .beds) (m .codes) (m .inputs) ++ objectsOn (m .hall) c (m .objects) (m .own)) zero-fits
 
 pub grown-fits : (n rate : ℕ) (g : Float) → Fits (grown n rate g)
 unfolding grown

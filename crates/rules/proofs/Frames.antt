@@ -44,7 +44,7 @@ module _ (L : Leaves) (B : Layout L) (F : Facts L B) where
         let s = slotted L (updated L t (f .updates) r) in
         let i = before-good L B F t (f .updates) r (k .updates) g in
         subst (λ (p : Pending). Fine L B F (p .count) 1 (sampled L f t r)) (untouched L t (f .updates) r .pending)
-        (passed-fine L B F (moment L f t (s .meta)) (moment-hearable L B F f k t h (s .meta) (i .steady .meta)) s i)
+        (passed-fine L B F (moment L f t (s .setup) (s .meta)) (moment-hearable L B F f k t h (s .setup) (i .steady .hall) (s .meta) (i .steady .meta)) s i)
 
     pub framed-fine : (n t : ℕ) → t + n ≤ f .samples → (r : State L) → Good L B F r → Fine L B F (r .pending .count) n (framed L f n t r)
     framed-fine zero t h r g = record {
@@ -110,6 +110,7 @@ module _ (L : Leaves) (B : Layout L) (F : Facts L B) where
           rate = g .rate;
           calm = g .calm;
           steady = record {
+            hall = g .steady .hall;
             meta = s .meta;
             gain = gain-kept waiting w (r .pending .count) (r .rate) (g .rate) few (r .limiter .gain) (s .gain);
             places = s .places;

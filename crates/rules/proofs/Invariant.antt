@@ -21,6 +21,7 @@ use Rattle.angles.specs.Angle.{Listed}
 use Rattle.limiter.specs.Range.{MetersInRange}
 use Rattle.limiter.specs.declared.meters.Meters.{Meters}
 use Rattle.limiter.proofs.Theorems.{one-gain}
+use Rattle.panning.specs.Setup.{Setup, HallFits}
 use Rattle.rules.specs.Parts.{none, Places, floats, laid, zeros}
 use Rattle.rules.specs.Leaves.{Leaves, started}
 use Rattle.rules.specs.Mix.{sampleAt, Moment, heard, fed}
@@ -57,6 +58,7 @@ module _ (L : Leaves) (B : Layout L) (F : Facts L B) where
 
   -- a renderer, but for its rate and its filter
   pub record Steady (r : State L) : Type 0 where
+    pub hall : HallFits (r .setup)
     pub meta : F .Sound (r .meta)
     pub gain : Gain (r .limiter .gain)
     pub places : (c : ℕ) → All Finite (r .pending .places c)
@@ -79,8 +81,9 @@ module _ (L : Leaves) (B : Layout L) (F : Facts L B) where
   abbrev pub Rest : State L → Type 0
   Rest r = Idle r ⊎ Good r
 
-  pub fresh-rest : Rest (fresh L)
-  fresh-rest = inl (record { rate = refl; none = refl; steady = record { meta = F .sound-blank; gain = one-gain; places = zeros-finite; long = zeros-long; few = lit< tt } })
+  pub fresh-rest : (h : Setup) → HallFits h → Rest (fresh L h)
+  fresh-rest h f =
+      inl (record { rate = refl; none = refl; steady = record { hall = f; meta = F .sound-blank; gain = one-gain; places = zeros-finite; long = zeros-long; few = lit< tt } })
 
   -- ---- updates, slots, a rate
   applied-good : (t : ℕ) (u : L .Update) (r : State L) → F .Checked u → Good r → Good (appliedAt L t u r)
@@ -89,7 +92,7 @@ module _ (L : Leaves) (B : Layout L) (F : Facts L B) where
       record {
         rate = g .rate;
         calm = g .calm;
-        steady = record { meta = F .sound-apply (r .clock .position) u (r .meta) k (s .meta); gain = s .gain; places = s .places; long = s .long; few = s .few };
+        steady = record { hall = s .hall; meta = F .sound-apply (r .clock .position) u (r .meta) k (s .meta); gain = s .gain; places = s .places; long = s .long; few = s .few };
       }
 
   pub updated-good : (t : ℕ) (us : List (L .Update)) (r : State L) → All (F .Checked) us → Good r → Good (updated L t us r)
@@ -103,6 +106,7 @@ module _ (L : Leaves) (B : Layout L) (F : Facts L B) where
         rate = g .rate;
         calm = g .calm;
         steady = record {
+          hall = s .hall;
           meta = either (F .Sound) (started L (r .meta) && eqb (r .clock .phase) 0) (F .sound-slot (r .clock .start) (r .meta) (s .meta)) (s .meta);
           gain = s .gain;
           places = s .places;
@@ -116,7 +120,7 @@ module _ (L : Leaves) (B : Layout L) (F : Facts L B) where
   before-good t us r k g = slotted-good (updated L t us r) (updated-good t us r k g)
 
   opened-steady : (rate : ℕ) (r : State L) → Steady r → Steady (opened L rate r)
-  opened-steady rate r s = record { meta = s .meta; gain = s .gain; places = s .places; long = s .long; few = s .few }
+  opened-steady rate r s = record { hall = s .hall; meta = s .meta; gain = s .gain; places = s .places; long = s .long; few = s .few }
 
   pub opened-good : (rate : ℕ) (r : State L) → Listed rate → Rest r → Good (opened L rate r)
   opened-good rate r k (inl g) =
@@ -134,8 +138,9 @@ module _ (L : Leaves) (B : Layout L) (F : Facts L B) where
       }
 
   -- ---- one sample
-  pub moment-hearable : (f : Frame (L .Update)) → Admitted f → (t : ℕ) → t < f .samples → (m : L .Meta) → F .Sound m → Hearable (moment L f t m)
-  moment-hearable f k t h m s = record { sources = go (started L m); inputs = λ i l. k .input i t l h; own = k .own t h }
+  pub moment-hearable : (f : Frame (L .Update)) → Admitted f → (t : ℕ) → t < f .samples → (hall : Setup) → HallFits hall → (m : L .Meta) → F .Sound m
+      → Hearable (moment L f t hall m)
+  moment-hearable f k t h hall e m s = record { hall = e; sources = go (started L m); inputs = λ i l. k .input i t l h; own = k .own t h }
     where
       x : Mixable (L .beds m) (L .objects m)
       x = F .mixable m s
@@ -185,6 +190,7 @@ module _ (L : Leaves) (B : Layout L) (F : Facts L B) where
           rate = g .rate;
           calm = calm-next most-range (g .calm) (heard-bounded m h 3);
           steady = record {
+            hall = g .steady .hall;
             meta = g .steady .meta;
             gain = either Gain (leb 64 (r .pending .count + 1)) (gain-kept (floats places) floats-finite 64 (r .rate) (g .rate) (lit≤ tt) (r .limiter .gain) (g .steady .gain))
                 (g .steady .gain);

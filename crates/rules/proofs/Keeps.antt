@@ -30,14 +30,14 @@ module _ (L : Leaves) (B : Layout L) (F : Facts L B) where
   pub step-ranged : (r : State L) (c : Call) → Lent c → InRanges F r → InRanges F (step L r c .next)
   step-ranged r (push a) h g = asked-ranged r a (h .1) (found L r a) refl g
   step-ranged r (flush out stride) h g = drained-ranged r (room stride (length out)) (eqb (r .pending .count) 0) g
-  step-ranged r reset h g = fresh-ranged L B F
+  step-ranged r reset h g = fresh-ranged L B F (r .setup) (g .setup)
 
   -- ---- a block that was taken
   left-valid : (a : Answer) (s : State L) (out : List ℕ) (n : ℕ) (b : List ℕ) → B .valid b ≡ true → InRanges F s → B .valid (left L B a s out n b .state) ≡ true
   left-valid (refused k x y) s out n b v g = v
   left-valid (rendered w m) s out n b v g = F .valid s g
   left-valid nothing s out n b v g = v
-  left-valid cleared s out n b v g = F .valid (fresh L) (fresh-ranged L B F)
+  left-valid cleared s out n b v g = F .valid s g
 
   pub keeps : Keeps L B
   keeps b bytes c h e = go (takes L B c b) refl e
@@ -56,7 +56,7 @@ module _ (L : Leaves) (B : Layout L) (F : Facts L B) where
           (step-ranged (B .decode b) (push a) h (F .decoded b bytes t))
       by (flush out n) h t = left-valid (step L (B .decode b) (flush out n) .answer) (step L (B .decode b) (flush out n) .next) out n b t
           (step-ranged (B .decode b) (flush out n) h (F .decoded b bytes t))
-      by reset h t = F .valid (fresh L) (fresh-ranged L B F)
+      by reset h t = F .valid (fresh L (B .decode b .setup)) (fresh-ranged L B F (B .decode b .setup) (F .setup b))
 
       go : (t : Bool) → takes L B c b ≡ t → isRefused (cond t good bad .answer) ≡ false → B .valid (cond t good bad .state) ≡ true
       go true t e = by c h t

@@ -34,4 +34,5 @@ pub mod Called
 pub mod Flushes
 pub mod Keeps
 pub mod Demand3FromFacts
+pub mod Absent
 pub mod Theorems

@@ -13,7 +13,7 @@ use Rattle.rules.specs.Sounds.{silent}
 module _ (L : Leaves) (f : Frame (L .Update)) where
   -- what sample t is heard with
   abbrev pub momentOf : ℕ → State L → Moment
-  momentOf t r = moment L f t (slotted L (updated L t (f .updates) r) .meta)
+  momentOf t r = let s = slotted L (updated L t (f .updates) r) in moment L f t (s .setup) (s .meta)
 
   pub moments-count : (n t : ℕ) (r : State L) → length (framed L f n t r .moments) ≡ n
   moments-count zero t r = refl

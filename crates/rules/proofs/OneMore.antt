@@ -34,6 +34,7 @@ module _ (L : Leaves) where
   abbrev over : State L → State L → State L
   over s v =
       record {
+        setup = s .setup;
         rate = s .rate;
         clock = record { position = s .clock .position; phase = v .clock .phase; start = v .clock .start };
         limiter = s .limiter;
@@ -47,6 +48,7 @@ module _ (L : Leaves) where
       let v = slotted L (updated L t us s) in
       let u = untouched L t us s in
       λ i. record {
+        setup = u .setup i;
         rate = u .rate i;
         clock = record { position = u .position i; phase = v .clock .phase; start = v .clock .start };
         limiter = u .limiter i;

@@ -9,6 +9,7 @@ use Rattle.ieee.specs.Bounds.{All}
 use Rattle.words.specs.Words.{Bytes}
 use Rattle.panning.specs.Choice.{1·0}
 use Rattle.panning.specs.Table.{between, 8·0, Position}
+use Rattle.panning.specs.Setup.{builtIn}
 use Rattle.rules.specs.Parts.{0·0}
 use Rattle.rules.specs.Leaves.{Leaves, Source, Bed, started}
 use Rattle.rules.specs.Samples.{State}
@@ -51,6 +52,8 @@ pub record Facts (L : Leaves) (B : Layout L) : Type 1 where
   pub within-later : (n k : ℕ) (m : L .Meta) → n ≤ k → Within n m → Within k m
   pub within-apply : (n : ℕ) (u : L .Update) (m : L .Meta) → n ≤ 1099511627776 → Checked u → Within n m → Within n (L .apply n u m)
   pub within-slot : (n start : ℕ) (m : L .Meta) → start ≤ n → n ≤ 1099511627776 → Within n m → Within n (L .slot start m)
+  -- whatever its bytes, a block holds a renderer for the built-in hall
+  pub setup : (b : List ℕ) → B .decode b .setup ≡ builtIn
   -- the block of a renderer in its ranges is as long as it should be, valid, and gives the renderer back; a valid block holds a renderer in its ranges
   pub size : (r : State L) → Ranged L Within r → length (B .encode r) ≡ B .size
   pub valid : (r : State L) → Ranged L Within r → B .valid (B .encode r) ≡ true

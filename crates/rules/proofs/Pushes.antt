@@ -12,6 +12,8 @@ use lib.ListN.{length, getD, List·getD-eq-default}
 use Rattle.ieee.specs.Bounds.{All}
 use Rattle.words.specs.Words.{Bytes}
 use Rattle.ieee.proofs.Grid.{le-or-lt}
+use Rattle.panning.specs.Setup.{HallFits}
+use Rattle.panning.proofs.Theorems.{built-in-fits}
 use Rattle.rules.specs.Leaves.{Leaves, Source, started}
 use Rattle.rules.specs.Mix.{Moment, fed}
 use Rattle.rules.specs.Samples.{Frame, State, slotted, updated, sampled, framed, opened, pushed}
@@ -25,7 +27,7 @@ use Rattle.rules.proofs.Owed.{InHall, Facts}
 use Rattle.rules.proofs.Judged.{Passed, is-passed, then-clear, unless-clear}
 use Rattle.rules.proofs.Invariant.{Good, Rest, Admitted, Fine, opened-good}
 use Rattle.rules.proofs.Frames.{admitted, pushed-fine}
-use Rattle.rules.proofs.Clock.{Alike, alike-self, met-alike, passed-alike}
+use Rattle.rules.proofs.Clock.{untouched, setup-kept, Alike, alike-self, met-alike, passed-alike}
 use Rattle.rules.proofs.Moments.{momentOf, moments-count, next-at, moment-at}
 use Rattle.rules.proofs.Order.{updated-in-order}
 use Rattle.rules.proofs.OneMore.{moment-is}
@@ -94,6 +96,7 @@ module _ (L : Leaves) (B : Layout L) (F : Facts L B) (r : State L) (a : Args) (b
     at-sample : AtSample L r a t
     at-sample =
         record {
+          hall = ap (λ (x : Moment). x .hall) heard-at ∙ untouched L t (f .updates) (before L r a t) .setup ∙ setup-kept L f t 0 start;
           finds = ap (slotted L) (updated-in-order L t (L .updates (a .meta)) (before L r a t));
           beds = beds-are;
           objects = objects-are;
@@ -112,6 +115,12 @@ module _ (L : Leaves) (B : Layout L) (F : Facts L B) (r : State L) (a : Args) (b
   hall t = elim (le-or-lt (a .samples) t) [
     | inl l ↦ subst (λ (x : Moment). All InHall (x .objects)) (sym (List·getD-eq-default (pushed L f r .moments) silent (le-trans (le-of-eq count) l))) tt
     | inr h ↦ hearable-at L B F r a k good at-rate t h .sources .objects
+  ]
+
+  fits-at : (t : ℕ) → HallFits (momentAt L r a t .hall)
+  fits-at t = elim (le-or-lt (a .samples) t) [
+    | inl l ↦ subst (λ (x : Moment). HallFits (x .hall)) (sym (List·getD-eq-default (pushed L f r .moments) silent (le-trans (le-of-eq count) l))) built-in-fits
+    | inr h ↦ hearable-at L B F r a k good at-rate t h .hall
   ]
 
   in-hall : (t j : ℕ) → j < length (momentAt L r a t .objects) → InHall (objectHeard L r a t j)
@@ -138,11 +147,12 @@ module _ (L : Leaves) (B : Layout L) (F : Facts L B) (r : State L) (a : Args) (b
         let s = framed L f t 0 start .next in
         let u = framed L g t 0 start .next in
         let q = met-alike L t (f .updates) s u (alike t) .meta in
-        let i = hearable-at L B F r a k good at-rate t h .sources .objects in
+        let i = hearable-at L B F r a k good at-rate t h in
         let here = moment-is L r a t h in
         ap fed (moment-at L g start (a .samples) t h)
         ∙ sym (same-bass (momentOf L f t s) (momentOf L g t u)
         (record {
+          hall = met-alike L t (f .updates) s u (alike t) .setup;
           beds = λ z. cond (started L (q z)) (L .beds (q z)) [];
           objects = λ z. cond (started L (q z)) (L .objects (q z)) [];
           codes = refl;
@@ -151,7 +161,7 @@ module _ (L : Leaves) (B : Layout L) (F : Facts L B) (r : State L) (a : Args) (b
               (λ d e. subst (λ (k : ℕ). T (unsent (getD (momentOf L f t s .objects) k nobody))) (let q : j ≡ d = omega (arith, e) in q)
               (subst (λ (x : Moment). T (unsent (getD (x .objects) j nobody))) here z));
         })
-        (subst (λ (x : Moment). All InHall (x .objects)) here i))
+        (subst (λ (x : Moment). HallFits (x .hall)) here (i .hall)) (subst (λ (x : Moment). All InHall (x .objects)) here (i .sources .objects)))
         ∙ ap fed (sym here)
 
   pub push-holds : Hush L r → PushHolds L r a
@@ -161,6 +171,7 @@ module _ (L : Leaves) (B : Layout L) (F : Facts L B) (r : State L) (a : Args) (b
       record {
         answer = ap (λ (v : Found). asked L v a r .answer) e;
         next = ap (λ (v : Found). asked L v a r .next) e;
+        setup = setup-kept L f (a .samples) 0 start;
         ready = λ c l. fine .length c l ∙ ap (λ (n : ℕ). 64 * n) (counts .0);
         waits = counts .1;
         position = i .position;
@@ -173,10 +184,10 @@ module _ (L : Leaves) (B : Layout L) (F : Facts L B) (r : State L) (a : Args) (b
         moments = count;
         samples = at-sample hush;
         bass = λ t j h l z qcm p. (still-clear L r a (length (a .codes) + j) qcm p e, fed-same j qcm p t h z);
-        sends = λ t j h. sent-alone (objectHeard L r a t j) (in-hall t j h);
-        alone = λ t z. send-zero (momentAt L r a t) (hall t) z;
-        squares = λ t j h z. squared (objectHeard L r a t j) (in-hall t j h) z;
-        still = λ t j h z. stilled (objectHeard L r a t j) (in-hall t j h) z;
+        sends = λ t j h. sent-alone (objectHeard L r a t j) (in-hall t j h) (r .setup) (good .steady .hall);
+        alone = λ t z. send-zero (momentAt L r a t) (fits-at t) (hall t) z;
+        squares = λ t j h z. squared (r .setup) (good .steady .hall) (objectHeard L r a t j) (in-hall t j h) z;
+        still = λ t j h z. stilled (r .setup) (good .steady .hall) (objectHeard L r a t j) (in-hall t j h) z;
       }
 
   pub hush-pushed : Hush L r → Hush L (pushed L f r .next)

@@ -54,11 +54,12 @@ module _ (L : Leaves) where
           let m = met L r a t .meta in
           ap (λ (x : Moment). heard x c) (moment-is L r a t h)
           ∙ ap (λ (b : Bool). heard (record {
+            hall = met L r a t .setup;
             beds = cond b (L .beds m) [];
             objects = cond b (L .objects m) [];
             codes = a .codes;
-            inputs = moment L (frameOf L a) t m .inputs;
-            own = moment L (frameOf L a) t m .own;
+            inputs = moment L (frameOf L a) t (met L r a t .setup) m .inputs;
+            own = moment L (frameOf L a) t (met L r a t .setup) m .own;
           }) c) (started-at L B F r a p k good t h ∙ e)
 
       quiet-at : Still (before L r a t .filter) → (c : ℕ) → soundAt L r a c t ≡ 0·0

@@ -17,6 +17,7 @@ use Rattle.rules.specs.Leaves.{Leaves, started}
 use Rattle.rules.specs.Mix.{Moment}
 use Rattle.rules.specs.Samples.{Frame, State, fresh, row, appliedAt, updated, slotted, moment, passed, sampled, framed, opened, pushed, flushed}
 use Rattle.rules.specs.Refusals.{Args, listed}
+use Rattle.panning.specs.Setup.{Setup, builtIn}
 use Rattle.rules.specs.Ranges.{Fits, FilterFits, Ranged}
 use Rattle.rules.specs.Calls.{frameOf}
 use Rattle.rules.specs.BlockCalls.{Layout}
@@ -30,9 +31,10 @@ module _ (L : Leaves) (B : Layout L) (F : Facts L B) where
   abbrev pub R : State L → Type 0
   R = Ranged L (F .Within)
 
-  pub fresh-ranged : R (fresh L)
+  pub fresh-ranged : (h : Setup) → h ≡ builtIn → R (fresh L h)
   unfolding fits
-  fresh-ranged = record {
+  fresh-ranged h e = record {
+    setup = e;
     rate = inl refl;
     position = zero-le;
     phase = lit< tt;
@@ -52,6 +54,7 @@ module _ (L : Leaves) (B : Layout L) (F : Facts L B) where
   applied-ranged t u r k g =
       let s = slot-kept (not (started L (r .meta)) || eqb t 0) in
       record {
+        setup = g .setup;
         rate = g .rate;
         position = g .position;
         phase = s .0;
@@ -74,6 +77,7 @@ module _ (L : Leaves) (B : Layout L) (F : Facts L B) where
   slotted-ranged r g =
       let s = g .start in
       record {
+        setup = g .setup;
         rate = g .rate;
         position = g .position;
         phase = g .phase;
@@ -94,6 +98,7 @@ module _ (L : Leaves) (B : Layout L) (F : Facts L B) where
   passed-ranged m r l h g =
       let s = slot-kept (started L (r .meta)) (leb 64 (r .clock .phase + 1)) refl in
       record {
+        setup = g .setup;
         rate = inr l;
         position = h;
         phase = s .0;
@@ -140,11 +145,12 @@ module _ (L : Leaves) (B : Layout L) (F : Facts L B) where
       let u = untouched L t (f .updates) r in
       let w : listed (s .rate) ≡ true = ap listed (u .rate) ∙ l in
       let v = u .position in
-      framed-ranged f k n (suc t) (sampled L f t r .next) w (omega arith) (passed-ranged (moment L f t (s .meta)) s w (omega arith) i)
+      framed-ranged f k n (suc t) (sampled L f t r .next) w (omega arith) (passed-ranged (moment L f t (s .setup) (s .meta)) s w (omega arith) i)
 
   pub opened-ranged : (rate : ℕ) (r : State L) → listed rate ≡ true → R r → R (opened L rate r) × (listed (opened L rate r .rate) ≡ true)
   opened-ranged rate r l g = (
     record {
+      setup = g .setup;
       rate = inr now;
       position = g .position;
       phase = g .phase;
@@ -179,6 +185,7 @@ module _ (L : Leaves) (B : Layout L) (F : Facts L B) where
   pub flushed-ranged : (r : State L) → R r → R (flushed L r .next)
   unfolding flushed
   flushed-ranged r g = record {
+    setup = g .setup;
     rate = g .rate;
     position = g .position;
     phase = g .phase;

@@ -18,6 +18,7 @@ use Rattle.angles.specs.Angle.{Listed}
 use Rattle.lowpass.specs.Lowpass.{next, new, afterAll}
 use Rattle.lowpass.specs.declared.BiquadLowpassState.{BiquadLowpassState}
 use Rattle.lowpass.proofs.Theorems.{within-back, fed-more, lowpass-twice, lowpass-forgets}
+use Rattle.panning.specs.Setup.{Setup}
 use Rattle.rules.specs.Leaves.{Leaves}
 use Rattle.rules.specs.Mix.{fed}
 use Rattle.rules.specs.Samples.{State, idle, fresh, opened, pushed, flushed}
@@ -44,8 +45,8 @@ module _ (L : Leaves) where
     pub modest : All (Bounded Most) xs
     pub since : Since xs r
 
-  pub fresh-fed : Fed [] (fresh L)
-  fresh-fed = record { modest = tt; since = inl (refl, refl, refl) }
+  pub fresh-fed : (h : Setup) → Fed [] (fresh L h)
+  fresh-fed h = record { modest = tt; since = inl (refl, refl, refl) }
 
   module _ (B : Layout L) (F : Facts L B) (xs : List Float) (r : State L) where
     -- ---- a push that is accepted
@@ -153,4 +154,4 @@ module _ (L : Leaves) where
     pub step-fed : (c : Call) → Lent c → Rest L B F r → Fed xs r → Fed (fedSince L xs r c) (step L r c .next)
     step-fed (push a) h rest was = asked-fed a h rest was (found L r a) refl
     step-fed (flush out stride) h rest was = drained-fed (room stride (length out)) (eqb (r .pending .count) 0) was
-    step-fed reset h rest was = fresh-fed
+    step-fed reset h rest was = fresh-fed (r .setup)

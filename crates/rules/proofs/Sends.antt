@@ -14,6 +14,7 @@ use Rattle.ieee.specs.Bounds.{Bounded, All}
 use Rattle.ieee.proofs.Theorems.{mag-is, whole-grid, whole-less, mul-bounded, product-zero, zero-bits}
 use Rattle.mixing.specs.Sums.{plus, total}
 use Rattle.mixing.proofs.Theorems.{total-append}
+use Rattle.panning.specs.Setup.{Setup, HallFits}
 use Rattle.panning.specs.Table.{between, 8·0}
 use Rattle.panning.specs.Terms.{Term, onChannel}
 use Rattle.panning.proofs.Theorems.{no-bass}
@@ -37,14 +38,15 @@ on-append c (s ∷ ss) ts = go (eqb c (s .channel)) (on-append c ss ts)
     go true h = ap (λ (ks : List Float). s .coefficient ∷ ks) h
     go false h = h
 
-pub panned-alone : (s : Source) (c : ℕ) → eqb c 3 ≡ false → objectAdds s c ≡ onChannel c (objectTerms s)
+pub panned-alone : (hall : Setup) (s : Source) (c : ℕ) → eqb c 3 ≡ false → objectAdds hall s c ≡ onChannel c (objectTerms hall s)
 unfolding onChannel
-panned-alone s c e = on-append c (objectTerms s) _ ∙ rw e (append-nil (onChannel c (objectTerms s)))
+panned-alone hall s c e = on-append c (objectTerms hall s) _ ∙ rw e (append-nil (onChannel c (objectTerms hall s)))
 
 module _ (s : Source) (h : InHall s) where
-  pub sent-alone : objectAdds s 3 ≡ sendOf s ∷ []
+  pub sent-alone : (hall : Setup) → HallFits hall → objectAdds hall s 3 ≡ sendOf s ∷ []
   unfolding objectTerms onChannel
-  sent-alone = on-append 3 (objectTerms s) _ ∙ ap (λ (ks : List Float). ks ++ (sendOf s ∷ [])) (no-bass (s .place) (h .place) (s .gain) (s .size))
+  sent-alone hall f =
+      on-append 3 (objectTerms hall s) _ ∙ ap (λ (ks : List Float). ks ++ (sendOf s ∷ [])) (no-bass hall f (s .place) (h .place) (s .gain) (s .size))
 
   send-bounded : Bounded (8 * One) (sendOf s)
   send-bounded =
@@ -52,15 +54,16 @@ module _ (s : Source) (h : InHall s) where
       mul-bounded {b = One} (whole-grid 8 (lit< tt)) (whole-less 8 (lit≤ tt)) (le-refl (8 * One * One)) (eight-bounded (s .gain) (h .gain))
       (record { f32 = z .f32; most = omega (arith, mag-is (s .send), z .plus, z .most) })
 
-  pub object-modest : (c : ℕ) → Modest (objectAdds s c)
+  pub object-modest : (hall : Setup) → HallFits hall → (c : ℕ) → Modest (objectAdds hall s c)
   unfolding objectTerms
-  object-modest c = go (eqb c 3) refl
+  object-modest hall f c = go (eqb c 3) refl
     where
-      go : (b : Bool) → eqb c 3 ≡ b → Modest (objectAdds s c)
-      go true e = subst (λ (k : ℕ). Modest (objectAdds s k)) (sym (eqb-true c 3 e)) (subst Modest (sym sent-alone) (record { few = lit≤ tt; small = (send-bounded, tt) }))
+      go : (b : Bool) → eqb c 3 ≡ b → Modest (objectAdds hall s c)
+      go true e =
+          subst (λ (k : ℕ). Modest (objectAdds hall s k)) (sym (eqb-true c 3 e)) (subst Modest (sym (sent-alone hall f)) (record { few = lit≤ tt; small = (send-bounded, tt) }))
       go false e =
-          let p = panned-modest (s .place) (h .place) (s .gain) (s .size) (h .gain) (h .size) c in
-          subst Modest (sym (panned-alone s c e)) p
+          let p = panned-modest hall f (s .place) (h .place) (s .gain) (s .size) (h .gain) (h .size) c in
+          subst Modest (sym (panned-alone hall s c e)) p
 
   -- "it gets nothing from an object whose gain or send is zero"
   send-nothing : T (unsent s) → T (eq (sendOf s) 0·0)
@@ -71,11 +74,14 @@ module _ (s : Source) (h : InHall s) where
 
 -- ---- where no object is sent, the beds alone are fed
 
-none-sent : (ss : List Source) (own : List Float) (b : Float) → All InHall ss → All (λ (s : Source). T (unsent s)) ss → total b (objectsOn 3 ss own) ≡ b
-none-sent [] own b h z = refl
-none-sent (s ∷ ss) [] b h z = refl
-none-sent (s ∷ ss) (x ∷ own) b h z = rw (sent-alone s (h .0), not-added s (h .0) (z .0) b x) (none-sent ss own b (h .1) (z .1))
+none-sent : (hall : Setup) → HallFits hall → (ss : List Source) (own : List Float) (b : Float) → All InHall ss → All (λ (s : Source). T (unsent s)) ss
+    → total b (objectsOn hall 3 ss own) ≡ b
+none-sent hall f [] own b h z = refl
+none-sent hall f (s ∷ ss) [] b h z = refl
+none-sent hall f (s ∷ ss) (x ∷ own) b h z = rw (sent-alone s (h .0) hall f, not-added s (h .0) (z .0) b x) (none-sent hall f ss own b (h .1) (z .1))
 
-pub send-zero : (m : Moment) → All InHall (m .objects) → All (λ (s : Source). T (unsent s)) (m .objects) → fed m ≡ fedByBeds m
+pub send-zero : (m : Moment) → HallFits (m .hall) → All InHall (m .objects) → All (λ (s : Source). T (unsent s)) (m .objects) → fed m ≡ fedByBeds m
 unfolding heard
-send-zero m h z = total-append (bedsOn 3 (m .beds) (m .codes) (m .inputs)) (objectsOn 3 (m .objects) (m .own)) 0·0 ∙ none-sent (m .objects) (m .own) (fedByBeds m) h z
+send-zero m f h z =
+    total-append (bedsOn (m .hall) 3 (m .beds) (m .codes) (m .inputs)) (objectsOn (m .hall) 3 (m .objects) (m .own)) 0·0
+    ∙ none-sent (m .hall) f (m .objects) (m .own) (fedByBeds m) h z

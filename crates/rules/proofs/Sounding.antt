@@ -47,7 +47,7 @@ module _ (L : Leaves) where
     pub hearable-at : (t : ℕ) → t < a .samples → Hearable (momentAt L r a t)
     hearable-at t h =
         let i = before-good L B F t (f .updates) (s t) (k .updates) (good-at t (le-of-lt h)) in
-        subst Hearable (sym (moment-is L r a t h)) (moment-hearable L B F f k t h (met L r a t .meta) (i .steady .meta))
+        subst Hearable (sym (moment-is L r a t h)) (moment-hearable L B F f k t h (met L r a t .setup) (i .steady .hall) (met L r a t .meta) (i .steady .meta))
 
     -- ---- the sample that is laid
     sound-fits : (t c : ℕ) → t < a .samples → T (fits binary32 (soundAt L r a c t))

@@ -7,6 +7,7 @@ use mathlib.Core.List.{List, [], _∷_}
 use lib.Dec.{T, eqb}
 use lib.ListN.{length}
 use borrow.Author.Tests.{eq-eqb}
+use Rattle.panning.specs.Setup.{Setup, builtIn}
 use Rattle.rules.specs.Leaves.{Leaves}
 use Rattle.rules.specs.Samples.{State, fresh}
 use Rattle.rules.specs.Refusals.{Args, Found, clear, stop, room}
@@ -19,7 +20,7 @@ abbrev Means : (L : Leaves) → Answer → State L → State L → Type 0
 Means L (refused k x y) s r = s ≡ r
 Means L (rendered v m) s r = Unit {0}
 Means L nothing s r = s ≡ r
-Means L cleared s r = s ≡ fresh L
+Means L cleared s r = Unit {0}
 
 module _ (L : Leaves) where
   asked-means : (v : Found) (a : Args) (r : State L) → Means L (asked L v a r .answer) (asked L v a r .next) r
@@ -34,7 +35,7 @@ module _ (L : Leaves) where
   step-means : (r : State L) (c : Call) → Means L (step L r c .answer) (step L r c .next) r
   step-means r (push a) = asked-means (found L r a) a r
   step-means r (flush out stride) = drained-means (room stride (length out)) (eqb (r .pending .count) 0) r
-  step-means r reset = refl
+  step-means r reset = tt
 
 module _ (L : Leaves) (B : Layout L) where
   -- ---- a refused call leaves the block as it was, byte for byte
@@ -84,11 +85,14 @@ module _ (L : Leaves) (B : Layout L) where
       go true e h = subst (λ (s : List ℕ). finalOn L B s (keptOn L B b′ cs) ≡ finalOn L B b′ cs) (made-stays c b (subst T (sym e) tt)) h
       go false e h = h
 
-  -- ---- what reset leaves of a block of the right length
-  pub reset-block : (b : List ℕ) → length b ≡ B .size → made L B reset b .state ≡ B .encode (fresh L)
-  reset-block b e = ap (λ (t : Bool). cond t (left L B cleared (fresh L) [] 0 b) (record { answer = refused 1 0 0; state = b; out = [] }) .state) (eq-eqb (length b) (B .size) e)
-
   module _ (F : Facts L B) where
+    -- ---- what reset leaves of a block of the right length
+    pub reset-block : (b : List ℕ) → length b ≡ B .size → made L B reset b .state ≡ B .encode (fresh L builtIn)
+    reset-block b e =
+        ap (λ (t : Bool). cond t (left L B cleared (fresh L (B .decode b .setup)) [] 0 b) (record { answer = refused 1 0 0; state = b; out = [] }) .state)
+        (eq-eqb (length b) (B .size) e)
+        ∙ ap (λ (h : Setup). B .encode (fresh L h)) (F .setup b)
+
     takes-it : (c : Call) (r : State L) → InRanges F r → takes L B c (B .encode r) ≡ true
     takes-it (push a) r g = F .valid r g
     takes-it (flush out stride) r g = F .valid r g
@@ -109,7 +113,7 @@ module _ (L : Leaves) (B : Layout L) where
     left-state (refused k x y) s r out n m = ap (B .encode) (sym m)
     left-state (rendered v x) s r out n m = refl
     left-state nothing s r out n m = ap (B .encode) (sym m)
-    left-state cleared s r out n m = ap (B .encode) (sym m)
+    left-state cleared s r out n m = refl
 
     -- and the block after it is the next renderer's
     pub made-state : (c : Call) (r : State L) → InRanges F r → made L B c (B .encode r) .state ≡ B .encode (step L r c .next)

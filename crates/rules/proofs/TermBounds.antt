@@ -13,14 +13,15 @@ use Rattle.ieee.specs.Bounds.{Bounded, All}
 use Rattle.ieee.proofs.Signed.{mag-is}
 use Rattle.vectors.specs.declared.Vec3.{Vec3}
 use Rattle.panning.specs.declared.Panned.{Panned}
-use Rattle.panning.specs.Choice.{0·0, 1·0}
+use Rattle.panning.specs.Choice.{0·0, 1·0, keep}
 use Rattle.panning.specs.Table.{Position, between, 8·0}
-use Rattle.panning.specs.Terms.{Term, panned, audible, paired, spread, onChannel}
-use Rattle.panning.specs.Speakers.{fullRange, panned714, terms714, pan714}
+use Rattle.panning.specs.Terms.{Term, term, panned, audible, paired, spread, onChannel}
+use Rattle.panning.specs.Speakers.{fullRange}
+use Rattle.panning.specs.Setup.{Setup, HallFits, present, speakersIn, pannedIn, termsIn, panIn}
 use Rattle.panning.specs.Coefficients.{Each}
-use Rattle.panning.proofs.Theorems.{pans714}
+use Rattle.panning.proofs.Theorems.{pans-in}
 use Rattle.panning.proofs.Tables.{gain8}
-use Rattle.rules.proofs.EachOf.{either}
+use Rattle.rules.proofs.EachOf.{either, length-map}
 
 -- ---- sizes
 pub eight-bounded : (x : Float) → T (between 0·0 8·0 x) → Bounded (8 * One) x
@@ -42,18 +43,35 @@ paired-few [] cs = le-refl 0
 paired-few (k ∷ ks) [] = omega arith
 paired-few (k ∷ ks) (c ∷ cs) = let h = paired-few ks cs in omega arith
 
-eight-corners : (p : Vec3) (g s : Float) → length (panned714 p g s .corners) ≤ 8
-unfolding panned
-eight-corners p g s = either (λ (r : Panned). length (r .corners) ≤ 8) (eq g 0·0) (lit≤ tt) (lit≤ tt)
+keep-few : (f : ℕ → Bool) (l : List ℕ) → length (keep f l) ≤ length l
+unfolding keep
+keep-few f [] = le-refl 0
+keep-few f (k ∷ l) = go (f k) (keep-few f l)
+  where
+    go : (b : Bool) → length (keep f l) ≤ length l → length (cond b (k ∷ keep f l) (keep f l)) ≤ suc (length l)
+    go true h = omega arith
+    go false h = omega arith
 
-terms-few : (p : Vec3) (g s : Float) → length (terms714 p g s) ≤ 19
-terms-few p g s =
-    let r = panned714 p g s in
-    let a : length (audible (spread fullRange (r .extra))) ≤ 11 = audible-few (spread fullRange (r .extra)) in
+-- no hall has more than eleven
+speakers-few : (n : ℕ) → length (speakersIn n) ≤ 11
+unfolding speakersIn
+speakers-few n = keep-few (present n) fullRange
+
+eight-corners : (hall : Setup) (p : Vec3) (g s : Float) → length (pannedIn hall p g s .corners) ≤ 8
+unfolding panned
+eight-corners hall p g s = either (λ (r : Panned). length (r .corners) ≤ 8) (eq g 0·0) (lit≤ tt) (lit≤ tt)
+
+terms-few : (hall : Setup) (p : Vec3) (g s : Float) → length (termsIn hall p g s) ≤ 19
+terms-few hall p g s =
+    let r = pannedIn hall p g s in
+    let l = speakersIn (hall .layout) in
+    let a = audible-few (spread l (r .extra)) in
+    let i : length (spread l (r .extra)) ≡ length l = length-map (λ k. term k (r .extra)) l in
+    let j = speakers-few (hall .layout) in
     let b = audible-few (paired (r .corners) (r .coefficients)) in
     let c = paired-few (r .corners) (r .coefficients) in
-    let d = eight-corners p g s in
-    let e = length-append (audible (spread fullRange (r .extra))) (audible (paired (r .corners) (r .coefficients))) in
+    let d = eight-corners hall p g s in
+    let e = length-append (audible (spread l (r .extra))) (audible (paired (r .corners) (r .coefficients))) in
     omega arith
 
 -- ---- on one channel
@@ -78,10 +96,10 @@ pub record Modest (ks : List Float) : Type 0 where
   pub few : length ks ≤ 19
   pub small : All (Bounded (8 * One)) ks
 
-pub panned-modest : (p : Vec3) → Position p → (g s : Float) → T (between 0·0 8·0 g) → T (between 0·0 1·0 s) → (c : ℕ) → Modest (pan714 p g s c)
-panned-modest p q g s h k c =
+pub panned-modest : (hall : Setup) → HallFits hall → (p : Vec3) → Position p → (g s : Float) → T (between 0·0 8·0 g) → T (between 0·0 1·0 s) → (c : ℕ)
+    → Modest (panIn hall p g s c)
+panned-modest hall f p q g s h k c =
     record {
-      few = le-trans (on-few c (terms714 p g s)) (terms-few p g s);
-      small =
-          on-all (Bounded (8 * One)) c (terms714 p g s) (λ t m. eight-bounded (t .coefficient) (pans714 p q .bounded g s h k t m));
+      few = le-trans (on-few c (termsIn hall p g s)) (terms-few hall p g s);
+      small = on-all (Bounded (8 * One)) c (termsIn hall p g s) (λ t m. eight-bounded (t .coefficient) (pans-in hall f p q .bounded g s h k t m));
     }

@@ -7,6 +7,8 @@ pub use Rattle.rules.proofs.Keeps.{keeps}
 -- a push that no reason speaks against is accepted, and what an accepted one passed
 pub use Rattle.rules.proofs.Accepted.{accepts}
 pub use Rattle.rules.proofs.Judged.{Passed, is-passed, is-early, is-listed, is-roomy, is-sized, samples-fit, rate-high, and-true}
+-- in the built-in hall each bed is routed as document 01 says; the beds that each layout pans; nothing is heard on a channel that the hall lacks
+pub use Rattle.rules.proofs.Absent.{route-built-in, foldedIn, absent-beds, absent-unheard}
 -- 7 never occurs
 pub use Rattle.rules.proofs.Unused.{numberOf, never-seven}
 -- ranges of a renderer, floats of any bits, kept by updates, slots, frames and flushes

@@ -8,7 +8,7 @@ use lib.Ieee.{binary32, toBits}
 use Rattle.words.specs.Words.{withWords}
 use Rattle.rules.specs.Parts.{Channels}
 use Rattle.rules.specs.Leaves.{Leaves}
-use Rattle.rules.specs.Samples.{State, fresh}
+use Rattle.rules.specs.Samples.{State}
 use Rattle.rules.specs.Calls.{Call, push, flush, reset, Answer, refused, rendered, nothing, cleared, isRefused, step}
 
 -- The block's layout: how long it is, which blocks have every field in its range, the renderer that a block holds, and the block that holds a renderer.
@@ -48,7 +48,7 @@ module _ (L : Leaves) (B : Layout L) where
   left (refused n x y) s out stride b = record { answer = refused n x y; state = b; out = out }
   left (rendered g m) s out stride b = record { answer = rendered g m; state = B .encode s; out = written g stride out }
   left nothing s out stride b = record { answer = nothing; state = b; out = out }
-  left cleared s out stride b = record { answer = cleared; state = B .encode (fresh L); out = out }
+  left cleared s out stride b = record { answer = cleared; state = B .encode s; out = out }
 
   -- "a state block of wrong length, or with a field outside its range"; "reset refuses only a block of wrong length"
   abbrev pub takes : Call → List ℕ → Bool

@@ -82,10 +82,11 @@ module _ (L : Leaves) where
   drained true true r = record { answer = nothing; next = r; moments = [] }
   drained true false r = let d = flushed L r in record { answer = answered d; next = d .next; moments = [] }
 
+  -- reset starts anew in the hall that the renderer has
   abbrev pub step : State L → Call → Result
   step r (push a) = asked (found r a) a r
   step r (flush out stride) = drained (room stride (length out)) (eqb (r .pending .count) 0) r
-  step r reset = record { answer = cleared; next = fresh L; moments = [] }
+  step r reset = record { answer = cleared; next = fresh L (r .setup); moments = [] }
 
   -- the list's results, each call being handed what the one before left
   abbrev pub run : State L → List Call → List Result

@@ -9,6 +9,7 @@ use Rattle.words.specs.Words.{Bytes, word, floatAt}
 use Rattle.ieee.specs.Units.{F32, Gain}
 use Rattle.ieee.specs.Bounds.{All}
 use Rattle.limiter.specs.Range.{MetersInRange}
+use Rattle.panning.specs.Setup.{builtIn}
 use Rattle.lowpass.specs.declared.BiquadLowpassState.{BiquadLowpassState}
 use Rattle.rules.specs.Parts.{0·0, Tame, floats}
 use Rattle.rules.specs.Leaves.{Leaves}
@@ -72,24 +73,24 @@ module _ (L : Leaves) (B : Layout L) where
   -- For the calls cs in a row from the block b that reset left.
   pub record Demand3 (b : List ℕ) (cs : List Call) : Type 0 where
     -- the start is a fresh renderer
-    pub start : b ≡ B .encode (fresh L)
+    pub start : b ≡ B .encode (fresh L builtIn)
     -- every sample given out is in its place, finite and from -1 to 1
     pub range : AllGivenOut b cs
     -- every answer and every output is what the rules work out from a fresh renderer and the list, with no block
-    pub seen : seenOn L B b cs ≡ told L B (fresh L) cs
+    pub seen : seenOn L B b cs ≡ told L B (fresh L builtIn) cs
     -- the block at the end is that of the renderer that the rules work out
-    pub block : finalOn L B b cs ≡ B .encode (final L (fresh L) cs)
+    pub block : finalOn L B b cs ≡ B .encode (final L (fresh L builtIn) cs)
     -- nothing but finite numbers stays in the limiter, the low-pass and the samples that wait
-    pub clean : AllClean L (fresh L) cs
+    pub clean : AllClean L (fresh L builtIn) cs
     -- what accepted pushes sound like and what they owe their objects; flushes; resets
-    pub calls : AllHold L (fresh L) cs
+    pub calls : AllHold L (fresh L builtIn) cs
     -- what the low-pass gives is at most twice the largest that it has been fed since the start or a reset, and a loud past leaves it in time
-    pub rings : AllRing L [] (fresh L) cs
+    pub rings : AllRing L [] (fresh L builtIn) cs
     -- "the list without its refused calls gives the same answers, samples and final state": on bytes, and for the rules' own results with their moments
     pub erased : runOn L B b (keptOn L B b cs) ≡ acceptedOn L B (runOn L B b cs)
     pub left : finalOn L B b (keptOn L B b cs) ≡ finalOn L B b cs
-    pub forgotten : run L (fresh L) (kept L (fresh L) cs) ≡ accepted L (run L (fresh L) cs)
-    pub same : final L (fresh L) (kept L (fresh L) cs) ≡ final L (fresh L) cs
+    pub forgotten : run L (fresh L builtIn) (kept L (fresh L builtIn) cs) ≡ accepted L (run L (fresh L builtIn) cs)
+    pub same : final L (fresh L builtIn) (kept L (fresh L builtIn) cs) ≡ final L (fresh L builtIn) cs
 
   -- Document 01, demand 3, for every list of calls with any arguments, from what reset leaves of any block of the right length
   abbrev pub EveryList : Type 0

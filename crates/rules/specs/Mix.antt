@@ -11,30 +11,30 @@ use Rattle.beds.specs.declared.Found.the-variants.{At, Nothing}
 use Rattle.beds.specs.Matching.{matching}
 use Rattle.beds.specs.BedTerms.{bedAdds}
 use Rattle.panning.specs.Terms.{Term, term, onChannel}
-use Rattle.panning.specs.Speakers.{terms714, pan714}
+use Rattle.panning.specs.Setup.{Setup, present, termsIn, panIn}
 use Rattle.rules.specs.Parts.{0·0}
 use Rattle.rules.specs.Leaves.{Source, Bed}
 
--- ---- coefficients
+-- ---- coefficients, in the hall h
 
 -- the terms of an object as it is panned, in the order of addition
-unfoldable pub objectTerms : Source → List Term
-objectTerms s = terms714 (s .place) (s .gain) (s .size)
+unfoldable pub objectTerms : Setup → Source → List Term
+objectTerms h s = termsIn h (s .place) (s .gain) (s .size)
 
 -- "(gain × send)"
 abbrev pub sendOf : Source → Float
 sendOf s = mul binary32 (s .gain) (s .send)
 
 -- all that it adds: these, and its send on channel 3; its coefficients on channel c
-abbrev pub addedTerms : Source → List Term
-addedTerms s = objectTerms s ++ (term 3 (sendOf s) ∷ [])
+abbrev pub addedTerms : Setup → Source → List Term
+addedTerms h s = objectTerms h s ++ (term 3 (sendOf s) ∷ [])
 
-abbrev pub objectAdds : Source → ℕ → List Float
-objectAdds s c = onChannel c (addedTerms s)
+abbrev pub objectAdds : Setup → Source → ℕ → List Float
+objectAdds h s c = onChannel c (addedTerms h s)
 
--- the coefficients of a bed on channel c: document 01, item 3. One that is panned has size 0.
-abbrev pub addsOf : Bed → ℕ → List Float
-addsOf b c = bedAdds (λ p g c. pan714 p g 0·0 c) (b .code) (b .gain) c
+-- the coefficients of a bed on channel c: document 01, item 3; R-5: "A bed whose speaker is absent is panned". One that is panned has size 0.
+abbrev pub addsOf : Setup → Bed → ℕ → List Float
+addsOf h b c = bedAdds (present (h .layout)) (λ p g c. panIn h p g 0·0 c) (b .code) (b .gain) c
 
 -- ---- samples
 
@@ -60,18 +60,19 @@ fedBy ks (At i) inputs = scaledBy ks (inputs i)
 fedBy ks Nothing inputs = []
 
 -- the beds in order; `codes` are the frame's, and `inputs` its bed channels' samples
-abbrev pub bedsOn : ℕ → List Bed → List ℕ → (ℕ → Float) → List sums.Addend
-bedsOn c [] codes inputs = []
-bedsOn c (b ∷ bs) codes inputs = fedBy (addsOf b c) (matching (b .code) codes) inputs ++ bedsOn c bs codes inputs
+abbrev pub bedsOn : Setup → ℕ → List Bed → List ℕ → (ℕ → Float) → List sums.Addend
+bedsOn h c [] codes inputs = []
+bedsOn h c (b ∷ bs) codes inputs = fedBy (addsOf h b c) (matching (b .code) codes) inputs ++ bedsOn h c bs codes inputs
 
 -- the objects in order, each with its own sample
-abbrev pub objectsOn : ℕ → List Source → List Float → List sums.Addend
-objectsOn c [] own = []
-objectsOn c (s ∷ ss) [] = []
-objectsOn c (s ∷ ss) (x ∷ own) = scaledBy (objectAdds s c) x ++ objectsOn c ss own
+abbrev pub objectsOn : Setup → ℕ → List Source → List Float → List sums.Addend
+objectsOn h c [] own = []
+objectsOn h c (s ∷ ss) [] = []
+objectsOn h c (s ∷ ss) (x ∷ own) = scaledBy (objectAdds h s c) x ++ objectsOn h c ss own
 
--- What is heard at one sample: the beds and the objects, the frame's bed codes, and the samples of the frame's beds and objects. Silence has neither beds nor objects.
+-- What is heard at one sample: the hall, the beds and the objects, the frame's bed codes, and the samples of the frame's beds and objects. Silence has neither beds nor objects.
 pub record Moment : Type 0 where
+  pub hall : Setup
   pub beds : List Bed
   pub objects : List Source
   pub codes : List ℕ
@@ -80,11 +81,11 @@ pub record Moment : Type 0 where
 
 -- the sum of channel c: +0.0, then the beds' terms, then the objects'
 unfoldable pub heard : Moment → ℕ → Float
-heard m c = total 0·0 (bedsOn c (m .beds) (m .codes) (m .inputs) ++ objectsOn c (m .objects) (m .own))
+heard m c = total 0·0 (bedsOn (m .hall) c (m .beds) (m .codes) (m .inputs) ++ objectsOn (m .hall) c (m .objects) (m .own))
 
 -- what enters the low-pass, and the beds' part of it
 abbrev pub fed : Moment → Float
 fed m = heard m 3
 
 abbrev pub fedByBeds : Moment → Float
-fedByBeds m = total 0·0 (bedsOn 3 (m .beds) (m .codes) (m .inputs))
+fedByBeds m = total 0·0 (bedsOn (m .hall) 3 (m .beds) (m .codes) (m .inputs))

@@ -14,7 +14,7 @@ use Rattle.limiter.specs.Meters.{callMeters}
 use Rattle.beds.specs.declared.Found.the-variants.{At}
 use Rattle.beds.specs.Matching.{matching}
 use Rattle.panning.specs.Coefficients.{between, 8·0, squares, AddsUp, Each}
-use Rattle.panning.specs.Speakers.{fullRange}
+use Rattle.panning.specs.Setup.{Setup, SpeakerOf, speakersIn}
 use Rattle.rules.specs.Parts.{0·0}
 use Rattle.rules.specs.Leaves.{Leaves, Source, Bed, started}
 use Rattle.rules.specs.Mix.{objectTerms, sendOf, objectAdds, sampleAt, samplesAt, fed, fedByBeds}
@@ -34,12 +34,13 @@ abbrev pub unsent : Source → Bool
 unsent s = eq (s .gain) 0·0 || eq (s .send) 0·0
 
 -- "the exact squares of its eleven coefficients add up to its gain g within g × 2^-20 + 2^-140": its terms are all that it adds besides its send; each is finite and from
--- 0 to 8, on one of the eleven channels that are not 3, and no two are on one channel
-pub record Squares (s : Source) : Type 0 where
-  pub channels : Each (λ t. (t .channel < 12) × (t .channel ≡ 3 → ⊥)) (objectTerms s)
-  pub each : Each (λ t. T (between 0·0 8·0 (t .coefficient))) (objectTerms s)
-  pub once : (c : ℕ) → length (objectAdds s c) ≤ 1
-  pub sum : AddsUp (squares fullRange (objectTerms s)) (s .gain)
+-- 0 to 8, on a speaker that the hall h has, one of the eleven channels that are not 3, and no two are on one channel. R-5: "the square sum counts the full-range speakers
+-- present".
+pub record Squares (h : Setup) (s : Source) : Type 0 where
+  pub channels : Each (λ t. SpeakerOf (h .layout) (t .channel)) (objectTerms h s)
+  pub each : Each (λ t. T (between 0·0 8·0 (t .coefficient))) (objectTerms h s)
+  pub once : (c : ℕ) → length (objectAdds h s c) ≤ 1
+  pub sum : AddsUp (squares (speakersIn (h .layout)) (objectTerms h s)) (s .gain)
 
 -- ---- a bed
 
@@ -80,6 +81,8 @@ module _ (L : Leaves) where
   pub record AtSample (r : State L) (a : Args) (t : ℕ) : Type 0 where
     -- it finds the updates at t applied in the order sent, and a slot begun where one begins
     pub finds : met L r a t ≡ slotted L (appliedAll L t (atOffset (L .offset) t (L .updates (a .meta))) (before L r a t))
+    -- it is heard in the renderer's hall
+    pub hall : momentAt L r a t .hall ≡ r .setup
     -- it is heard with the beds and objects of the timed state, "silent samples pan no object", and with its own samples of the PCM
     pub beds : momentAt L r a t .beds ≡ cond (begun r a t) (L .beds (met L r a t .meta)) []
     pub objects : momentAt L r a t .objects ≡ cond (begun r a t) (L .objects (met L r a t .meta)) []
@@ -106,6 +109,8 @@ module _ (L : Leaves) where
     -- it answers with what it gives out
     pub answer : step L r (push a) .answer ≡ answered L (pushed L (frameOf L a) r)
     pub next : step L r (push a) .next ≡ pushed L (frameOf L a) r .next
+    -- in the same hall
+    pub setup : pushed L (frameOf L a) r .next .setup ≡ r .setup
     -- whole blocks are ready on each channel and the remainder waits; the stream has moved by the push's samples, at the push's rate
     pub ready : (c : ℕ) → c < 12 → length (pushed L (frameOf L a) r .given c) ≡ 64 * whole L r a
     pub waits : pushed L (frameOf L a) r .next .pending .count ≡ (r .pending .count + a .samples) % 64
@@ -126,17 +131,18 @@ module _ (L : Leaves) where
     pub bass : (t j : ℕ) → t < a .samples → j < a .objects → T (unsent (objectHeard r a t j)) → (qcm : List ℕ) → Replaced (a .samples) (length (a .codes) + j) (a .pcm) qcm
         → (found L r (withPcm qcm a) ≡ clear) × (fed (momentAt L r (withPcm qcm a) t) ≡ fed (momentAt L r a t))
     -- "sample × (gain × send)" is all that an object adds there; where none is sent, the beds alone are fed, as in the Rust
-    pub sends : (t j : ℕ) → j < length (momentAt L r a t .objects) → objectAdds (objectHeard r a t j) 3 ≡ sendOf (objectHeard r a t j) ∷ []
+    pub sends : (t j : ℕ) → j < length (momentAt L r a t .objects) → objectAdds (r .setup) (objectHeard r a t j) 3 ≡ sendOf (objectHeard r a t j) ∷ []
     pub alone : (t : ℕ) → All (λ (s : Source). T (unsent s)) (momentAt L r a t .objects) → fed (momentAt L r a t) ≡ fedByBeds (momentAt L r a t)
     -- objects that are there and of size zero: the squares; "at gain 0 the coefficients are zero", at any size
-    pub squares : (t j : ℕ) → j < length (momentAt L r a t .objects) → T (eq (objectHeard r a t j .size) 0·0) → Squares (objectHeard r a t j)
-    pub still : (t j : ℕ) → j < length (momentAt L r a t .objects) → T (eq (objectHeard r a t j .gain) 0·0) → objectTerms (objectHeard r a t j) ≡ []
+    pub squares : (t j : ℕ) → j < length (momentAt L r a t .objects) → T (eq (objectHeard r a t j .size) 0·0) → Squares (r .setup) (objectHeard r a t j)
+    pub still : (t j : ℕ) → j < length (momentAt L r a t .objects) → T (eq (objectHeard r a t j .gain) 0·0) → objectTerms (r .setup) (objectHeard r a t j) ≡ []
 
   -- ---- a flush with room for its samples, and a reset
 
   -- s is r but for the limiter's gain and what is pending
   pub record Drained (r s : State L) : Type 0 where
     pub pending : s .pending .count ≡ 0
+    pub setup : s .setup ≡ r .setup
     pub rate : s .rate ≡ r .rate
     pub clock : s .clock ≡ r .clock
     pub filter : s .filter ≡ r .filter
@@ -152,15 +158,15 @@ module _ (L : Leaves) where
     pub gain : 0 < r .pending .count → x .next .limiter .gain ≡ gainAfter (r .pending .count) (r .rate) (r .limiter .gain) (waiting L r)
     pub untouched : 0 < r .pending .count → Drained r (x .next)
 
-  pub record ResetHolds (x : Result L) : Type 0 where
+  pub record ResetHolds (r : State L) (x : Result L) : Type 0 where
     pub answer : x .answer ≡ cleared
-    pub next : x .next ≡ fresh L
+    pub next : x .next ≡ fresh L (r .setup)
 
   abbrev pub CallHolds : State L → Call → Type 0
   CallHolds r (push a) = ((n x y : ℕ) → found L r a ≡ stop n x y → Refuses r n x y (step L r (push a))) × (found L r a ≡ clear → PushHolds r a)
   CallHolds r (flush out stride) =
       (room stride (length out) ≡ false → Refuses r 1 0 0 (step L r (flush out stride))) × (room stride (length out) ≡ true → FlushHolds r (step L r (flush out stride)))
-  CallHolds r reset = ResetHolds (step L r reset)
+  CallHolds r reset = ResetHolds r (step L r reset)
 
   -- of each call of the list, each handed what the one before left
   abbrev pub AllHold : State L → List Call → Type 0

@@ -11,6 +11,7 @@ use Rattle.limiter.specs.Limiter.{blockGain, scaled, grown}
 use Rattle.limiter.specs.Meters.{blockMeters}
 use Rattle.limiter.specs.declared.meters.Meters.{Meters}
 use Rattle.limiter.specs.declared.Limiter.{Limiter}
+pub use Rattle.panning.specs.Setup.{Setup, builtIn}
 use Rattle.rules.specs.Parts.{0·0, 1·0, Channels, none, joined, twelve, Places, floats, laid, zeros}
 use Rattle.rules.specs.Leaves.{Leaves, started}
 use Rattle.rules.specs.Mix.{sampleAt, samplesAt, Moment, heard, fed}
@@ -58,6 +59,8 @@ emptied whole p = record { count = cond whole 0 (p .count); places = p .places }
 -- ---- the renderer
 
 pub record Renderer (M : Type 0) : Type 0 where
+  -- the hall that it renders for: every step keeps it
+  pub setup : Setup
   -- 0: none yet
   pub rate : ℕ
   pub clock : Clock
@@ -90,9 +93,11 @@ module _ (L : Leaves) where
   abbrev pub State : Type 0
   State = Renderer (L .Meta)
 
-  abbrev pub fresh : State
-  fresh =
+  -- a new renderer for the hall h
+  abbrev pub fresh : Setup → State
+  fresh h =
       record {
+        setup = h;
         rate = 0;
         clock = record { position = 0; phase = 0; start = 0 };
         limiter = record { gain = 1·0 };
@@ -107,6 +112,7 @@ module _ (L : Leaves) where
   abbrev pub appliedAt : ℕ → L .Update → State → State
   appliedAt t u r =
       record {
+        setup = r .setup;
         rate = r .rate;
         clock = restarted (not (started L (r .meta)) || eqb t 0) (r .clock);
         limiter = r .limiter;
@@ -124,6 +130,7 @@ module _ (L : Leaves) where
   abbrev pub slotted : State → State
   slotted r =
       record {
+        setup = r .setup;
         rate = r .rate;
         clock = r .clock;
         limiter = r .limiter;
@@ -135,9 +142,10 @@ module _ (L : Leaves) where
   -- ---- one sample
 
   -- "Samples before the first update are silent."
-  abbrev pub moment : Frame (L .Update) → ℕ → L .Meta → Moment
-  moment f t m =
+  abbrev pub moment : Frame (L .Update) → ℕ → Setup → L .Meta → Moment
+  moment f t h m =
       record {
+        hall = h;
         beds = cond (started L m) (L .beds m) [];
         objects = cond (started L m) (L .objects m) [];
         codes = f .codes;
@@ -155,7 +163,15 @@ module _ (L : Leaves) where
   -- n samples of each channel more: the low-pass after them, and the samples, which wait; the clock goes on from the first update
   abbrev pub settled : ℕ → BiquadLowpassState → Channels → State → State
   settled n low xs r =
-      record { rate = r .rate; clock = ticked (started L (r .meta)) n (r .clock); limiter = r .limiter; filter = low; meta = r .meta; pending = appended n xs (r .pending) }
+      record {
+        setup = r .setup;
+        rate = r .rate;
+        clock = ticked (started L (r .meta)) n (r .clock);
+        limiter = r .limiter;
+        filter = low;
+        meta = r .meta;
+        pending = appended n xs (r .pending);
+      }
 
   -- "A block of 64 .. scale; then g grows by length / rate, at most 1": a whole block is given out
   abbrev pub closing : State → List Moment → After
@@ -164,6 +180,7 @@ module _ (L : Leaves) where
       let block = floats (r .pending .places) in
       record {
         next = record {
+          setup = r .setup;
           rate = r .rate;
           clock = r .clock;
           limiter = record { gain = cond whole (gainAfter 64 (r .rate) (r .limiter .gain) block) (r .limiter .gain) };
@@ -181,7 +198,7 @@ module _ (L : Leaves) where
   passed m r = closing (settled 1 (next (r .filter) (fed m)) (row m (r .filter)) r) (m ∷ [])
 
   abbrev pub sampled : Frame (L .Update) → ℕ → State → After
-  sampled f t r = let s = slotted (updated t (f .updates) r) in passed (moment f t (s .meta)) s
+  sampled f t r = let s = slotted (updated t (f .updates) r) in passed (moment f t (s .setup) (s .meta)) s
 
   -- ---- frames
 
@@ -198,6 +215,7 @@ module _ (L : Leaves) where
   opened rate r =
       let first = eqb (r .rate) 0 in
       record {
+        setup = r .setup;
         rate = cond first rate (r .rate);
         clock = r .clock;
         limiter = r .limiter;
@@ -218,6 +236,7 @@ module _ (L : Leaves) where
   flushed r =
       record {
         next = record {
+          setup = r .setup;
           rate = r .rate;
           clock = r .clock;
           limiter = record { gain = gainAfter (r .pending .count) (r .rate) (r .limiter .gain) (waiting r) };

@@ -9,6 +9,7 @@ use Rattle.lowpass.specs.Lowpass.{output}
 use Rattle.limiter.specs.Meters.{idleMeters}
 use Rattle.limiter.specs.declared.meters.Meters.{Meters}
 use Rattle.limiter.specs.Range.{Metered}
+use Rattle.panning.specs.Setup.{builtIn}
 use Rattle.rules.specs.Parts.{0·0, Channels, none, joined}
 use Rattle.rules.specs.Leaves.{Leaves}
 use Rattle.rules.specs.Mix.{Moment, heard, fed}
@@ -50,7 +51,7 @@ appliedAll L t [] r = r
 appliedAll L t (u ∷ us) r = appliedAll L t us (appliedAt L t u r)
 
 abbrev pub silent : Moment
-silent = record { beds = []; objects = []; codes = []; inputs = λ i. 0·0; own = [] }
+silent = record { hall = builtIn; beds = []; objects = []; codes = []; inputs = λ i. 0·0; own = [] }
 
 module _ (L : Leaves) (r : State L) (a : Args) where
   -- before sample t; and what sample t finds: the updates at t applied, a slot begun where one begins

@@ -120,6 +120,7 @@ module _ (s : Renderer714) (h : smallPart .In s) where
   small-ranged is ps i p =
       let (rate, (phase, (position, (start, (gain, (filter, pending)))))) = h .0 .0 in
       record {
+        setup = refl;
         rate = rate;
         phase = phase;
         position = position;

@@ -139,6 +139,7 @@ pub fresh-ranged : BlockRanged freshRenderer
 unfolding blank
 fresh-ranged =
     record {
+      setup = refl;
       rate = tt;
       phase = lit< tt;
       position = lit≤ tt;

@@ -168,7 +168,9 @@ module _ (r : Renderer Timed) (h : BlockRanged r) where
 
   pub decode-encode : decode (encode r) ≡ r
   unfolding decode
-  decode-encode = λ i. assembled ((ap smallOf words-back ∙ small-back (small r) (small-full r h)) i) (infos-back i) (λ c. place-back c i)
+  decode-encode =
+      (λ i. assembled ((ap smallOf words-back ∙ small-back (small r) (small-full r h)) i) (infos-back i) (λ c. place-back c i))
+      ∙ (λ i. record { setup = sym (h .setup) i; rate = r .rate; clock = r .clock; limiter = r .limiter; filter = r .filter; meta = r .meta; pending = r .pending })
 
   pub encode-long : length (encode r) ≡ size
   unfolding encode

@@ -11,7 +11,7 @@ use Rattle.timed.specs.Slot.{middle}
 use Rattle.timed.specs.State.{Timed}
 use Rattle.timed.specs.declared.state.ElementRendererState.{ElementRendererState}
 use Rattle.rules.specs.Parts.{0·0, 1·0, Places, zeros}
-use Rattle.rules.specs.Samples.{Renderer, idle}
+use Rattle.rules.specs.Samples.{builtIn, Renderer, idle}
 use Rattle.store.specs.declared.renderer.Renderer714.{Renderer714}
 use Rattle.store.specs.Bytes.{bytesOf}
 use Rattle.store.specs.Fields.{clockOf, clockFrom, smallWords, smallOf}
@@ -22,10 +22,11 @@ pub use Rattle.store.specs.FieldPlaces.{smallWidth, infosAt, placesAt, s
 abbrev pub small : Renderer Timed → Renderer714
 small r = record { rate = r .rate; clock = clockFrom (r .clock); limiter = r .limiter; filter = r .filter; pending = r .pending .count; state = r .meta .state }
 
--- the small part, with infos and places
+-- the small part, with infos and places; the hall is the built-in one, until R-5 puts it into the block
 abbrev pub assembled : Renderer714 → List ℕ → Places → Renderer Timed
 assembled s is ps =
     record {
+      setup = builtIn;
       rate = s .rate;
       clock = clockOf (s .clock);
       limiter = s .limiter;
@@ -94,10 +95,11 @@ blank =
       infos = replicate infosBytes 0;
     }
 
--- `freshRenderer` of the rules, with `blank`; `encode-fresh` of proofs/Fresh: its block is what reset fills
+-- `fresh` of the rules in the built-in hall, with `blank`; `encode-fresh` of proofs/Fresh: its block is what reset fills
 abbrev pub freshRenderer : Renderer Timed
 freshRenderer =
     record {
+      setup = builtIn;
       rate = 0;
       clock = record { position = 0; phase = 0; start = 0 };
       limiter = record { gain = 1·0 };

@@ -13,7 +13,7 @@ use Rattle.timed.specs.State.{Timed}
 use Rattle.rules.specs.Parts.{Places}
 use Rattle.rules.specs.Refusals.{listed}
 use Rattle.rules.specs.Ranges as rules
-use Rattle.rules.specs.Samples.{Renderer}
+use Rattle.rules.specs.Samples.{builtIn, Renderer}
 use Rattle.store.specs.Layout.{size, decode, encode}
 use Rattle.store.specs.ValidBlocks as store
 use Rattle.store.specs.Ranged.{PlacesRanged, BlockRanged}
@@ -44,6 +44,7 @@ pub ranged : (r : Renderer Timed) → rules.Ranged hall Within r → BlockRanged
 ranged r h =
     let f = h .filter in
     record {
+      setup = h .setup;
       rate = rate-in (r .rate) (h .rate);
       phase = h .phase;
       position = h .position;
@@ -65,6 +66,7 @@ unranged : (r : Renderer Timed) → BlockRanged r → rules.Ranged hall Within r
 unranged r h =
     let f = h .filter in
     record {
+      setup = h .setup;
       rate = or-t (r .rate) (listed (r .rate)) (h .rate);
       position = h .position;
       phase = h .phase;
@@ -90,3 +92,8 @@ back-of r h = whole.decode-encode r (ranged r h)
 
 pub decoded-of : (b : List ℕ) → Bytes b → store.valid b ≡ true → rules.Ranged hall Within (decode b)
 decoded-of b bs e = unranged (decode b) (decoded′.decode-ranged b bs (subst T (sym e) tt))
+
+-- the block holds no hall of its own
+pub setup-of : (b : List ℕ) → decode b .setup ≡ builtIn
+unfolding decode
+setup-of b = refl

@@ -4,7 +4,7 @@ use Rattle.words.specs.Words.{Bytes}
 use Rattle.rules.specs.Demand3.{EveryList, Keeps}
 use Rattle.rules.proofs.Theorems.{Facts, Passed, fresh-ranged, pushed-ranged, flushed-ranged, every-list}
 use Rattle.rules.specs.Refusals.{Args}
-use Rattle.rules.specs.Samples.{State, fresh, pushed, flushed}
+use Rattle.rules.specs.Samples.{builtIn, State, fresh, pushed, flushed}
 use Rattle.rules.specs.Ranges.{Ranged}
 use Rattle.rules.specs.Calls.{frameOf}
 use Rattle.rules.proofs.Keeps as rules
@@ -16,7 +16,7 @@ use Rattle.theorem.proofs.TimedShapes.{mixable, shape-apply, shape-slot
 use Rattle.theorem.proofs.SlotSound.{sound-slot}
 use Rattle.theorem.proofs.SlotWithin.{within-slot}
 use Rattle.theorem.proofs.Blank.{sound-blank, within-blank, within-later}
-use Rattle.theorem.proofs.BlockRanges.{size-of, valid-of, back-of, decoded-of}
+use Rattle.theorem.proofs.BlockRanges.{setup-of, size-of, valid-of, back-of, decoded-of}
 
 -- what the rules take from the crates `timed`, `updates`, `records` and `store`
 unfoldable pub facts : Facts hall block
@@ -39,6 +39,7 @@ facts =
       within-later = within-later;
       within-apply = within-apply;
       within-slot = within-slot;
+      setup = setup-of;
       size = size-of;
       valid = valid-of;
       back = back-of;
@@ -53,9 +54,9 @@ pub keeps : Keeps hall block
 keeps = rules.keeps hall block facts
 
 -- the same of the renderers between blocks
-pub fresh-within : Ranged hall Within (fresh hall)
+pub fresh-within : Ranged hall Within (fresh hall builtIn)
 unfolding facts
-fresh-within = fresh-ranged hall block facts
+fresh-within = fresh-ranged hall block facts builtIn refl
 
 pub pushed-within : (r : State hall) (a : Args) → Bytes (a .meta) → Passed hall r a → Ranged hall Within r → Ranged hall Within (pushed hall (frameOf hall a) r .next)
 unfolding facts

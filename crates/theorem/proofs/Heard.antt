@@ -11,7 +11,7 @@ use lib.Ieee.{lt}
 use lib.Ieee.Fits.{and-l, and-r}
 use Rattle.words.specs.Words.{Bytes, floatAt}
 use Rattle.rules.specs.Parts.{0·0, 1·0}
-use Rattle.rules.specs.Samples.{fresh}
+use Rattle.rules.specs.Samples.{builtIn, fresh}
 use Rattle.rules.specs.Refusals.{Args, clear}
 use Rattle.rules.specs.Calls.{Call, push, flush, reset, nothing, metersOf, found}
 use Rattle.rules.specs.BlockCalls.{made, Seen, seenOn, told}
@@ -79,13 +79,13 @@ abbrev pub Reduced : Seen hall block → Type 0
 Reduced s = T (lt 1·0 (metersOf (s .answer) .peak) && lt (metersOf (s .answer) .gain) 1·0)
 
 abbrev Told : Args → (Seen hall block → Type 0) → Type 0
-Told f Q = Q (getD (told hall block (fresh hall) (calls f)) 1 unseen)
+Told f Q = Q (getD (told hall block (fresh hall builtIn) (calls f)) 1 unseen)
 
-pub accepted-bed : found hall (fresh hall) bed ≡ clear
+pub accepted-bed : found hall (fresh hall builtIn) bed ≡ clear
 unfolding everything
 accepted-bed = refl
 
-accepted-object : found hall (fresh hall) object ≡ clear
+accepted-object : found hall (fresh hall builtIn) object ≡ clear
 unfolding everything
 accepted-object = refl
 

@@ -27,6 +27,7 @@ use Rattle.beds.specs.Matching as matching
 use Rattle.panning.specs.Choice as choice
 use Rattle.panning.specs.Terms as panning
 use Rattle.panning.specs.Speakers as speakers
+use Rattle.panning.specs.Setup as setup
 use Rattle.lowpass.specs.Lowpass as lowpass
 use Rattle.limiter.specs.Limiter as limiter
 use Rattle.limiter.specs.Meters as meters
@@ -55,8 +56,9 @@ time = tt
 
 unfoldable pub sound : Unit {0}
 unfolding
-    routes.routeOf positions.positions positions.bedPosition terms.bedAdds matching.firstOf matching.matching
-    choice.corner panning.panned panning.audible panning.paired panning.onChannel speakers.hall714
+    routes.routeOf routes.routeIn positions.positions positions.bedPosition terms.bedAdds matching.firstOf matching.matching
+    choice.corner panning.panned panning.audible panning.paired panning.onChannel speakers.positions714
+    setup.placeIn setup.present setup.speakersIn setup.divisorIn setup.tableOf
     terms-of-angle.cosine terms-of-angle.sine angle.w0 filter.coefficientsOf lowpass.new limiter.lowered limiter.grown limiter.blockPeak meters.shown
     mix.objectTerms mix.heard samples.pushed samples.flushed rules.written
 sound = tt

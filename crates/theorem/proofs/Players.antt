@@ -17,7 +17,7 @@ use Rattle.records.specs.ValuesInRange.{recordInRange, inRange}
 use Rattle.timed.specs.Turns.{times}
 use Rattle.store.specs.Layout.{blank}
 use Rattle.words.specs.Words.{number}
-use Rattle.rules.specs.Samples.{State, fresh, pushed}
+use Rattle.rules.specs.Samples.{builtIn, State, fresh, pushed}
 use Rattle.rules.specs.Refusals.{Args, clear, room}
 use Rattle.rules.specs.Calls.{Call, push, flush, given, answered, frameOf, found, step, final}
 use Rattle.rules.specs.Accepted.{Acceptable}
@@ -33,7 +33,7 @@ use Rattle.theorem.proofs.Heard.{bed, object, Hears, heard-of, heard-of
 -- ---- the last call of a list, from demand 3
 
 abbrev pub after : List Call → State hall
-after cs = final hall (fresh hall) cs
+after cs = final hall (fresh hall builtIn) cs
 
 last-holds : (cs : List Call) (r : State hall) (c : Call) → AllHold hall r (cs ++ (c ∷ [])) → CallHolds hall (final hall r cs) c
 last-holds [] r c h = h .0
@@ -45,7 +45,7 @@ all-lent (d ∷ cs) c h l = (h .0, all-lent cs c (h .1) l)
 
 holds : (cs : List Call) → AllLent cs → (c : Call) → Lent c → CallHolds hall (after cs) c
 holds cs h c l =
-    last-holds cs (fresh hall) c
+    last-holds cs (fresh hall builtIn) c
     (demand3 (replicate (block .size) 0) (zero-bytes (block .size)) (length-replicate {A = ℕ} (block .size) 0) (cs ++ (c ∷ [])) (all-lent cs c h l) .calls)
 
 pushed-holds : (cs : List Call) → AllLent cs → (a : Args) → Lent (push a) → found hall (after cs) a ≡ clear → PushHolds hall (after cs) a

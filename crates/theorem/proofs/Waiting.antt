@@ -10,7 +10,7 @@ use lib.Ieee.{Float, binary32, lt, ofBits}
 use Rattle.words.specs.Words.{Bytes, word, floatAt}
 use Rattle.formats.specs.Areas.{rowPlaces}
 use Rattle.rules.specs.Parts.{0·0}
-use Rattle.rules.specs.Samples.{State, fresh, pushed}
+use Rattle.rules.specs.Samples.{builtIn, State, fresh, pushed}
 use Rattle.rules.specs.Ranges.{Ranged}
 use Rattle.rules.specs.Refusals.{Args, clear}
 use Rattle.rules.specs.Calls.{Call, push, reset, frameOf, found, final}
@@ -33,7 +33,7 @@ abbrev calls : List Call
 calls = push bed ∷ push again ∷ []
 
 abbrev first : State hall
-first = pushed hall (frameOf hall bed) (fresh hall) .next
+first = pushed hall (frameOf hall bed) (fresh hall builtIn) .next
 
 abbrev second : State hall
 second = pushed hall (frameOf hall again) first .next
@@ -52,14 +52,14 @@ told-both : Louder (ofBits binary32 (getD (second .pending .places 0) 0 0)) (ofB
 unfolding everything
 told-both = tt
 
-ends-so : final hall (fresh hall) calls ≡ second
+ends-so : final hall (fresh hall builtIn) calls ≡ second
 unfolding everything
 ends-so = refl
 
 ranged : Ranged hall Within second
 ranged =
     pushed-within first again (small-bytes [] tt) (is-passed hall first again accepted-again)
-    (pushed-within (fresh hall) bed (small-bytes (bed .meta) tt) (is-passed hall (fresh hall) bed accepted-bed) fresh-within)
+    (pushed-within (fresh hall builtIn) bed (small-bytes (bed .meta) tt) (is-passed hall (fresh hall builtIn) bed accepted-bed) fresh-within)
 
 -- ---- on the block's bytes
 

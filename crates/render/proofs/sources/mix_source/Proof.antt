@@ -5,6 +5,7 @@ use mathlib.Core.List.{List}
 use native.Mathlib.Omega.{arith}
 use lib.ListN.{length, take}
 use lib.Ieee.{Float}
+use Rattle.panning.specs.Setup.{builtIn}
 use Rattle.rules.specs.Mix.{addedTerms}
 use Rattle.render.specs.Run.{plainSource}
 use Rattle.render.specs.MixedRows.{mixedTerms}
@@ -40,7 +41,8 @@ returns c =
     let r = c .before .before .before .before .before .before in
     let a = start r .args in
     c .before .before .mix-added .ensures
-    ∙ ap (λ (xs : List Float). mixedTerms xs (addedTerms (plainSource (a .source))) (a .rows .now)) (row-start (a .pcm .now) (a .span) (a .i) _ _ (r .read-channel .ensures))
+    ∙ ap (λ (xs : List Float). mixedTerms xs (addedTerms builtIn (plainSource (a .source))) (a .rows .now))
+    (row-start (a .pcm .now) (a .span) (a .i) _ _ (r .read-channel .ensures))
 
 pub mix-source-spec : {M : Type 1} → statement M
 mix-source-spec =
