@@ -17,7 +17,7 @@ use Rattle.panning.specs.Coefficients.{8·0, Each}
 use Rattle.panning.specs.Table.{Table, Position, occupied}
 use Rattle.panning.specs.Terms.{Term, panned, terms, onChannel}
 use Rattle.panning.specs.Speakers.{positions714, hall714, fullRange, 12·0, panned714, terms714, pan714}
-use Rattle.panning.specs.Setup.{Setup, coordinateAt, placeIn, present, speakersIn, 10·0, 6·0, divisorIn, SpeakerOf, LayoutIs, tableOf, builtIn, HallFits}
+use Rattle.panning.specs.Setup.{Setup, tableFloat, placeIn, present, speakersIn, 10·0, 6·0, divisorIn, SpeakerOf, LayoutIs, tableOf, builtIn, HallFits}
 use Rattle.panning.specs.Setup.{pannedIn, termsIn, panIn}
 use Rattle.panning.specs.Facts.{Pans}
 use Rattle.panning.proofs.Lists.{keep→, every→}
@@ -131,7 +131,7 @@ place-back n (v ∷ vs) h k =
           let e : 3 * suc j ≡ suc (suc (suc (3 * j))) = omega arith in
           let f : 3 * suc j + 1 ≡ suc (suc (suc (3 * j + 1))) = omega arith in
           let g : 3 * suc j + 2 ≡ suc (suc (suc (3 * j + 2))) = omega arith in
-          (λ i. record { x = coordinateAt t (e i); y = coordinateAt t (f i); z = coordinateAt t (g i) }) ∙ place-back n vs (and-r (fits binary32 (v .z)) (fitting vs) z) j
+          (λ i. record { x = tableFloat t (e i); y = tableFloat t (f i); z = tableFloat t (g i) }) ∙ place-back n vs (and-r (fits binary32 (v .z)) (fitting vs) z) j
     ]
 
 pub built-in-places : placeIn builtIn ≡ hall714

@@ -24,11 +24,11 @@ pub record Setup : Type 0 where
 -- ---- where the speakers stand
 
 -- word i; a NaN past the end
-abbrev pub coordinateAt : List ℕ → ℕ → Float
-coordinateAt t i = ofBits binary32 (getD t i 0x7fc00000)
+abbrev pub tableFloat : List ℕ → ℕ → Float
+tableFloat t i = ofBits binary32 (getD t i 0x7fc00000)
 
 unfoldable pub placeIn : Setup → ℕ → Vec3
-placeIn s k = record { x = coordinateAt (s .table) (3 * k); y = coordinateAt (s .table) (3 * k + 1); z = coordinateAt (s .table) (3 * k + 2) }
+placeIn s k = record { x = tableFloat (s .table) (3 * k); y = tableFloat (s .table) (3 * k + 1); z = tableFloat (s .table) (3 * k + 2) }
 
 -- ---- which there are
 
