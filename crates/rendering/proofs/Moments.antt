@@ -42,7 +42,8 @@ module _ (codes pcm : List ℕ) (objects n t c : ℕ) where
   heard-same bs ss beds sources p q e =
       ap₂ (λ (x : List Bed) (y : List Source). heard
       (record { hall = builtIn; beds = x; objects = y; codes = codes; inputs = λ i. sampleAt pcm n i t; own = samplesAt pcm n (length ss) (length codes) t }) c) p q
-      ∙ ap (λ (k : ℕ). heard (record { hall = builtIn; beds = beds; objects = sources; codes = codes; inputs = λ i. sampleAt pcm n i t; own = samplesAt pcm n k (length codes) t }) c) e
+      ∙ ap (λ (k : ℕ). heard
+      (record { hall = builtIn; beds = beds; objects = sources; codes = codes; inputs = λ i. sampleAt pcm n i t; own = samplesAt pcm n k (length codes) t }) c) e
 
   mixed-heard : (b : Bool) (m : MetadataRendererState) → Full m objects → (b ≡ true → m .objects - m .isf ≡ objects)
       → heard (momentOf (bedsOf (cond b (m .beds) 0) (m .codes) (m .gains)) (sourcesOf (cond b objects 0) (m .sources)) codes pcm n t) c

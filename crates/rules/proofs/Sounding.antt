@@ -131,7 +131,8 @@ module _ (L : Leaves) where
 
       -- by whether the block is whole
       gain-by : (b : Bool) → leb 64 (p + 1) ≡ b → s (suc t) .limiter .gain ≡ cond b (gainAfter 64 (s t .rate) (s t .limiter .gain) block) (s t .limiter .gain)
-      gain-by b e = ap (λ (x : State L). x .limiter .gain) (next-is L r a t h) ∙ ap (λ (b : Bool). cond b (gainAfter 64 (s t .rate) (s t .limiter .gain) block) (s t .limiter .gain)) e
+      gain-by b e =
+          ap (λ (x : State L). x .limiter .gain) (next-is L r a t h) ∙ ap (λ (b : Bool). cond b (gainAfter 64 (s t .rate) (s t .limiter .gain) block) (s t .limiter .gain)) e
 
       given-by : (b : Bool) → leb 64 (p + 1) ≡ b → (c : ℕ) → framed L f (suc t) 0 start .given c
           ≡ framed L f t 0 start .given c ++ cond b (limited (s t .limiter .gain) block) none c

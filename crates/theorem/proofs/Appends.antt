@@ -54,7 +54,8 @@ module _ (b : List ℕ) (bytes : Bytes b) (a : Args) (lent : Bytes (a .meta)) (v
       record {
         new = λ c t l h. encoded-word next ranged c (r .pending .count + t) l (omega arith) ∙ q .new c t l h;
         others = λ c i k l h j o.
-            same-bytes (encode next) b (encode-bytes next (ranged .meta .infos .bytes)) bytes (placeAt c i) 4 (encoded-word next ranged c i l h ∙ q .others c i o ∙ sym (place-word b c i l h)) k j;
+            same-bytes (encode next) b (encode-bytes next (ranged .meta .infos .bytes)) bytes (placeAt c i) 4
+            (encoded-word next ranged c i l h ∙ q .others c i o ∙ sym (place-word b c i l h)) k j;
       }
 
 -- ---- as the host calls it

@@ -90,7 +90,8 @@ module _ (w : Timing) (t : Timed) (i : ℕ) where
       let s = t .state in
       let e = elementOf s i in
       let p = both (rampOver (remainingOf (e .remaining))) (noneDue w (e .schedule) (e .blocks)) h in
-      let k : SlotWork = record { slot = record { schedule = e .schedule; remaining = e .remaining; gains = s .gains; sources = s .sources; tracks = e .tracks }; infos = t .infos } in
+      let k : SlotWork =
+      record { slot = record { schedule = e .schedule; remaining = e .remaining; gains = s .gains; sources = s .sources; tracks = e .tracks }; infos = t .infos } in
       rw (none-applied w (reachOf s i) (e .blocks) k (p .1), p .0, set-getD (s .states) i noElement)
 
 -- ---- the slot

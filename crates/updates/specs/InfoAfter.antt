@@ -1,5 +1,5 @@
--- A reader may skip this file: what an update makes of an info, by the fields of its format. `info-written` of proofs/InfoWritten: `withInfo` of info/specs/Written writes just that
--- into the bytes. Assumes nothing.
+-- A reader may skip this file: what an update makes of an info, by the fields of its format. `info-written` of proofs/InfoWritten: `withInfo` of info/specs/Written writes just
+-- that into the bytes. Assumes nothing.
 use Prim.Native.Nat.{_<_, _^_}
 use mathlib.Core.Bool.{Bool, cond}
 use lib.Ieee.{binary32, ofBits}
