@@ -19,7 +19,7 @@ use Rattle.store.specs.Layout.{infosAt, placesAt, size, infosOf, placesOf}
 use Rattle.store.proofs.Theorems.{places-row, no-places, words-drop}
 use Rattle.render.proofs.Theorems.{Fit, append-laid, length-channels}
 use Rattle.formats.specs.Areas.{infosBytes}
-use Rattle.chunk.specs.Rows.{smallBytes, Laid}
+use Rattle.chunk.specs.ChunkRows.{smallBytes, Laid}
 
 -- ---- laid
 

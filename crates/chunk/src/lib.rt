@@ -9,7 +9,7 @@ ghost use lib.ListN.{length};
 ghost use Rattle.formats.specs.Areas.{rowPlaces, placeCount};
 ghost use Rattle.render.specs.Run.{Framed, silentRows, sceneAt, Passed};
 ghost use Rattle.store.specs.Layout.{size};
-ghost use Rattle.chunk.specs.Rows.{sceneOf, Laid};
+ghost use Rattle.chunk.specs.ChunkRows.{sceneOf, Laid};
 use lowpass::BiquadLowpassState;
 use render::Scene;
 use render::Span;

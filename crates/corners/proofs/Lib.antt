@@ -1,12 +1,12 @@
 pub mod Rising
 pub mod Segments
 pub mod Stops
-pub mod Corners
+pub mod WalkedCorners
 pub mod Writes
 pub mod Lexical
 pub mod Lined
 pub mod RunEnds
 pub mod Making
 pub mod Walk714
-pub mod Parts
+pub mod PartTables
 pub mod Theorems

@@ -17,8 +17,8 @@ use Rattle.panning.specs.Choice.{keep, everyOf}
 use Rattle.panning.specs.Table.{Table, alike, distinct}
 use Rattle.panning.proofs.Lists.{In, Each, keep→, →keep, every→}
 use Rattle.panning.proofs.Tables.{all-tame}
-use Rattle.corners.specs.Runs.{Members}
-use Rattle.corners.specs.Order.{precedes, isMarked, speakersOf, Inserted, InLine}
+use Rattle.corners.specs.EqualRuns.{Members}
+use Rattle.corners.specs.SpeakerOrder.{precedes, isMarked, speakersOf, Inserted, InLine}
 use Rattle.corners.proofs.Rising.{less-or-not}
 use Rattle.corners.proofs.Lexical.{Fine, Lex, lex-of, of-lex, other-way, lex-chain}
 

@@ -12,9 +12,9 @@ use Rattle.panning.specs.Choice.{Corner, corner}
 use Rattle.panning.specs.Table.{Table}
 use Rattle.panning.proofs.Lists.{some-of}
 use Rattle.panning.proofs.Corners.{corner-in}
-use Rattle.corners.specs.Runs.{coordinateAt, indexAt}
+use Rattle.corners.specs.EqualRuns.{coordinateAt, indexAt}
 use Rattle.corners.specs.Walkable.{Walkable, StandAt}
-use Rattle.corners.specs.Order.{placeAmong, isMarked, speakersOf, InLine, Gathered, RunEnds}
+use Rattle.corners.specs.SpeakerOrder.{placeAmong, isMarked, speakersOf, InLine, Gathered, RunEnds}
 use Rattle.corners.specs.Sorted.{Sorted}
 use Rattle.corners.proofs.Lexical.{Fine, Lex, lex-of}
 use Rattle.corners.proofs.Lined.{in-speaker, fine-marked, all-lined}

@@ -10,8 +10,8 @@ use lib.Ieee.{Float, le, eq}
 use Rattle.ieee.specs.Units.{F32}
 use Rattle.ieee.proofs.Compare.{le→, →eq}
 use Rattle.vectors.specs.declared.Vec3.{Vec3}
-use Rattle.corners.specs.Runs.{Runs}
-use Rattle.corners.specs.Order.{runEnd, RunEnds}
+use Rattle.corners.specs.EqualRuns.{Runs}
+use Rattle.corners.specs.SpeakerOrder.{runEnd, RunEnds}
 use Rattle.corners.specs.Walkable.{Walkable}
 use Rattle.corners.proofs.Rising.{le-self, through, eq-le}
 use Rattle.corners.proofs.Lexical.{Fine, Lex, lex-y, lex-z, lex-left, lex-apart}

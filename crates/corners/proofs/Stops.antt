@@ -12,7 +12,7 @@ use Rattle.ieee.specs.Units.{F32}
 use Rattle.panning.specs.Choice.{keep, first, orList, below, above, level, end, flank}
 use Rattle.panning.proofs.Lists.{In, keep→, →keep}
 use Rattle.corners.specs.declared.walk.Neighbours.{Neighbours}
-use Rattle.corners.specs.Runs.{Members, Runs, Along, EndsAt, SidesAt}
+use Rattle.corners.specs.EqualRuns.{Members, Runs, Along, EndsAt, SidesAt}
 use Rattle.corners.proofs.Rising.{less-or-not, through, eq-le, eq-both, squeezed}
 use Rattle.corners.proofs.Segments.{each-member, part, or-some, or-none, only-first, none-below, none-above, below-run, above-run}
 

@@ -13,6 +13,6 @@ pub use Rattle.corners.proofs.RunEnds.{walkable}
 -- every corner is a marked channel
 pub use Rattle.corners.proofs.Making.{corner-below}
 -- any marks of a table that leave a speaker, and not channel 3, can be sorted, and so the four layouts of R-5
-pub use Rattle.corners.proofs.Parts.{without-bass, part-table, layouts-714}
+pub use Rattle.corners.proofs.PartTables.{without-bass, part-table, layouts-714}
 -- in the 7.1.4 hall the walk finds the corners that `panning` chooses
 pub use Rattle.corners.proofs.Walk714.{CubeOf, same-as-714}

@@ -14,9 +14,9 @@ use Rattle.panning.specs.Found.{chosen}
 use Rattle.panning.specs.Corners714.{cube714}
 use Rattle.panning.proofs.Theorems.{chosen-is, hall714-table}
 use Rattle.corners.specs.declared.sort.Hall.{Hall}
-use Rattle.corners.specs.Runs.{coordinateAt, indexAt}
+use Rattle.corners.specs.EqualRuns.{coordinateAt, indexAt}
 use Rattle.corners.specs.Walkable.{StandAt}
-use Rattle.corners.specs.Order.{placeAmong, speakersOf}
+use Rattle.corners.specs.SpeakerOrder.{placeAmong, speakersOf}
 use Rattle.corners.specs.Sorted.{Sorted}
 
 -- what `cube` answers of a hall at a place

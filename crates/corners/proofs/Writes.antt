@@ -12,8 +12,8 @@ use lib.ListN.{length, getD, set, length-set}
 use lib.Seq.{getD-set-same, getD-set-other}
 use lib.Ieee.{Float, lt, eq}
 use Rattle.vectors.specs.declared.Vec3.{Vec3}
-use Rattle.corners.specs.Runs.{indexAt}
-use Rattle.corners.specs.Order.{precedes, Inserted, runEnd}
+use Rattle.corners.specs.EqualRuns.{indexAt}
+use Rattle.corners.specs.SpeakerOrder.{precedes, Inserted, runEnd}
 use Rattle.corners.proofs.Rising.{passed}
 
 -- one more from the start

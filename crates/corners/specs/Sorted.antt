@@ -3,7 +3,7 @@ use Prim.Native.Nat.{ℕ}
 use mathlib.Core.List.{List}
 use Rattle.vectors.specs.declared.Vec3.{Vec3}
 use Rattle.corners.specs.declared.sort.Hall.{Hall}
-use Rattle.corners.specs.Runs.{coordinateAt, indexAt}
+use Rattle.corners.specs.EqualRuns.{coordinateAt, indexAt}
 use Rattle.corners.specs.Walkable.{Walkable, StandAt}
 
 pub record Sorted (sp : ℕ → Vec3) (l : List ℕ) (h : Hall) : Type 0 where

@@ -9,7 +9,7 @@ use Rattle.vectors.specs.declared.Vec3.{Vec3}
 use Rattle.panning.specs.Choice.{first, flank, rowAmong, side}
 use Rattle.corners.specs.declared.walk.Neighbours.{Neighbours}
 use Rattle.corners.specs.declared.walk.Quad.{Quad}
-use Rattle.corners.specs.Runs.{Members, Runs, Along, neighbour}
+use Rattle.corners.specs.EqualRuns.{Members, Runs, Along, neighbour}
 
 -- the row at a
 pub record RowRuns (x : ℕ → Float) (rowEnd : ℕ → ℕ) (a : ℕ) : Type 0 where

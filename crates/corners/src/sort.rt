@@ -4,8 +4,8 @@
 ghost use mathlib.Core.Path.{_≡_};
 ghost use Prim.Native.Nat.{ℕ, _+_, _<_, _≤_};
 ghost use Rattle.panning.specs.Table.{Table};
-ghost use Rattle.corners.specs.Runs.{coordinateAt, indexAt};
-ghost use Rattle.corners.specs.Order.{precedes, placeAmong, isMarked, speakersOf, Inserted, InLine, Gathered, runEnd, RunEnds};
+ghost use Rattle.corners.specs.EqualRuns.{coordinateAt, indexAt};
+ghost use Rattle.corners.specs.SpeakerOrder.{precedes, placeAmong, isMarked, speakersOf, Inserted, InLine, Gathered, runEnd, RunEnds};
 ghost use Rattle.corners.specs.Sorted.{Sorted};
 use vectors::Vec3;
 

@@ -6,7 +6,7 @@ ghost use mathlib.Core.List.{List, map};
 ghost use Prim.Native.Nat.{ℕ, _+_, _<_, _≤_};
 ghost use Rattle.vectors.specs.declared.Vec3.{Vec3};
 ghost use Rattle.panning.specs.Choice.{corner, corners};
-ghost use Rattle.corners.specs.Runs.{coordinateAt, indexAt, Runs, EndsAt, SidesAt};
+ghost use Rattle.corners.specs.EqualRuns.{coordinateAt, indexAt, Runs, EndsAt, SidesAt};
 ghost use Rattle.corners.specs.Walkable.{RowRuns, LayerRuns, Walkable, StandAt, RowAt, LayerAt};
 use vectors::Vec3;
 

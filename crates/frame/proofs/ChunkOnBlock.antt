@@ -26,7 +26,7 @@ use Rattle.rendering.specs.Held.{held}
 use Rattle.frame.specs.Chunk.{chunk}
 use Rattle.rendering.specs.Out.{behind}
 use Rattle.rendering.specs.Give.{CanGive, Gave, CanGiveRows, GaveRows}
-use Rattle.chunk.specs.Rows.{Laid}
+use Rattle.chunk.specs.ChunkRows.{Laid}
 use Rattle.rendering.specs.Pass.{CanPass, momentHere, Waits}
 use Rattle.frame.specs.Turn.{readyAfter, settledAt, Passes}
 use Rattle.rendering.proofs.Theorems.{none-behind, gave-rows}

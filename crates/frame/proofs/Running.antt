@@ -35,7 +35,7 @@ use Rattle.store.specs.ValidBlocks.{smallValid, headsValid, valid}
 use Rattle.theorem.specs.Instance.{hall, block, sentAt, sentOf}
 use Rattle.theorem.proofs.Theorems.{each-all, codes-long, shape-apply, shape-slot, facts}
 use Rattle.rendering.specs.declared.Rendering.{Rendering}
-use Rattle.chunk.specs.Rows.{smallBytes}
+use Rattle.chunk.specs.ChunkRows.{smallBytes}
 use Rattle.rendering.specs.Held.{held, Leads}
 use Rattle.frame.specs.Chunk.{chunk}
 use Rattle.rendering.specs.Out.{behind}

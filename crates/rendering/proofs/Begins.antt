@@ -29,7 +29,7 @@ use Rattle.theorem.specs.Instance.{Sent, hall, sentAt, sentOf}
 use Rattle.theorem.proofs.Theorems.{Within}
 use Rattle.formats.specs.Areas.{infosBytes}
 use Rattle.store.specs.Steps.{withState}
-use Rattle.chunk.specs.Rows.{smallBytes}
+use Rattle.chunk.specs.ChunkRows.{smallBytes}
 use Rattle.rendering.specs.Held.{held, IsHeld, IsNext}
 use Rattle.rendering.specs.Begin.{restated, CanStart, NoneSent, Starts}
 use Rattle.rendering.proofs.Changed.{changed, changed-long, changed-small, changed-held}

@@ -10,7 +10,7 @@ use Rattle.store.specs.declared.renderer.Renderer714.{Renderer714}
 use Rattle.store.specs.Layout.{infosAt, size, assembled, infosOf, placesOf}
 use Rattle.store.proofs.Theorems.{places-beside}
 use Rattle.formats.specs.Areas.{infosBytes}
-use Rattle.chunk.specs.Rows.{smallBytes}
+use Rattle.chunk.specs.ChunkRows.{smallBytes}
 use Rattle.rendering.specs.Held.{held}
 
 -- a block with other infos

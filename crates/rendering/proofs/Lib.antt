@@ -1,6 +1,6 @@
 pub mod Given
 pub mod RowsPeak
-pub mod Moments
+pub mod MixedMoments
 pub mod Changed
 pub mod Begins
 pub mod Theorems

@@ -7,7 +7,7 @@ use Rattle.timed.specs.State.{Timed}
 use Rattle.rules.specs.Samples.{Renderer}
 use Rattle.store.specs.declared.renderer.Renderer714.{Renderer714}
 use Rattle.store.specs.Layout.{size, assembled, infosOf, placesOf}
-use Rattle.chunk.specs.Rows.{smallBytes}
+use Rattle.chunk.specs.ChunkRows.{smallBytes}
 use Rattle.rendering.specs.declared.Rendering.{Rendering}
 
 -- `decode b` is `held` of b's own small part

@@ -5,7 +5,7 @@ use native.Mathlib.Omega.{arith}
 use lib.ListN.{length, length-set}
 use lib.Ieee.{nan}
 use borrow.Author.Needs.{needs}
-use Rattle.corners.specs.Runs.{coordinateAt, indexAt}
+use Rattle.corners.specs.EqualRuns.{coordinateAt, indexAt}
 use Rattle.corners.proofs.Writes.{filled-more}
 use Rattle.corners.proofs.sort.gathered.Statement.{statement}
 use Rattle.corners.proofs.sort.gathered.Tie as tie

@@ -3,7 +3,7 @@ use borrow.Author.Needs.{needs}
 use Prim.Native.Nat.{ℕ, _≤_, _<_}
 use native.Mathlib.Nat.{le-trans, le-of-eq, lt-of-lt-of-le}
 use lib.ListN.{getD-replicate}
-use Rattle.corners.specs.Runs.{indexAt}
+use Rattle.corners.specs.EqualRuns.{indexAt}
 use Rattle.corners.proofs.Making.{channel-below, layer-below, made}
 use Rattle.corners.proofs.sort.hall_of.Statement.{statement}
 use Rattle.corners.proofs.sort.hall_of.Tie as tie

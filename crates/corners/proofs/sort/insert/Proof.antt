@@ -4,8 +4,8 @@ use native.Mathlib.Omega.{arith}
 use borrow.Author.Needs.{needs}
 use mathlib.Core.Path.{_≡_, subst}
 use lib.Dec.{T}
-use Rattle.corners.specs.Runs.{indexAt}
-use Rattle.corners.specs.Order.{placeAmong, precedes}
+use Rattle.corners.specs.EqualRuns.{indexAt}
+use Rattle.corners.specs.SpeakerOrder.{placeAmong, precedes}
 use Rattle.corners.proofs.Rising.{passed-not}
 use Rattle.corners.proofs.Writes.{Shifted, unshifted, shift-on, put-in, not-before}
 use Rattle.corners.proofs.sort.insert.Statement.{statement}

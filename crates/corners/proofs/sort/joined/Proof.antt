@@ -1,7 +1,7 @@
 -- `corners::sort::joined` meets its contract. Assumes nothing.
 use borrow.Author.Needs.{needs}
 use native.Mathlib.Omega.{arith}
-use Rattle.corners.specs.Order.{isMarked}
+use Rattle.corners.specs.SpeakerOrder.{isMarked}
 use Rattle.corners.proofs.Rising.{passed, passed-not}
 use Rattle.corners.proofs.Lined.{line-past, line-in, fine-marked, away-marked}
 use Rattle.corners.proofs.sort.joined.Statement.{statement}

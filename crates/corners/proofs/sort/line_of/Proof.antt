@@ -4,8 +4,8 @@ use native.Mathlib.Omega.{arith}
 use borrow.Author.Needs.{needs}
 use mathlib.Core.Path.{_≡_, subst}
 use native.Mathlib.Nat.{le-antisymm}
-use Rattle.corners.specs.Runs.{indexAt}
-use Rattle.corners.specs.Order.{placeAmong, isMarked, InLine}
+use Rattle.corners.specs.EqualRuns.{indexAt}
+use Rattle.corners.specs.SpeakerOrder.{placeAmong, isMarked, InLine}
 use Rattle.corners.proofs.Lined.{line-start}
 use Rattle.corners.proofs.sort.line_of.Statement.{statement}
 use Rattle.corners.proofs.sort.line_of.Tie as tie

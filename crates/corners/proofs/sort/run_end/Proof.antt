@@ -1,6 +1,6 @@
 -- `corners::sort::run_end` meets its contract, by its tests. Assumes nothing.
 use borrow.Author.Needs.{needs}
-use Rattle.corners.specs.Runs.{coordinateAt, indexAt}
+use Rattle.corners.specs.EqualRuns.{coordinateAt, indexAt}
 use Rattle.corners.proofs.Writes.{run-on, run-apart, run-out}
 use Rattle.corners.proofs.sort.run_end.Statement.{statement}
 use Rattle.corners.proofs.sort.run_end.Tie as tie

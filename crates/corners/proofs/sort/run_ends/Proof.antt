@@ -4,8 +4,8 @@ use Prim.Native.Nat.{ℕ, _≤_, _<_, _-_}
 use native.Mathlib.Omega.{arith}
 use lib.ListN.{length, length-set}
 use borrow.Author.Needs.{needs}
-use Rattle.corners.specs.Runs.{coordinateAt, indexAt}
-use Rattle.corners.specs.Order.{runEnd}
+use Rattle.corners.specs.EqualRuns.{coordinateAt, indexAt}
+use Rattle.corners.specs.SpeakerOrder.{runEnd}
 use Rattle.corners.proofs.Writes.{ends-more}
 use Rattle.corners.proofs.sort.run_ends.Statement.{statement}
 use Rattle.corners.proofs.sort.run_ends.Tie as tie

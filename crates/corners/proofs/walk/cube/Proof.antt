@@ -1,7 +1,7 @@
 -- `corners::walk::cube` meets its contract. Assumes nothing.
 use borrow.Author.Needs.{needs}
 use mathlib.Core.Bool.{true, false}
-use Rattle.corners.proofs.Corners.{layer-runs, cube-is}
+use Rattle.corners.proofs.WalkedCorners.{layer-runs, cube-is}
 use Rattle.corners.proofs.walk.cube.Statement.{statement}
 use Rattle.corners.proofs.walk.cube.Tie as tie
 

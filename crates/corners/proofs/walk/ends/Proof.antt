@@ -7,7 +7,7 @@ use mathlib.Core.Logic.{inl, inr}
 use lib.Dec.{T, T-not}
 use lib.Ieee.{binary32, fits, le}
 use borrow.Author.Needs.{needs}
-use Rattle.corners.specs.Runs.{coordinateAt, indexAt}
+use Rattle.corners.specs.EqualRuns.{coordinateAt, indexAt}
 use Rattle.corners.proofs.Rising.{passed, passed-not}
 use Rattle.corners.proofs.Stops.{Walked, walk-start, walk-step, ends-at}
 use Rattle.corners.proofs.walk.ends.Statement.{statement}

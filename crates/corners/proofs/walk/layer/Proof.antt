@@ -1,7 +1,7 @@
 -- `corners::walk::layer` meets its contract. Assumes nothing.
 use borrow.Author.Needs.{needs}
 use mathlib.Core.Bool.{true, false}
-use Rattle.corners.proofs.Corners.{row-runs, layer-at}
+use Rattle.corners.proofs.WalkedCorners.{row-runs, layer-at}
 use Rattle.corners.proofs.walk.layer.Statement.{statement}
 use Rattle.corners.proofs.walk.layer.Tie as tie
 

@@ -3,8 +3,8 @@ use borrow.Author.Needs.{needs}
 use Prim.Native.Nat.{_<_}
 use native.Mathlib.Omega.{arith}
 use mathlib.Core.Bool.{true, false}
-use Rattle.corners.specs.Runs.{indexAt}
-use Rattle.corners.proofs.Corners.{row-at}
+use Rattle.corners.specs.EqualRuns.{indexAt}
+use Rattle.corners.proofs.WalkedCorners.{row-at}
 use Rattle.corners.proofs.walk.row.Statement.{statement}
 use Rattle.corners.proofs.walk.row.Tie as tie
 

@@ -7,7 +7,7 @@ use mathlib.Core.Logic.{inl, inr}
 use lib.Dec.{T, T-not}
 use lib.Ieee.{binary32, fits, le}
 use borrow.Author.Needs.{needs}
-use Rattle.corners.specs.Runs.{coordinateAt}
+use Rattle.corners.specs.EqualRuns.{coordinateAt}
 use Rattle.corners.proofs.Rising.{passed, passed-not, failed}
 use Rattle.corners.proofs.Stops.{Walked, walk-start, walk-step, low-inside, level-at, sides-at, row-passed}
 use Rattle.corners.proofs.walk.sides.Statement.{statement}

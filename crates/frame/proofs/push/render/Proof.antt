@@ -25,7 +25,7 @@ use Rattle.rendering.specs.declared.Rendering.{Rendering}
 use Rattle.rendering.specs.Begin.{CanStart}
 use Rattle.rendering.specs.Give.{GaveRows}
 use Rattle.rendering.specs.Pass.{momentHere, Waits}
-use Rattle.chunk.specs.Rows.{Laid}
+use Rattle.chunk.specs.ChunkRows.{Laid}
 use Rattle.frame.specs.Turn.{CanBegin}
 use Rattle.rendering.proofs.Theorems.{can-start, slotted-after, none-applied, slot-rests, slot-changes-nothing}
 use Rattle.frame.proofs.Running.{Taken, takes, starts-at, is-rate, Running, opens, can-begin, end-above, few, Turning, turn-some, turn-within, turn-passes}

@@ -5,7 +5,7 @@ use lib.ListN.{length, length-map}
 use native.Mathlib.Omega.{arith}
 use Rattle.render.proofs.Theorems.{silent-long}
 use Rattle.rendering.specs.Pass.{frameWith}
-use Rattle.rendering.proofs.Moments.{Full, mixed, same-heard, waits}
+use Rattle.rendering.proofs.MixedMoments.{Full, mixed, same-heard, waits}
 use Rattle.rendering.proofs.Rendering.pass.Statement.{statement}
 use Rattle.rendering.proofs.Rendering.pass.Tie as tie
 

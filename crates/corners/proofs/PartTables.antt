@@ -10,7 +10,7 @@ use Rattle.panning.specs.Choice.{keep}
 use Rattle.panning.specs.Table.{Table, occupied}
 use Rattle.panning.specs.Speakers.{hall714, fullRange}
 use Rattle.panning.proofs.Theorems.{hall714-table, fewer}
-use Rattle.corners.specs.Order.{isMarked, speakersOf}
+use Rattle.corners.specs.SpeakerOrder.{isMarked, speakersOf}
 
 pub without-bass : (p : List Bool) → isMarked p 3 ≡ false → speakersOf p ≡ keep (isMarked p) fullRange
 unfolding speakersOf keep

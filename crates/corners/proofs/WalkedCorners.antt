@@ -11,7 +11,7 @@ use Rattle.panning.specs.Choice.{first, end, flank, rowAmong, side, corner, cor
 use Rattle.panning.specs.Choice as choice
 use Rattle.corners.specs.declared.walk.Neighbours.{Neighbours}
 use Rattle.corners.specs.declared.walk.Quad.{Quad}
-use Rattle.corners.specs.Runs.{Members, Runs, Along, neighbour, EndsAt, SidesAt}
+use Rattle.corners.specs.EqualRuns.{Members, Runs, Along, neighbour, EndsAt, SidesAt}
 use Rattle.corners.specs.Walkable.{RowRuns, LayerRuns, Walkable, StandAt, RowAt, quadRow, LayerAt}
 
 pub row-at : {x : ℕ → Float} (ch : ℕ → ℕ) {a b : ℕ} {v : Float} {r : Neighbours} → SidesAt x a b v r → RowAt x ch a b v (record { low = ch (r .low); high = ch (r .high) })

@@ -19,7 +19,7 @@ use Rattle.store.specs.Layout.{infosOf}
 use Rattle.store.specs.Steps.{settledBy}
 use Rattle.render.specs.Run.{bedWith, bedsOf, plainSource, sourcesOf, momentOf, sceneAt, Passed}
 use Rattle.render.proofs.Theorems.{beds-each, sources-each, filter-as, run-as}
-use Rattle.chunk.specs.Rows.{sceneOf}
+use Rattle.chunk.specs.ChunkRows.{sceneOf}
 use Rattle.rendering.specs.declared.Rendering.{Rendering}
 use Rattle.rendering.specs.Pass as pass
 use Rattle.rendering.specs.Pass.{frameWith, Waits}
