@@ -2,6 +2,8 @@
 // Translated from libstarmine_ad render.rs; changed.
 
 // Bed channels: how each is put out, where it stands, and which input feeds it. A bed is named by its code, 0 to 17 in the order of `BedChannel`.
+#![tactic(auto)]
+
 ghost use Rattle.std.specs.Prelude.{◌≡◌, ◌≤◌, length};
 ghost use Rattle.vectors.specs.Vectors.{vec3};
 ghost use Rattle.beds.specs.Routes.{route_of, bass_gain};

@@ -1,4 +1,6 @@
 // The call that a record of `hallrender` asks for, and the text of its answer. Document 01, "`hallrender` reads 40-byte records".
+#![tactic(auto)]
+
 ghost use Rattle.std.specs.Prelude.{◌≡◌, true, length};
 ghost use Rattle.rules.specs.Calls.{push};
 ghost use Rattle.framing.specs.Framing.{is_frame};

@@ -2,6 +2,8 @@
 // Translated from libstarmine_ad render.rs; changed.
 
 // The rows of a chunk, samples of a frame within which no update falls and no slot starts: mixed, and laid behind the samples that wait.
+#![tactic(auto)]
+
 ghost use Rattle.std.specs.Prelude.{◌≡◌, cond, ◌+◌, ◌≤◌, length};
 ghost use Rattle.formats.specs.Areas.{row_places, place_count};
 ghost use Rattle.render.specs.Run.{Framed, silent_rows, scene_at, Passed};

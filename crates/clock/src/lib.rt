@@ -1,4 +1,6 @@
 // Samples counted from the stream's start and from a frame's start: two types that only the frame's own start joins (`at`). What is asked of a count is asked here.
+#![tactic(auto)]
+
 ghost use Rattle.std.specs.Prelude.{◌≡◌, ◌+◌, ◌-◌, ◌≤◌, eqb, leb, ltb};
 
 // A sample counted from the stream's start.

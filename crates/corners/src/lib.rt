@@ -1,6 +1,8 @@
 // SPDX-License-Identifier: Apache-2.0
 
 // The corners about a place in any hall: its speakers are sorted once (`sort`), and then walked by runs of equal coordinates (`walk`).
+#![tactic(auto)]
+
 ghost use Rattle.std.specs.Prelude.{◌≡◌, map};
 ghost use Rattle.panning.specs.Choice.{corners};
 ghost use Rattle.panning.specs.Found.{chosen};

@@ -1,4 +1,6 @@
 // The records that `hallrender` reads, kinds 5 to 8, as laid out. Document 01, "`hallrender` reads 40-byte records".
+#![tactic(auto)]
+
 ghost use Rattle.std.specs.Prelude.{◌≡◌, true, ◌≤◌, min, length};
 ghost use Rattle.framing.specs.Framing.{in_limits, is_frame, is_plain, is_pcm, bed_count, metadata_bytes, pcm_bytes, record_bytes};
 ghost use Rattle.framing.specs.PcmTaken.{Taken, Unpacked};

@@ -1,5 +1,7 @@
 // The entries that the host calls. Contracts: the answer, the state block and the output at exit are those of the rules' `made`, for arguments of any kind. `appends` says
 // of a push that completes no block which bytes of the places stay (R-4).
+#![tactic(auto)]
+
 ghost use Rattle.std.specs.Prelude.{◌≡◌};
 ghost use Rattle.rules.specs.Calls.{push, flush, reset};
 ghost use Rattle.rules.specs.BlockCalls.{made};

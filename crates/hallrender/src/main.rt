@@ -1,4 +1,6 @@
 // `hallrender`: records of 40 bytes from standard input, each answer to standard output. Document 01, "`hallrender` reads 40-byte records".
+#![tactic(auto)]
+
 ghost use Rattle.std.specs.Prelude.{◌≡◌};
 ghost use Rattle.hallrender.specs.ProgramRun.{new_block, Ran};
 ghost use Rattle.hallrender.specs.RunResults.{Rooms, FrameTaken, Handled, RecordTaken};

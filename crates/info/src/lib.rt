@@ -2,6 +2,8 @@
 // Translated from libstarmine_ad render.rs; changed.
 
 // One object in a block, stored as an info: `apply_parsed_update`.
+#![tactic(auto)]
+
 ghost use Rattle.std.specs.Prelude.{◌≡◌, ◌+◌, ◌≤◌, length};
 ghost use Rattle.timed.specs.InfoSizes.{info_bytes};
 ghost use Rattle.info.specs.Written.{with_three, cleared, with_place, head_of, with_head, with_info};

@@ -2,6 +2,8 @@
 // Translated from libstarmine_ad render.rs; changed.
 
 // The output limiter: the peak of a block, the gain that it leaves, scaling, and the gain's growth.
+#![tactic(auto)]
+
 pub mod meters;
 pub mod places;
 

@@ -1,4 +1,6 @@
 // The text that `hallrender` prints of an answer. Document 01, "It prints `ready N` and N lines".
+#![tactic(auto)]
+
 ghost use Rattle.std.specs.Prelude.{◌≡◌, ◌∷◌, ◌++◌, ◌+◌, ◌*◌, ◌<◌, ◌≤◌, min, length, take, drop};
 ghost use Rattle.listing.specs.Line.{hex8, line_of};
 ghost use Rattle.listing.specs.Text.{ascii, decimal, lines_of, ready_text, refused_text, none_text, reset_text};

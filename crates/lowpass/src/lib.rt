@@ -2,6 +2,8 @@
 // Translated from libstarmine_ad render.rs; changed.
 
 // The low-pass of the bass feed, document 01 item 6: five coefficients beside four past values, one sample at a time.
+#![tactic(auto)]
+
 ghost use Rattle.std.specs.Prelude.{◌≡◌};
 ghost use Rattle.angles.specs.Angle.{Listed};
 ghost use Rattle.lowpass.specs.Lowpass.{new, output, next, filtered, after_all};

@@ -2,6 +2,8 @@
 // Translated from libstarmine_ad render.rs; changed.
 
 // Mixing: samples times a gain added to a channel, over whole channels and over segments, and samples out of the bytes of a frame's PCM.
+#![tactic(auto)]
+
 ghost use Rattle.std.specs.Prelude.{◌≡◌, ℕ, ◌+◌, ◌*◌, ◌%◌, ◌<◌, ◌≤◌, length};
 ghost use Rattle.words.specs.Words.{word, float_at};
 ghost use Rattle.mixing.specs.Mixing.{mixed, mixed_full};

@@ -2,6 +2,8 @@
 // Translated from libstarmine_ad render.rs; changed.
 
 // Panning in the 7.1.4 hall: which speakers a place falls between, and what each gets.
+#![tactic(auto)]
+
 ghost use Rattle.std.specs.Prelude.{◌≡◌, true, false, cond, map, ◌<◌};
 ghost use Rattle.panning.specs.Choice.{corners};
 ghost use Rattle.panning.specs.Terms.{ratio, weighted, inner_gain, extra, coefficient, nothing};

@@ -1,5 +1,7 @@
 // Leaf functions under C names, for the comparisons of rust/compare: a file `probe_NAME.rt` for
 // each crate NAME (a module cannot have a crate's name).
+#![tactic(auto)]
+
 mod probe_angles;
 mod probe_beds;
 mod probe_ieee;

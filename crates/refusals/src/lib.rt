@@ -2,6 +2,8 @@
 // Translated from libstarmine_ad render.rs; changed.
 
 // Document 01's "Who can cause a refusal": the refusals of a push on a valid block, found before anything is written: 1 to 8 (`early`), then the Rust's own, 9 to 14 (`later`).
+#![tactic(auto)]
+
 mod checks;
 pub mod early;
 mod later;

@@ -1,4 +1,6 @@
 // One run of at most 64 samples, within which no update falls and no slot starts: the beds and the objects mixed into twelve rows of 64 places.
+#![tactic(auto)]
+
 pub mod places;
 pub mod run;
 mod sources;

@@ -1,4 +1,6 @@
 // A renderer at work: updates and slots at a sample, a chunk, a block given out; and flush.
+#![tactic(auto)]
+
 ghost use Rattle.std.specs.Prelude.{◌≡◌};
 ghost use Rattle.limiter.specs.Meters.{unmet};
 

@@ -1,4 +1,6 @@
 // The state block between calls: the renderer that it holds, its ranges, a fresh block.
+#![tactic(auto)]
+
 ghost use Rattle.std.specs.Prelude.{◌≡◌, length, replicate};
 ghost use Rattle.words.specs.Words.{words_at};
 ghost use Rattle.store.specs.Fields.{small_of};

@@ -1,4 +1,6 @@
 // The timed state: updates, elements and slots (document 01, item 5).
+#![tactic(auto)]
+
 pub mod infos;
 pub mod objects;
 pub mod slot;

@@ -2,6 +2,8 @@
 // Translated from libstarmine_ad render.rs; changed.
 
 // Vectors and anchors of the renderer: `Vec3` of types.rs, the vector functions of render.rs, and the target of a block for an object.
+#![tactic(auto)]
+
 ghost use Rattle.std.specs.Prelude.{◌≡◌};
 ghost use Rattle.std.specs.Float.{binary32};
 ghost use Rattle.vectors.specs.Vectors.{zero_vec3, vec_add, vec_sub, vec_mul_scalar, vec_mul_components, vec_length, largest_size, map_to_cube, lerp, lerp_vec3};
