@@ -1,9 +1,8 @@
 -- The test as it is worked out, in half the steps: a term by one division, and the last digit's steps s given. Assumes nothing.
 use Prim.Native.Nat.{ℕ, zero, suc, ◌+◌, ◌*◌, ◌/◌, ◌^◌}
 use native.Mathlib.Nat.{div-div-eq-div-mul}
-use mathlib.Core.Path.{◌≡◌, refl, sym, ap, subst, ◌∙◌}
+use mathlib.Core.Path.{◌≡◌, refl, sym, ap, ◌∙◌}
 use mathlib.Core.Bool.{Bool, ◌&&◌}
-use lib.Dec.{T}
 use lib.Ieee.Nearest.{closest}
 use Rattle.rates.specs.Series.{step_of, next_term}
 use Rattle.rates.specs.Suffice.{sums_alike, round_alike, suffice}

@@ -1,6 +1,5 @@
 -- The test, worked out at every rate from 8,000 to 192,000, in parts of 2 ^ k, since one declaration may take only so many steps. The rates whose last digit counts s steps are
 -- two or three parts, of which the last ends where they end. Assumes nothing.
-use Prim.Native.Nat.{ℕ}
 use lib.Dec.{T}
 use Rattle.rates.proofs.FewerSteps.{quick_from}
 
