@@ -15,7 +15,12 @@ use Rattle.corners.specs.EqualRuns.{Members, Runs, Along, neighbour, EndsAt, Sid
 use Rattle.corners.specs.Walkable.{RowRuns, LayerRuns, Walkable, StandAt, RowAt, quad_row, LayerAt}
 
 pub row_at : {x : ℕ → Float} (ch : ℕ → ℕ) {a b : ℕ} {v : Float} {r : Neighbours} → SidesAt x a b v r → RowAt x ch a b v (record { low = ch r.low; high = ch r.high })
-row_at ch {v = v} {r = r} s = record { is = λ C l al h right. elim right as (λ q. neighbour q (record { low = ch r.low; high = ch r.high }) ≡ first (flank q C v l)) [ false ↦ sym (s.is ch C l al h false) | true ↦ sym (s.is ch C l al h true) ] }
+row_at ch {v = v} {r = r} s = record {
+  is = λ C l al h right. elim right as (λ q. neighbour q (record { low = ch r.low; high = ch r.high }) ≡ first (flank q C v l)) [
+    | false ↦ sym (s.is ch C l al h false)
+    | true ↦ sym (s.is ch C l al h true)
+  ];
+}
 
 both : {a b : ℕ} {l m : List ℕ} → a ≡ b → l ≡ m → a ∷ l ≡ b ∷ m
 both p q = cc
