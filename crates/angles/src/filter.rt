@@ -3,7 +3,7 @@
 
 // The coefficients of the source's `BiquadLowpassState`.
 #[repr(C)]
-#[derive(Drop)]
+#[derive(Clone, Copy)]
 pub struct Coefficients {
     pub a1: f32,
     pub a2: f32,

@@ -13,7 +13,7 @@ ghost use Rattle.beds.specs.Matching.{low_frequency, matches, first_of, matching
 use vectors::Vec3;
 
 // How a bed is put out: on the bass channel at its reduced gain, panned at its position, on one channel, or not at all.
-#[derive(Drop)]
+#[derive(Clone, Copy)]
 pub enum Route {
     Bass,
     Folded,
@@ -22,7 +22,7 @@ pub enum Route {
 }
 
 // Where a code stands among the inputs.
-#[derive(Drop)]
+#[derive(Clone, Copy)]
 pub enum Found {
     At(usize),
     Nothing,

@@ -15,7 +15,12 @@ use Rattle.corners.specs.EqualRuns.{Members, Runs, Along, neighbour, EndsAt, Sid
 use Rattle.corners.specs.Walkable.{RowRuns, LayerRuns, Walkable, StandAt, RowAt, quad_row, LayerAt}
 
 pub row_at : {x : ℕ → Float} (ch : ℕ → ℕ) {a b : ℕ} {v : Float} {r : Neighbours} → SidesAt x a b v r → RowAt x ch a b v (record { low = ch r.low; high = ch r.high })
-row_at ch s = record { is = λ C l al h right. elim right [ false ↦ sym (s.is ch C l al h false) | true ↦ sym (s.is ch C l al h true) ] }
+row_at ch {v = v} {r = r} s = record {
+  is = λ C l al h right. elim right as (λ q. neighbour q (record { low = ch r.low; high = ch r.high }) ≡ first (flank q C v l)) [
+    | false ↦ sym (s.is ch C l al h false)
+    | true ↦ sym (s.is ch C l al h true)
+  ];
+}
 
 both : {a b : ℕ} {l m : List ℕ} → a ≡ b → l ≡ m → a ∷ l ≡ b ∷ m
 both p q = cc
@@ -32,7 +37,7 @@ module _ {x z : ℕ → Float} {layers rows : ℕ → ℕ} {a : ℕ} (r : LayerR
       RowAt x ch e.low (rows e.low) p.x g → LayerAt x z ch a (layers a) p (record { front = f; rear = g })
   unfolding row_among side
   layer_at {ch} {p} {e} {f} {g} k m n = record {
-    is = λ sp l ax az h front. elim front [
+    is = λ sp l ax az h front. elim front as (λ q. (right : Bool) → neighbour right (quad_row q (record { front = f; rear = g })) ≡ first (side right sp p (row_among q sp p l))) [
       | false ↦ λ right. n.is (λ k. (sp k).x) (row_among false sp p l) (along_part ch (λ k. (sp k).x) (k.from false) (r.rows.inside e.low (k.from false) (k.to false)) ax)
           (k.is ch (λ k. (sp k).z) l az h false) right
       | true ↦ λ right. m.is (λ k. (sp k).x) (row_among true sp p l) (along_part ch (λ k. (sp k).x) (k.from true) (r.rows.inside e.high (k.from true) (k.to true)) ax)

@@ -106,7 +106,7 @@ fn gathered(c: &[f32; 12], channel: &[usize; 12], n: usize) -> [f32; 12]
 }
 
 // The channels that were tried so far, in order.
-#[derive(Drop)]
+#[derive(Clone, Copy)]
 struct Line {
     channel: [usize; 12],
     count: usize,
@@ -155,7 +155,7 @@ fn line_of(x: &[f32; 12], y: &[f32; 12], z: &[f32; 12], present: &[bool; 12]) ->
 }
 
 // The marked speakers in the order of (y, z, x), with the ends of the runs of equal y, and of equal y and z.
-#[derive(Drop)]
+#[derive(Clone, Copy)]
 pub struct Hall {
     pub x: [f32; 12],
     pub y: [f32; 12],

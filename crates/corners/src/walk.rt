@@ -10,7 +10,7 @@ ghost use Rattle.corners.specs.Walkable.{RowRuns, LayerRuns, Walkable, StandAt, 
 use vectors::Vec3;
 
 // Two indexes, or two channels, on the two sides of a coordinate.
-#[derive(Drop)]
+#[derive(Clone, Copy)]
 struct Neighbours {
     low: usize,
     high: usize,
@@ -68,7 +68,7 @@ fn row(x: &[f32; 12], channel: &[usize; 12], rows: &[usize; 12], a: usize, v: f3
 }
 
 // The corners in one layer.
-#[derive(Drop)]
+#[derive(Clone, Copy)]
 struct Quad {
     front: Neighbours,
     rear: Neighbours,

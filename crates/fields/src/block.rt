@@ -33,7 +33,7 @@ pub fn is_block(meta: &[u8], r: usize) -> bool
 
 // A block's record.
 #[repr(C)]
-#[derive(Drop)]
+#[derive(Clone, Copy)]
 pub struct Block {
     pub offset: i64,
     pub ramp: i64,
@@ -69,7 +69,7 @@ pub fn block_in_range(meta: &[u8], r: usize) -> bool
 }
 
 // The same numbers, each plus 2^20.
-#[derive(Drop)]
+#[derive(Clone, Copy)]
 pub struct Raised {
     pub offset: u64,
     pub ramp: u64,

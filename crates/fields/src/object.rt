@@ -89,7 +89,7 @@ pub fn object_in_range(meta: &[u8], r: usize) -> bool
 
 // What the record says as the state block keeps it: head (flags + 256 anchor + 65,536 depth) and bits.
 #[repr(C)]
-#[derive(Drop)]
+#[derive(Clone, Copy)]
 pub struct Info {
     pub head: u32,
     pub gain: u32,

@@ -6,7 +6,7 @@ use crate::bytes::{byte_at, zeros};
 use clock::FrameOffset;
 
 #[repr(C)]
-#[derive(Drop)]
+#[derive(Clone, Copy)]
 pub struct Header {
     pub offset: FrameOffset,
     pub objects: usize,

@@ -135,6 +135,7 @@ module _ (is : List ℕ) where
     where
       true_of : (x : Bool) → T x → x ≡ true
       true_of true u = refl
+      true_of false u = elim u [ ]
 
   pub joined_all : (k : ℕ) → k ≤ info_count → info_count ≤ k → heads_valid is (info_bytes * k) (info_count - k) ≡ heads_valid is 0 info_count → heads_valid is 0 info_count ≡ true
   unfolding heads_valid

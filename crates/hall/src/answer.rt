@@ -10,7 +10,7 @@ use refusals::Refusal;
 // kind 0: rendered, with `ready` samples a channel; 1: refused, with document 01's number and two counts; 2: a flush with nothing pending; 3: reset. `peak` and `gain` are
 // the meters of what was given out, 0 and 1 where nothing was.
 #[repr(C)]
-#[derive(Drop)]
+#[derive(Clone, Copy)]
 pub struct Answer {
     pub kind: u32,
     pub number: u32,

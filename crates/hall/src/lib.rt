@@ -24,8 +24,7 @@ const VERSION: u32 = 3;
 pub const STATE_BYTES: usize = store::SIZE;
 
 // Renders a frame: beds (one code each), then objects, `samples` of each channel in `pcm`. What is ready goes to `out`, channel c from place c x `stride` on.
-#[unsafe(no_mangle)]
-pub extern "C" fn hall_push(
+pub fn hall_push(
     state: &mut [u8],
     pcm: &[u8],
     meta: &[u8],
@@ -61,8 +60,7 @@ pub extern "C" fn hall_push(
 }
 
 // Gives out the samples that wait.
-#[unsafe(no_mangle)]
-pub extern "C" fn hall_flush(state: &mut [u8], out: &mut [u8], stride: u32) -> Answer
+pub fn hall_flush(state: &mut [u8], out: &mut [u8], stride: u32) -> Answer
     ensures { Left (made hall block (flush out.old stride) state.old) result state.new out.new }
 {
     if !store::ranges::is_valid(state) {
@@ -79,8 +77,7 @@ pub extern "C" fn hall_flush(state: &mut [u8], out: &mut [u8], stride: u32) -> A
 }
 
 // Makes a block of the right length a new renderer.
-#[unsafe(no_mangle)]
-pub extern "C" fn hall_reset(state: &mut [u8]) -> Answer
+pub fn hall_reset(state: &mut [u8]) -> Answer
     ensures { (result ≡ code_of (made hall block reset state.old).answer) × (state.new ≡ (made hall block reset state.old).state) }
 {
     if state.len() != store::SIZE {
@@ -91,16 +88,14 @@ pub extern "C" fn hall_reset(state: &mut [u8]) -> Answer
 }
 
 // The bytes of a state block.
-#[unsafe(no_mangle)]
-pub extern "C" fn hall_state_size() -> usize
+pub fn hall_state_size() -> usize
     ensures { result ≡ size }
 {
     STATE_BYTES
 }
 
 // The version of this interface: it steps with every change of the block's layout or of a signature.
-#[unsafe(no_mangle)]
-pub extern "C" fn hall_version() -> u32
+pub fn hall_version() -> u32
     ensures { result ≡ version }
 {
     VERSION

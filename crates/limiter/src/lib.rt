@@ -18,13 +18,13 @@ ghost use Rattle.limiter.specs.ChannelPlaces.{channels, Room, Given};
 use formats::areas;
 use meters::Meters;
 
-#[derive(Drop)]
+#[derive(Clone, Copy)]
 pub struct Limiter {
     pub gain: f32,
 }
 
 // The limiter after a block, and what it met there.
-#[derive(Drop)]
+#[derive(Clone, Copy)]
 pub struct Limited {
     pub limiter: Limiter,
     pub meters: Meters,

@@ -5,7 +5,7 @@ ghost use Rattle.std.specs.Prelude.{◌≡◌};
 ghost use Rattle.limiter.specs.Meters.{unmet, meets, shown};
 
 // A block's peak before scaling and the gain that was used; or the greatest and the least of several blocks.
-#[derive(Drop)]
+#[derive(Clone, Copy)]
 pub struct Meters {
     pub peak: f32,
     pub gain: f32,

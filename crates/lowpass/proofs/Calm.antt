@@ -89,7 +89,7 @@ module _ {N X Y : ℕ} {f : BiquadLowpassState} (b : Bounds X Y) (c : Calming N 
 
 pub calming_all : {N X Y : ℕ} {f : BiquadLowpassState} → Bounds X Y → Calming N X Y f → (xs : List Float) → All (Bounded X) xs → Calming N X Y (after_all f xs)
 calming_all b c [] h = c
-calming_all b c (x ∷ xs) h = calming_all b (calming_next b c h.0) xs h.1
+calming_all {N = N} {X = X} {Y = Y} {f = f} b c (x ∷ xs) h = calming_all {f = next f x} b (calming_next b c h.0) xs h.1
 
 -- a new filter
 pub calming_start : (N X : ℕ) (c : Coefficients) → Passing N c.a1 c.a2 c.b0 c.b1 c.b2 → Calming N X X (unfed c)

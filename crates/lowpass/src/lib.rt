@@ -9,7 +9,7 @@ ghost use Rattle.angles.specs.Angle.{Listed};
 ghost use Rattle.lowpass.specs.Lowpass.{new, output, next, filtered, after_all};
 
 #[repr(C)]
-#[derive(Drop)]
+#[derive(Clone, Copy)]
 pub struct BiquadLowpassState {
     pub a1: f32,
     pub a2: f32,
@@ -23,7 +23,7 @@ pub struct BiquadLowpassState {
 }
 
 // A sample filtered, and the filter for the sample after it.
-#[derive(Drop)]
+#[derive(Clone, Copy)]
 pub struct Filtered {
     pub sample: f32,
     pub filter: BiquadLowpassState,

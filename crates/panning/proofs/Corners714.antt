@@ -228,19 +228,27 @@ module _ (p : Vec3) (w : T (fits binary32 p.x)) where
 
   row_45 : Sides p (4 ∷ 5 ∷ []) (narrow_ends 4 5 p.x)
   unfolding side flank level end below above outermost keep every_of or_list first hall714 positions714
-  row_45 = record { is = λ right. elim right [ false ↦ pair_is 4 5 four.0 false | true ↦ pair_is 4 5 four.0 true ] }
+  row_45 = record {
+    is = λ right. elim right as (λ b. first (side b hall714 p (4 ∷ 5 ∷ [])) ≡ side_of b (narrow_ends 4 5 p.x)) [ false ↦ pair_is 4 5 four.0 false | true ↦ pair_is 4 5 four.0 true ];
+  }
 
   row_67 : Sides p (6 ∷ 7 ∷ []) (wide_ends 6 7 p.x)
   unfolding side flank level end below above outermost keep every_of or_list first hall714 positions714
-  row_67 = record { is = λ right. elim right [ false ↦ pair_is 6 7 four.1 false | true ↦ pair_is 6 7 four.1 true ] }
+  row_67 = record {
+    is = λ right. elim right as (λ b. first (side b hall714 p (6 ∷ 7 ∷ [])) ≡ side_of b (wide_ends 6 7 p.x)) [ false ↦ pair_is 6 7 four.1 false | true ↦ pair_is 6 7 four.1 true ];
+  }
 
   row_89 : Sides p (8 ∷ 9 ∷ []) (wide_ends 8 9 p.x)
   unfolding side flank level end below above outermost keep every_of or_list first hall714 positions714
-  row_89 = record { is = λ right. elim right [ false ↦ pair_is 8 9 four.2 false | true ↦ pair_is 8 9 four.2 true ] }
+  row_89 = record {
+    is = λ right. elim right as (λ b. first (side b hall714 p (8 ∷ 9 ∷ [])) ≡ side_of b (wide_ends 8 9 p.x)) [ false ↦ pair_is 8 9 four.2 false | true ↦ pair_is 8 9 four.2 true ];
+  }
 
   row_1011 : Sides p (10 ∷ 11 ∷ []) (narrow_ends 10 11 p.x)
   unfolding side flank level end below above outermost keep every_of or_list first hall714 positions714
-  row_1011 = record { is = λ right. elim right [ false ↦ pair_is 10 11 four.3 false | true ↦ pair_is 10 11 four.3 true ] }
+  row_1011 = record {
+    is = λ right. elim right as (λ b. first (side b hall714 p (10 ∷ 11 ∷ [])) ≡ side_of b (narrow_ends 10 11 p.x)) [ false ↦ pair_is 10 11 four.3 false | true ↦ pair_is 10 11 four.3 true ];
+  }
 
   thirds : Bool → ℕ
   thirds right = first (flank_by right X (λ k. cond (eqb k 0) (le (X 0) p.x) (cond (eqb k 1) (le (X 1) p.x) (le (X 2) p.x)))
@@ -268,7 +276,7 @@ module _ (p : Vec3) (w : T (fits binary32 p.x)) where
   row_012 : Sides p (0 ∷ 1 ∷ 2 ∷ []) (front_ends p.x)
   unfolding thirds side flank level end below above outermost keep every_of or_list first hall714 positions714
   row_012 = record {
-    is = λ right. elim right [
+    is = λ right. elim right as (λ b. first (side b hall714 p (0 ∷ 1 ∷ 2 ∷ [])) ≡ side_of b (front_ends p.x)) [
       | false ↦ eqb→eq (thirds false) _ (and_l (eqb (thirds false) (cond (le (X 1) p.x) 1 (cond (le (X 2) p.x) 2 0))) _ all_three)
       | true ↦ eqb→eq (thirds true) _ (and_r (eqb (thirds false) (cond (le (X 1) p.x) 1 (cond (le (X 2) p.x) 2 0))) _ all_three)
     ];

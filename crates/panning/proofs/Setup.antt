@@ -121,7 +121,7 @@ place_back n (v ∷ vs) h k =
     let t = table_of (v ∷ vs) in
     let yz = and_r (fits binary32 v.x) (fits binary32 v.y && (fits binary32 v.z && fitting vs)) h in
     let z = and_r (fits binary32 v.y) (fits binary32 v.z && fitting vs) yz in
-    elim k [
+    elim k as (λ k. place_in (record { layout = n; table = table_of (v ∷ vs) }) k ≡ get_or (v ∷ vs) k nowhere) [
       | zero ↦ λ i. record {
         x = of_bits-to_bits binary32 v.x (and_l (fits binary32 v.x) _ h) i;
         y = of_bits-to_bits binary32 v.y (and_l (fits binary32 v.y) _ yz) i;

@@ -67,20 +67,20 @@ fn z_of(channel: usize) -> f32
 }
 
 // The two sides of a row.
-#[derive(Drop)]
+#[derive(Clone, Copy)]
 struct Ends {
     low: usize,
     high: usize,
 }
 
-#[derive(Drop)]
+#[derive(Clone, Copy)]
 struct Layer {
     front: Ends,
     rear: Ends,
 }
 
 // The eight corners.
-#[derive(Drop)]
+#[derive(Clone, Copy)]
 struct Cube {
     bottom: Layer,
     top: Layer,
@@ -216,7 +216,7 @@ fn side(w: f32, part: f32) -> f32
 }
 
 // The shares of the chosen speakers: of the upper layer, of each layer's front row, of each row's right side.
-#[derive(Drop)]
+#[derive(Clone, Copy)]
 struct Shares {
     up: f32,
     bottom: f32,
@@ -285,7 +285,7 @@ fn channels(c: Cube) -> [usize; 8]
 
 // What is mixed of an object: `extra` on every speaker but the bass, then the corners in their order.
 #[repr(C)]
-#[derive(Drop)]
+#[derive(Clone, Copy)]
 pub struct Panned {
     pub corners: [usize; 8],
     pub coefficients: [f32; 8],

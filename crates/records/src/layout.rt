@@ -51,7 +51,7 @@ fn cells(objects: usize, blocks: usize) -> usize
 }
 
 // The record after an element or an update.
-#[derive(Drop)]
+#[derive(Clone, Copy)]
 pub enum End {
     At(usize),
     Broken,
@@ -110,7 +110,7 @@ fn update_end(meta: &[u8], u: usize) -> End
 }
 
 // Up to 16 updates: the record and the sample offset of each, in the order sent.
-#[derive(Drop)]
+#[derive(Clone, Copy)]
 pub struct Layout {
     pub laid: bool,
     pub count: usize,

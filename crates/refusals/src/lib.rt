@@ -17,7 +17,7 @@ use records::layout::Layout;
 use store::renderer::Renderer714;
 
 // The refusals of a push, and none. `found_of` gives document 01's number and counts for each.
-#[derive(Drop)]
+#[derive(Clone, Copy)]
 pub enum Refusal {
     Clear,
     // 1 to 8; 7 is not in use
@@ -38,7 +38,7 @@ pub enum Refusal {
 }
 
 // The numbers of a push.
-#[derive(Drop)]
+#[derive(Clone, Copy)]
 pub struct Numbers {
     pub rate: u32,
     pub samples: u32,

@@ -12,7 +12,7 @@ use timed::state::{MetadataRendererState, dynamic};
 use updates::update::next_codes;
 
 // The shape as a value: the codes past `beds` count for nothing.
-#[derive(Drop)]
+#[derive(Clone, Copy)]
 pub struct Present {
     pub started: bool,
     pub objects: u32,

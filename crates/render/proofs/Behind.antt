@@ -1,5 +1,5 @@
 -- Rows written behind the pending samples: read as words, each channel's 64 places are `laid`, as the rules have it. Assumes nothing.
-use mathlib.Core.Path.{◌≡◌, refl, sym, ap, ap₂, ◌∙◌}
+use mathlib.Core.Path.{◌≡◌, refl, sym, ap, ap₂, ◌∙◌, subst}
 use mathlib.Core.List.{List, [], ◌∷◌}
 use Prim.Native.Nat.{ℕ, zero, suc, ◌+◌, ◌*◌, ◌^◌, ◌<◌, ◌≤◌}
 use native.Mathlib.Omega.{arith}
@@ -38,11 +38,11 @@ word_set : (n j base v : ℕ) (s : List ℕ) → v < 256 ^ 4 → base + 4 * n �
 word_set zero j base v s b h l = absurd (not-suc-le-zero l)
 word_set (suc n) zero base v s b h l =
     let e : base + 4 * 0 ≡ base = omega arith in
-    rw e
+    subst (λ (x : ℕ). words_at (with_word s x v) base (suc n) ≡ v ∷ words_at s (base + 4) n) (sym e)
     (ap₂ (λ (x : ℕ) (ws : List ℕ). x ∷ ws) (reads_back s base 4 v (omega arith) b) (words_past (number_keeps s base 4 v) (base + 4) n (omega arith)))
 word_set (suc n) (suc j) base v s b h l =
     let e : base + 4 * suc j ≡ base + 4 + 4 * j = omega arith in
-    rw e
+    subst (λ (x : ℕ). words_at (with_word s x v) base (suc n) ≡ set (words_at s base (suc n)) (suc j) v) (sym e)
     (ap₂ (λ (x : ℕ) (ws : List ℕ). x ∷ ws) (reads_before (number_keeps s (base + 4 + 4 * j) 4 v) base 4 (omega arith)) (word_set n j (base + 4) v s b (omega arith) (omega arith)))
 
 length_float : (s : List ℕ) (at : ℕ) (x : Float) → length (with_float s at x) ≡ length s

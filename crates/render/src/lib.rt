@@ -9,7 +9,7 @@ mod terms;
 use timed::state::DynamicSourceState;
 
 // The samples of a run: of a frame with `frame` samples a channel the `count` from `first` on.
-#[derive(Drop)]
+#[derive(Clone, Copy)]
 pub struct Span {
     pub frame: usize,
     pub first: usize,
@@ -17,7 +17,7 @@ pub struct Span {
 }
 
 // What sounds in a run: the beds' codes and gains, and the objects. Tables with counts beside them.
-#[derive(Drop)]
+#[derive(Clone, Copy)]
 pub struct Scene {
     pub codes: [u8; 18],
     pub gains: [f32; 18],

@@ -13,7 +13,7 @@ mod pass;
 
 // A renderer at work: its value, how many samples of each channel are in the output, and what the limiter met in them. Infos and the samples that wait stay in the
 // lent block.
-#[derive(Drop)]
+#[derive(Clone, Copy)]
 pub struct Rendering {
     pub renderer: Renderer714,
     pub ready: usize,

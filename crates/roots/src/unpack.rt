@@ -4,7 +4,7 @@ ghost use Rattle.ieee.specs.FloatBits.{units_of};
 ghost use Rattle.roots.specs.Whole.{Normal};
 
 // m * 2 ^ (e - 23) units of 2 ^ -149, m having 24 binary digits.
-#[derive(Drop)]
+#[derive(Clone, Copy)]
 pub struct Scaled {
     pub m: u64,
     pub e: u64,

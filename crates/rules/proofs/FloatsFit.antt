@@ -1,5 +1,6 @@
 -- What the rules store is f32: sums, the filter, the gain, and the bits laid into places. Assumes nothing.
 use mathlib.Core.Path.{◌≡◌, refl}
+use mathlib.Core.Bool.{cond}
 use mathlib.Core.List.{List, [], ◌∷◌, ◌++◌}
 use Prim.Native.Nat.{ℕ, zero, suc, ◌^◌, ◌<◌}
 use lib.Dec.{eqb}
@@ -32,7 +33,9 @@ one_fits = tt
 
 total_fits : (s : Float) (ts : List sums.Addend) → Fits s → Fits (total s ts)
 total_fits s [] h = h
-total_fits s (t ∷ ts) h = total_fits _ ts (either Fits (eq t.coef (of_bits binary32 0)) h (add-fits binary32 s (mul binary32 t.sample t.coef)))
+total_fits s (t ∷ ts) h =
+    total_fits (cond (eq t.coef (of_bits binary32 0)) s (add binary32 s (mul binary32 t.sample t.coef))) ts
+    (either Fits (eq t.coef (of_bits binary32 0)) h (add-fits binary32 s (mul binary32 t.sample t.coef)))
 
 pub heard_fits : (m : Moment) (c : ℕ) → Fits (heard m c)
 unfolding heard

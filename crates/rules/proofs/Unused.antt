@@ -27,9 +27,9 @@ record Free (f : Found) : Type 0 where
 none_stops : Free clear
 none_stops = record { never = λ e. omega arith }
 
-infixr 20 ◌and-then◌
-◌and-then◌ : {f g : Found} → Free f → Free g → Free (f then g)
-◌and-then◌ {f} {g} p q = by f p
+infixr 20 ◌and_then◌
+◌and_then◌ : {f g : Found} → Free f → Free g → Free (f then g)
+◌and_then◌ {f} {g} p q = by f p
   where
     by : (f : Found) → Free f → Free (f then g)
     by clear p = q

@@ -14,14 +14,14 @@ use lowpass::BiquadLowpassState;
 use timed::state::MetadataRendererState;
 
 // The stream's sample that comes next, the first sample of the present slot, and how many of the slot's 64 have gone.
-#[derive(Drop)]
+#[derive(Clone, Copy)]
 pub struct Clock {
     pub position: StreamSample,
     pub start: StreamSample,
     pub phase: u32,
 }
 
-#[derive(Drop)]
+#[derive(Clone, Copy)]
 pub struct Renderer714 {
     // 0: no frame was accepted yet
     pub rate: u32,

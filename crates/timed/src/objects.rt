@@ -33,7 +33,7 @@ fn with_levels(infos: &[u8], k: usize, source: DynamicSourceState) -> DynamicSou
 }
 
 // A dynamic object and its track.
-#[derive(Drop)]
+#[derive(Clone, Copy)]
 pub struct Moved {
     pub source: DynamicSourceState,
     pub track: Track,
@@ -81,7 +81,7 @@ fn update_source_state(
 }
 
 // The dynamic objects, each with where it is going.
-#[derive(Drop)]
+#[derive(Clone, Copy)]
 pub struct Moving {
     pub sources: [DynamicSourceState; 16],
     pub tracks: [Track; 16],

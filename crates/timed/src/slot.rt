@@ -16,14 +16,14 @@ use crate::state::{BlockState, DynamicSourceState, ElementRendererState, Track};
 use clock::StreamSample;
 
 // The stream positions of a slot's start and of the last applied update: the timecode is their difference.
-#[derive(Drop)]
+#[derive(Clone, Copy)]
 pub struct Timing {
     pub start: StreamSample,
     pub payload: StreamSample,
 }
 
 // Where an element finds its infos: those of bed i from `beds` + 8 i on, those of dynamic object d from `first` + 8 d on, and how many there are of each.
-#[derive(Drop)]
+#[derive(Clone, Copy)]
 pub struct Reach {
     pub beds: usize,
     pub channels: usize,
@@ -66,7 +66,7 @@ fn share(remaining: u64) -> f32
 }
 
 // An element's blocks, remaining ramp and tracks, and the beds and objects that it moves.
-#[derive(Drop)]
+#[derive(Clone, Copy)]
 pub struct Slot {
     pub schedule: [BlockState; 8],
     pub remaining: u64,
@@ -161,7 +161,7 @@ impl Slot {
 }
 
 // An element after a slot, and the beds and objects that it moved.
-#[derive(Drop)]
+#[derive(Clone, Copy)]
 pub struct Updated {
     pub element: ElementRendererState,
     pub gains: [f32; 18],

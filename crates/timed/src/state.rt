@@ -11,7 +11,7 @@ use vectors::Vec3;
 // A dynamic object as it is panned; `place` is the source's `cubical_position`, `placed` its `position_valid`, `send` its share in
 // the bass feed.
 #[repr(C)]
-#[derive(Drop)]
+#[derive(Clone, Copy)]
 pub struct DynamicSourceState {
     pub gain: f32,
     pub size: f32,
@@ -38,7 +38,7 @@ impl DynamicSourceState {
 
 // Whether the element moves an object (`update_now`), and where to.
 #[repr(C)]
-#[derive(Drop)]
+#[derive(Clone, Copy)]
 pub struct Track {
     pub now: bool,
     pub future: Vec3,
@@ -46,7 +46,7 @@ pub struct Track {
 
 // A block's offset and ramp, each plus 2^20, and whether it was applied since the last update.
 #[repr(C)]
-#[derive(Drop)]
+#[derive(Clone, Copy)]
 pub struct BlockState {
     pub offset: u32,
     pub ramp: u32,
@@ -55,7 +55,7 @@ pub struct BlockState {
 
 // An element: how many blocks it has, how many objects have a flag, and the remaining ramp (`future_distance`) plus 2^47.
 #[repr(C)]
-#[derive(Drop)]
+#[derive(Clone, Copy)]
 pub struct ElementRendererState {
     pub blocks: usize,
     pub flags: usize,
@@ -66,7 +66,7 @@ pub struct ElementRendererState {
 
 // The last applied update's stream position and counts (`isf` is its `bed_or_isf_objects`), and what beds, objects and elements are since then.
 #[repr(C)]
-#[derive(Drop)]
+#[derive(Clone, Copy)]
 pub struct MetadataRendererState {
     pub initialized: bool,
     pub payload: StreamSample,

@@ -20,7 +20,7 @@ use timed::infos::{BLOCKS, INFO_BYTES};
 use timed::state::{BlockState, ElementRendererState, Track};
 
 // How many objects an update has, the first `isf` of them beds or ISF, and how many are dynamic.
-#[derive(Drop)]
+#[derive(Clone, Copy)]
 pub struct Counts {
     pub objects: usize,
     pub isf: usize,
@@ -28,7 +28,7 @@ pub struct Counts {
 }
 
 // An element that is sent: its record, how many blocks it has, and whether its infos start afresh.
-#[derive(Drop)]
+#[derive(Clone, Copy)]
 struct Sent {
     place: usize,
     blocks: usize,

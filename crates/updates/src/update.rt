@@ -99,7 +99,7 @@ fn same_counts(elements: usize, given: usize, last: Counts, counts: Counts) -> b
 }
 
 // The timed state, as an update finds it and leaves it.
-#[derive(Drop)]
+#[derive(Clone, Copy)]
 pub struct TimedState(pub MetadataRendererState);
 
 impl TimedState {

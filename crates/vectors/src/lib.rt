@@ -14,7 +14,7 @@ use roots::Depth;
 
 // x grows to the right, y upwards, z to the front.
 #[repr(C)]
-#[derive(Drop)]
+#[derive(Clone, Copy)]
 pub struct Vec3 {
     pub x: f32,
     pub y: f32,
@@ -22,14 +22,14 @@ pub struct Vec3 {
 }
 
 // A value that is either absent or carries its number.
-#[derive(Drop)]
+#[derive(Clone, Copy)]
 pub enum Maybe {
     Absent,
     Value(f32),
 }
 
 // What an object's position is given against: `ObjectAnchor` of types.rs.
-#[derive(Drop)]
+#[derive(Clone, Copy)]
 pub enum Anchor {
     Room,
     Screen,
@@ -219,7 +219,7 @@ fn used_distance(distance: Maybe) -> Maybe
 }
 
 // The position part of `ObjectInfoBlockState`: `last` is its `last_precise`, the last absolute position, and `depth` its `depth_factor`.
-#[derive(Drop)]
+#[derive(Clone, Copy)]
 pub struct BlockPosition {
     pub valid: bool,
     pub differential: bool,
@@ -233,7 +233,7 @@ pub struct BlockPosition {
 
 // An object's target, and what the block then holds as its position and as the last absolute one.
 #[repr(C)]
-#[derive(Drop)]
+#[derive(Clone, Copy)]
 pub struct Placed {
     pub target: Vec3,
     pub position: Vec3,

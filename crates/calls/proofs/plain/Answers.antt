@@ -1,0 +1,13 @@
+-- `plain`: each arm makes the call of its kind. Assumes nothing.
+use borrow.Author.Tests.{ne_eqb}
+use Rattle.calls.proofs.Calling.{flushed, renewed}
+use borrow.Author.Rules.{rules}
+use Rattle.calls.proofs.plain.Goals as goal
+
+pub returns-then-rec-eq7 : goal.returns-then-rec-eq7
+returns-then-rec-eq7 c =
+    flushed _ _ _ c.if-rec-eq7.true c.hall_flush-answer.ensures c.tell.ensures
+
+pub returns-then-rec-eq7 : goal.returns
+returns-then-rec-eq7 c =
+    renewed _ _ _ (ne_eqb _ _ c.if-rec-eq7.false) c.hall_reset-answer.ensures.0 c.hall_reset-answer.ensures.1 c.tell-2.ensures

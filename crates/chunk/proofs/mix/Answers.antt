@@ -1,0 +1,25 @@
+-- `mix`: beds and objects where there are any. Assumes nothing.
+use borrow.Author.Rules.{rules}
+use lib.ListN.{length}
+use Rattle.chunk.proofs.Counts.{count_within, framed_within}
+use Rattle.chunk.proofs.mix.Goals as goal
+
+pub pass_run-requires : goal.pass_run-requires
+pass_run-requires c =
+    let a = c.args in
+    let q = a.m.initialized in
+    let n = c.audible-beds.ensures in
+    let d = c.audible-dynamic.ensures in
+    record {
+      framed = framed_within q a.pcm.now (length a.codes.now) a.objects a.span d c.requires.0;
+      silent = c.requires.1;
+      inputs = c.requires.2;
+      beds = count_within q n c.requires.3;
+      objects = count_within q d c.requires.4;
+    }
+
+pub returns : goal.returns
+returns c =
+    let n = c.audible-beds.ensures in
+    let d = c.audible-dynamic.ensures in
+    rw (← n, ← d) c.pass_run.ensures

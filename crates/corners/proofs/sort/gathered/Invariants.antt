@@ -1,0 +1,16 @@
+-- `corners::sort::gathered` meets its contract. Assumes nothing.
+use mathlib.Core.Path.{◌≡◌, refl, ◌∙◌}
+use Prim.Native.Nat.{ℕ, ◌≤◌, ◌<◌, ◌-◌}
+use native.Mathlib.Omega.{arith}
+use lib.ListN.{length, length-set}
+use lib.Ieee.{nan}
+use borrow.Author.Rules.{rules}
+use Rattle.corners.specs.EqualRuns.{coordinate_at, index_at}
+use Rattle.corners.proofs.Writes.{filled_more}
+use Rattle.corners.proofs.sort.gathered.Given as goal
+
+abbrev pub invariant-loop-i : goal.invariant-loop-i
+invariant-loop-i l = (l.i ≤ l.n) × (length l.r ≡ 12) × ((j : ℕ) → j < l.i → coordinate_at l.r j ≡ coordinate_at l.c (index_at l.channel j))
+
+abbrev pub decreases-loop-i : goal.decreases-loop-i
+decreases-loop-i l = l.n - l.i

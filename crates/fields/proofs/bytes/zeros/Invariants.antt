@@ -1,0 +1,11 @@
+-- `fields::bytes::zeros`. Invariant: whether the bytes passed are zero. Assumes nothing.
+use Rattle.std.proofs.Common.{◌≡◌, ◌+◌, ◌-◌, ◌≤◌, Bool, ◌&&◌, eqb, get_or, sym, ap, ◌∙◌, arith, rules}
+use Rattle.fields.specs.RecordBytes.{zero_bytes}
+use Rattle.fields.proofs.All.{all_none, all_next}
+use Rattle.fields.proofs.bytes.zeros.Given as goal
+
+abbrev pub invariant-loop-k : goal.invariant-loop-k
+invariant-loop-k l = (l.k ≤ l.n) × (l.clear ≡ zero_bytes l.meta l.at l.k)
+
+abbrev pub decreases-loop-k : goal.decreases-loop-k
+decreases-loop-k l = l.n - l.k

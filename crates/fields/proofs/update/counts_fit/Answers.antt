@@ -1,0 +1,6 @@
+-- `fields::update::counts_fit`: limit by limit. Assumes nothing.
+use Rattle.std.proofs.Common.{rules}
+use Rattle.fields.proofs.update.counts_fit.Goals as goal
+
+pub returns : goal.returns
+returns c = cc

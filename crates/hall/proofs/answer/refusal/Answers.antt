@@ -1,0 +1,53 @@
+-- `refusal`: each case has its number.
+use mathlib.Core.Path.{◌≡◌, sym, ap, ◌∙◌}
+use Rattle.refusals.specs.RefusalNumbers.{found_of}
+use Rattle.refusals.specs.declared.Refusal.{Refusal}
+use Rattle.hall.specs.declared.answer.Answer.{Answer}
+use Rattle.hall.specs.Answers.{code_of_found}
+use borrow.Author.Rules.{rules}
+use Rattle.hall.proofs.answer.refusal.Goals as goal
+
+by_kind : {x y : Refusal} {r : Answer} → x ≡ y → r ≡ code_of_found (found_of y) → r ≡ code_of_found (found_of x)
+by_kind e h = h ∙ ap (λ (x : Refusal). code_of_found (found_of x)) (sym e)
+
+pub returns-in-Clear : goal.returns-in-Clear
+returns-in-Clear c = by_kind c.enum_told.given.1 c.stopped.ensures
+
+pub returns-in-Lent : goal.returns-in-Lent
+returns-in-Lent c = by_kind c.enum_told-in-Lent-1.given.1 c.stopped-in-Lent.ensures
+
+pub returns-in-Sizes : goal.returns-in-Sizes
+returns-in-Sizes c = by_kind c.enum_told-in-Sizes-1.given.1 c.stopped-in-Sizes.ensures
+
+pub returns-in-Rate : goal.returns-in-Rate
+returns-in-Rate c = by_kind c.enum_told-in-Rate-1.given.1 c.stopped-in-Rate.ensures
+
+pub returns-in-StreamEnd : goal.returns-in-StreamEnd
+returns-in-StreamEnd c = by_kind c.enum_told-in-StreamEnd-1.given.1 c.stopped-in-StreamEnd.ensures
+
+pub returns-in-Records : goal.returns-in-Records
+returns-in-Records c = by_kind c.enum_told-in-Records-1.given.1 c.stopped-in-Records.ensures
+
+pub returns-in-Ranges : goal.returns-in-Ranges
+returns-in-Ranges c = by_kind c.enum_told-in-Ranges-1.given.1 c.stopped-in-Ranges.ensures
+
+pub returns-in-Samples : goal.returns-in-Samples
+returns-in-Samples c = by_kind c.enum_told-in-Samples-1.given.1 c.stopped-in-Samples.ensures
+
+pub returns-in-SampleRateChanged : goal.returns-in-SampleRateChanged
+returns-in-SampleRateChanged c = by_kind c.found.given.1 c.stopped-in-SampleRateChanged.ensures
+
+pub returns-in-MissingOamd : goal.returns-in-MissingOamd
+returns-in-MissingOamd c = by_kind c.enum_told-in-MissingOamd-1.given.1 c.stopped-in-MissingOamd.ensures
+
+pub returns-in-ObjectCountMismatch : goal.returns-in-ObjectCountMismatch
+returns-in-ObjectCountMismatch c = by_kind c.found-in-ObjectCountMismatch-1.given.1 c.stopped-in-ObjectCountMismatch.ensures
+
+pub returns-in-UnsupportedSampleCount : goal.returns-in-UnsupportedSampleCount
+returns-in-UnsupportedSampleCount c = by_kind c.enum_told-in-UnsupportedSampleCount-1.given.1 c.stopped-in-UnsupportedSampleCount.ensures
+
+pub returns-in-BedChannelCountMismatch : goal.returns-in-BedChannelCountMismatch
+returns-in-BedChannelCountMismatch c = by_kind c.found-in-BedChannelCountMismatch-1.given.1 c.stopped-in-BedChannelCountMismatch.ensures
+
+pub returns-in-UnsupportedBedChannel : goal.returns-in-UnsupportedBedChannel
+returns-in-UnsupportedBedChannel c = by_kind c.found-in-UnsupportedBedChannel-1.given.1 c.stopped-in-UnsupportedBedChannel.ensures

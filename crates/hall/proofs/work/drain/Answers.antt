@@ -1,0 +1,36 @@
+-- `drain`: the flush of the rules, saved.
+use Prim.Native.Nat.{ℕ}
+use mathlib.Core.Path.{refl, ap, ◌∙◌}
+use native.Mathlib.Omega.{arith}
+use Rattle.hall.specs.Answers.{ready_of}
+use Rattle.hall.proofs.Known.{valid_long}
+use Rattle.limiter.specs.Meters.{shown}
+use Rattle.hall.proofs.Done.{can_give, flushed_left}
+use borrow.Author.Rules.{rules}
+use Rattle.hall.proofs.work.drain.Goals as goal
+
+pub drain-last-requires : goal.drain-last-requires
+drain-last-requires c =
+    let a = c.args in
+    let w = c.requires in
+    rw c.of-work.ensures (
+      can_give a.state.now a.s w.loaded.small (λ k. omega (arith, c.slice-known.given k)) w.loaded.valid a.out.now a.stride
+          w.room,
+      refl,
+      refl,
+    )
+
+pub save-requires : goal.save-requires
+save-requires c = valid_long c.args.state.now c.requires.loaded.valid
+
+pub returns : goal.returns
+returns c =
+    let a = c.args in
+    let w = c.requires in
+    let d = rw c.of-work.ensures at c.drain-last.ensures in
+    flushed_left a.state.now a.s w.loaded.small
+    (λ k. omega (arith, c.slice-known.given k))
+    w.loaded.valid a.out.now a.stride w.room
+    w.some c.drain-last.result.renderer c.shown.result d.next (c.shown.ensures ∙ ap shown d.meters) c.ready.result
+    c.save.new.0 c.drain-last.new.1.1.0 (c.ready.ensures ∙ ap (λ (n : ℕ). ready_of n c.shown.result) d.ready)
+    c.save.ensures d.given

@@ -1,0 +1,29 @@
+-- `render`: the push of the rules, saved.
+use mathlib.Core.Path.{refl, ap, ◌∙◌}
+use native.Mathlib.Omega.{arith}
+use Rattle.refusals.specs.FirstFound.{args_with}
+use Rattle.limiter.specs.Meters.{shown}
+use Rattle.hall.proofs.Done.{rendered_left}
+use borrow.Author.Rules.{rules}
+use Rattle.hall.proofs.work.render.Goals as goal
+
+pub render-done-requires : goal.render-done-requires
+render-done-requires c =
+    let w = c.requires in
+    rw c.of-work.ensures (record { small = w.loaded.small; none = refl; valid = w.loaded.valid; clear = w.clear; layout = w.layout })
+
+pub save-requires : goal.save-requires
+save-requires c = c.render-done.ensures.next.holds.long
+
+pub returns : goal.returns
+returns c =
+    let a = c.args in
+    let w = c.requires in
+    let d = c.render-done.ensures in
+    rendered_left (args_with a.pcm.now a.meta.now a.out.now a.codes.now a.n) a.state.now
+    (λ i. omega (arith, c.slice-known.given i))
+    (λ i. omega (arith, c.shared_slice_known-2-1.given i)) w.loaded.valid w.clear
+    c.render-done.result.renderer c.render-done.result.ready c.shown.result c.render-done.new.1.0
+    (λ i. omega (arith, c.slice_known-3-1.given i)) d.next.holds d.ready
+    (c.shown.ensures ∙ ap shown d.meters)
+    c.ready.result c.save.new.0 c.render-done.new.1.1.1.1.0 c.ready.ensures c.save.ensures d.given

@@ -1,0 +1,62 @@
+// The entries of `hall` under their C names: rust/voqlisna-sys/include/voqlisna.h. Each calls the one of its name, and promises what that promises.
+#![tactic(auto)]
+
+ghost use Rattle.std.specs.Prelude.{◌≡◌};
+ghost use Rattle.rules.specs.Calls.{push, flush, reset};
+ghost use Rattle.rules.specs.BlockCalls.{made};
+ghost use Rattle.theorem.specs.Instance.{hall, block};
+ghost use Rattle.theorem.specs.Appends.{AppendsIfOpen};
+ghost use Rattle.store.specs.Layout.{size};
+ghost use Rattle.hall.specs.Answers.{Left, code_of, version};
+ghost use Rattle.rules.specs.Refusals.{args_of};
+
+use hall::answer::Answer;
+
+#[unsafe(no_mangle)]
+pub extern "C" fn hall_push(
+    state: &mut [u8],
+    pcm: &[u8],
+    meta: &[u8],
+    out: &mut [u8],
+    codes: &[u8],
+    rate: u32,
+    samples: u32,
+    objects: u32,
+    stride: u32,
+) -> Answer
+    ensures left { Left
+        (made hall block (push (args_of pcm.now meta.now out.old codes.now rate samples objects stride)) state.old) result
+        state.new out.new }
+    ensures appends { result.kind ≡ 0 → AppendsIfOpen
+        (args_of pcm.now meta.now out.old codes.now rate samples objects stride) state.old state.new }
+{
+    hall::hall_push(state, pcm, meta, out, codes, rate, samples, objects, stride)
+}
+
+#[unsafe(no_mangle)]
+pub extern "C" fn hall_flush(state: &mut [u8], out: &mut [u8], stride: u32) -> Answer
+    ensures { Left (made hall block (flush out.old stride) state.old) result state.new out.new }
+{
+    hall::hall_flush(state, out, stride)
+}
+
+#[unsafe(no_mangle)]
+pub extern "C" fn hall_reset(state: &mut [u8]) -> Answer
+    ensures { (result ≡ code_of (made hall block reset state.old).answer) × (state.new ≡ (made hall block reset state.old).state) }
+{
+    hall::hall_reset(state)
+}
+
+#[unsafe(no_mangle)]
+pub extern "C" fn hall_state_size() -> usize
+    ensures { result ≡ size }
+{
+    hall::hall_state_size()
+}
+
+#[unsafe(no_mangle)]
+pub extern "C" fn hall_version() -> u32
+    ensures { result ≡ version }
+{
+    hall::hall_version()
+}

@@ -1,0 +1,8 @@
+-- `info::put_info`: the four stores in order. Assumes nothing.
+use borrow.Author.Rules.{rules}
+use Rattle.info.specs.Written.{with_info}
+use Rattle.info.proofs.put_info.Goals as goal
+
+pub returns : goal.returns
+unfolding with_info
+returns c = cc

@@ -1,0 +1,17 @@
+-- `limiter::places::load_samples` meets its contract. Assumes nothing.
+use borrow.Author.Rules.{rules}
+use native.Mathlib.Omega.{arith}
+use native.Mathlib.Numerals.{add-one}
+use mathlib.Core.Path.{◌≡◌, sym, ap, ◌∙◌}
+use Prim.Native.Nat.{◌-◌, ◌≤◌, ◌<◌}
+use lib.ListN.{length, take, length-set}
+use lib.Seq.{take-suc-set, take_all}
+use Rattle.limiter.specs.ChannelPlaces.{floats_at}
+use Rattle.words.proofs.Runs.{floats_more}
+use Rattle.limiter.proofs.places.load_samples.Given as goal
+
+abbrev pub invariant-loop-i : goal.invariant-loop-i
+invariant-loop-i l = (l.i ≤ length l.samples) × (length l.samples ≡ length l.initial.samples) × (take l.i l.samples ≡ floats_at l.places l.at l.i)
+
+abbrev pub decreases-loop-i : goal.decreases-loop-i
+decreases-loop-i l = length l.initial.samples - l.i

@@ -1,0 +1,25 @@
+-- `limiter::places::scale_slice_into` meets its contract. Assumes nothing.
+use borrow.Author.Rules.{rules}
+use native.Mathlib.Omega.{arith}
+use mathlib.Core.Path.{◌≡◌, refl, ◌∙◌}
+use Prim.Native.Nat.{◌*◌, ◌-◌, ◌≤◌}
+use lib.ListN.{length, drop}
+use Rattle.limiter.specs.Limiter.{scaled}
+use Rattle.limiter.specs.ChannelPlaces.{with_floats}
+use Rattle.limiter.proofs.Scaled.{write_more, write_end}
+use Rattle.limiter.proofs.places.scale_slice_into.Goals as goal
+
+pub loop-i-init : goal.loop-i-init
+loop-i-init c =
+    (omega arith, refl, refl)
+
+pub loop-i-preserved : goal.loop-i-preserved
+loop-i-preserved c =
+    let a = c.args in
+    let p = c.put_f32 in
+    (omega arith, search rules, write_more a.gain c.loop-i.out p.new.0 c.loop-i.i a.samples.now (omega arith) p.ensures ∙ c.loop-i.invariant.2)
+
+pub returns : goal.returns
+returns c =
+    let a = c.args in
+    write_end a.gain c.loop-i.out (4 * c.loop-i.i) c.loop-i.i a.samples.now (omega arith) ∙ c.loop-i.invariant.2

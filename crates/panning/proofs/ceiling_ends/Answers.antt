@@ -1,0 +1,8 @@
+-- `panning::ceiling_ends` meets its contract. Assumes nothing.
+use borrow.Author.Rules.{rules}
+use lib.Ieee.{of_bits, neg}
+use Rattle.panning.proofs.ceiling_ends.Goals as goal
+
+pub returns : goal.returns
+unfolding of_bits neg
+returns c = cc

@@ -1,0 +1,10 @@
+-- The record, where it is there. Assumes nothing.
+use borrow.Author.Tests.{lt-ltb, le-ltb}
+use borrow.Author.Rules.{rules}
+use Rattle.probes.proofs.probe_records.probe_block.Goals as goal
+
+pub returns-then-r-meta : goal.returns-then-r-meta
+returns-then-r-meta c = simp (le-ltb _ _ c.if-r-meta.true)
+
+pub returns-then-r-meta : goal.returns
+returns-then-r-meta c = simp (lt-ltb _ _ c.if-r-meta.false) c.block_at.ensures

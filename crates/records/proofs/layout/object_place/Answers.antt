@@ -1,0 +1,6 @@
+-- `records::layout::object_place` meets its contract. Assumes nothing.
+use borrow.Author.Rules.{rules}
+use Rattle.records.proofs.layout.object_place.Goals as goal
+
+pub returns : goal.returns
+returns c = simp (c.cells.ensures.0, c.blocks_at-n.ensures.0)

@@ -1,0 +1,17 @@
+-- `records::order::sent_at` meets its contract. Assumes nothing.
+use Prim.Native.Nat.{ℕ, ◌≤◌, ◌<◌, ◌-◌}
+use mathlib.Core.Path.{◌≡◌, sym, ◌∙◌}
+use native.Mathlib.Omega.{arith}
+use lib.ListN.{get_or}
+use borrow.Author.Rules.{rules}
+use borrow.Author.Tests.{eqb-true, eqb-false}
+use Rattle.clock.specs.Start.{frame_start}
+use Rattle.records.specs.LayoutAnswers.{offset_at}
+use Rattle.records.proofs.Times.{none_more}
+use Rattle.records.proofs.order.sent_at.Given as goal
+
+abbrev pub invariant-loop-i : goal.invariant-loop-i
+invariant-loop-i l = (l.from ≤ l.i) × (l.i ≤ l.count) × ((k : ℕ) → l.from ≤ k → k < l.i → (get_or l.offset k frame_start).0 ≡ l.t.0 → ⊥)
+
+abbrev pub decreases-loop-i : goal.decreases-loop-i
+decreases-loop-i l = l.count - l.i

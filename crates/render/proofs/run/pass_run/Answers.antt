@@ -1,0 +1,15 @@
+-- `pass_run`: what is heard, with the bass row filtered, is what the rules give.
+use borrow.Author.Rules.{rules}
+use Rattle.render.specs.Run.{scene_at}
+use Rattle.render.proofs.BassRow.{passed}
+use Rattle.render.proofs.run.pass_run.Goals as goal
+
+pub filter_bass-requires : goal.filter_bass-requires
+filter_bass-requires c = (c.mix_run.ensures.whole, c.requires.framed.short)
+
+pub returns : goal.returns
+returns c =
+    let a = c.args in
+    let f = c.filter_bass in
+    passed (scene_at a.scene a.codes.now a.pcm.now a.span.frame) a.filter a.span.first a.span.count
+    c.mix_run.new.0 f.new.0 f.result c.mix_run.ensures c.requires.framed.short f.ensures.1 f.ensures.0

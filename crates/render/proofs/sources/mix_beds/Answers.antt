@@ -1,0 +1,35 @@
+-- `mix_beds`: what is left to mix from bed j on still gives the whole.
+use borrow.Author.Rules.{rules}
+use mathlib.Core.Path.{◌≡◌, refl, sym, ◌∙◌}
+use native.Mathlib.Omega.{arith}
+use Prim.Native.Nat.{◌-◌, ◌≤◌}
+use lib.ListN.{length, drop, length-map}
+use Rattle.render.specs.Run.{beds_of}
+use Rattle.render.specs.MixedSources.{mixed_beds}
+use Rattle.render.proofs.MixedInOrder.{beds_start, bed_step, beds_done}
+use Rattle.render.proofs.sources.mix_beds.Goals as goal
+
+pub loop-j-init : goal.loop-j-init
+loop-j-init c =
+    let a = c.args in
+    let p = a.scene in
+    (search rules, refl, beds_start a.pcm.now a.span a.codes.now p.beds p.codes p.gains a.rows.now)
+
+pub loop-j-preserved : goal.loop-j-preserved
+loop-j-preserved c =
+    let a = c.args in
+    let p = a.scene in
+    let g = c.well-formed.1.1.1.0.1.1 in
+    let codes : length p.codes ≡ 18 = sym (length-map p.codes _) ∙ g.0.1.0.1 in
+    let gains : length p.gains ≡ 18 = sym (length-map p.gains _) ∙ g.1.0.1.0.1 in (
+      search rules,
+      search rules,
+      bed_step a.pcm.now a.span a.codes.now c.loop-j.j p.beds p.codes p.gains c.loop-j.rows (omega arith) (omega arith) (omega arith)
+          c.mix_bed.ensures c.loop-j.invariant.2,
+    )
+
+pub returns : goal.returns
+returns c =
+    let a = c.args in
+    let p = a.scene in
+    beds_done a.pcm.now a.span a.codes.now c.loop-j.j p.beds p.codes p.gains c.loop-j.rows (omega arith) c.loop-j.invariant.2

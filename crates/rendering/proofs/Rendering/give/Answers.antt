@@ -1,0 +1,15 @@
+-- `give`: the limiter over the pending samples. Assumes nothing.
+use mathlib.Core.Path.{refl}
+use native.Mathlib.Omega.{arith}
+use borrow.Author.Rules.{rules}
+use Rattle.rendering.proofs.Given.{gave}
+use Rattle.rendering.proofs.Rendering.give.Goals as goal
+
+pub overflow_add-self : goal.overflow_add-self
+overflow_add-self c = let p = c.requires in omega (arith, p.room, p.short)
+
+pub returns : goal.returns
+returns c =
+    let a = c.args in
+    gave a.self a.state.now a.out.now a.stride c.requires.block c.requires.pending c.empty-next.ensures refl c.meet-meters.ensures
+    c.apply_output_limiter_block-after.ensures

@@ -1,0 +1,22 @@
+-- `start_slot`: the slot, through the lent part. Assumes nothing.
+use mathlib.Core.Path.{ap}
+use borrow.Author.Rules.{rules}
+use Rattle.rendering.specs.declared.Rendering.{Rendering}
+use Rattle.rendering.proofs.Begins.{slot_starts}
+use Rattle.rendering.proofs.Rendering.start_slot.Goals as goal
+
+pub update_timeslot-after-requires : goal.update_timeslot-after-requires
+update_timeslot-after-requires c = search rules
+
+pub returns : goal.returns
+returns c =
+    let s = c.args in
+    let u = c.update_timeslot-after in
+    let r = c.restate in
+    record {
+      next = slot_starts s.self.renderer s.state.now u.result u.new.1.0 r.result.renderer c.requires.0
+          (search (rules, u.auto, update_timeslot-after-requires c u.lifetimes)) c.requires.2 u.ensures
+          (ap (λ (w : Rendering). w.renderer) r.ensures);
+      ready = ap (λ (w : Rendering). w.ready) r.ensures;
+      meters = ap (λ (w : Rendering). w.meters) r.ensures;
+    }

@@ -1,0 +1,8 @@
+-- The fields; what is beside their words plays no part. Assumes nothing.
+use borrow.Author.Rules.{rules}
+use mathlib.Core.Path.{◌∙◌}
+use Rattle.store.proofs.BlockTests.{small_in_block}
+use Rattle.store.proofs.load.Goals as goal
+
+pub returns : goal.returns
+returns c = c.small.ensures ∙ small_in_block c.args.state.now c.requires

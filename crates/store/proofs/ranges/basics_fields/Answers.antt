@@ -1,0 +1,6 @@
+-- Test by test. Assumes nothing.
+use borrow.Author.Rules.{rules}
+use Rattle.store.proofs.ranges.basics_fields.Goals as goal
+
+pub returns : goal.returns
+returns c = cc

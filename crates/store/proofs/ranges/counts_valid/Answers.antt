@@ -1,0 +1,6 @@
+-- Test by test. Assumes nothing.
+use borrow.Author.Rules.{rules}
+use Rattle.store.proofs.ranges.counts_valid.Goals as goal
+
+pub returns : goal.returns
+returns c = cc

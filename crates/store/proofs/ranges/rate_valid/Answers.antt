@@ -1,0 +1,10 @@
+-- By the rate. Assumes nothing.
+use borrow.Author.Rules.{rules}
+use borrow.Author.Tests.{eq-eqb, ne_eqb}
+use Rattle.store.proofs.ranges.rate_valid.Goals as goal
+
+pub returns-then-rate-eq0 : goal.returns-then-rate-eq0
+returns-then-rate-eq0 c = simp (eq-eqb _ _ c.if-rate-eq0.taken)
+
+pub returns-then-rate-eq0 : goal.returns
+returns-then-rate-eq0 c = simp (ne_eqb _ _ c.if-rate-eq0.left, c.listed.ensures)

@@ -1,0 +1,6 @@
+-- Field by field. Assumes nothing.
+use borrow.Author.Rules.{rules}
+use Rattle.store.proofs.renderer.Renderer714.begin_slot.Goals as goal
+
+pub returns : goal.returns
+returns c = cc

@@ -1,0 +1,35 @@
+-- `timed::objects::Moving::apply_block`: the turns left lead from objects and infos now to those at the end. Assumes nothing.
+use Prim.Native.Nat.{◌≤◌, ◌-◌}
+use mathlib.Core.Path.{◌≡◌, ap}
+use native.Mathlib.Omega.{arith}
+use lib.ListN.{length}
+use borrow.Author.Rules.{rules}
+use Rattle.timed.specs.InfoSizes.{all_bytes}
+use Rattle.timed.proofs.LoopTurns.{Leads, leads, leads_on, leads_to}
+use Rattle.timed.specs.Objects.{moved_at, moved_all, ObjectsWork}
+use Rattle.timed.proofs.objects.Moving.apply_block.Goals as goal
+
+pub loop-d-init : goal.loop-d-init
+loop-d-init c = (search rules, search rules, leads)
+
+pub update_source_state-m-requires : goal.update_source_state-m-requires
+update_source_state-m-requires c =
+    let h = c.requires.2 c.loop-d.d (search rules) in
+    (omega arith, omega arith)
+
+pub loop-d-preserved : goal.loop-d-preserved
+loop-d-preserved c =
+    let o = c.update_source_state-m in
+    (search rules, omega (arith, o.auto), rw (o.ensures.object, o.ensures.infos) (leads_on c.loop-d.invariant.2 (search rules)))
+
+pub returns : goal.returns
+unfolding moved_all
+returns c =
+    let l = c.loop-d in
+    let s = c.args in
+    let w : ◌≡◌ {A = ObjectsWork} (record { moving = l.next; infos = l.infos }) (moved_all s.arrived s.first s.count s.self s.infos.now) =
+    leads_to l.invariant.2 (omega arith) in
+    record { objects = ap (λ (w : ObjectsWork). w.moving) w; infos = ap (λ (w : ObjectsWork). w.infos) w }
+
+pub overflow_add-first : goal.overflow_add-first
+overflow_add-first c = omega (arith, c.requires.2 c.loop-d.d (search rules))

@@ -1,0 +1,13 @@
+-- `timed::objects::Moving::ramp`: the turns left lead from the objects now to those at the end. Assumes nothing.
+use Prim.Native.Nat.{◌≤◌, ◌-◌}
+use native.Mathlib.Omega.{arith}
+use borrow.Author.Rules.{rules}
+use Rattle.timed.proofs.LoopTurns.{Leads, leads, leads_on, leads_to}
+use Rattle.timed.specs.Objects.{ramped_at, ramped_all}
+use Rattle.timed.proofs.objects.Moving.ramp.Given as goal
+
+abbrev pub invariant-loop-d : goal.invariant-loop-d
+invariant-loop-d l = (l.d ≤ l.count) × Leads (ramped_at l.t l.before) l.count l.initial.next l.d l.next
+
+abbrev pub decreases-loop-d : goal.decreases-loop-d
+decreases-loop-d l = l.count - l.d

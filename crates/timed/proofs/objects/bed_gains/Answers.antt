@@ -1,0 +1,23 @@
+-- `timed::objects::bed_gains`: the turns left lead from the gains now to those at the end. Assumes nothing.
+use Prim.Native.Nat.{◌≤◌, ◌-◌}
+use native.Mathlib.Omega.{arith}
+use borrow.Author.Rules.{rules}
+use Rattle.timed.proofs.LoopTurns.{Leads, leads, leads_on, leads_to}
+use Rattle.timed.specs.Objects.{bed_at, bed_gains}
+use Rattle.timed.proofs.objects.bed_gains.Goals as goal
+
+pub loop-i-init : goal.loop-i-init
+loop-i-init c = (search rules, leads)
+
+pub maybe_at-requires : goal.maybe_at-requires
+maybe_at-requires c = let h = c.requires.2 c.loop-i.i (search rules) in (omega arith, omega arith, omega arith, omega arith)
+
+pub loop-i-preserved : goal.loop-i-preserved
+loop-i-preserved c = (search rules, rw (c.or_else.ensures, c.maybe_at.ensures) (leads_on c.loop-i.invariant.1 (search rules)))
+
+pub returns : goal.returns
+unfolding bed_gains
+returns c = leads_to c.loop-i.invariant.1 (omega arith)
+
+pub overflow_add-first : goal.overflow_add-first
+overflow_add-first c = omega (arith, c.requires.2 c.loop-i.i (search rules))

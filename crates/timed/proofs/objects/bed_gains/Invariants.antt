@@ -1,0 +1,13 @@
+-- `timed::objects::bed_gains`: the turns left lead from the gains now to those at the end. Assumes nothing.
+use Prim.Native.Nat.{◌≤◌, ◌-◌}
+use native.Mathlib.Omega.{arith}
+use borrow.Author.Rules.{rules}
+use Rattle.timed.proofs.LoopTurns.{Leads, leads, leads_on, leads_to}
+use Rattle.timed.specs.Objects.{bed_at, bed_gains}
+use Rattle.timed.proofs.objects.bed_gains.Given as goal
+
+abbrev pub invariant-loop-i : goal.invariant-loop-i
+invariant-loop-i l = (l.i ≤ l.count) × Leads (bed_at l.infos l.first) l.count l.initial.next l.i l.next
+
+abbrev pub decreases-loop-i : goal.decreases-loop-i
+decreases-loop-i l = l.count - l.i

@@ -1,0 +1,13 @@
+-- `timed::state::MetadataRendererState::element_at`: the search from i on finds what the whole search finds. Assumes nothing.
+use Prim.Native.Nat.{◌≤◌}
+use mathlib.Core.Path.{◌≡◌, refl, sym, ◌∙◌}
+use borrow.Author.Rules.{rules}
+use Rattle.timed.specs.State.{element_taken}
+use Rattle.timed.proofs.Slots.{taken_more}
+use Rattle.timed.proofs.state.MetadataRendererState.element_at.Given as goal
+
+abbrev pub invariant-loop-i : goal.invariant-loop-i
+invariant-loop-i l = (l.i ≤ 2) × (element_taken l.when l.states l.i ≡ element_taken l.when l.states l.initial.i)
+
+abbrev pub decreases-loop-i : goal.decreases-loop-i
+decreases-loop-i l = l.i

@@ -1,0 +1,9 @@
+-- `updates::element::apply_element`: from what is kept and what is stored. Assumes nothing.
+use borrow.Author.Rules.{rules}
+use Rattle.updates.proofs.element.apply_element.Goals as goal
+
+pub returns : goal.returns
+returns c =
+    let k = c.is_kept-kept.ensures in
+    let n = c.blocks_at-n.ensures.0 in
+    record { element = rw (c.next_element.ensures, k, n); infos = rw (c.put_objects.ensures, k, n) }

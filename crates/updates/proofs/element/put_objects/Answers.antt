@@ -1,0 +1,39 @@
+-- `updates::element::put_objects`: the turns left lead from the infos now to those at the end; each object's records are within the element. Assumes nothing.
+use Prim.Native.Nat.{◌≤◌, ◌-◌}
+use mathlib.Core.Path.{◌≡◌}
+use native.Mathlib.Omega.{arith}
+use lib.ListN.{length}
+use borrow.Author.Rules.{rules}
+use Rattle.fields.specs.Block.{blocks}
+use Rattle.timed.proofs.Theorems.{Leads, leads, leads_on, leads_to}
+use Rattle.timed.specs.InfoSizes.{all_bytes}
+use Rattle.updates.specs.Said.{element_said}
+use Rattle.updates.specs.Stored.{object_given, objects_stored}
+use Rattle.updates.proofs.AppliedByParts.{cell_below}
+use Rattle.updates.proofs.element.put_objects.Goals as goal
+
+pub loop-o-init : goal.loop-o-init
+loop-o-init c = (search rules, search rules, leads)
+
+pub put_object-requires : goal.put_object-requires
+put_object-requires c =
+    let s = c.args in
+    let l = c.loop-o in
+    let h = c.requires in
+    let w = h.4 in (
+      omega arith,
+      h.1,
+      omega (arith, w.given.few),
+      omega arith,
+      omega arith,
+      omega (arith, w.given.within),
+      λ b i. omega (arith, cell_below l.o s.counts.objects b (blocks s.meta.now s.sent.place) (omega arith) (omega arith), w.within),
+    )
+
+pub loop-o-preserved : goal.loop-o-preserved
+loop-o-preserved c =
+    (search rules, omega (arith, c.put_object.auto), rw c.put_object.ensures (leads_on c.loop-o.invariant.2 (search rules)))
+
+pub returns : goal.returns
+unfolding objects_stored
+returns c = leads_to c.loop-o.invariant.2 (omega arith)

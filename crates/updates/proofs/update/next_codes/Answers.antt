@@ -1,0 +1,18 @@
+-- `updates::update::next_codes`: the turns left lead from the codes now to those at the end. Assumes nothing.
+use Prim.Native.Nat.{◌≤◌, ◌-◌}
+use native.Mathlib.Omega.{arith}
+use borrow.Author.Rules.{rules}
+use Rattle.timed.proofs.Theorems.{Leads, leads, leads_on, leads_to}
+use Rattle.updates.specs.Applied.{code_given, codes_given}
+use Rattle.updates.specs.Said.{update_of}
+use Rattle.updates.proofs.update.next_codes.Goals as goal
+
+pub loop-k-init : goal.loop-k-init
+loop-k-init c = (search rules, leads)
+
+pub loop-k-preserved : goal.loop-k-preserved
+loop-k-preserved c = (search rules, leads_on c.loop-k.invariant.1 (search rules))
+
+pub returns : goal.returns
+unfolding codes_given
+returns c = leads_to c.loop-k.invariant.1 (omega arith)
