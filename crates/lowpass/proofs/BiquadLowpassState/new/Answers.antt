@@ -1,6 +1,5 @@
 -- `BiquadLowpassState::new` meets its contract. Assumes nothing.
 use mathlib.Core.Path.{ap}
-use borrow.Author.Rules.{rules}
 use lib.Ieee.{of_bits}
 use Rattle.angles.proofs.Theorems.{lowpass_only}
 use Rattle.lowpass.specs.Lowpass.{unfed, new}

@@ -1,13 +1,9 @@
 -- `process_in_place` meets its contract: what is done and what is left, filtered, are the whole filtered, and the filter left runs to the same end. Assumes nothing.
-use mathlib.Core.Path.{◌≡◌, sym, ◌∙◌}
-use mathlib.Core.List.{[], ◌++◌, append-nil}
-use Prim.Native.Nat.{◌-◌, ◌≤◌, ◌<◌}
-use native.Mathlib.Omega.{arith}
-use lib.ListN.{length, take, drop, length-set, drop_of_length-le}
-use lib.Seq.{take_all}
-use borrow.Author.Rules.{rules}
+use mathlib.Core.Path.{◌≡◌}
+use mathlib.Core.List.{◌++◌}
+use Prim.Native.Nat.{◌-◌, ◌≤◌}
+use lib.ListN.{length, take, drop}
 use Rattle.lowpass.specs.Lowpass.{filtered, after_all}
-use Rattle.lowpass.proofs.InPlace.{state_more, list_more}
 use Rattle.lowpass.proofs.BiquadLowpassState.process_in_place.Given as goal
 
 abbrev pub invariant-loop-i : goal.invariant-loop-i
