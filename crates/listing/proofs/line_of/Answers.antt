@@ -1,10 +1,7 @@
 -- `line_of`: the first c cells of the line are those of the first c channels. Assumes nothing.
-use Prim.Native.Nat.{◌-◌, ◌*◌, ◌≤◌}
 use mathlib.Core.Path.{◌≡◌}
 use native.Mathlib.Omega.{arith}
 use borrow.Author.Rules.{rules}
-use lib.ListN.{length, take}
-use Rattle.listing.specs.Line.{cells}
 use Rattle.listing.proofs.Cells.{cells_none, cells_more, line_whole}
 use Rattle.listing.proofs.line_of.Goals as goal
 

@@ -1,12 +1,9 @@
 -- `lines`: the text has grown by the lines of the first i samples. Assumes nothing.
 use Prim.Native.Nat.{◌+◌, ◌-◌, ◌*◌, ◌≤◌}
 use mathlib.Core.Path.{◌≡◌}
-use native.Mathlib.Omega.{arith}
 use lib.ListN.{length}
 use Rattle.listing.specs.Text.{lines_of}
 use Rattle.listing.specs.GrownText.{Put}
-use Rattle.listing.proofs.Spelling.{renamed, no_line, line_more}
-use borrow.Author.Rules.{rules}
 use Rattle.listing.proofs.lines.Given as goal
 
 abbrev pub invariant-loop-i : goal.invariant-loop-i

@@ -1,7 +1,6 @@
 -- `none`: one piece. Assumes nothing.
 use native.Mathlib.Omega.{arith}
 use Rattle.listing.proofs.Spelling.{said}
-use borrow.Author.Rules.{rules}
 use Rattle.listing.proofs.none.Goals as goal
 
 pub returns : goal.returns

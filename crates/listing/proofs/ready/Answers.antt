@@ -3,7 +3,6 @@ use mathlib.Core.Path.{ap}
 use native.Mathlib.Omega.{arith}
 use Rattle.listing.specs.Text.{lines_of}
 use Rattle.listing.proofs.Spelling.{grown, renamed, said}
-use borrow.Author.Rules.{rules}
 use Rattle.listing.proofs.ready.Goals as goal
 
 pub returns : goal.returns

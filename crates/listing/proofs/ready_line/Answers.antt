@@ -3,7 +3,6 @@ use mathlib.Core.List.{◌++◌}
 use native.Mathlib.Omega.{arith}
 use Rattle.listing.specs.Text.{ascii, decimal}
 use Rattle.listing.proofs.Spelling.{grown}
-use borrow.Author.Rules.{rules}
 use Rattle.listing.proofs.ready_line.Goals as goal
 
 pub returns : goal.returns

@@ -1,10 +1,7 @@
 -- `refused`: seven pieces, one behind the other. Assumes nothing.
-use mathlib.Core.List.{◌++◌}
 use native.Mathlib.Omega.{arith}
-use lib.Dec.{lit<}
-use Rattle.listing.specs.Text.{ascii, decimal}
+use Rattle.listing.specs.Text.{ascii}
 use Rattle.listing.proofs.Spelling.{grown, said}
-use borrow.Author.Rules.{rules}
 use Rattle.listing.proofs.refused.Goals as goal
 
 pub returns : goal.returns
