@@ -11,10 +11,9 @@ use Rattle.vectors.specs.declared.Maybe.TheVariants.{Absent, Value}
 use Rattle.vectors.specs.declared.Anchor.{Anchor}
 use Rattle.vectors.specs.declared.Anchor.TheVariants.{Room, Screen, Speaker}
 use Rattle.vectors.specs.declared.BlockPosition.{BlockPosition}
-use Rattle.vectors.specs.declared.Placed.{Placed}
 use Rattle.vectors.specs.Vectors.{0·0f, 1·0f, zero_vec3, largest_size, pairwise, vec_mul_scalar, map_to_cube, lerp, lerp_vec3}
 use Rattle.vectors.specs.Anchors.{used_distance, room_anchored, screen_anchored}
-use Rattle.vectors.specs.Target.{summed, differential_position, cubical, anchored, next_position, next_last, movable, moved, unmoved, placed}
+use Rattle.vectors.specs.Target.{summed, differential_position, cubical, anchored, next_position, movable, moved, unmoved, placed}
 use Rattle.vectors.specs.Fit.{VecFits, BlockFits, PlacedFits}
 
 -- an operation on f32 gives f32, whatever it is handed
