@@ -20,8 +20,8 @@ unfolding in_limits
 returns-then-rec-gt16 c =
     simp (le-leb _ _ (rw c.u16_at.ensures at c.if-u16_at-gt256.false), le-leb _ _ c.if-rec-gt18.false, lt-leb _ _ c.if-rec-gt16.true)
 
-pub returns-then-u16_at-gt256 : goal.returns
+pub returns : goal.returns
 unfolding in_limits
-returns-then-u16_at-gt256 c =
+returns c =
     simp (le-leb _ _ (rw c.u16_at.ensures at c.if-u16_at-gt256.false), le-leb _ _ c.if-rec-gt18.false, le-leb _ _ c.if-rec-gt16.false)
     (ap (λ (n : ℕ). leb n 1200) c.u16_at-2.ensures)

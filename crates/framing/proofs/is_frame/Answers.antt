@@ -30,8 +30,8 @@ zeros-requires-2 c =
     let l = in_limits_is _ (sym c.in_limits.ensures ∙ not-false _ c.if-not-in_limits.false) in
     omega (arith, l.beds, c.byte_at-used.ensures.0)
 
-pub returns-then-rec-ne5 : goal.returns
+pub returns : goal.returns
 unfolding is_frame
-returns-then-rec-ne5 c =
+returns c =
     simp (eq-eqb _ _ c.if-rec-ne5.false, sym c.in_limits.ensures ∙ not-false _ c.if-not-in_limits.false, sym c.zeros.ensures ∙ not-false _ c.if-not-zeros.false)
     (rw c.byte_at-used.ensures.0 at c.zeros-2.ensures)

@@ -13,6 +13,6 @@ pub returns-then-not-zeros : goal.returns-then-not-zeros
 unfolding is_pcm
 returns-then-not-zeros c = simp (eq-eqb _ _ c.if-rec-ne6.false, sym c.zeros.ensures ∙ not-true _ c.if-not-zeros.true)
 
-pub returns-then-rec-ne6 : goal.returns
+pub returns : goal.returns
 unfolding is_pcm
-returns-then-rec-ne6 c = simp (eq-eqb _ _ c.if-rec-ne6.false, sym c.zeros.ensures ∙ not-false _ c.if-not-zeros.false) c.zeros-2.ensures
+returns c = simp (eq-eqb _ _ c.if-rec-ne6.false, sym c.zeros.ensures ∙ not-false _ c.if-not-zeros.false) c.zeros-2.ensures

@@ -12,6 +12,6 @@ pub returns-then-rec-gt8 : goal.returns-then-rec-gt8
 unfolding is_plain
 returns-then-rec-gt8 c = simp (le-leb _ _ c.if-rec-lt7.false, lt-leb _ _ c.if-rec-gt8.true)
 
-pub returns-then-rec-lt7 : goal.returns
+pub returns : goal.returns
 unfolding is_plain
-returns-then-rec-lt7 c = simp (le-leb _ _ c.if-rec-lt7.false, le-leb _ _ c.if-rec-gt8.false) c.zeros.ensures
+returns c = simp (le-leb _ _ c.if-rec-lt7.false, le-leb _ _ c.if-rec-gt8.false) c.zeros.ensures

@@ -10,7 +10,7 @@ returns-then-not-is_pcm c =
     let a = c.args in
     none_taken a.rec.now a.rest.now c.least-n.ensures (sym c.is_pcm.ensures ∙ not-true _ c.if-not-is_pcm.true)
 
-pub returns-then-not-is_pcm : goal.returns
-returns-then-not-is_pcm c =
+pub returns : goal.returns
+returns c =
     let p = sym c.is_pcm.ensures ∙ not-false _ c.if-not-is_pcm.false in
     nine_taken c.args.rec.now c.args.rest.now c.least-n.ensures c.requires p c.copy_bytes.ensures

@@ -39,8 +39,8 @@ loop-k-preserved c =
     t.result t.new.1.0 (not-false _ c.if-not-take_nine.false) t.ensures l.invariant.2 l.invariant.3 in
     (search rules, search rules, m.0, m.1)
 
-pub returns-then-not-take_nine : goal.returns
-returns-then-not-take_nine c =
+pub returns : goal.returns
+returns c =
     let a = c.args in
     let l = c.loop-k in
     records_done (length a.pcm.now) a.records.now l.pcm l.k l.invariant.0 (omega arith) l.invariant.1 l.invariant.2 l.invariant.3

@@ -19,5 +19,5 @@ returns-then-not-is_block c = sym (all_fails _ _ _ (omega arith) (sym c.is_block
 pub loop-k-preserved : goal.loop-k-preserved
 loop-k-preserved c = (search rules, all_more _ _ c.loop-k.invariant.1 (sym c.is_block.ensures ∙ not-false _ c.if-not-is_block.false))
 
-pub returns-then-not-is_block : goal.returns
-returns-then-not-is_block c = sym (all_passed _ _ _ (omega arith) (omega arith) c.loop-k.invariant.1)
+pub returns : goal.returns
+returns c = sym (all_passed _ _ _ (omega arith) (omega arith) c.loop-k.invariant.1)

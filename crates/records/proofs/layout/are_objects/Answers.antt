@@ -19,5 +19,5 @@ returns-then-not-is_object c = sym (all_fails _ _ _ (omega arith) (sym c.is_obje
 pub loop-k-preserved : goal.loop-k-preserved
 loop-k-preserved c = (search rules, all_more _ _ c.loop-k.invariant.1 (sym c.is_object.ensures ∙ not-false _ c.if-not-is_object.false))
 
-pub returns-then-not-is_object : goal.returns
-returns-then-not-is_object c = sym (all_passed _ _ _ (omega arith) (omega arith) c.loop-k.invariant.1)
+pub returns : goal.returns
+returns c = sym (all_passed _ _ _ (omega arith) (omega arith) c.loop-k.invariant.1)

@@ -45,8 +45,8 @@ returns-then-not-are_objects c =
     let no = sym c.are_objects.ensures ∙ not-true _ c.if-not-are_objects.true in
     broken_if _ _ (no_objects _ _ _ (held (goal.at.returns-then-not-are_objects c).Else-not-is_element) _ c.blocks_at-blocks.ensures.0 are _ c.cells-n.ensures.0 no)
 
-pub returns-then-e-records : goal.returns
-returns-then-e-records c =
+pub returns : goal.returns
+returns c =
     let are = sym c.are_blocks.ensures ∙ not-false _ c.if-not-are_blocks.false in
     let h = held (goal.at.returns c).Else-not-is_element in
     let q = c.blocks_at-blocks.ensures.0 in

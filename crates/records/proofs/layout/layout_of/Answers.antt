@@ -34,5 +34,5 @@ loop-r-preserved c =
     let e = sym c.update_end-end.ensures ∙ c.end.given.1 in
     walk_goes_on _ _ _ _ _ _ _ c.if-meta-ne0.false c.loop-r.invariant (omega arith) (end_whole _ _ _ e) (end_at _ _ _ e) c.offset_at.ensures
 
-pub returns-then-meta-ne0 : goal.returns
-returns-then-meta-ne0 c = walk_ends _ _ _ _ _ c.if-meta-ne0.false c.loop-r.invariant c.loop-r-test.false
+pub returns : goal.returns
+returns c = walk_ends _ _ _ _ _ c.if-meta-ne0.false c.loop-r.invariant c.loop-r-test.false

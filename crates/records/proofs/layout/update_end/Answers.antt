@@ -56,9 +56,9 @@ loop-e-preserved c =
     let in_List = element_within m c.requires.0 c.header_at-h.result.objects c.loop-e.r w in
     (search rules, i.1, i.2, sym end ∙ next_element _ _ _ _ _ i.1 i.3, all_more _ _ i.4 (rw (i.1, i.3) at w), rw end at in_List)
 
-pub returns-then-not-is_update : goal.returns
+pub returns : goal.returns
 unfolding end_if
-returns-then-not-is_update c =
+returns c =
     let i = c.loop-e.invariant in
     let a = c.args in
     let q : c.loop-e.e ≡ elements a.meta.now a.u = omega arith in

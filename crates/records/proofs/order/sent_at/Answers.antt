@@ -27,5 +27,5 @@ loop-i-preserved c =
     let a = c.args in
     (search rules, search rules, none_more (offset_at a.l) a.from c.loop-i.i a.t.0 c.loop-i.invariant.2 (eqb-false _ _ (sym c.is.ensures ∙ c.if-is.false)))
 
-pub returns-then-is : goal.returns
-returns-then-is c = record { after = search rules; within = search rules; here = λ h. absurd (omega arith); none = λ k a b. c.loop-i.invariant.2 k a (omega arith) }
+pub returns : goal.returns
+returns c = record { after = search rules; within = search rules; here = λ h. absurd (omega arith); none = λ k a b. c.loop-i.invariant.2 k a (omega arith) }

@@ -21,6 +21,6 @@ returns-then-not-record_in_range c = sym (all_fails _ _ _ (omega arith) (sym c.r
 pub loop-r-preserved : goal.loop-r-preserved
 loop-r-preserved c = (search rules, all_more _ _ c.loop-r.invariant.1 (sym c.record_in_range.ensures ∙ not-false _ c.if-not-record_in_range.false))
 
-pub returns-then-not-record_in_range : goal.returns
+pub returns : goal.returns
 unfolding in_range
-returns-then-not-record_in_range c = sym (all_passed _ _ _ (omega arith) (omega arith) c.loop-r.invariant.1)
+returns c = sym (all_passed _ _ _ (omega arith) (omega arith) c.loop-r.invariant.1)
