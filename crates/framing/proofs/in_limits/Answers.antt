@@ -4,7 +4,6 @@ use lib.Dec.{leb}
 use mathlib.Core.Path.{ap}
 use borrow.Author.Tests.{lt-leb, le-leb}
 use Rattle.framing.specs.Framing.{in_limits}
-use borrow.Author.Rules.{rules}
 use Rattle.framing.proofs.in_limits.Goals as goal
 
 pub returns-then-u16_at-gt256 : goal.returns-then-u16_at-gt256

@@ -1,7 +1,6 @@
 -- `is_plain`: each test of the definition in turn. Assumes nothing.
 use borrow.Author.Tests.{lt-leb, le-leb}
 use Rattle.framing.specs.Framing.{is_plain}
-use borrow.Author.Rules.{rules}
 use Rattle.framing.proofs.is_plain.Goals as goal
 
 pub returns-then-rec-lt7 : goal.returns-then-rec-lt7
