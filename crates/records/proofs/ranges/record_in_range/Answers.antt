@@ -1,7 +1,6 @@
 -- `records::ranges::record_in_range`: by the kind. Assumes nothing.
 use borrow.Author.Tests.{eq-eqb, ne_eqb}
 use Rattle.records.specs.ValuesInRange.{record_in_range}
-use borrow.Author.Rules.{rules}
 use Rattle.records.proofs.ranges.record_in_range.Goals as goal
 
 pub returns-then-kind-eq3 : goal.returns-then-kind-eq3

@@ -1,6 +1,5 @@
 -- `records::ranges::refusal`: 5 before 6. Assumes nothing.
 use mathlib.Core.Path.{sym, ◌∙◌}
-use borrow.Author.Rules.{rules}
 use borrow.Author.Tests.{not-true, not-false}
 use Rattle.records.specs.ValuesInRange.{refusal}
 use Rattle.records.proofs.ranges.refusal.Goals as goal
@@ -12,9 +11,9 @@ returns-then-not-l c = simp (sym c.layout_of-l.ensures.fits ∙ not-true _ c.if-
 pub returns-then-not-in_range : goal.returns-then-not-in_range
 unfolding refusal
 returns-then-not-in_range c =
-    simp (sym c.layout_of-l.ensures.fits ∙ not-false _ c.if-not-l.false, sym c.in_range.ensures ∙ not-true _ c.if-not-in_range.true)
+    simp (sym c.layout_of-l.ensures.fits ∙ not-false _ c.if-not-l.false, sym c.in_range.ensures ∙ c.if-not-in_range.true)
 
 pub returns : goal.returns
 unfolding refusal
 returns c =
-    simp (sym c.layout_of-l.ensures.fits ∙ not-false _ c.if-not-l.false, sym c.in_range.ensures ∙ not-false _ c.if-not-in_range.false)
+    simp (sym c.layout_of-l.ensures.fits ∙ not-false _ c.if-not-l.false, sym c.in_range.ensures ∙ c.if-not-in_range.false)
