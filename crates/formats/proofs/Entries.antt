@@ -1,11 +1,11 @@
 -- An entry of an array, an array of words, and the formats of the areas behind the small part. Assumes nothing.
-use mathlib.Core.Path.{◌≡◌, refl, sym, ap, ap₂, ◌∙◌}
+use mathlib.Core.Path.{◌≡◌, refl, ap, ap₂, ◌∙◌}
 use mathlib.Core.List.{List, [], ◌∷◌}
 use Prim.Native.Nat.{ℕ, zero, suc, ◌+◌, ◌*◌, ◌<◌, ◌≤◌}
 use native.Mathlib.Omega.{arith}
 use lib.Dec.{lit<}
 use lib.ListN.{length, get_or}
-use Rattle.words.specs.Words.{word, words_at}
+use Rattle.words.specs.Words.{words_at}
 use Rattle.formats.specs.Format.{u32_any, puts, gets, array}
 use Rattle.formats.specs.Lawful.{Lawful}
 use Rattle.formats.specs.Info.{info_format}

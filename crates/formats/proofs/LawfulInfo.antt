@@ -2,7 +2,7 @@
 use mathlib.Core.Path.{◌≡◌, refl}
 use mathlib.Core.Bool.{Bool, true, ◌&&◌}
 use mathlib.Core.List.{List}
-use Prim.Native.Nat.{ℕ, ◌%◌, ◌/◌, ◌<◌}
+use Prim.Native.Nat.{ℕ, ◌%◌, ◌/◌}
 use native.Mathlib.Omega.{arith}
 use lib.Dec.{T, ltb, ltb→lt, lt→ltb}
 use lib.Ieee.Fits.{and_l, and_r}
@@ -12,7 +12,7 @@ use Rattle.vectors.proofs.Theorems.{head_reads_back}
 use Rattle.formats.specs.Format.{float, ◌⊗◌, all_at, array}
 use Rattle.formats.specs.Lawful.{Lawful}
 use Rattle.formats.specs.Vector.{Singles, vec_format}
-use Rattle.formats.specs.Info.{flags_below, anchor_below, depth_below, HeadIn, head_valid, info_head, InfoIn, info_format}
+use Rattle.formats.specs.Info.{flags_below, anchor_below, HeadIn, head_valid, info_head, InfoIn, info_format}
 use Rattle.formats.proofs.Places.{and_in}
 use Rattle.formats.proofs.Word.{lawful_one_word, lawful_float}
 use Rattle.formats.proofs.PairsAndArrays.{lawful_pair, lawful_struct, lawful_ranged}

@@ -1,5 +1,4 @@
 -- The format of a vector: three floats. Document 01: the block's floats are "of any bits". Assumes nothing.
-use Rattle.std.specs.Prelude.{Float}
 use Rattle.vectors.specs.declared.Vec3.{Vec3}
 use Rattle.formats.specs.NumberWords.{Single}
 use Rattle.formats.specs.Format.{Format, float, ◌⊗◌, struct, ranged}
