@@ -14,6 +14,7 @@ fn least(a: usize, b: usize) -> usize
 }
 
 // Whether a header's counts are within the program's limits.
+#[tactic(auto, unfolding(crate::specs::Framing::in_limits))]
 fn in_limits(rec: &[u8; 40]) -> bool
     ensures { result ≡ in_limits rec.now }
 {

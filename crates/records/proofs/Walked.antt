@@ -1,7 +1,7 @@
 -- The walk over the updates: what it has found after n of them, and what it answers. Assumes nothing.
 use Prim.Native.Nat.{ℕ, zero, suc, ◌+◌, ◌*◌, ◌/◌, ◌%◌, ◌<◌, ◌≤◌}
 use mathlib.Core.Path.{◌≡◌, refl, sym, ap, ◌∙◌}
-use mathlib.Core.Bool.{true, false}
+use mathlib.Core.Bool.{true}
 use mathlib.Core.List.{List}
 use mathlib.Core.Logic.{⊎_elim}
 use native.Mathlib.Nat.{eq-or-lt_of_le}
@@ -13,7 +13,7 @@ use Rattle.clock.specs.Start.{frame_start}
 use Rattle.clock.proofs.SameCount.{offset_is}
 use Rattle.fields.specs.RecordBytes.{all}
 use Rattle.fields.specs.Update.{offset}
-use Rattle.records.specs.Laid.{is_whole_update, update_end, update_at, is_updates, count}
+use Rattle.records.specs.Laid.{is_whole_update, update_end, update_at, is_updates}
 use Rattle.records.specs.LayoutAnswers.{no_layout, IsLayout}
 use Rattle.records.specs.declared.layout.Layout.{Layout}
 use Rattle.fields.proofs.All.{all_none, all_more}

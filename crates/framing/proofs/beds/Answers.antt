@@ -1,7 +1,6 @@
 -- `beds`: a frame's limits bound it. Assumes nothing.
 use native.Mathlib.Omega.{arith}
 use Rattle.framing.proofs.Limits.{frame_limits}
-use borrow.Author.Rules.{rules}
 use Rattle.framing.proofs.beds.Goals as goal
 
 pub returns : goal.returns

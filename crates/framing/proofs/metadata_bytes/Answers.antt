@@ -3,7 +3,6 @@ use Prim.Native.Nat.{ℕ, ◌*◌}
 use native.Mathlib.Omega.{arith}
 use mathlib.Core.Path.{ap}
 use Rattle.framing.proofs.Limits.{frame_limits}
-use borrow.Author.Rules.{rules}
 use Rattle.framing.proofs.metadata_bytes.Goals as goal
 
 pub returns : goal.returns

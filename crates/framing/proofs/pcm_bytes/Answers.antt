@@ -1,7 +1,6 @@
 -- `pcm_bytes`: a frame's limits bound the product. Assumes nothing.
 use native.Mathlib.Omega.{arith}
 use Rattle.framing.proofs.Limits.{frame_limits, pcm_fits}
-use borrow.Author.Rules.{rules}
 use Rattle.framing.proofs.pcm_bytes.Goals as goal
 
 pub overflow_mul-result : goal.overflow_mul-result

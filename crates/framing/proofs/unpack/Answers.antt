@@ -1,12 +1,9 @@
 -- `unpack`: the first k records are of PCM, and what they hold stands at the front. Assumes nothing.
-use Prim.Native.Nat.{◌+◌, ◌-◌, ◌*◌, ◌≤◌}
-use mathlib.Core.Path.{◌≡◌, refl, ◌∙◌}
-use mathlib.Core.Bool.{true}
+use Prim.Native.Nat.{◌+◌, ◌*◌}
+use mathlib.Core.Path.{◌∙◌}
 use native.Mathlib.Omega.{arith}
-use borrow.Author.Tests.{not-true, not-false}
 use borrow.Rule.Slice.PartMut.{mid_len}
-use lib.ListN.{length, take}
-use Rattle.framing.specs.Framing.{are_pcm, held_in}
+use lib.ListN.{length}
 use Rattle.framing.proofs.Unpacking.{none_held, none_are, record_more, record_bad, records_done}
 use borrow.Author.Rules.{rules}
 use Rattle.framing.proofs.unpack.Goals as goal
@@ -27,7 +24,7 @@ returns-then-not-take_nine c =
     let l = c.loop-k in
     let t = c.take_nine in
     record_bad (length a.pcm.now) a.records.now l.pcm l.k l.invariant.0 c.requires.0 (omega arith)
-    t.result t.new.1.0 (not-true _ c.if-not-take_nine.true) t.ensures l.invariant.2
+    t.result t.new.rest (c.if-not-take_nine.true) t.ensures l.invariant.2
 
 pub loop-k-preserved : goal.loop-k-preserved
 loop-k-preserved c =
@@ -36,11 +33,11 @@ loop-k-preserved c =
     let t = c.take_nine in
     let m =
     record_more (length a.pcm.now) a.records.now l.pcm l.k l.invariant.0 c.requires.0 (omega arith)
-    t.result t.new.1.0 (not-false _ c.if-not-take_nine.false) t.ensures l.invariant.2 l.invariant.3 in
+    t.result t.new.rest (c.if-not-take_nine.false) t.ensures l.invariant.2 l.invariant.3 in
     (search rules, search rules, m.0, m.1)
 
-pub returns-then-not-take_nine : goal.returns
-returns-then-not-take_nine c =
+pub returns : goal.returns
+returns c =
     let a = c.args in
     let l = c.loop-k in
     records_done (length a.pcm.now) a.records.now l.pcm l.k l.invariant.0 (omega arith) l.invariant.1 l.invariant.2 l.invariant.3

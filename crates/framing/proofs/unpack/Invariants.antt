@@ -1,14 +1,9 @@
 -- `unpack`: the first k records are of PCM, and what they hold stands at the front. Assumes nothing.
 use Prim.Native.Nat.{◌+◌, ◌-◌, ◌*◌, ◌≤◌}
-use mathlib.Core.Path.{◌≡◌, refl, ◌∙◌}
+use mathlib.Core.Path.{◌≡◌}
 use mathlib.Core.Bool.{true}
-use native.Mathlib.Omega.{arith}
-use borrow.Author.Tests.{not-true, not-false}
-use borrow.Rule.Slice.PartMut.{mid_len}
 use lib.ListN.{length, take}
 use Rattle.framing.specs.Framing.{are_pcm, held_in}
-use Rattle.framing.proofs.Unpacking.{none_held, none_are, record_more, record_bad, records_done}
-use borrow.Author.Rules.{rules}
 use Rattle.framing.proofs.unpack.Given as goal
 
 abbrev pub invariant-loop-k : goal.invariant-loop-k

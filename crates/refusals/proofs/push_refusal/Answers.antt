@@ -39,8 +39,8 @@ refusal-requires c =
     let whole = passes_all a.meta.now x.laid_out x.in_range (λ k. omega (arith, c.shared_slice_known-2-1.given k)) a.l w.2 in
     (w.2, whole, (is_sized args x.sized).codes, w.0, w.1)
 
-pub returns-in_default : goal.returns
-returns-in_default c b out e l =
+pub returns : goal.returns
+returns c b out e l =
     let a = c.args in
     let args = args_with a.pcm.now a.meta.now out a.codes.now a.n in
     let us = announced hall (hall.updates args.meta) in

@@ -1,5 +1,4 @@
 -- `fields::block::is_block`: test by test. Assumes nothing.
-use Rattle.std.proofs.Common.{rules}
 use Rattle.fields.specs.Block.{is_block}
 use Rattle.fields.proofs.block.is_block.Goals as goal
 

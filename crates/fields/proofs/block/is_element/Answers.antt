@@ -1,5 +1,4 @@
 -- `fields::block::is_element`: test by test. Assumes nothing.
-use Rattle.std.proofs.Common.{rules}
 use Rattle.fields.specs.Block.{is_element}
 use Rattle.fields.proofs.block.is_element.Goals as goal
 

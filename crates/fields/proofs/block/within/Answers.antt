@@ -7,7 +7,7 @@ returns-then-z-geminus1048576 c =
     let f = to_z-of_z c.ranges.z in
     simp (f, simp f at c.if-z-geminus1048576.true)
 
-pub returns-then-z-geminus1048576 : goal.returns
-returns-then-z-geminus1048576 c =
+pub returns : goal.returns
+returns c =
     let f = to_z-of_z c.ranges.z in
     simp (simp f at c.if-z-geminus1048576.false)

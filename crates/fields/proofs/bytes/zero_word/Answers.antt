@@ -1,5 +1,5 @@
 -- `fields::bytes::zero_word`: a word is 0 where its bytes are. Assumes nothing.
-use Rattle.std.proofs.Common.{ℕ, eqb, ap, ◌∙◌, rules}
+use Rattle.std.proofs.Common.{ℕ, eqb, ap, ◌∙◌}
 use Rattle.fields.proofs.Zeros.{number_zero}
 use Rattle.fields.proofs.bytes.zero_word.Goals as goal
 

@@ -1,5 +1,5 @@
 -- `fields::bytes::zeros`. Invariant: whether the bytes passed are zero. Assumes nothing.
-use Rattle.std.proofs.Common.{◌≡◌, ◌+◌, ◌-◌, ◌≤◌, Bool, ◌&&◌, eqb, get_or, sym, ap, ◌∙◌, arith, rules}
+use Rattle.std.proofs.Common.{◌≡◌, ◌+◌, Bool, ◌&&◌, eqb, get_or, sym, ap, ◌∙◌, arith, rules}
 use Rattle.fields.specs.RecordBytes.{zero_bytes}
 use Rattle.fields.proofs.All.{all_none, all_next}
 use Rattle.fields.proofs.bytes.zeros.Goals as goal

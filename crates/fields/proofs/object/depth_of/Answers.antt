@@ -18,6 +18,6 @@ pub returns-then-w-eq1073741824 : goal.returns-then-w-eq1073741824
 returns-then-w-eq1073741824 c =
     simp (ne_eqb _ _ c.if-w-eq1048576000.false, ne_eqb _ _ c.if-w-eq1056964608.false, ne_eqb _ _ c.if-w-eq1065353216.false, eq-eqb _ _ c.if-w-eq1073741824.true) at (depth_by_bits c.args.w (omega arith))
 
-pub returns-then-w-eq1048576000 : goal.returns
-returns-then-w-eq1048576000 c =
+pub returns : goal.returns
+returns c =
     simp (ne_eqb _ _ c.if-w-eq1048576000.false, ne_eqb _ _ c.if-w-eq1056964608.false, ne_eqb _ _ c.if-w-eq1065353216.false, ne_eqb _ _ c.if-w-eq1073741824.false) at (depth_by_bits c.args.w (omega arith))

@@ -1,5 +1,5 @@
 -- `fields::object::info_at`: field by field. Assumes nothing.
-use Rattle.std.proofs.Common.{◌+◌, ◌*◌, rules}
+use Rattle.std.proofs.Common.{◌+◌, ◌*◌}
 use Rattle.fields.proofs.RangesByBits.{float_bits}
 use Rattle.fields.proofs.object.info_at.Goals as goal
 

@@ -1,5 +1,5 @@
 -- `fields::object::object_in_range`: gain, size, depth, send, by their bits. Assumes nothing.
-use Rattle.std.proofs.Common.{◌+◌, ◌*◌, get_or, rules}
+use Rattle.std.proofs.Common.{◌+◌, ◌*◌, get_or}
 use Rattle.ieee.specs.Numbers.{1·0, 8·0}
 use Rattle.ieee.proofs.Theorems.{one_bits}
 use Rattle.fields.proofs.RangesByBits.{eight_bits, float_bits, range_by_bits}

@@ -1,5 +1,4 @@
 -- `fields::object::position_fits`: by the flag, or three words. Assumes nothing.
-use Rattle.std.proofs.Common.{rules}
 use Rattle.fields.proofs.Zeros.{zeros_three}
 use Rattle.fields.proofs.object.position_fits.Goals as goal
 

@@ -1,5 +1,4 @@
 -- `fields::object::values_fit`: value by value. Assumes nothing.
-use Rattle.std.proofs.Common.{rules}
 use Rattle.fields.specs.Object.{values_fit}
 use Rattle.fields.proofs.object.values_fit.Goals as goal
 

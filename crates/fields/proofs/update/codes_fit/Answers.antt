@@ -1,5 +1,5 @@
 -- `fields::update::codes_fit`. Invariant: whether the codes passed fit. Assumes nothing.
-use Rattle.std.proofs.Common.{◌≡◌, ℕ, ◌+◌, ◌-◌, ◌≤◌, Bool, ◌&&◌, leb, get_or, sym, ap, ◌∙◌, ap₂, arith, rules}
+use Rattle.std.proofs.Common.{◌≡◌, ℕ, ◌+◌, Bool, ◌&&◌, leb, get_or, sym, ap, ◌∙◌, ap₂, arith, rules}
 use Rattle.fields.specs.RecordBytes.{all}
 use Rattle.fields.specs.Update.{most_at, codes_fit}
 use Rattle.fields.proofs.All.{all_none, all_next}

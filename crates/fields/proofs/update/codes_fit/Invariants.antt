@@ -1,8 +1,7 @@
 -- `fields::update::codes_fit`. Invariant: whether the codes passed fit. Assumes nothing.
-use Rattle.std.proofs.Common.{◌≡◌, ℕ, ◌+◌, ◌-◌, ◌≤◌, Bool, ◌&&◌, leb, get_or, sym, ap, ◌∙◌, ap₂, arith, rules}
+use Rattle.std.proofs.Common.{◌≡◌, ◌+◌, ◌-◌, ◌≤◌, leb, get_or}
 use Rattle.fields.specs.RecordBytes.{all}
-use Rattle.fields.specs.Update.{most_at, codes_fit}
-use Rattle.fields.proofs.All.{all_none, all_next}
+use Rattle.fields.specs.Update.{most_at}
 use Rattle.fields.proofs.update.codes_fit.Given as goal
 
 abbrev pub invariant-loop-k : goal.invariant-loop-k

@@ -1,5 +1,4 @@
 -- `fields::update::counts_fit`: limit by limit. Assumes nothing.
-use Rattle.std.proofs.Common.{rules}
 use Rattle.fields.proofs.update.counts_fit.Goals as goal
 
 pub returns : goal.returns

@@ -1,5 +1,5 @@
 -- `fields::update::header_at`: field by field. Assumes nothing.
-use Rattle.std.proofs.Common.{◌≡◌, ℕ, rules}
+use Rattle.std.proofs.Common.{◌≡◌, ℕ}
 use Rattle.clock.specs.declared.FrameOffset.{FrameOffset}
 use Rattle.clock.proofs.SameCount.{offset_is}
 use Rattle.fields.specs.declared.update.Header.{Header}

@@ -1,5 +1,4 @@
 -- `fields::update::is_update`: test by test. Assumes nothing.
-use Rattle.std.proofs.Common.{rules}
 use Rattle.fields.specs.Update.{is_update}
 use Rattle.fields.proofs.update.is_update.Goals as goal
 

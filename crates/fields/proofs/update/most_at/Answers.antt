@@ -5,5 +5,5 @@ use Rattle.fields.proofs.update.most_at.Goals as goal
 pub returns-then-k-beds : goal.returns-then-k-beds
 returns-then-k-beds c = simp (lt-ltb _ _ c.if-k-beds.true)
 
-pub returns-then-k-beds : goal.returns
-returns-then-k-beds c = simp (le-ltb _ _ c.if-k-beds.false)
+pub returns : goal.returns
+returns c = simp (le-ltb _ _ c.if-k-beds.false)

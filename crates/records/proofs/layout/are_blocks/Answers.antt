@@ -1,12 +1,7 @@
 -- `records::layout::are_blocks` meets its contract. Assumes nothing.
-use Prim.Native.Nat.{◌+◌, ◌-◌, ◌≤◌}
-use mathlib.Core.Path.{◌≡◌, sym, ◌∙◌}
-use mathlib.Core.Bool.{true}
+use mathlib.Core.Path.{sym, ◌∙◌}
 use native.Mathlib.Omega.{arith}
 use borrow.Author.Rules.{rules}
-use borrow.Author.Tests.{not-true, not-false}
-use Rattle.fields.specs.RecordBytes.{all}
-use Rattle.fields.specs.Block.{is_block}
 use Rattle.fields.proofs.All.{all_none, all_more, all_fails, all_passed}
 use Rattle.records.proofs.layout.are_blocks.Goals as goal
 
@@ -14,10 +9,10 @@ pub loop-k-init : goal.loop-k-init
 loop-k-init c = (search rules, all_none _)
 
 pub returns-then-not-is_block : goal.returns-then-not-is_block
-returns-then-not-is_block c = sym (all_fails _ _ _ (omega arith) (sym c.is_block.ensures ∙ not-true _ c.if-not-is_block.true))
+returns-then-not-is_block c = sym (all_fails _ _ _ (omega arith) (sym c.is_block.ensures ∙ c.if-not-is_block.true))
 
 pub loop-k-preserved : goal.loop-k-preserved
-loop-k-preserved c = (search rules, all_more _ _ c.loop-k.invariant.1 (sym c.is_block.ensures ∙ not-false _ c.if-not-is_block.false))
+loop-k-preserved c = (search rules, all_more _ _ c.loop-k.invariant.1 (sym c.is_block.ensures ∙ c.if-not-is_block.false))
 
-pub returns-then-not-is_block : goal.returns
-returns-then-not-is_block c = sym (all_passed _ _ _ (omega arith) (omega arith) c.loop-k.invariant.1)
+pub returns : goal.returns
+returns c = sym (all_passed _ _ _ (omega arith) (omega arith) c.loop-k.invariant.1)

@@ -1,13 +1,9 @@
 -- `records::layout::are_objects` meets its contract. Assumes nothing.
 use Prim.Native.Nat.{◌+◌, ◌-◌, ◌≤◌}
-use mathlib.Core.Path.{◌≡◌, sym, ◌∙◌}
+use mathlib.Core.Path.{◌≡◌}
 use mathlib.Core.Bool.{true}
-use native.Mathlib.Omega.{arith}
-use borrow.Author.Rules.{rules}
-use borrow.Author.Tests.{not-true, not-false}
 use Rattle.fields.specs.RecordBytes.{all}
 use Rattle.fields.specs.Object.{is_object}
-use Rattle.fields.proofs.All.{all_none, all_more, all_fails, all_passed}
 use Rattle.records.proofs.layout.are_objects.Given as goal
 
 abbrev pub invariant-loop-k : goal.invariant-loop-k

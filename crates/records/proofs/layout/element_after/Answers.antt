@@ -1,5 +1,4 @@
 -- `records::layout::element_after` meets its contract. Assumes nothing.
-use borrow.Author.Rules.{rules}
 use Rattle.records.proofs.layout.element_after.Goals as goal
 
 pub returns : goal.returns

@@ -3,12 +3,10 @@ use Prim.Native.Nat.{◌≤◌}
 use mathlib.Core.Path.{◌≡◌, sym, ◌∙◌}
 use mathlib.Core.Bool.{true}
 use native.Mathlib.Omega.{arith}
-use borrow.Author.Tests.{not-true, not-false}
 use Rattle.fields.specs.Block.{blocks, is_element}
 use Rattle.records.proofs.RecordKinds.{few_blocks}
 use Rattle.records.proofs.Ends.{broken_if, at_if}
 use Rattle.records.proofs.Within.{too_long, no_element, end_is, no_blocks, no_objects, whole_element}
-use borrow.Author.Rules.{rules}
 use Rattle.records.proofs.layout.element_end.Goals as goal
 use Rattle.records.proofs.layout.element_end.Goals.{Else-not-is_element}
 
@@ -18,11 +16,11 @@ returns-then-e-records c =
     broken_if _ _ (too_long a.meta.now c.requires.0 a.objects a.e (omega arith))
 
 pub returns-then-not-is_element : goal.returns-then-not-is_element
-returns-then-not-is_element c = broken_if _ _ (no_element _ _ _ (sym c.is_element.ensures ∙ not-true _ c.if-not-is_element.true))
+returns-then-not-is_element c = broken_if _ _ (no_element _ _ _ (sym c.is_element.ensures ∙ c.if-not-is_element.true))
 
 -- an element's record stands at e
 held : (c : Else-not-is_element) → is_element c.args.meta.now c.args.e ≡ true
-held c = sym c.is_element.ensures ∙ not-false _ c.if-not-is_element.false
+held c = sym c.is_element.ensures ∙ c.if-not-is_element.false
 
 few : (c : Else-not-is_element) → blocks c.args.meta.now c.args.e ≤ 8
 few c = few_blocks _ c.requires.0 _ (held c)
@@ -37,18 +35,18 @@ returns-then-end-records c =
 
 pub returns-then-not-are_blocks : goal.returns-then-not-are_blocks
 returns-then-not-are_blocks c =
-    broken_if _ _ (no_blocks _ _ _ (held (goal.at.returns-then-not-are_blocks c).Else-not-is_element) _ c.blocks_at-blocks.ensures.0 (sym c.are_blocks.ensures ∙ not-true _ c.if-not-are_blocks.true))
+    broken_if _ _ (no_blocks _ _ _ (held (goal.at.returns-then-not-are_blocks c).Else-not-is_element) _ c.blocks_at-blocks.ensures.0 (sym c.are_blocks.ensures ∙ c.if-not-are_blocks.true))
 
 pub returns-then-not-are_objects : goal.returns-then-not-are_objects
 returns-then-not-are_objects c =
-    let are = sym c.are_blocks.ensures ∙ not-false _ c.if-not-are_blocks.false in
-    let no = sym c.are_objects.ensures ∙ not-true _ c.if-not-are_objects.true in
+    let are = sym c.are_blocks.ensures ∙ c.if-not-are_blocks.false in
+    let no = sym c.are_objects.ensures ∙ c.if-not-are_objects.true in
     broken_if _ _ (no_objects _ _ _ (held (goal.at.returns-then-not-are_objects c).Else-not-is_element) _ c.blocks_at-blocks.ensures.0 are _ c.cells-n.ensures.0 no)
 
-pub returns-then-e-records : goal.returns
-returns-then-e-records c =
-    let are = sym c.are_blocks.ensures ∙ not-false _ c.if-not-are_blocks.false in
+pub returns : goal.returns
+returns c =
+    let are = sym c.are_blocks.ensures ∙ c.if-not-are_blocks.false in
     let h = held (goal.at.returns c).Else-not-is_element in
     let q = c.blocks_at-blocks.ensures.0 in
     let l = c.cells-n.ensures.0 in
-    at_if _ _ _ (whole_element _ _ _ h _ q are _ l (sym c.are_objects.ensures ∙ not-false _ c.if-not-are_objects.false)) (end_is _ _ _ h _ q _ l)
+    at_if _ _ _ (whole_element _ _ _ h _ q are _ l (sym c.are_objects.ensures ∙ c.if-not-are_objects.false)) (end_is _ _ _ h _ q _ l)

@@ -1,13 +1,11 @@
 -- `records::layout::layout_of` meets its contract. Assumes nothing.
-use Prim.Native.Nat.{◌-◌}
 use mathlib.Core.Path.{◌≡◌, sym, ap, ◌∙◌}
 use mathlib.Core.Bool.{false}
 use native.Mathlib.Omega.{arith}
-use borrow.Author.Rules.{rules}
 use Rattle.records.specs.Laid.{is_whole_update, update_at}
 use Rattle.records.proofs.Ends.{end_whole, end_at, end_broken}
 use Rattle.records.proofs.Updates.{odd_length, too_many, not_whole}
-use Rattle.records.proofs.Walked.{Walked, walk_begins, walk_goes_on, walk_ends, walk_fails}
+use Rattle.records.proofs.Walked.{walk_begins, walk_goes_on, walk_ends, walk_fails}
 use Rattle.records.proofs.layout.layout_of.Goals as goal
 
 pub returns-then-meta-ne0 : goal.returns-then-meta-ne0
@@ -26,13 +24,13 @@ pub returns-in_default : goal.returns-in_default
 returns-in_default c =
     let m = c.args.meta.now in
     let q = c.loop-r.invariant.at in
-    let b : is_whole_update m c.loop-r.r ≡ false = end_broken _ _ (sym c.update_end-end.ensures ∙ c.enum_told.given.1) in
+    let b : is_whole_update m c.loop-r.r ≡ false = end_broken _ _ (sym c.update_end-end.ensures ∙ c.in_default.is) in
     walk_fails _ _ c.broken-in_default.ensures (not_whole m c.loop-r.n (omega arith) (rw q at b))
 
 pub loop-r-preserved : goal.loop-r-preserved
 loop-r-preserved c =
-    let e = sym c.update_end-end.ensures ∙ c.end.given.1 in
+    let e = sym c.update_end-end.ensures ∙ c.in-At.is in
     walk_goes_on _ _ _ _ _ _ _ c.if-meta-ne0.false c.loop-r.invariant (omega arith) (end_whole _ _ _ e) (end_at _ _ _ e) c.offset_at.ensures
 
-pub returns-then-meta-ne0 : goal.returns
-returns-then-meta-ne0 c = walk_ends _ _ _ _ _ c.if-meta-ne0.false c.loop-r.invariant c.loop-r-test.false
+pub returns : goal.returns
+returns c = walk_ends _ _ _ _ _ c.if-meta-ne0.false c.loop-r.invariant c.loop-r-test.false

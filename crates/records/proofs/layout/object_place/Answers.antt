@@ -1,5 +1,4 @@
 -- `records::layout::object_place` meets its contract. Assumes nothing.
-use borrow.Author.Rules.{rules}
 use Rattle.records.proofs.layout.object_place.Goals as goal
 
 pub returns : goal.returns

@@ -1,15 +1,11 @@
 -- `records::layout::update_end` meets its contract. Assumes nothing.
-use Prim.Native.Nat.{◌-◌, ◌/◌, ◌≤◌}
 use mathlib.Core.Path.{◌≡◌, refl, sym, ap, ◌∙◌}
 use mathlib.Core.Bool.{true, false}
 use native.Mathlib.Omega.{arith}
-use lib.ListN.{length}
 use borrow.Author.Rules.{rules}
-use borrow.Author.Tests.{not-true, not-false}
 use Rattle.records.specs.LayoutAnswers.{end_if}
 use Rattle.fields.specs.declared.update.Header.{Header}
-use Rattle.fields.specs.RecordBytes.{all}
-use Rattle.fields.specs.Update.{objects, elements, is_update}
+use Rattle.fields.specs.Update.{elements, is_update}
 use Rattle.records.specs.Laid.{is_whole_element, is_whole_update, element_at}
 use Rattle.fields.proofs.All.{all_none, all_more}
 use Rattle.records.proofs.Ends.{end_whole, end_at, end_broken}
@@ -20,11 +16,11 @@ use Rattle.records.proofs.layout.update_end.Goals.{Else-not-is_update}
 
 pub returns-then-not-is_update : goal.returns-then-not-is_update
 unfolding is_whole_update end_if
-returns-then-not-is_update c = simp (sym c.is_update.ensures ∙ not-true _ c.if-not-is_update.true)
+returns-then-not-is_update c = simp (sym c.is_update.ensures ∙ c.if-not-is_update.true)
 
 -- an update's record stands at u
 held : (c : Else-not-is_update) → is_update c.args.meta.now c.args.u ≡ true
-held c = sym c.is_update.ensures ∙ not-false _ c.if-not-is_update.false
+held c = sym c.is_update.ensures ∙ c.if-not-is_update.false
 
 pub loop-e-init : goal.loop-e-init
 unfolding element_at
@@ -42,23 +38,22 @@ pub returns-in_default : goal.returns-in_default
 unfolding end_if
 returns-in_default c =
     let a = c.args in
-    let b : is_whole_element a.meta.now c.header_at-h.result.objects c.loop-e.r ≡ false = end_broken _ _ (sym c.element_end-end.ensures ∙ c.enum_told.given.1) in
+    let b : is_whole_element a.meta.now c.header_at-h.result.objects c.loop-e.r ≡ false = end_broken _ _ (sym c.element_end-end.ensures ∙ c.in_default.is) in
     simp (broken_element a.meta.now a.u c.loop-e.e (held (goal.at.returns-in_default c).Else-not-is_update) (omega arith) (rw (c.loop-e.invariant.1, c.loop-e.invariant.3) at b))
 
 pub loop-e-preserved : goal.loop-e-preserved
 loop-e-preserved c =
-    let g = c.end.given in
     let i = c.loop-e.invariant in
-    let q = sym c.element_end-end.ensures ∙ g.1 in
+    let q = sym c.element_end-end.ensures ∙ c.in-At.is in
     let m = c.args.meta.now in
     let w : is_whole_element m c.header_at-h.result.objects c.loop-e.r ≡ true = end_whole _ _ _ q in
     let end = end_at _ _ _ q in
     let in_List = element_within m c.requires.0 c.header_at-h.result.objects c.loop-e.r w in
     (search rules, i.1, i.2, sym end ∙ next_element _ _ _ _ _ i.1 i.3, all_more _ _ i.4 (rw (i.1, i.3) at w), rw end at in_List)
 
-pub returns-then-not-is_update : goal.returns
+pub returns : goal.returns
 unfolding end_if
-returns-then-not-is_update c =
+returns c =
     let i = c.loop-e.invariant in
     let a = c.args in
     let q : c.loop-e.e ≡ elements a.meta.now a.u = omega arith in

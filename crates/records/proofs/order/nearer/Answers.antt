@@ -1,6 +1,5 @@
 -- `records::order::nearer` meets its contract. Assumes nothing.
 use mathlib.Core.Path.{sym, ◌∙◌}
-use borrow.Author.Rules.{rules}
 use borrow.Author.Tests.{ltb-true, ltb-false}
 use Rattle.records.proofs.Times.{not_above, not_nearer, is_nearer}
 use Rattle.records.proofs.order.nearer.Goals as goal

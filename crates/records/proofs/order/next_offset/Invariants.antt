@@ -1,13 +1,9 @@
 -- `records::order::next_offset` meets its contract. Assumes nothing.
-use Prim.Native.Nat.{ℕ, ◌≤◌, ◌-◌}
-use mathlib.Core.Path.{◌≡◌, refl, ap, ◌∙◌}
-use native.Mathlib.Omega.{arith}
+use Prim.Native.Nat.{◌≤◌, ◌-◌}
+use mathlib.Core.Path.{◌≡◌}
 use lib.ListN.{get_or}
-use borrow.Author.Rules.{rules}
 use Rattle.clock.specs.Start.{frame_start}
-use Rattle.records.specs.UpdateWalk.{nearer, next_offset}
-use Rattle.records.specs.LayoutAnswers.{offset_at}
-use Rattle.records.proofs.Times.{next_more}
+use Rattle.records.specs.UpdateWalk.{next_offset}
 use Rattle.records.proofs.order.next_offset.Given as goal
 
 abbrev pub invariant-loop-i : goal.invariant-loop-i

@@ -1,11 +1,8 @@
 -- `records::order::sent_at` meets its contract. Assumes nothing.
-use Prim.Native.Nat.{ℕ, ◌≤◌, ◌<◌, ◌-◌}
-use mathlib.Core.Path.{◌≡◌, sym, ◌∙◌}
+use mathlib.Core.Path.{sym, ◌∙◌}
 use native.Mathlib.Omega.{arith}
-use lib.ListN.{get_or}
 use borrow.Author.Rules.{rules}
 use borrow.Author.Tests.{eqb-true, eqb-false}
-use Rattle.clock.specs.Start.{frame_start}
 use Rattle.records.specs.LayoutAnswers.{offset_at}
 use Rattle.records.proofs.Times.{none_more}
 use Rattle.records.proofs.order.sent_at.Goals as goal
@@ -27,5 +24,5 @@ loop-i-preserved c =
     let a = c.args in
     (search rules, search rules, none_more (offset_at a.l) a.from c.loop-i.i a.t.0 c.loop-i.invariant.2 (eqb-false _ _ (sym c.is.ensures ∙ c.if-is.false)))
 
-pub returns-then-is : goal.returns
-returns-then-is c = record { after = search rules; within = search rules; here = λ h. absurd (omega arith); none = λ k a b. c.loop-i.invariant.2 k a (omega arith) }
+pub returns : goal.returns
+returns c = record { after = search rules; within = search rules; here = λ h. absurd (omega arith); none = λ k a b. c.loop-i.invariant.2 k a (omega arith) }

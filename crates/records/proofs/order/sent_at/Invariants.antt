@@ -1,13 +1,8 @@
 -- `records::order::sent_at` meets its contract. Assumes nothing.
 use Prim.Native.Nat.{ℕ, ◌≤◌, ◌<◌, ◌-◌}
-use mathlib.Core.Path.{◌≡◌, sym, ◌∙◌}
-use native.Mathlib.Omega.{arith}
+use mathlib.Core.Path.{◌≡◌}
 use lib.ListN.{get_or}
-use borrow.Author.Rules.{rules}
-use borrow.Author.Tests.{eqb-true, eqb-false}
 use Rattle.clock.specs.Start.{frame_start}
-use Rattle.records.specs.LayoutAnswers.{offset_at}
-use Rattle.records.proofs.Times.{none_more}
 use Rattle.records.proofs.order.sent_at.Given as goal
 
 abbrev pub invariant-loop-i : goal.invariant-loop-i

@@ -1,14 +1,10 @@
 -- `records::ranges::in_range` meets its contract. Assumes nothing.
 use Prim.Native.Nat.{◌-◌, ◌/◌, ◌≤◌}
-use mathlib.Core.Path.{◌≡◌, sym, ◌∙◌}
+use mathlib.Core.Path.{◌≡◌}
 use mathlib.Core.Bool.{true}
-use native.Mathlib.Omega.{arith}
 use lib.ListN.{length}
-use borrow.Author.Rules.{rules}
-use borrow.Author.Tests.{not-true, not-false}
 use Rattle.fields.specs.RecordBytes.{all}
-use Rattle.records.specs.ValuesInRange.{record_in_range, in_range}
-use Rattle.fields.proofs.All.{all_none, all_more, all_fails, all_passed}
+use Rattle.records.specs.ValuesInRange.{record_in_range}
 use Rattle.records.proofs.ranges.in_range.Given as goal
 
 abbrev pub invariant-loop-r : goal.invariant-loop-r

@@ -1,17 +1,16 @@
 -- `records::ranges::record_in_range`: by the kind. Assumes nothing.
 use borrow.Author.Tests.{eq-eqb, ne_eqb}
 use Rattle.records.specs.ValuesInRange.{record_in_range}
-use borrow.Author.Rules.{rules}
 use Rattle.records.proofs.ranges.record_in_range.Goals as goal
 
 pub returns-then-kind-eq3 : goal.returns-then-kind-eq3
 unfolding record_in_range
-returns-then-kind-eq3 c = simp (eq-eqb _ _ c.if-kind-eq3.taken) c.block_in_range.ensures
+returns-then-kind-eq3 c = simp (eq-eqb _ _ c.if-kind-eq3.true) c.block_in_range.ensures
 
 pub returns-then-kind-eq4 : goal.returns-then-kind-eq4
 unfolding record_in_range
-returns-then-kind-eq4 c = simp (ne_eqb _ _ c.if-kind-eq3.left, eq-eqb _ _ c.if-kind-eq4.taken) c.object_in_range.ensures
+returns-then-kind-eq4 c = simp (ne_eqb _ _ c.if-kind-eq3.false, eq-eqb _ _ c.if-kind-eq4.true) c.object_in_range.ensures
 
-pub returns-then-kind-eq3 : goal.returns
+pub returns : goal.returns
 unfolding record_in_range
-returns-then-kind-eq3 c = simp (ne_eqb _ _ c.if-kind-eq3.left, ne_eqb _ _ c.if-kind-eq4.left)
+returns c = simp (ne_eqb _ _ c.if-kind-eq3.false, ne_eqb _ _ c.if-kind-eq4.false)

@@ -17,7 +17,7 @@ returns-then-code-eq6 c =
     let s = c.args in
     bed_unsupported s.beds.now s.codes.now s.code (λ e. c.if-count_matching-eq0.false (c.count_matching.ensures ∙ e)) c.if-code-eq6.true
 
-pub returns-then-count_matching-eq0 : goal.returns
-returns-then-count_matching-eq0 c =
+pub returns : goal.returns
+returns c =
     let s = c.args in
     bed_clear s.beds.now s.codes.now s.code (λ e. c.if-count_matching-eq0.false (c.count_matching.ensures ∙ e)) c.if-code-eq6.false

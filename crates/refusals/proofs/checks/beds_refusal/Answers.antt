@@ -31,7 +31,7 @@ each_refusal-requires c =
     let e = length-take-le c.args.p.beds c.args.p.codes (few (goal.at.each_refusal-requires c).Start) in
     (omega arith, c.requires.1)
 
-pub returns-then-not-p : goal.returns
-returns-then-not-p c =
+pub returns : goal.returns
+returns c =
     let t = take_each c.args.p.codes c.args.p.beds (few (goal.at.returns c).Start) in
     rw (not-false c.args.p.started c.if-not-p.false, ← t) c.each_refusal.ensures

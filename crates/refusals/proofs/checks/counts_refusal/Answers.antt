@@ -44,8 +44,8 @@ loop-i-preserved c =
           (passed c.is_clear.ensures c.if-not-is_clear.false),
     )
 
-pub returns-then-not-is_clear : goal.returns
-returns-then-not-is_clear c =
+pub returns : goal.returns
+returns c =
     counts_end c.args.meta.now c.args.objects c.args.t.0 c.loop-i.i (omega (arith, c.loop-i-test, c.requires.0.counted)) c.loop-i.invariant.1
 
 pub offset_bounds-offset-i : goal.offset_bounds-offset-i

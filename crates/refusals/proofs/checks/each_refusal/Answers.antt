@@ -32,8 +32,8 @@ loop-i-preserved c =
           (sym c.is_clear.ensures ∙ not-false _ c.if-not-is_clear.false),
     )
 
-pub returns-then-not-is_clear : goal.returns
-returns-then-not-is_clear c =
+pub returns : goal.returns
+returns c =
     let s = c.args in
     let l = c.loop-i in
     sym (beds_end s.beds.now s.codes.now l.i (omega arith)) ∙ l.invariant.1

@@ -19,8 +19,8 @@ overflow-cast-match-refusal c =
     let d = c.dynamic.ensures in
     omega (arith, ap (λ (x : Header). x.objects) h)
 
-pub returns-then-not-taken : goal.returns
-returns-then-not-taken c =
+pub returns : goal.returns
+returns c =
     let s = c.args in
     let h = c.header_at-h.ensures in
     rw (not-false s.taken c.if-not-taken.false)

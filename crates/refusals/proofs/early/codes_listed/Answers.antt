@@ -23,8 +23,8 @@ loop-i-preserved c =
     let l = c.loop-i in
     (omega arith, l.invariant.1 ∙ every_goes_on (λ c. leb c 17) c.args.codes.now l.i c.loop-i-test.true (le-leb _ _ c.if-codes-i-gt17.false))
 
-pub returns-then-codes-i-gt17 : goal.returns
-returns-then-codes-i-gt17 c =
+pub returns : goal.returns
+returns c =
     let l = c.loop-i in
     let s = c.args.codes.now in
     sym (l.invariant.1 ∙ ap (every (λ c. leb c 17)) (drop_of_length-le s (let h : length s ≤ l.i = omega arith in h)))

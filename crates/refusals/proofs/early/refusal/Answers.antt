@@ -71,8 +71,8 @@ returns-then-not-samples_pass c out q r p =
     let h = held_6 (goal.at.returns-then-not-samples_pass c).Else-not-in_range out q in
     refuses c.args.position.0 r p (given (goal.at.returns-then-not-samples_pass c).Start out) 6 h (pcm_samples (given (goal.at.returns-then-not-samples_pass c).Start out) h.1.0 ∙ failed c.samples_pass.ensures c.if-not-samples_pass.true)
 
-pub returns-then-not-room : goal.returns
-returns-then-not-room c out q r p =
+pub returns : goal.returns
+returns c out q r p =
     let h = held_6 (goal.at.returns c).Else-not-in_range out q in
     let last = pcm_samples (given (goal.at.returns c).Start out) h.1.0 ∙ passed c.samples_pass.ensures c.if-not-samples_pass.false in
     refuses_none c.args.position.0 r p (given (goal.at.returns c).Start out) (more (testsOf (goal.at.returns c).Start out) 6 h last)

@@ -37,6 +37,6 @@ pub returns-then-samples-eq0 : goal.returns-then-samples-eq0
 returns-then-samples-eq0 c =
     simp (counts (goal.at.returns-then-samples-eq0 c).Else-not-codes_listed, eq-eqb _ _ (c.if-pcm-pcm_bytes.false ∙ c.pcm_bytes.ensures), eq-eqb _ _ c.if-samples-eq0.true)
 
-pub returns-then-samples-stride : goal.returns
-returns-then-samples-stride c =
+pub returns : goal.returns
+returns c =
     simp (counts (goal.at.returns c).Else-not-codes_listed, eq-eqb _ _ (c.if-pcm-pcm_bytes.false ∙ c.pcm_bytes.ensures), ne_eqb _ _ c.if-samples-eq0.false)

@@ -89,8 +89,8 @@ returns-then-not-is_clear-3 c =
 pub walk_refusal-requires : goal.walk_refusal-requires
 walk_refusal-requires c = let beds = ap (λ (p : Present). p.beds) c.present_of-start.ensures in search rules
 
-pub returns-then-not-is_clear : goal.returns
-returns-then-not-is_clear c =
+pub returns : goal.returns
+returns c =
     let x = at-3 (goal.at.returns c).Else-samples-eq0 in
     c.walk_refusal.ensures ∙ ap (walked x) (ap present_shape c.present_of-start.ensures)
     ∙ chain_passes c.objects_refusal-present.result (present x) _ _ (objects_are (goal.at.returns c).After-objects_refusal-present) (some (goal.at.returns c).Else-samples-eq0) (passed c.is_clear-3.ensures c.if-not-is_clear-3.false)

@@ -17,8 +17,8 @@ returns-then-not-started-updates c =
     let some : Bool = s.started || not (eqb s.updates 0) in
     rw (not-false same c.if-not-rate_before-rate.false, not-true some c.if-not-started-updates.true)
 
-pub returns-then-not-rate_before-rate : goal.returns
-returns-then-not-rate_before-rate c =
+pub returns : goal.returns
+returns c =
     let s = c.args in
     let same : Bool = eqb s.rate-before 0 || eqb s.rate-before s.rate in
     let some : Bool = s.started || not (eqb s.updates 0) in

@@ -98,8 +98,8 @@ loop-l-preserved c =
           ∙ chain_passes c.beds_refusal-beds.result (mixed w s) (from w (suc (t (goal.at.loop-l-preserved c).In-loop-l)) s) (whole (goal.at.loop-l-preserved c).Start) c.beds_refusal-beds.ensures (no_counts_now (goal.at.loop-l-preserved c).After-present_after-present) none),
     )
 
-pub returns-then-not-is_clear : goal.returns
-returns-then-not-is_clear c =
+pub returns : goal.returns
+returns c =
     let l = c.loop-l in
     sym (walk_ends (walking (goal.at.returns c).Start) l.t.0 (present_shape l.present) (ltb-false _ _ (sym c.is_before.ensures ∙ c.loop-l-test.false))) ∙ l.invariant.2
 

@@ -19,8 +19,8 @@ overflow-cast-t10 c =
     let d = c.dynamic.ensures in
     omega (arith, ap (λ (x : Header). x.objects) c.header_at-h.ensures)
 
-pub returns-then-not-taken : goal.returns
-returns-then-not-taken c =
+pub returns : goal.returns
+returns c =
     let h = c.header_at-h.ensures in
     let few : beds c.args.meta.now c.args.u ≤ 18 = c.requires.0.few_beds in
     let n : c.header_at-h.result.beds ≤ 18 = omega (arith, ap (λ (x : Header). x.beds) h) in (
