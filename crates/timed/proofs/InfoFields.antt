@@ -1,21 +1,19 @@
 -- What the code reads of an info's bytes is what the info's format reads. Assumes nothing.
-use mathlib.Core.Path.{◌≡◌, sym, ap, ◌∙◌}
-use mathlib.Core.Bool.{Bool, cond}
+use mathlib.Core.Path.{◌≡◌, sym, ap}
+use mathlib.Core.Bool.{cond}
 use mathlib.Core.List.{List}
 use Prim.Native.Nat.{ℕ, ◌+◌, ◌*◌, ◌<◌}
 use native.Mathlib.Omega.{arith}
 use lib.Dec.{lit<}
 use lib.Ieee.{Float, binary32, of_bits}
 use lib.ListN.{get_or}
-use Rattle.words.specs.Words.{word, words_at, float_at}
+use Rattle.words.specs.Words.{words_at, float_at}
 use Rattle.formats.specs.Info.{info_format, gain_in, size_in, distance_in, screen_in, position_in, last_in, send_in}
 use Rattle.formats.proofs.Theorems.{word_of_run}
-use Rattle.vectors.specs.declared.Vec3.{Vec3}
-use Rattle.vectors.specs.declared.Maybe.{Maybe}
 use Rattle.vectors.specs.declared.Maybe.TheVariants.{Absent, Value}
-use Rattle.vectors.specs.Head.{head_in, anchor_of, has}
+use Rattle.vectors.specs.Head.{head_in, anchor_of}
 use Rattle.vectors.proofs.Theorems.{IsBit, flag_of_word}
-use Rattle.timed.specs.InfoSizes.{gain_byte, size_byte, distance_byte, screen_byte, position_byte, last_byte, send_byte, info_at}
+use Rattle.timed.specs.InfoSizes.{gain_byte, size_byte, distance_byte, screen_byte, position_byte, last_byte, info_at}
 use Rattle.timed.specs.Infos.{depth_of, info_of, present_with, gain_said, size_said, position_said, head_at, maybe_at, vec_at, gain_at, size_at, send_at, block_position}
 
 module _ (is : List ℕ) (k : ℕ) where

@@ -3,13 +3,13 @@ use Prim.Native.Nat.{ℕ, ◌+◌, ◌-◌, ◌*◌, ◌≤◌, ◌<◌}
 use mathlib.Core.Path.{◌≡◌, sym, ◌∙◌, subst}
 use mathlib.Core.Bool.{Bool, true, false, cond}
 use mathlib.Core.List.{List}
-use lib.Dec.{T, ltb, leb}
+use lib.Dec.{T, ltb}
 use lib.ListN.{get_or}
 use native.Mathlib.Omega.{arith}
 use borrow.Author.Tests.{ltb-true, leb-false}
 use Rattle.timed.proofs.Shifted.{due_shifted_is, left_shifted_is, over_shifted, less_shifted}
 use Rattle.timed.proofs.Invariants.{times_in, cond_keeps, set_each}
-use Rattle.timed.specs.Rules.{middle, no_block, due, left_after, remaining_of, ramp_over}
+use Rattle.timed.specs.Rules.{middle, no_block, due, remaining_of, ramp_over}
 use Rattle.timed.specs.Preconditions.{Ramps, InRange}
 use Rattle.timed.specs.Slot.{SlotWork, block_applied, block_turn, blocks_applied, ramp_applied, updated_sources}
 use Rattle.timed.specs.declared.state.BlockState.{BlockState}

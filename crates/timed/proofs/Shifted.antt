@@ -1,19 +1,19 @@
 -- The rules over signed numbers are those over the numbers as they are kept, for every state. Assumes nothing.
 use Prim.Native.Nat.{ℕ, ◌+◌, ◌-◌, ◌≤◌}
-use mathlib.Core.Path.{◌≡◌, refl, sym, ap, ◌∙◌, subst}
+use mathlib.Core.Path.{◌≡◌, refl, ap, ◌∙◌}
 use mathlib.Core.Bool.{Bool, true, false, not, cond, ◌&&◌, ◌||◌}
 use native.Mathlib.Omega.{arith}
 use lib.Dec.{T, eqb, leb, ltb}
 use lib.IntN.{ℤ, pos, negsuc, ◌+ℤ◌, ◌-ℤ◌}
 use lib.Signed.{lt_z, le_z}
 use lib.ListN.{get_or}
-use borrow.Author.Tests.{ltb-true, ltb-false, lt-ltb, le-ltb, le-leb, lt-leb, leb-true}
+use borrow.Author.Tests.{ltb-true, ltb-false, le-leb, lt-leb, leb-true}
 use Rattle.timed.specs.Rules.{middle, no_block, offset_of, ramp_of, remaining_of, kept_as, timecode, due, left_after, ramp_over, slot_less, first_offset, active, begins}
 use Rattle.timed.specs.Shifted.{due_shifted, left_shifted, active_shifted, begins_shifted}
 use Rattle.timed.specs.declared.state.BlockState.{BlockState}
 use Rattle.timed.specs.declared.state.ElementRendererState.{ElementRendererState}
 use Rattle.timed.specs.declared.slot.Timing.{Timing}
-use Rattle.timed.proofs.Differences.{Is, ltb_same, leb_same, is_pos, is_less, is_plus, is_minus, is_natural, is_lt, is_le, is_one}
+use Rattle.timed.proofs.Differences.{Is, leb_same, is_pos, is_less, is_plus, is_minus, is_natural, is_lt, is_le, is_one}
 
 -- ---- a remaining ramp
 

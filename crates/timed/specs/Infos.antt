@@ -1,6 +1,6 @@
 -- The object infos: what an object in a block says, by the format of formats/specs/Info; then the same from the bytes in which they stay, as the code reads them, which a reader
 -- may skip. proofs/InfoFields: both are the same. Assumes nothing.
-use Rattle.std.specs.Prelude.{ℕ, ◌+◌, Bool, cond, List, eqb, Float}
+use Rattle.std.specs.Prelude.{ℕ, ◌+◌, cond, List, eqb, Float}
 use Rattle.words.specs.Words.{word, words_at, float_at, with_float}
 use Rattle.formats.specs.Info.{ObjectInfo, info_format}
 use Rattle.roots.specs.declared.Depth.{Depth}

@@ -5,7 +5,6 @@ pub use Rattle.timed.specs.Rules.{middle, no_block}
 pub use Rattle.timed.specs.Preconditions.{InRange}
 use Rattle.timed.specs.Rules.{remaining_of, kept_as, due, left_after, ramp_over, share, slot_less}
 use Rattle.timed.specs.Objects.{moved_all, bed_gains, ramped_all}
-use Rattle.timed.specs.declared.state.BlockState.{BlockState}
 use Rattle.timed.specs.declared.state.Track.{Track}
 use Rattle.timed.specs.declared.state.DynamicSourceState.{DynamicSourceState}
 use Rattle.timed.specs.declared.state.ElementRendererState.{ElementRendererState}

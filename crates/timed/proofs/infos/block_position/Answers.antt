@@ -1,5 +1,4 @@
 -- `timed::infos::block_position`: the words of the info in order. Assumes nothing.
-use borrow.Author.Rules.{rules}
 use Rattle.timed.specs.Infos.{block_position}
 use Rattle.timed.proofs.infos.block_position.Goals as goal
 

@@ -1,5 +1,4 @@
 -- `timed::infos::put_vec`: the three words in order. Assumes nothing.
-use borrow.Author.Rules.{rules}
 use Rattle.timed.specs.Infos.{with_vec}
 use Rattle.timed.proofs.infos.put_vec.Goals as goal
 

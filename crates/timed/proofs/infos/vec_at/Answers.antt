@@ -1,5 +1,4 @@
 -- `timed::infos::vec_at`: the three words in order. Assumes nothing.
-use borrow.Author.Rules.{rules}
 use Rattle.timed.specs.Infos.{vec_at}
 use Rattle.timed.proofs.infos.vec_at.Goals as goal
 

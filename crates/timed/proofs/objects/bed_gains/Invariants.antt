@@ -1,9 +1,7 @@
 -- `timed::objects::bed_gains`: the turns left lead from the gains now to those at the end. Assumes nothing.
 use Prim.Native.Nat.{◌≤◌, ◌-◌}
-use native.Mathlib.Omega.{arith}
-use borrow.Author.Rules.{rules}
-use Rattle.timed.proofs.LoopTurns.{Leads, leads, leads_on, leads_to}
-use Rattle.timed.specs.Objects.{bed_at, bed_gains}
+use Rattle.timed.proofs.LoopTurns.{Leads}
+use Rattle.timed.specs.Objects.{bed_at}
 use Rattle.timed.proofs.objects.bed_gains.Given as goal
 
 abbrev pub invariant-loop-i : goal.invariant-loop-i

@@ -1,5 +1,4 @@
 -- `timed::objects::ramp_one`: by the object's flag, its flag before, and whether it has a place. Assumes nothing.
-use borrow.Author.Rules.{rules}
 use Rattle.timed.specs.Objects.{ramped}
 use Rattle.timed.proofs.objects.ramp_one.Goals as goal
 
@@ -15,6 +14,6 @@ pub returns-else-last : goal.returns-else-last
 unfolding ramped
 returns-else-last c = rw (c.if-track.true, c.if-last.false)
 
-pub returns-then-source : goal.returns
+pub returns : goal.returns
 unfolding ramped
-returns-then-source c = rw c.if-track.false
+returns c = rw c.if-track.false

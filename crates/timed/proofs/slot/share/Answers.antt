@@ -1,6 +1,5 @@
 -- `timed::slot::share`: the remaining ramp is a number that an f32 holds. Assumes nothing.
 use native.Mathlib.Omega.{arith}
-use borrow.Author.Rules.{rules}
 use Rattle.ieee.proofs.Constants.{in_float_is}
 use Rattle.timed.specs.Rules.{share}
 use Rattle.timed.proofs.Shifted.{remaining_shifted}

@@ -1,12 +1,9 @@
 -- `timed::objects::Moving::apply_block`: the turns left lead from objects and infos now to those at the end. Assumes nothing.
-use Prim.Native.Nat.{◌≤◌, ◌-◌}
 use mathlib.Core.Path.{◌≡◌, ap}
 use native.Mathlib.Omega.{arith}
-use lib.ListN.{length}
 use borrow.Author.Rules.{rules}
-use Rattle.timed.specs.InfoSizes.{all_bytes}
-use Rattle.timed.proofs.LoopTurns.{Leads, leads, leads_on, leads_to}
-use Rattle.timed.specs.Objects.{moved_at, moved_all, ObjectsWork}
+use Rattle.timed.proofs.LoopTurns.{leads, leads_on, leads_to}
+use Rattle.timed.specs.Objects.{moved_all, ObjectsWork}
 use Rattle.timed.proofs.objects.Moving.apply_block.Goals as goal
 
 pub loop-d-init : goal.loop-d-init

@@ -1,9 +1,8 @@
 -- `timed::objects::Moving::ramp`: the turns left lead from the objects now to those at the end. Assumes nothing.
-use Prim.Native.Nat.{◌≤◌, ◌-◌}
 use native.Mathlib.Omega.{arith}
 use borrow.Author.Rules.{rules}
-use Rattle.timed.proofs.LoopTurns.{Leads, leads, leads_on, leads_to}
-use Rattle.timed.specs.Objects.{ramped_at, ramped_all}
+use Rattle.timed.proofs.LoopTurns.{leads, leads_on, leads_to}
+use Rattle.timed.specs.Objects.{ramped_all}
 use Rattle.timed.proofs.objects.Moving.ramp.Goals as goal
 
 pub loop-d-init : goal.loop-d-init

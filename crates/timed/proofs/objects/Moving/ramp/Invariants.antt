@@ -1,9 +1,7 @@
 -- `timed::objects::Moving::ramp`: the turns left lead from the objects now to those at the end. Assumes nothing.
 use Prim.Native.Nat.{◌≤◌, ◌-◌}
-use native.Mathlib.Omega.{arith}
-use borrow.Author.Rules.{rules}
-use Rattle.timed.proofs.LoopTurns.{Leads, leads, leads_on, leads_to}
-use Rattle.timed.specs.Objects.{ramped_at, ramped_all}
+use Rattle.timed.proofs.LoopTurns.{Leads}
+use Rattle.timed.specs.Objects.{ramped_at}
 use Rattle.timed.proofs.objects.Moving.ramp.Given as goal
 
 abbrev pub invariant-loop-d : goal.invariant-loop-d

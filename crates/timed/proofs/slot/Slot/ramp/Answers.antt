@@ -1,6 +1,5 @@
 -- `timed::slot::Slot::ramp`: by whether a ramp remains. Assumes nothing.
 use borrow.Author.Tests.{le-leb, lt-leb}
-use borrow.Author.Rules.{rules}
 use Rattle.timed.specs.Slot.{ramp_applied}
 use Rattle.timed.proofs.Shifted.{over_shifted, less_shifted}
 use Rattle.timed.proofs.slot.Slot.ramp.Goals as goal
@@ -9,9 +8,9 @@ pub returns-then-remaining-le140737488355328 : goal.returns-then-remaining-le140
 unfolding ramp_applied
 returns-then-remaining-le140737488355328 c = let n = c.args.self.remaining in rw (over_shifted n, le-leb n 140737488355328 c.if-remaining-le140737488355328.true)
 
-pub returns-then-remaining-le140737488355328 : goal.returns
+pub returns : goal.returns
 unfolding ramp_applied
-returns-then-remaining-le140737488355328 c =
+returns c =
     let n = c.args.self.remaining in
     rw (
       over_shifted n,

@@ -1,7 +1,6 @@
 -- `timed::state::ElementRendererState::begins`: an element that does nothing does not begin. Assumes nothing.
 use mathlib.Core.Path.{ap₂, ◌∙◌}
 use lib.Dec.{leb}
-use borrow.Author.Rules.{rules}
 use Rattle.timed.proofs.Shifted.{active_shifted_is, begins_shifted_is}
 use Rattle.timed.proofs.state.ElementRendererState.begins.Goals as goal
 
@@ -11,6 +10,6 @@ returns-then-active c =
     c.is_up_to.ensures ∙ ap₂ leb c.plus.ensures c.plus-then-active.ensures
     ∙ rw (begins_shifted_is e c.args.when, ← active_shifted_is e, ← c.active.ensures, c.if-active.true)
 
-pub returns-then-active : goal.returns
-returns-then-active c =
+pub returns : goal.returns
+returns c =
     rw (begins_shifted_is c.args.self c.args.when, ← active_shifted_is c.args.self, ← c.active.ensures, c.if-active.false)

@@ -1,7 +1,5 @@
 -- `timed::state::ElementRendererState::rests`: a ramp remains, or a block is due, or none of those passed is. Assumes nothing.
-use Prim.Native.Nat.{◌≤◌, ◌-◌}
 use mathlib.Core.Path.{◌≡◌, refl, sym, ◌∙◌}
-use mathlib.Core.Bool.{true}
 use native.Mathlib.Omega.{arith}
 use borrow.Author.Rules.{rules}
 use Rattle.timed.specs.Resting.{none_due}
@@ -26,8 +24,8 @@ loop-b-preserved c =
     let l = c.loop-b in
     (search rules, none_more a.when a.self.schedule l.b l.invariant.1 (sym c.due.ensures ∙ c.if-due.false))
 
-pub returns-then-self-gt140737488355328 : goal.returns
-returns-then-self-gt140737488355328 c =
+pub returns : goal.returns
+returns c =
     let a = c.args in
     let l = c.loop-b in
     let e : l.b ≡ a.self.blocks = omega arith in

@@ -1,11 +1,8 @@
 -- `timed::state::ElementRendererState::rests`: a ramp remains, or a block is due, or none of those passed is. Assumes nothing.
 use Prim.Native.Nat.{◌≤◌, ◌-◌}
-use mathlib.Core.Path.{◌≡◌, refl, sym, ◌∙◌}
+use mathlib.Core.Path.{◌≡◌}
 use mathlib.Core.Bool.{true}
-use native.Mathlib.Omega.{arith}
-use borrow.Author.Rules.{rules}
 use Rattle.timed.specs.Resting.{none_due}
-use Rattle.timed.proofs.Resting.{none_more, ramp_left, block_due, all_rests}
 use Rattle.timed.proofs.state.ElementRendererState.rests.Given as goal
 
 abbrev pub invariant-loop-b : goal.invariant-loop-b

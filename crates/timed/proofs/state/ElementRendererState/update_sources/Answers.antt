@@ -1,6 +1,5 @@
 -- `timed::state::ElementRendererState::update_sources`: the blocks keep the remaining ramp within its range. Assumes nothing.
 use native.Mathlib.Omega.{arith}
-use borrow.Author.Rules.{rules}
 use Rattle.timed.specs.Slot.{updated_sources}
 use Rattle.timed.proofs.Ramps.{blocks_ramps}
 use Rattle.timed.proofs.state.ElementRendererState.update_sources.Goals as goal

@@ -1,9 +1,7 @@
 -- `timed::state::MetadataRendererState::element_at`: the search from i on finds what the whole search finds. Assumes nothing.
 use Prim.Native.Nat.{◌≤◌}
-use mathlib.Core.Path.{◌≡◌, refl, sym, ◌∙◌}
-use borrow.Author.Rules.{rules}
+use mathlib.Core.Path.{◌≡◌}
 use Rattle.timed.specs.State.{element_taken}
-use Rattle.timed.proofs.Slots.{taken_more}
 use Rattle.timed.proofs.state.MetadataRendererState.element_at.Given as goal
 
 abbrev pub invariant-loop-i : goal.invariant-loop-i

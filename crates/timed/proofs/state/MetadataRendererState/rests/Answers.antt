@@ -2,14 +2,9 @@
 use Prim.Native.Nat.{◌<◌}
 use mathlib.Core.Path.{sym, ◌∙◌}
 use native.Mathlib.Omega.{arith}
-use borrow.Author.Rules.{rules}
 use Rattle.timed.proofs.Slots.{taken_low}
 use Rattle.timed.proofs.Resting.{rests_empty, rests_idle, rests_element}
 use Rattle.timed.proofs.state.MetadataRendererState.rests.Goals as goal
-use Rattle.timed.proofs.state.MetadataRendererState.rests.Goals.{After-element_at-index}
-
-low : (c : After-element_at-index) → c.element_at-index.result < 2
-low c = rw c.element_at-index.ensures (taken_low _ _ c.args.self.elements (omega (arith, c.requires.1.elements)))
 
 pub returns-then-self-eq0 : goal.returns-then-self-eq0
 returns-then-self-eq0 c = let a = c.args in sym (rests_empty a.start.0 a.self c.if-self-eq0.true)
@@ -17,7 +12,8 @@ returns-then-self-eq0 c = let a = c.args in sym (rests_empty a.start.0 a.self c.
 pub rests-requires : goal.rests-requires
 rests-requires c =
     let p = c.requires in
-    ((p.1.states c.element_at-index.result (low (goal.at.rests-requires c).After-element_at-index)).blocks, record { start = p.0; payload = p.1.payload })
+    let low : c.element_at-index.result < 2 = rw c.element_at-index.ensures (taken_low _ _ c.args.self.elements (omega (arith, p.1.elements))) in
+    ((p.1.states c.element_at-index.result low).blocks, record { start = p.0; payload = p.1.payload })
 
 pub returns-then-active : goal.returns-then-active
 returns-then-active c =
@@ -25,13 +21,15 @@ returns-then-active c =
     c.rests.ensures
     ∙ sym (rests_element a.start.0 a.self c.element_at-index.result c.if-self-eq0.false c.element_at-index.ensures (sym c.active.ensures ∙ c.if-active.true))
 
-pub returns-then-self-eq0 : goal.returns
-returns-then-self-eq0 c =
+pub returns : goal.returns
+returns c =
     let a = c.args in
     sym (rests_idle a.start.0 a.self c.element_at-index.result c.if-self-eq0.false c.element_at-index.ensures (sym c.active.ensures ∙ c.if-active.false))
 
 pub offset_bounds-states-index : goal.offset_bounds-states-index
-offset_bounds-states-index c = let h = low c in omega arith
+offset_bounds-states-index c =
+    let low : c.element_at-index.result < 2 = rw c.element_at-index.ensures (taken_low _ _ c.args.self.elements (omega (arith, c.requires.1.elements))) in
+    omega arith
 
 pub bounds-states-index : goal.bounds-states-index
-bounds-states-index c = low c
+bounds-states-index c = rw c.element_at-index.ensures (taken_low _ _ c.args.self.elements (omega (arith, c.requires.1.elements)))

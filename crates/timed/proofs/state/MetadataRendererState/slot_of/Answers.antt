@@ -20,4 +20,4 @@ returns c =
     let u = c.update_sources-done in
     let n = c.dynamic in
     let s = c.args in
-    slot_left_is s.when s.index s.self s.infos.now n.result u.result u.new.1.0 n.ensures u.ensures
+    slot_left_is s.when s.index s.self s.infos.now n.result u.result u.new.infos n.ensures u.ensures

@@ -2,23 +2,11 @@
 use Prim.Native.Nat.{◌<◌}
 use mathlib.Core.Path.{sym, ◌∙◌}
 use native.Mathlib.Omega.{arith}
-use borrow.Author.Rules.{rules}
-use Rattle.timed.specs.State.{Timed}
 use Rattle.timed.proofs.Slots.{taken_low, slot_empty, slot_idle, slot_moves}
 use Rattle.timed.proofs.state.MetadataRendererState.update_timeslot.Goals as goal
-use Rattle.timed.proofs.state.MetadataRendererState.update_timeslot.Goals.{After-element_at-index, Start}
 
--- ---- the state, and the element that is taken
-
-abbrev state : Start → Timed
-state s = record { state = s.args.self; infos = s.args.infos.now }
-
-low : (c : After-element_at-index) → c.element_at-index.result < 2
-low c = rw c.element_at-index.ensures (taken_low _ _ c.args.self.elements (omega (arith, c.requires.2.elements)))
-
--- ---- the needs
 pub returns-then-self-eq0 : goal.returns-then-self-eq0
-returns-then-self-eq0 c = slot_empty c.args.start.0 (state (goal.at.returns-then-self-eq0 c).Start) c.if-self-eq0.true
+returns-then-self-eq0 c = slot_empty c.args.start.0 (record { state = c.args.self; infos = c.args.infos.now }) c.if-self-eq0.true
 
 pub element_at-index-requires : goal.element_at-index-requires
 element_at-index-requires c =
@@ -28,19 +16,22 @@ element_at-index-requires c =
 pub slot_of-requires : goal.slot_of-requires
 slot_of-requires c =
     let p = c.requires in
-    (omega (arith, p), low (goal.at.slot_of-requires c).After-element_at-index, record { start = p.1; payload = p.2.payload }, p.2)
+    let low : c.element_at-index.result < 2 = rw c.element_at-index.ensures (taken_low _ _ c.args.self.elements (omega (arith, c.requires.2.elements))) in
+    (omega (arith, p), low, record { start = p.1; payload = p.2.payload }, p.2)
 
 pub returns-then-active : goal.returns-then-active
 returns-then-active c =
-    slot_moves c.args.start.0 (state (goal.at.returns-then-active c).Start) c.element_at-index.result c.if-self-eq0.false c.element_at-index.ensures c.slot_of.result c.slot_of.new.1.0
+    slot_moves c.args.start.0 (record { state = c.args.self; infos = c.args.infos.now }) c.element_at-index.result c.if-self-eq0.false c.element_at-index.ensures c.slot_of.result c.slot_of.new.infos
     (sym c.active.ensures ∙ c.if-active.true) c.slot_of.ensures
 
-pub returns-then-self-eq0 : goal.returns
-returns-then-self-eq0 c =
-    slot_idle c.args.start.0 (state (goal.at.returns c).Start) c.element_at-index.result c.if-self-eq0.false c.element_at-index.ensures (sym c.active.ensures ∙ c.if-active.false)
+pub returns : goal.returns
+returns c =
+    slot_idle c.args.start.0 (record { state = c.args.self; infos = c.args.infos.now }) c.element_at-index.result c.if-self-eq0.false c.element_at-index.ensures (sym c.active.ensures ∙ c.if-active.false)
 
 pub offset_bounds-states-index : goal.offset_bounds-states-index
-offset_bounds-states-index c = let h = low c in omega arith
+offset_bounds-states-index c =
+    let low : c.element_at-index.result < 2 = rw c.element_at-index.ensures (taken_low _ _ c.args.self.elements (omega (arith, c.requires.2.elements))) in
+    omega arith
 
 pub bounds-states-index : goal.bounds-states-index
-bounds-states-index c = low c
+bounds-states-index c = rw c.element_at-index.ensures (taken_low _ _ c.args.self.elements (omega (arith, c.requires.2.elements)))
