@@ -1,5 +1,4 @@
 -- `info::clear`: by whether the info is new. Assumes nothing.
-use borrow.Author.Rules.{rules}
 use Rattle.info.specs.Written.{cleared}
 use Rattle.info.proofs.clear.Goals as goal
 

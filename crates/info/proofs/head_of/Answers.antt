@@ -1,5 +1,4 @@
 -- `info::head_of`: by whether the object is a bed or ISF. Assumes nothing.
-use borrow.Author.Rules.{rules}
 use Rattle.info.proofs.head_of.Goals as goal
 
 pub returns-then-bed : goal.returns-then-bed

@@ -1,5 +1,4 @@
 -- `info::put_info`: the four stores in order. Assumes nothing.
-use borrow.Author.Rules.{rules}
 use Rattle.info.specs.Written.{with_info}
 use Rattle.info.proofs.put_info.Goals as goal
 

@@ -1,7 +1,6 @@
 -- `info::put_place`: by the position's flag. Assumes nothing.
 use Prim.Native.Nat.{◌/◌, ◌%◌}
 use borrow.Author.Tests.{eq-eqb, ne_eqb}
-use borrow.Author.Rules.{rules}
 use Rattle.info.specs.Written.{with_place}
 use Rattle.info.proofs.put_place.Goals as goal
 

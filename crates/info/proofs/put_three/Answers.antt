@@ -1,5 +1,4 @@
 -- `info::put_three`: the three words in order. Assumes nothing.
-use borrow.Author.Rules.{rules}
 use Rattle.info.specs.Written.{with_three}
 use Rattle.info.proofs.put_three.Goals as goal
 
