@@ -19,7 +19,7 @@ pub loop-j-preserved : goal.loop-j-preserved
 loop-j-preserved c =
     let a = c.args in
     let p = a.scene in
-    let g = c.well-formed.1.1.1.0.1.1 in
+    let g = c.well_formed.1.1.1.0.1.1 in
     let codes : length p.codes ≡ 18 = sym (length-map p.codes _) ∙ g.0.1.0.1 in
     let gains : length p.gains ≡ 18 = sym (length-map p.gains _) ∙ g.1.0.1.0.1 in (
       search rules,
