@@ -52,8 +52,8 @@ pub returns-in-Clear : goal.returns-in-Clear
 returns-in-Clear c =
     with_appends (args (goal.at.returns-in-Clear c).Start) c.args.state.now (lent (goal.at.returns-in-Clear c).After-shared_slice_known-2-1) (search rules)
 
-pub returns-then-not-is_valid : goal.returns
-returns-then-not-is_valid c =
+pub returns : goal.returns
+returns c =
     let a = c.args in
     let x = c.push_refusal-found.result in
     with_appends (args (goal.at.returns c).Start) a.state.now (lent (goal.at.returns c).After-shared_slice_known-2-1)
