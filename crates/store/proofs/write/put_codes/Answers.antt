@@ -20,7 +20,7 @@ loop-i-preserved c =
     let l = c.loop-i in
     let a = c.args in
     let h : l.i < length a.xs = omega arith in
-    let q = store_turn (u8_to 17) (lawful_u8_to 17 (lit< tt)) 0 a.s.now l.s c.put_u32.new.0 a.at l.i (a.at + 4 * l.i)
+    let q = store_turn (u8_to 17) (lawful_u8_to 17 (lit< tt)) 0 a.s.now l.s c.put_u32.new.s a.at l.i (a.at + 4 * l.i)
     a.xs (get_or a.xs l.i 0 ∷ []) h (omega arith) refl refl l.invariant.2 c.put_u32.ensures in
     (omega arith, q.0, q.1)
 

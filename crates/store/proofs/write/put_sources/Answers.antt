@@ -20,7 +20,7 @@ loop-i-preserved c =
     let l = c.loop-i in
     let a = c.args in
     let h : l.i < length a.xs = omega arith in
-    let q = store_turn source_format lawful_source no_source a.s.now l.s c.put_words.new.0 a.at l.i (a.at + 4 * source_format.width * l.i)
+    let q = store_turn source_format lawful_source no_source a.s.now l.s c.put_words.new.s a.at l.i (a.at + 4 * source_format.width * l.i)
     a.xs c.source_words-w.result h (omega arith) (search rules) c.source_words-w.ensures l.invariant.2 c.put_words.ensures in
     (omega arith, q.0, q.1)
 
