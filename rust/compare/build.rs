@@ -1,4 +1,4 @@
-//! Links the Rattle functions that crates/probes exports; those of crates/hall come with
+//! Links the Rattle functions that crates/probes exports; those of crates/hall_c come with
 //! `voqlisna-sys`. Where VOQLISNA_BASE_LIB names another `libhall.a`, it is linked beside, as a
 //! copy whose entries are called `base_hall_push` and so on, and the cfg `base` is set.
 
@@ -22,7 +22,7 @@ fn main() {
     println!("cargo::rerun-if-changed={}", library.display());
     if !library.exists() {
         println!(
-            "cargo::error=target/staticlib/libprobes.a is missing: run `rt staticlib probes` first"
+            "cargo::error=target/staticlib/libprobes.a is missing: run `tools/staticlib probes` first"
         );
         return;
     }

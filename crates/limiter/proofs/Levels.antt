@@ -2,7 +2,6 @@
 -- depend on the order in which its samples are taken. Assumes nothing.
 use mathlib.Core.Path.{◌≡◌, refl, sym, ap, ◌∙◌, subst}
 use mathlib.Core.Bool.{Bool, true, false, not, cond, true≢false}
-use mathlib.Core.List.{[]}
 use Prim.Native.Nat.{ℕ, zero, suc, ◌≤◌, ◌<◌}
 use native.Mathlib.Nat.{le_refl, le_trans, le_of_eq, le_of_lt, lt_irrefl}
 use native.Mathlib.Omega.{arith}
@@ -13,7 +12,6 @@ use Rattle.ieee.specs.Units.{Top, mag}
 use Rattle.ieee.specs.Small.{absolute, larger}
 use Rattle.ieee.proofs.Value.{shape}
 use Rattle.ieee.proofs.Unique.{unique}
-use Rattle.ieee.proofs.Exact.{fine}
 use Rattle.ieee.proofs.Compare.{lt→, nlt→}
 pub use Rattle.limiter.specs.Level.{Level}
 

@@ -15,7 +15,7 @@ use Rattle.vectors.specs.declared.Vec3.{Vec3}
 use Rattle.panning.specs.Choice.{keep, every_of, 1·0}
 use Rattle.panning.specs.Coefficients.{8·0, Each}
 use Rattle.panning.specs.Table.{Table, Position, occupied}
-use Rattle.panning.specs.Terms.{Term, panned, terms, on_channel}
+use Rattle.panning.specs.Terms.{panned, terms, on_channel}
 use Rattle.panning.specs.Speakers.{positions714, hall714, full_range, 12·0, panned714, terms714, pan714}
 use Rattle.panning.specs.Setup.{Setup, table_float, place_in, present, speakers_in, 10·0, 6·0, divisor_in, SpeakerOf, LayoutIs, table_of, built_in, HallFits}
 use Rattle.panning.specs.Setup.{panned_in, terms_in, pan_in}

@@ -119,7 +119,8 @@ bad_samples =
 abbrev pub lowest_first : Row
 lowest_first =
     as_row
-    (short (sent_by 64 7 1 (18 ∷ []) 0 (0x41880000 ∷ []) (spoilt 121 3 (update 0 (0 ∷ []) 0 (element (block_from 0 0 ∷ []) (gain 0x41100000 object ∷ []) ∷ [])) ∷ [])) ⇒ refusal 1 0 0
+    (short (sent_by 64 7 1 (18 ∷ []) 0 (0x41880000 ∷ []) (spoilt 121 3 (update 0 (0 ∷ []) 0 (element (block_from 0 0 ∷ []) (gain 0x41100000 object ∷ []) ∷ [])) ∷ []))
+    ⇒ refusal 1 0 0
     ∷ sent_by 64 7 1 (18 ∷ []) 0 (0x41880000 ∷ []) (spoilt 121 3 (update 0 (0 ∷ []) 0 (element (block_from 0 0 ∷ []) (gain 0x41100000 object ∷ []) ∷ [])) ∷ []) ⇒ refusal 2 0 0
     ∷ sent_by 64 7 1 (0 ∷ []) 0 (0x41880000 ∷ []) (spoilt 121 3 (update 0 (0 ∷ []) 0 (element (block_from 0 0 ∷ []) (gain 0x41100000 object ∷ []) ∷ [])) ∷ []) ⇒ refusal 3 0 0
     ∷ sent 1 (0 ∷ []) 0 (0x41880000 ∷ []) (spoilt 121 3 (update 0 (0 ∷ []) 0 (element (block_from 0 0 ∷ []) (gain 0x41100000 object ∷ []) ∷ [])) ∷ []) ⇒ refusal 5 0 0
@@ -442,7 +443,7 @@ new_slot =
     (0 ∷ 0x3e02b16e ∷ 0 ∷ 0 ∷ 0 ∷ 0 ∷ 0x3d32d332 ∷ 0x3e061e64 ∷ 0x3ddb03d6 ∷ 0x3ea442df ∷ 0 ∷ 0x3e285fb9 ∷ []) ∷ [])
     ∷ [])
 
--- an update in mid_frame changes the beds at once, and starts no slot
+-- an update in mid-frame changes the beds at once, and starts no slot
 abbrev pub mid_frame : Row
 mid_frame =
     as_row
@@ -451,7 +452,7 @@ mid_frame =
     ∷ flush_at 64 ⇒ ready (only 0 0x3eb4fdf4 ∷ only 1 0x3e34fdf4 ∷ only 1 0x3e34fdf4 ∷ [])
     ∷ [])
 
--- samples before the first update are silent; it starts a slot in mid_frame
+-- samples before the first update are silent; it starts a slot in mid-frame
 abbrev pub leading_silence : Row
 leading_silence =
     as_row
@@ -482,7 +483,8 @@ in_order =
 abbrev pub two_elements : Row
 two_elements =
     as_row
-    (of_object (update 0 [] 1 (at_once 0 (at 0x3dcccccd 0x3e4ccccd 0x3dcccccd ∷ []) ∷ element (block_from 0 0 ∷ []) (at 0x3f666666 0x3ecccccd 0x3f4ccccd ∷ []) ∷ []) ∷ []) ⇒ ready []
+    (of_object (update 0 [] 1 (at_once 0 (at 0x3dcccccd 0x3e4ccccd 0x3dcccccd ∷ []) ∷ element (block_from 0 0 ∷ []) (at 0x3f666666 0x3ecccccd 0x3f4ccccd ∷ []) ∷ []) ∷ [])
+    ⇒ ready []
     ∷ flush_at 64 ⇒ ready ((0 ∷ 0 ∷ 0x3e75ce32 ∷ 0 ∷ 0 ∷ 0 ∷ 0x3e79ea5d ∷ 0x3e79ea5d ∷ 0 ∷ 0 ∷ 0 ∷ 0 ∷ []) ∷ [])
     ∷ [])
 

@@ -171,7 +171,7 @@ impl Hall {
 pub fn renderer() -> Result<Renderer, Trouble> {
     Renderer::new().map_err(|e| match e {
         MakeError::Version { expected, found } => Trouble::Wrong(format!(
-            "the library is version {found} and this tool is for {expected}: run rt staticlib hall again"
+            "the library is version {found} and this tool is for {expected}: run tools/staticlib hall again"
         )),
         other => Trouble::Wrong(other.to_string()),
     })

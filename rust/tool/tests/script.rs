@@ -7,11 +7,16 @@ use std::fs;
 use std::os::unix::fs::PermissionsExt;
 use std::process::Command;
 
-/// Proves whatever is asked; with `fail` in the folder, nothing.
+/// Proves and compiles the crate in whose folder it is called, with what it rests on; with `fail` in the project, all but that crate.
 const RT: &str = r#"#!/bin/sh
-echo "rt $*" >>"$CALLS"
-[ "$1" != check ] || { shift; for c; do echo "fn $c::one: proved"; echo "rt: $c proved (2 s)"; done; echo "rt: ok, $# crates proved"; }
-[ "$1" != staticlib ] || { mkdir -p target/staticlib; echo library >target/staticlib/libhall.a; [ ! -e fail ] || { echo "rt: hall NOT PROVED"; exit 1; }; }
+crate=${PWD##*/}
+echo "rt $* in $crate" >>"$CALLS"
+[ "$1" = lib ] || exit 2
+for c in words ieee frame hall "$crate"; do echo "rt: chose --jobs 2 for $c"; echo "fn $c::one: proved"; done
+mkdir -p out
+echo half >"out/lib$crate.a"
+[ ! -e ../../fail ] || { echo "rt: $crate NOT PROVED"; exit 1; }
+echo library >"out/lib$crate.a"
 "#;
 
 /// "Builds" the tool that is under test. `fetch` finds lexopt.
@@ -27,6 +32,7 @@ ieee:
 other: words
 frame: words ieee # behind
 hall: words frame
+hall_c staticlib: hall
 above: hall other
 ";
 
@@ -37,7 +43,9 @@ impl Project {
         let folder = Folder::new(name);
         for inner in [
             "bin",
-            "crates/hall",
+            "crates/hall/src",
+            "crates/hall_c/src",
+            "tools",
             "rust/tool/src",
             "rust/voqlisna",
             "rust/voqlisna-sys",
@@ -48,10 +56,12 @@ impl Project {
             let path = folder.with(file, text.as_bytes());
             fs::set_permissions(path, fs::Permissions::from_mode(0o755)).unwrap();
         }
-        fs::copy(root().join("voqlisna"), folder.file("voqlisna")).unwrap();
+        for script in ["voqlisna", "tools/staticlib"] {
+            fs::copy(root().join(script), folder.file(script)).unwrap();
+        }
         for (file, text) in [
             ("crates.txt", CRATES),
-            ("crates/hall/lib.rt", ""),
+            ("crates/hall/src/lib.rt", ""),
             ("rust/Cargo.toml", ""),
             ("rust/tool/Cargo.toml", ""),
             ("rust/tool/src/help.txt", "the help\n"),
@@ -91,11 +101,12 @@ impl Project {
 }
 
 const FIRST: &str = "\
-voqlisna: the library is proved and compiled first: 4 crates, about 5 minutes on two cores where none is proved yet
-voqlisna: crate 1 of 4: words proved (2 s)
-voqlisna: crate 2 of 4: ieee proved (2 s)
-voqlisna: crate 3 of 4: frame proved (2 s)
-voqlisna: crate 4 of 4: hall is proved and compiled, about 1 minute
+voqlisna: the library is proved and compiled first: 5 crates, about 15 minutes on four cores where none is proved yet
+voqlisna: crate 1 of 5: words
+voqlisna: crate 2 of 5: ieee
+voqlisna: crate 3 of 5: frame
+voqlisna: crate 4 of 5: hall
+voqlisna: crate 5 of 5: hall_c
 voqlisna: building the tool, about 20 seconds
 ";
 
@@ -105,10 +116,7 @@ fn what_is_missing_is_made_once() {
     let (said, calls) = project.with(&["version"]);
     assert_eq!((said.code, said.err.as_str()), (0, FIRST));
     assert!(said.text().starts_with("voqlisna 0."), "{}", said.text());
-    assert_eq!(
-        calls,
-        "rt check words ieee frame\nrt staticlib hall\ncargo fetch\ncargo build\n"
-    );
+    assert_eq!(calls, "rt lib in hall_c\ncargo fetch\ncargo build\n");
     let (again, calls) = project.with(&["version"]);
     assert_eq!(
         (again.out, again.err.as_str(), calls.as_str()),
@@ -129,12 +137,9 @@ fn what_is_older_than_its_sources_is_made_again() {
     project.change("rust/tool/src/help.txt");
     let (_, calls) = project.with(&["version"]);
     assert_eq!(calls, "cargo fetch\ncargo build\n");
-    project.change("crates/hall/lib.rt");
+    project.change("crates/hall/src/lib.rt");
     let (_, calls) = project.with(&["version"]);
-    assert_eq!(
-        calls,
-        "rt check words ieee frame\nrt staticlib hall\ncargo fetch\ncargo build\n"
-    );
+    assert_eq!(calls, "rt lib in hall_c\ncargo fetch\ncargo build\n");
 }
 
 #[test]
@@ -145,7 +150,7 @@ fn a_library_that_is_not_proved_is_none() {
     assert_eq!((said.code, said.text()), (4, ""));
     assert!(
         said.err
-            .contains("rt: hall NOT PROVED\nvoqlisna: hall is not proved (all of it: "),
+            .contains("rt: hall_c NOT PROVED\nvoqlisna: hall is not proved (all of it: "),
         "{}",
         said.err
     );

@@ -176,7 +176,7 @@ impl fmt::Display for MakeError {
             Self::Version { expected, found } => {
                 write!(
                     f,
-                    "the library is version {found} and not {expected}: run rt staticlib hall again"
+                    "the library is version {found} and not {expected}: run tools/staticlib hall again"
                 )
             }
             Self::Length { needed } => write!(f, "a state block has {needed} bytes"),

@@ -8,6 +8,6 @@ pub returns-then-rec-eq7 : goal.returns-then-rec-eq7
 returns-then-rec-eq7 c =
     flushed _ _ _ c.if-rec-eq7.true c.hall_flush-answer.ensures c.tell.ensures
 
-pub returns-then-rec-eq7 : goal.returns
-returns-then-rec-eq7 c =
+pub returns : goal.returns
+returns c =
     renewed _ _ _ (ne_eqb _ _ c.if-rec-eq7.false) c.hall_reset-answer.ensures.0 c.hall_reset-answer.ensures.1 c.tell-2.ensures

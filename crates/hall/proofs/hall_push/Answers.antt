@@ -1,7 +1,6 @@
 -- `hall_push`: each way out by its law.
 use mathlib.Core.Path.{refl, sym, ap, ◌∙◌}
 use native.Mathlib.Omega.{arith}
-use borrow.Author.Tests.{not-true, not-false}
 use Rattle.words.specs.Words.{Bytes}
 use Rattle.rules.specs.Calls.{push}
 use Rattle.refusals.specs.RefusalNumbers.{found_of}
@@ -26,16 +25,15 @@ pub returns-then-not-is_valid : goal.returns-then-not-is_valid
 returns-then-not-is_valid c =
     with_appends (args (goal.at.returns-then-not-is_valid c).Start) c.args.state.now (lent (goal.at.returns-then-not-is_valid c).After-shared_slice_known-2-1)
     (leaves_as (wrong (push (args (goal.at.returns-then-not-is_valid c).Start)) c.args.state.now
-    (sym c.is_valid.ensures ∙ not-true _ c.if-not-is_valid.true))
+    (sym c.is_valid.ensures ∙ c.if-not-is_valid.true))
     (record { answer = c.refusal.ensures; block = refl; output = refl }))
 
 pub load-s-requires : goal.load-s-requires
-load-s-requires c = valid_long c.args.state.now (sym c.is_valid.ensures
-    ∙ not-false _ c.if-not-is_valid.false)
+load-s-requires c = valid_long c.args.state.now (sym c.is_valid.ensures ∙ c.if-not-is_valid.false)
 
 pub push_refusal-found-requires : goal.push_refusal-found-requires
 push_refusal-found-requires c =
-    let valid = sym c.is_valid.ensures ∙ not-false _ c.if-not-is_valid.false in
+    let valid = sym c.is_valid.ensures ∙ c.if-not-is_valid.false in
     let w = (loaded_ranged c.args.state.now c.load-s.result c.load-s.ensures (λ i. omega (arith, c.slice-known.given i)) valid).meta.state.within in
     (w.beds, w.objects, c.layout_of-l.ensures)
 
@@ -43,7 +41,7 @@ pub render-requires : goal.render-requires
 render-requires c =
     let a = c.args in
     record {
-      loaded = record { small = c.load-s.ensures; valid = sym c.is_valid.ensures ∙ not-false _ c.if-not-is_valid.false };
+      loaded = record { small = c.load-s.ensures; valid = sym c.is_valid.ensures ∙ c.if-not-is_valid.false };
       clear = sym (c.push_refusal-found.ensures a.state.now a.out.now c.load-s.ensures refl) ∙ ap found_of c.enum_told.given.1;
       layout = c.layout_of-l.ensures;
     }
@@ -52,11 +50,11 @@ pub returns-in-Clear : goal.returns-in-Clear
 returns-in-Clear c =
     with_appends (args (goal.at.returns-in-Clear c).Start) c.args.state.now (lent (goal.at.returns-in-Clear c).After-shared_slice_known-2-1) (search rules)
 
-pub returns-then-not-is_valid : goal.returns
-returns-then-not-is_valid c =
+pub returns : goal.returns
+returns c =
     let a = c.args in
     let x = c.push_refusal-found.result in
     with_appends (args (goal.at.returns c).Start) a.state.now (lent (goal.at.returns c).After-shared_slice_known-2-1)
     (refused_push (args (goal.at.returns c).Start) a.state.now c.refusal-2.result (found_of x)
-    (sym c.is_valid.ensures ∙ not-false _ c.if-not-is_valid.false) (c.push_refusal-found.ensures a.state.now a.out.now c.load-s.ensures refl)
+    (sym c.is_valid.ensures ∙ c.if-not-is_valid.false) (c.push_refusal-found.ensures a.state.now a.out.now c.load-s.ensures refl)
     (not_clear x c.in_default.keys2) c.refusal-2.ensures)

@@ -14,7 +14,7 @@ returns-then-state-ne-SIZE c =
     let e = sym (wrong reset b (ne_eqb _ _ c.if-state-ne-SIZE.true)) in
     (c.refusal.ensures ∙ ap (λ (o : Outcome). code_of o.answer) e, ap (λ (o : Outcome). o.state) e)
 
-pub returns-then-state-ne-SIZE : goal.returns
-returns-then-state-ne-SIZE c =
+pub returns : goal.returns
+returns c =
     let e = sym (resets c.args.state.now (eq-eqb _ _ c.if-state-ne-SIZE.false)) in
     (c.fresh.ensures ∙ ap (λ (o : Outcome). code_of o.answer) e, c.reset.ensures ∙ ap (λ (o : Outcome). o.state) e)

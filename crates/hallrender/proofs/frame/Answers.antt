@@ -40,7 +40,7 @@ unpack-requires c =
     let size = m + c.record_bytes.result in
     let a = c.args in
     let l : length (take n a.pcm.now) ≡ n = length-take-le n _ (omega arith) in
-    let read = c.read_full.new.1.0 in (
+    let read = c.read_full.new.buf in (
       mid_len m size (read ++ drop size a.body.now) (search rules) ∙ (omega (arith, c.record_bytes.ensures.0)) ∙ ap record_bytes (sym l),
       omega (arith, l),
     )
@@ -48,7 +48,7 @@ unpack-requires c =
 pub returns-then-not-unpack : goal.returns-then-not-unpack
 returns-then-not-unpack c =
     rw c.bad-then-not-unpack.ensures (
-      bad_alone _ _ c.unpack.new.1.0 _ c.unpack.result
+      bad_alone _ _ c.unpack.new.pcm _ c.unpack.result
           (length-take-le _ _ (search rules) ∙ c.pcm_bytes-n.ensures.0) (not-true _ c.if-not-unpack.true) c.unpack.ensures,
       record { block = refl; output = refl },
     )
@@ -63,13 +63,13 @@ pub push-requires : goal.push-requires
 push-requires c =
     (sym c.is_frame.ensures ∙ not-false _ c.if-not-is_frame.false, search rules, search rules)
 
-pub returns-then-not-is_frame : goal.returns
-returns-then-not-is_frame c =
+pub returns : goal.returns
+returns c =
     let m = c.metadata_bytes-m in
     let n = c.pcm_bytes-n in
     let a = c.args in
     let w : length (take n.result a.pcm.now) ≡ n.result = length-take-le _ _ (search rules) in
     let got = not-false _ c.if-not-unpack.false in
-    framed a.rec.now _ c.unpack.new.1.0 _ _ _ _ _ _ m.result n.result c.push.result (m.result + c.record_bytes.result - m.result) _ c.unpack.result
+    framed a.rec.now _ c.unpack.new.pcm _ _ _ _ _ _ m.result n.result c.push.result (m.result + c.record_bytes.result - m.result) _ c.unpack.result
     m.ensures.0 n.ensures.0 (sym c.is_frame.ensures ∙ not-false _ c.if-not-is_frame.false) (omega (arith, c.record_bytes.ensures.0))
     w (c.unpack.auto.1.0 ∙ w) got c.unpack.ensures c.push.ensures

@@ -15,7 +15,7 @@ returns-then-not-is_plain c =
     let e = sym c.is_plain.ensures ∙ not-true _ c.if-not-is_plain.true in
     rw c.bad.ensures (e, λ f z. c.if-rec-eq5.false (frame_kind _ f), record { block = refl; output = refl })
 
-pub returns-then-rec-eq5 : goal.returns
-returns-then-rec-eq5 c =
+pub returns : goal.returns
+returns c =
     let p = sym c.is_plain.ensures ∙ not-false _ c.if-not-is_plain.false in
     plain_handled _ _ _ _ c.plain.result _ _ _ p (ne_eqb _ _ c.if-rec-eq5.false) c.plain.ensures

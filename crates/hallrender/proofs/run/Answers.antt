@@ -36,5 +36,5 @@ loop-turns-preserved c =
     let from = c.loop-turns.invariant.2 in
     (search rules, search rules, goes _ _ _ _ _ _ _ _ c.one-n.result c.if-n-eq0.false (search rules) from c.one-n.ensures)
 
-pub returns-then-n-eq0 : goal.returns
-returns-then-n-eq0 c = c.loop-turns.invariant.2 _ _ (record { inputs = []; block = refl; output = refl })
+pub returns : goal.returns
+returns c = c.loop-turns.invariant.2 _ _ (record { inputs = []; block = refl; output = refl })

@@ -1,13 +1,8 @@
 -- `limiter::block_peak` meets its contract. Assumes nothing.
-use borrow.Author.Rules.{rules}
-use mathlib.Core.Path.{◌≡◌, refl, ◌∙◌}
-use Prim.Native.Nat.{◌+◌, ◌*◌}
+use mathlib.Core.Path.{refl, ◌∙◌}
 use native.Mathlib.Omega.{arith}
 use lib.ListN.{drop}
 use lib.Ieee.{of_bits}
-use Rattle.limiter.specs.Limiter.{0·0, block_peak}
-use Rattle.limiter.specs.ChannelPlaces.{channels}
-use Rattle.limiter.proofs.Levels.{Level}
 use Rattle.limiter.proofs.Peaks.{zero_level}
 use Rattle.limiter.proofs.Blocks.{peak_next, peak_end}
 use Rattle.limiter.proofs.block_peak.Goals as goal

@@ -1,11 +1,6 @@
 -- `limiter::max_abs_from` meets its contract. Assumes nothing.
-use borrow.Author.Rules.{rules}
-use mathlib.Core.Path.{◌≡◌, refl, ◌∙◌}
-use Prim.Native.Nat.{◌-◌, ◌≤◌}
+use mathlib.Core.Path.{refl, ◌∙◌}
 use native.Mathlib.Omega.{arith}
-use lib.ListN.{length, drop}
-use Rattle.limiter.specs.Limiter.{peak_from}
-use Rattle.limiter.proofs.Levels.{Level}
 use Rattle.limiter.proofs.Peaks.{from_next, from_end}
 use Rattle.limiter.proofs.max_abs_from.Goals as goal
 

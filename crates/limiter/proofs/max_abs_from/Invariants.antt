@@ -1,12 +1,9 @@
 -- `limiter::max_abs_from` meets its contract. Assumes nothing.
-use borrow.Author.Rules.{rules}
-use mathlib.Core.Path.{◌≡◌, refl, ◌∙◌}
+use mathlib.Core.Path.{◌≡◌}
 use Prim.Native.Nat.{◌-◌, ◌≤◌}
-use native.Mathlib.Omega.{arith}
 use lib.ListN.{length, drop}
 use Rattle.limiter.specs.Limiter.{peak_from}
 use Rattle.limiter.proofs.Levels.{Level}
-use Rattle.limiter.proofs.Peaks.{from_next, from_end}
 use Rattle.limiter.proofs.max_abs_from.Given as goal
 
 abbrev pub invariant-loop-i : goal.invariant-loop-i

@@ -1,17 +1,11 @@
 -- `limiter::max_abs_slice` meets its contract: the four maxima and what is left have the bounds of the whole. Assumes nothing.
-use borrow.Author.Rules.{rules}
 use mathlib.Core.Path.{◌∙◌}
-use Prim.Native.Nat.{◌-◌, ◌≤◌}
 use native.Mathlib.Omega.{arith}
-use lib.ListN.{drop}
 use lib.Ieee.{of_bits}
 use Rattle.limiter.proofs.Levels.{Raised, raised_by}
-use Rattle.limiter.proofs.Peaks.{Lanes, lanes_start, lanes_again, lanes_rest}
-use Rattle.limiter.proofs.max_abs_slice.Reads as reads
-use Rattle.limiter.proofs.max_abs_slice.Lts as lts
-use Rattle.limiter.proofs.max_abs_from.Reads as max-abs-from-reads
-use Rattle.limiter.proofs.raise.Reads as raise-reads
+use Rattle.limiter.proofs.Peaks.{lanes_start, lanes_again, lanes_rest}
 use Rattle.limiter.proofs.max_abs_slice.Goals as goal
+use Rattle.limiter.proofs.max_abs_slice.Goals.{After-raise, After-raise-2, After-raise-m}
 
 pub loop-i-init : goal.loop-i-init
 unfolding of_bits
@@ -36,31 +30,31 @@ loop-i-preserved c =
     let r2 = c.raise-b in
     let r3 = c.raise-c in (
       omega arith,
-      lanes_again xs c.loop-i.i (omega arith) c.shared-slice-known.given c.loop-i.invariant.1 r1.ensures.0 r2.ensures.0 r3.ensures.0
+      lanes_again xs c.loop-i.i (omega arith) c.shared_slice_known-1.given c.loop-i.invariant.1 r1.ensures.0 r2.ensures.0 r3.ensures.0
           c.raise-d.ensures.0,
     )
 
-pub raise-a-requires : goal.raise-requires
-raise-a-requires c = c.loop-i.invariant.1.a_level
+pub raise-requires : goal.raise-requires
+raise-requires c = c.loop-i.invariant.1.a_level
 
 -- the maxima joined
-first : (c : lts.After-raise5 (raise-reads.Asked, raise-reads.Learnt, max-abs-from-reads.Asked, max-abs-from-reads.Learnt) reads.Pre reads.Post invariant-loop-i decreases-loop-i)
+first : (c : After-raise)
     → Raised c.loop-i.a c.loop-i.b c.raise.result
 first c = let l = c.loop-i.invariant.1 in
     raised_by c.loop-i.a c.loop-i.b c.raise.result l.a_level l.b_level.fit c.raise.ensures.0
 
-second : (c : lts.After-raise6 (raise-reads.Asked, raise-reads.Learnt, max-abs-from-reads.Asked, max-abs-from-reads.Learnt) reads.Pre reads.Post invariant-loop-i decreases-loop-i)
+second : (c : After-raise-2)
     → Raised c.raise.result c.loop-i.c c.raise-2.result
 second c = raised_by c.raise.result c.loop-i.c c.raise-2.result c.raise.ensures.1
     c.loop-i.invariant.1.c_level.fit c.raise-2.ensures.0
 
-third : (c : lts.After-raise7 (raise-reads.Asked, raise-reads.Learnt, max-abs-from-reads.Asked, max-abs-from-reads.Learnt) reads.Pre reads.Post invariant-loop-i decreases-loop-i)
+third : (c : After-raise-m)
     → Raised c.raise-2.result c.loop-i.d c.raise-m.result
 third c = raised_by c.raise-2.result c.loop-i.d c.raise-m.result c.raise-2.ensures.1
     c.loop-i.invariant.1.d_level.fit c.raise-m.ensures.0
 
-pub raise-b-requires : goal.raise-requires-2
-raise-b-requires c = c.raise.ensures.1
+pub raise-requires-2 : goal.raise-requires-2
+raise-requires-2 c = c.raise.ensures.1
 
 pub raise-m-requires : goal.raise-m-requires
 raise-m-requires c = c.raise-2.ensures.1
@@ -71,7 +65,7 @@ max_abs_from-requires c = c.raise-m.ensures.1
 pub returns : goal.returns
 returns c =
     let xs = c.args.samples.now in (
-      c.max_abs_from.ensures.0 ∙ lanes_rest xs c.loop-i.i c.shared-slice-known.given c.loop-i.invariant.1 (first c)
-          (second c) (third c),
+      c.max_abs_from.ensures.0 ∙ lanes_rest xs c.loop-i.i c.shared_slice_known-1.given c.loop-i.invariant.1 (first (goal.at.returns c).After-raise)
+          (second (goal.at.returns c).After-raise-2) (third (goal.at.returns c).After-raise-m),
       c.max_abs_from.ensures.1,
     )

@@ -1,5 +1,4 @@
 -- `limiter::raise` meets its contract. Assumes nothing.
-use borrow.Author.Rules.{rules}
 use mathlib.Core.Path.{sym, subst}
 use lib.Dec.{T}
 use lib.Ieee.{binary32, fits}
@@ -8,7 +7,7 @@ use Rattle.limiter.proofs.raise.Goals as goal
 use Rattle.limiter.proofs.raise.Goals.{Start}
 
 fit : (c : Start) → T (fits binary32 c.args.sample)
-fit c = subst T (sym c.well-formed.1.0.1) tt
+fit c = subst T (sym c.well_formed.1.0.1) tt
 
 pub returns-then-max-size : goal.returns-then-max-size
 returns-then-max-size c =

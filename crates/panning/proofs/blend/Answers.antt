@@ -1,6 +1,5 @@
 -- `panning::blend` meets its contract. Assumes nothing.
 use Rattle.panning.proofs.Answers.{ratio_of}
-use borrow.Author.Rules.{rules}
 use Rattle.panning.proofs.blend.Goals as goal
 
 pub returns : goal.returns

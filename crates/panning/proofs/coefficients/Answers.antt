@@ -3,7 +3,6 @@ use lib.Ieee.{of_bits}
 use Rattle.panning.specs.Speakers.{hall714}
 use Rattle.panning.specs.Terms.{up, ahead, across}
 use Rattle.panning.proofs.Answers.{coefficients_are}
-use borrow.Author.Rules.{rules}
 use Rattle.panning.proofs.coefficients.Goals as goal
 
 pub returns : goal.returns

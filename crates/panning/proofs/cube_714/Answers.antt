@@ -1,5 +1,4 @@
 -- `panning::cube_714` meets its contract. Assumes nothing.
-use borrow.Author.Rules.{rules}
 use lib.Ieee.{of_bits, neg}
 use Rattle.panning.proofs.cube_714.Goals as goal
 

@@ -1,5 +1,4 @@
 -- `panning::extra` meets its contract. Assumes nothing.
-use borrow.Author.Rules.{rules}
 use mathlib.Core.Path.{sym, ap, ◌∙◌}
 use mathlib.Core.Bool.{Bool, cond}
 use lib.Ieee.{of_bits, binary32, mul, div}

@@ -1,5 +1,4 @@
 -- `panning::front_ends` meets its contract. Assumes nothing.
-use borrow.Author.Rules.{rules}
 use lib.Ieee.{of_bits, neg}
 use Rattle.panning.proofs.front_ends.Goals as goal
 

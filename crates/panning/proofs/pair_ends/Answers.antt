@@ -1,5 +1,4 @@
 -- `panning::pair_ends` meets its contract. Assumes nothing.
-use borrow.Author.Rules.{rules}
 use Rattle.panning.proofs.Answers.{ends_of}
 use Rattle.panning.proofs.pair_ends.Goals as goal
 

@@ -18,10 +18,10 @@ returns-then-gain c =
 pub coefficients-coefficients-requires : goal.coefficients-coefficients-requires
 coefficients-coefficients-requires c = let e = c.cube_714-c.ensures in (subst⁻¹ Inside e (inside c.args.place), e)
 
-pub returns-then-gain : goal.returns
+pub returns : goal.returns
 unfolding of_bits
-returns-then-gain c =
-    let w : T (fits binary32 c.args.place.x) = search (rules, c.well-formed.0) in
+returns c =
+    let w : T (fits binary32 c.args.place.x) = search (rules, c.well_formed.0) in
     let cube = c.cube_714-c.ensures in
     record {
       is = pan_some hall714 full_range 12·0 c.args.place c.args.gain c.args.size c.if-gain.false

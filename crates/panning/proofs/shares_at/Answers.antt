@@ -12,7 +12,7 @@ pub returns : goal.returns
 unfolding of_bits
 returns c =
     let p = c.args.place in
-    let q : Position p = record { x = search (rules, c.well-formed); y = search (rules, c.well-formed); z = search (rules, c.well-formed) } in
+    let q : Position p = record { x = search (rules, c.well_formed); y = search (rules, c.well_formed); z = search (rules, c.well_formed) } in
     let h : c.args.c ≡ cube714 p = search rules in
     shares_are c.args.c p q h _
     (ratio_of p.y c.y_of.ensures

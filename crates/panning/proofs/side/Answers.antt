@@ -1,7 +1,6 @@
 -- `panning::side` meets its contract. Assumes nothing.
 use lib.Ieee.{of_bits}
 use Rattle.panning.proofs.Answers.{side_yes, side_no}
-use borrow.Author.Rules.{rules}
 use Rattle.panning.proofs.side.Goals as goal
 
 pub returns-then-w : goal.returns-then-w

@@ -1,5 +1,4 @@
 -- `panning::wide_ends` meets its contract. Assumes nothing.
-use borrow.Author.Rules.{rules}
 use lib.Ieee.{of_bits, neg}
 use Rattle.panning.proofs.wide_ends.Goals as goal
 

@@ -11,9 +11,9 @@ pub fn groups() -> Vec<Group> {
     let parts: [Part; 7] = [
         ("refusals", refusals),
         ("outputs", outputs),
-        ("block-rows", blocks),
-        ("bed-rows", beds),
-        ("object-rows", objects),
+        ("block_rows", blocks),
+        ("bed_rows", beds),
+        ("object_rows", objects),
         ("updates", updates),
         ("slots", slots),
     ];
@@ -94,13 +94,13 @@ fn far() -> Object {
 // ---- rows
 
 fn refusals(rows: &mut Rows) {
-    rows.row("no-room")
+    rows.row("no_room")
         .shows("1: strides 0, 63 and 1,600; an output that is a byte short")
         .pushes([0, 63, 1_600].map(|stride| half().stride(stride)))
         .short(Turn::Push(half()))
         .turn(Turn::Flush(63))
         .short(Turn::Flush(64));
-    rows.row("too-many")
+    rows.row("too_many")
         .shows("2: 65 samples, 19 beds, 17 objects, code 18, PCM a word too long, no channels")
         .push(frame(&[0], &[[0.0; 65]]))
         .push(frame(&[0; 19], &[[0.0]; 19]))
@@ -111,7 +111,7 @@ fn refusals(rows: &mut Rows) {
     rows.row("rates")
         .shows("3: no rate, and the rates beside those that are accepted")
         .pushes([0, 7_999, 192_001].map(|rate| half().rate(rate)));
-    rows.row("end-of-stream")
+    rows.row("end_of_stream")
         .shows("4: the stream's last sample is accepted, one more is not")
         .starts(STREAM_END - 1)
         .push(frame(&[0], &[[0.5, 0.5]]).with(bed(&[0])))
@@ -137,18 +137,18 @@ fn refusals(rows: &mut Rows) {
         .push(with_object(depth(0.75, SILENT)))
         .push(with_object(size(1.0, gain(8.0, SILENT))));
     let sends = [1f32.next_up(), 0f32.next_down(), f32::NAN, -0.0, 1.0];
-    rows.row("send-ranges")
+    rows.row("send_ranges")
         .shows("6: a bed's send above 1, below 0, NaN; -0.0 and 1 pass")
         .pushes(sends.map(|x| with_send(120, x, with_object(SILENT))));
     rows.row("both")
         .shows("5 before 6")
         .push(with_object(gain(9.0, SILENT)).spoilt(121, 3));
-    rows.row("bad-samples")
+    rows.row("bad_samples")
         .shows("8: the f32 above 16, NaN, an infinity; -16 passes")
         .pushes([16f32.next_up(), f32::NAN, -f32::INFINITY, -16.0].map(loud));
     let wrong = with_object(gain(9.0, SILENT)).pcm(&[17.0]);
     let worse = wrong.clone().spoilt(121, 3);
-    rows.row("lowest-first")
+    rows.row("lowest_first")
         .shows("1, 2, 3, 5, 6 and 8 in one call, mended one after another")
         .short(Turn::Push(worse.clone().rate(7).codes(&[18])))
         .push(worse.clone().rate(7).codes(&[18]))
@@ -157,44 +157,44 @@ fn refusals(rows: &mut Rows) {
         .push(wrong)
         .push(loud(17.0))
         .push(half());
-    rows.row("rate-changed")
+    rows.row("rate_changed")
         .shows("9, expected and provided; before 11")
         .push(half())
         .push(of_bed().rate(44_100))
         .push(frame(&[0], &[[0.5]; 2]).rate(96_000));
-    rows.row("no-update")
+    rows.row("no_update")
         .shows("10: document 01's example; before 12")
         .push(frame(&[2], &[[1.0]]))
         .flush()
         .push(of_bed().empty());
     let two = frame(&[0], &[[0.5, 0.5]]).with(bed(&[0]));
     let object = |offset| update(offset, &[], 1, &[]);
-    rows.row("objects-differ")
+    rows.row("objects_differ")
         .shows("11, expected and provided: an update at offset 0, one at 1, the present state")
         .push(of_bed().with(object(0)))
         .push(two.clone().with(object(1)))
         .push(half())
         .push(frame(&[0], &[[0.5]; 2]));
-    rows.row("no-samples")
+    rows.row("no_samples")
         .shows("12: behind 11 for an update at offset 0, before 11 for the present state")
         .push(half().empty())
         .push(of_bed().with(object(0)).empty())
         .push(half())
         .push(frame(&[0], &[[0.5]; 2]).empty());
-    rows.row("no-input")
+    rows.row("no_input")
         .shows("13: two bass beds, one in time, one before 14, one of the present state")
         .push(frame(&[2], &[[0.5]]).with(bed(&[3, 2, 17])))
         .push(two.with(update(1, &[2], 0, &[])))
         .push(of_bed().with(bed(&[6])))
         .push(half())
         .push(frame(&[2], &[[0.5]]));
-    rows.row("rear-centre")
+    rows.row("rear_centre")
         .shows("14: the code 6")
         .push(frame(&[6], &[[0.5]]).with(bed(&[6])));
 }
 
 fn outputs(rows: &mut Rows) {
-    rows.row("flush-waits")
+    rows.row("flush_waits")
         .shows("a flush gives what waits, a second says none")
         .push(half())
         .flush()
@@ -202,7 +202,7 @@ fn outputs(rows: &mut Rows) {
     let [start, again] = [&[at_once(0, &[SILENT, SILENT, near()])], &[][..]]
         .map(|elements| update(0, &[3, 8], 1, elements));
     let three = |x: f32| frame(&[3, 8], &[[x]; 3]);
-    rows.row("after-reset")
+    rows.row("after_reset")
         .shows("after a reset nothing waits, and all is as from the start")
         .push(three(16.0).with(start))
         .flush()
@@ -246,7 +246,7 @@ pub fn order_matters() -> bool {
 }
 
 fn blocks(rows: &mut Rows) {
-    rows.row("loud-block")
+    rows.row("loud_block")
         .shows("a loud block lowers the gain, which grows by length / rate and limits the next")
         .push(loud(-16.0))
         .flush()
@@ -256,7 +256,7 @@ fn blocks(rows: &mut Rows) {
         .flush()
         .push(loud(1.0))
         .flush();
-    rows.row("full-gain")
+    rows.row("full_gain")
         .shows("the gain never passes 1")
         .push(half())
         .flush()
@@ -272,7 +272,7 @@ fn blocks(rows: &mut Rows) {
         .push(left(100, &heard).with(quieter).stride(128))
         .flush()
         .flush();
-    rows.row("second-block")
+    rows.row("second_block")
         .shows("the second whole block is limited by the grown gain, and so is the third")
         .push(left(64, &[(1, 16.0), (63, 8.0)]).with(bed(&[0])))
         .push(left(64, &[(0, 1.0), (63, -16.0)]))
@@ -284,23 +284,23 @@ fn beds(rows: &mut Rows) {
     let turned: Vec<u8> = codes.iter().rev().copied().collect();
     let steps: Vec<[f32; 1]> = (1..=17).map(|k| [k as f32 / 32.0]).collect();
     let folded = [11, 12, 15, 16];
-    rows.row("folded-beds")
+    rows.row("folded_beds")
         .shows("the beds that are panned, one alone after another")
         .push(frame(&folded, &diagonal(4, 0.5)).with(bed(&folded)))
         .flush();
-    rows.row("all-beds")
+    rows.row("all_beds")
         .shows("all beds at once, their inputs in another order")
         .push(frame(&turned, &steps).with(bed(&codes)))
         .flush();
-    rows.row("one-bass")
+    rows.row("one_bass")
         .shows("both bass beds take the one bass input")
         .push(frame(&[17], &[[0.5]]).with(bed(&[3, 17])))
         .flush();
-    rows.row("own-bass")
+    rows.row("own_bass")
         .shows("a bass bed takes the input of its own code where there is one")
         .push(frame(&[3, 17], &[[0.5], [0.25]]).with(bed(&[17])))
         .flush();
-    let row = rows.row("bass-rates");
+    let row = rows.row("bass_rates");
     row.shows("the low-pass at the lowest rate, at the highest and between them");
     for rate in [8_000, 22_051, 44_100, 96_000, 192_000] {
         let bass = frame(&[3], &[[0.5, 0.0, -0.25]]).with(bed(&[3]));
@@ -308,7 +308,7 @@ fn beds(rows: &mut Rows) {
     }
     let two = || frame(&[0, 1], &[[0.5], [0.25]]);
     let quieter = at_once(0, &[gain(0.25, SILENT), SILENT]);
-    rows.row("bed-gains")
+    rows.row("bed_gains_is")
         .shows("a gain stays while the number of beds does, and starts again with another")
         .push(two().with(update(0, &[0, 1], 0, &[quieter])))
         .push(two().with(bed(&[1, 0])))
@@ -334,7 +334,7 @@ fn objects(rows: &mut Rows) {
         .each(&[size(0.25, place), size(1.0, loud), size(0.25, quiet)]);
     let nan = at(f32::NAN, f32::NAN, f32::NAN);
     let infinite = at(f32::INFINITY, 0.5, -f32::INFINITY);
-    rows.row("odd-positions")
+    rows.row("odd_positions")
         .shows("a NaN, infinities, none given, one that is not valid")
         .each(&[nan, infinite, valid(true, SILENT), valid(false, place)]);
     let three = at_once(0, &[SILENT, near(), place]);
@@ -346,23 +346,23 @@ fn objects(rows: &mut Rows) {
 }
 
 fn updates(rows: &mut Rows) {
-    rows.row("offset-0")
+    rows.row("offset_0")
         .shows("a block at offset 0 is not applied at timecode 0, in a second push either")
         .push(with_object(gain(8.0, SILENT)))
         .push(with_object(gain(8.0, SILENT)))
         .flush();
-    rows.row("new-slot")
+    rows.row("new_slot")
         .shows("an update at a second push's offset 0 starts a slot there")
         .push(moved(0, near()))
         .push(moved(0, far()))
         .flush();
     let quieter = |offset, code| update(offset, &[code], 0, &[at_once(0, &[gain(0.25, SILENT)])]);
     let two = frame(&[0, 1], &[[0.5; 3], [0.25; 3]]);
-    rows.row("mid-frame")
+    rows.row("mid_frame")
         .shows("an update in mid-frame changes the beds at once, and starts no slot")
         .push(two.with(bed(&[0])).with(quieter(1, 1)))
         .flush();
-    rows.row("leading-silence")
+    rows.row("leading_silence")
         .shows("samples before the first update are silent; it starts a slot in mid-frame")
         .push(frame(&[0], &[[0.5; 3]]).with(quieter(1, 0)))
         .flush();
@@ -374,17 +374,17 @@ fn updates(rows: &mut Rows) {
         .push(of_bed())
         .flush();
     let three = frame(&[0, 1, 2], &[[0.5; 2], [0.25; 2], [0.125; 2]]);
-    rows.row("in-order")
+    rows.row("in_order")
         .shows("updates are taken by offset, those of one offset in the order sent")
         .push(three.with(code(1, 1)).with(code(1, 2)).with(code(0, 0)))
         .flush();
     let two = [at_once(0, &[near()]), element([(0, 0)], &[[far()]])];
-    rows.row("two-elements")
+    rows.row("two_elements")
         .shows("of two elements that have begun the last is taken, though its block is not due")
         .push(of_object().with(update(0, &[], 1, &two)))
         .flush();
     let below = element([(-1, 0)], &[[far()]]);
-    rows.row("below-0")
+    rows.row("below_0")
         .shows("an element whose first offset is below 0 does nothing")
         .push(of_object().with(update(0, &[], 1, &[below])))
         .flush();
@@ -395,33 +395,33 @@ fn updates(rows: &mut Rows) {
         .push(moved(0, by))
         .push(moved(0, by))
         .flush();
-    rows.row("another-number")
+    rows.row("another_number")
         .shows("with another number of objects all start again")
         .push(moved(0, gain(0.25, near())))
         .push(frame(&[], &[[0.5], [0.0]]).with(update(0, &[], 2, &[])))
         .flush();
     let resting = update(0, &[], 1, &[element([(0, 0), (5, 0)], &[[SILENT; 2]])]);
-    rows.row("kept-element")
+    rows.row("kept_element")
         .shows("a kept element keeps flag, target and ramp: half of the way, then the rest")
         .push(moved(0, near()))
         .push(moved(129, far()))
         .push(of_object().with(resting.clone()))
         .flush();
-    rows.row("no-flag")
+    rows.row("no_flag")
         .shows("where the flag is not set at the previous slot: straight to the target")
         .push(moved(0, near()))
         .push(moved(0, SILENT))
         .push(moved(129, far()))
         .flush();
     let longer = element([(0, 0), (-1, 129), (5, 0)], &[[SILENT, far(), SILENT]]);
-    rows.row("new-element")
+    rows.row("new_element")
         .shows("a new element has no flag: straight to the target; and no ramp: there it stays")
         .push(moved(0, near()))
         .push(of_object().with(update(0, &[], 1, &[longer])))
         .push(of_object().with(resting))
         .flush();
     let sent = |send: f32| with_send(200, send, moved(0, gain(0.5, near())));
-    rows.row("sent-alone")
+    rows.row("sent_alone")
         .shows(
             "an object alone on the bass feed; its send stays without a block, and ends with one",
         )
@@ -430,13 +430,13 @@ fn updates(rows: &mut Rows) {
         .push(sent(0.0))
         .flush();
     let rounded = frame(&[], &[[0.7]]).with(update(0, &[], 1, &[at_once(0, &[near()])]));
-    rows.row("sent-rounded")
+    rows.row("sent_rounded")
         .shows("gain x send is rounded, then sample x that")
         .push(with_send(200, 0.75, rounded))
         .flush();
     let both = update(0, &[3], 1, &[at_once(0, &[SILENT, near()])]);
     let both = frame(&[3], &[[0.25], [0.5]]).with(both);
-    rows.row("sent-with-a-bed")
+    rows.row("sent_with_a_bed")
         .shows(
             "a bass bed and an object, the bed's own send without effect; other objects start at 0",
         )
@@ -445,7 +445,7 @@ fn updates(rows: &mut Rows) {
         .flush();
     let last = update(0, &[3, 17], 1, &[at_once(0, &[SILENT, SILENT, near()])]);
     let last = frame(&[3, 17], &[[16.0], [-16.0], [0.001]]).with(last);
-    rows.row("sent-last")
+    rows.row("sent_last")
         .shows("an object behind two bass beds that cancel each other")
         .push(with_send(360, 1.0, last))
         .flush();
@@ -464,7 +464,7 @@ fn slots(rows: &mut Rows) {
         let push = frame(&[], &[lone(n, &heard)]).with(update(0, &[], 1, &[element]));
         push.stride(192)
     };
-    rows.row("second-slot")
+    rows.row("second_slot")
         .shows("an object that is heard elsewhere from the second slot on")
         .push(object(65, &[0, 63, 64], element([(0, 0)], &[[far()]])))
         .flush();

@@ -7,13 +7,12 @@ use std::array;
 
 const HEAD: &str = "\
 -- The rows. `cargo run --release --offline -p compare --bin rows` in rust/ writes this file: the calls are that program's, what is seen of them is the oracle's. Assumes nothing.
-use mathlib.Core.List.{List, [], _∷_, _++_}
-use lib.ListN.{replicate}
-use Rattle·rules.specs.Calls.{reset}
-use Rattle·rows·specs.specs.Rows.{Row, _⇒_, refusal, ready, none, renewed}
-use Rattle·rows·specs.specs.Notation.{concat, asRow, rowAt, sent, sentBy, ofBed, ofObject, flushAt, short, quiet, diagonalWords, silence, only}
-use Rattle·rows·specs.specs.Notation.{update, bed, spoilt, element, atOnce, blockFrom, minus, object, at, validPosition, place, differential, gain, distance, withSize}
-use Rattle·rows·specs.specs.Notation.{screen, depth, screenAnchor, onSpeakers}
+use Rattle.std.specs.Prelude.{List, [], ◌∷◌, ◌++◌, replicate}
+use Rattle.rules.specs.Calls.{reset}
+use Rattle.rows.specs.Rows.{Row, ◌⇒◌, refusal, ready, none, renewed}
+use Rattle.rows.specs.Notation.{concat, as_row, row_at, sent, sent_by, of_bed, of_object, flush_at, short, quiet, diagonal_words, silence, only}
+use Rattle.rows.specs.Notation.{update, bed, spoilt, element, at_once, block_from, minus, object, at, valid_position, place, differential, gain, distance, with_size}
+use Rattle.rows.specs.Notation.{screen, depth, screen_anchor, on_speakers}
 ";
 
 /// The most columns of a line.
@@ -46,8 +45,8 @@ pub fn text(groups: &[Group]) -> String {
 fn row_text(row: &Row) -> String {
     let Row { name, shows, .. } = row;
     let head = match row.start {
-        0 => "asRow".to_string(),
-        start => format!("rowAt {start}"),
+        0 => "as_row".to_string(),
+        start => format!("row_at {start}"),
     };
     let mut text = format!("-- {shows}\nabbrev pub {name} : Row\n{name} =\n    {head}\n");
     for (k, (turn, outcome)) in row.turns.iter().zip(row.outcomes()).enumerate() {
@@ -83,7 +82,7 @@ fn lines(text: &str) -> String {
 fn turn_text(turn: &Turn) -> String {
     match turn {
         Turn::Push(push) => push_text(push),
-        Turn::Flush(stride) => format!("flushAt {stride}"),
+        Turn::Flush(stride) => format!("flush_at {stride}"),
         Turn::Reset => "reset".to_string(),
         Turn::Short(turn) => format!("short {}", within(turn_text(turn))),
     }
@@ -103,15 +102,15 @@ fn push_text(push: &Push) -> String {
     };
     let head = match (push.stride, push.rate) {
         (64, 48_000) => "sent".to_string(),
-        (stride, rate) => format!("sentBy {stride} {rate}"),
+        (stride, rate) => format!("sent_by {stride} {rate}"),
     };
     let bits: Vec<u32> = push.pcm.iter().map(|x| x.to_bits()).collect();
     let (samples, codes) = (push.samples, within(codes(&push.codes)));
     let pcm = within(pcm_text(&bits, samples as usize));
     let head = format!("{head} {samples} {codes} {} {pcm}", push.objects);
     let head = match head.as_str() {
-        "sent 1 (0 ∷ []) 0 (0x3f000000 ∷ [])" => "ofBed",
-        "sent 1 [] 1 (0x3f000000 ∷ [])" => "ofObject",
+        "sent 1 (0 ∷ []) 0 (0x3f000000 ∷ [])" => "of_bed",
+        "sent 1 [] 1 (0x3f000000 ∷ [])" => "of_object",
         head => head,
     };
     format!("{head}{BREAK}{meta}")
@@ -143,9 +142,9 @@ fn element_text(element: &Element) -> String {
         && element.objects.iter().all(|o| o[0] == Object::default())
     {
         let objects = objects(&mut element.objects.iter().map(|o| &o[1]));
-        return format!("atOnce {} {objects}", signed(ramp));
+        return format!("at_once {} {objects}", signed(ramp));
     }
-    let block = |b: &Block| format!("blockFrom {} {}", signed(b.offset), signed(b.ramp));
+    let block = |b: &Block| format!("block_from {} {}", signed(b.offset), signed(b.ramp));
     let blocks = within(list(" ", element.blocks.iter().map(block)));
     let objects = objects(&mut element.objects.iter().flatten());
     format!("element {blocks}{BREAK}{objects}")
@@ -156,14 +155,14 @@ fn object_text(object: &Object) -> String {
     let place = object.position.map(|p| p.map(float).join(" "));
     let mut text = match (object.position_valid, place) {
         (false, None) => "object".to_string(),
-        (true, None) => "validPosition object".to_string(),
+        (true, None) => "valid_position object".to_string(),
         (false, Some(place)) => format!("place {place} object"),
         (true, Some(place)) => format!("at {place}"),
     };
     let anchor = match object.anchor {
         Anchor::Room => None,
-        Anchor::Screen => Some("screenAnchor".to_string()),
-        Anchor::Speaker => Some("onSpeakers".to_string()),
+        Anchor::Screen => Some("screen_anchor".to_string()),
+        Anchor::Speaker => Some("on_speakers".to_string()),
     };
     let given = |name: &str, x: Option<f32>| x.map(|x| format!("{name} {}", float(x)));
     let other = |x: f32| (x != 1.0).then_some(x);
@@ -171,7 +170,7 @@ fn object_text(object: &Object) -> String {
         object.differential.then(|| "differential".to_string()),
         given("gain", object.gain),
         given("distance", object.distance),
-        given("withSize", object.size),
+        given("with_size", object.size),
         given("screen", other(object.screen)),
         given("depth", other(object.depth)),
         anchor,
@@ -224,7 +223,7 @@ fn pcm_text(bits: &[u32], samples: usize) -> String {
         && bits.len() == samples * samples
         && (0..bits.len()).all(|k| bits[k] == diagonal(k))
     {
-        return format!("diagonalWords {samples} {}", word(&bits[0]));
+        return format!("diagonal_words {samples} {}", word(&bits[0]));
     }
     runs(bits, |&w| w == 0, "quiet", " ", word)
 }

@@ -12,7 +12,10 @@ use std::process::{Command, Stdio};
 use std::thread;
 
 const STREAMS: u64 = 10_000;
-const PROGRAM: &str = concat!(env!("CARGO_MANIFEST_DIR"), "/../../target/bin/hallrender");
+const PROGRAM: &str = concat!(
+    env!("CARGO_MANIFEST_DIR"),
+    "/../../crates/hallrender/out/hallrender"
+);
 
 /// What the program prints.
 fn run(stream: &[u8]) -> String {
@@ -94,7 +97,7 @@ fn compared(seeds: Seeds, stream: fn(u64) -> Vec<u8>) -> (Counts, BTreeSet<u32>)
 fn prints_what_the_oracle_has_it_print() {
     assert!(
         Path::new(PROGRAM).exists(),
-        "run `rt check hallrender` first"
+        "run `rt run` in crates/hallrender first"
     );
     let [even, odd] = seeds!(0..STREAMS).halves();
     let halves = thread::scope(|scope| {

@@ -99,15 +99,15 @@ pub fn has_sox() -> bool {
     there
 }
 
-/// The proved program, from `rt check hallrender`. Without it the tests that need it are skipped, with CI=true they fail.
+/// The proved program, from `rt run` in crates/hallrender, or from `rt ci`. Without it the tests that need it are skipped, with CI=true they fail.
 pub fn hallrender() -> Option<PathBuf> {
-    let program = root().join("target/bin/hallrender");
+    let program = root().join("crates/hallrender/out/hallrender");
     if program.exists() {
         return Some(program);
     }
     let strict = std::env::var_os("CI").is_some_and(|v| v == "true");
-    assert!(!strict, "target/bin/hallrender is missing");
-    println!("skipped: target/bin/hallrender is missing");
+    assert!(!strict, "crates/hallrender/out/hallrender is missing");
+    println!("skipped: crates/hallrender/out/hallrender is missing");
     None
 }
 

@@ -166,7 +166,7 @@ fn a_missing_library_is_told_with_what_to_do() {
         assert!(!result.status.success() && said.contains(message), "{said}");
         assert_eq!(
             folder == "/nonexistent",
-            said.contains("rt staticlib hall"),
+            said.contains("tools/staticlib hall"),
             "{said}"
         );
     }

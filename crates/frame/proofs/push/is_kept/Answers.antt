@@ -6,5 +6,5 @@ use Rattle.frame.proofs.push.is_kept.Goals as goal
 pub returns-then-k-lt64 : goal.returns-then-k-lt64
 returns-then-k-lt64 c = rw (lt-ltb c.args.k 64 c.if-k-lt64.true) refl
 
-pub returns-then-k-lt64 : goal.returns
-returns-then-k-lt64 c = rw (le-ltb c.args.k 64 c.if-k-lt64.false) refl
+pub returns : goal.returns
+returns c = rw (le-ltb c.args.k 64 c.if-k-lt64.false) refl

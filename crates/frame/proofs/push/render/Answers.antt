@@ -97,7 +97,7 @@ updates_done c =
     ⊎_elim (λ w. rw (w.5, w.6) w.2.ensures)
     (λ w. rw (w.1, w.2)
     (record {
-      next = none_applied s.meta.now s.l (taken c).layout x.t.0 x.work.renderer x.state x.invariant.0.long (rw w.0.left at c.is_sent.ensures);
+      next = none_applied s.meta.now s.l (taken c).layout x.t.0 x.work.renderer x.state x.invariant.0.long (rw w.0.false at c.is_sent.ensures);
       ready = refl;
       meters = refl;
     }))
@@ -129,8 +129,8 @@ begun c =
     (λ w. let b = w.4.ensures in
     rw (w.7, w.8) (record { next = slotted_after a.next b.next; ready = b.ready ∙ a.ready; meters = b.meters ∙ a.meters }))
     (⊎_elim
-    (λ w. rw (w.3, w.4) (leads_on a (slot_changes_nothing _ _ a.next.holds.long (slot ∙ w.0.taken) (sym w.1.ensures ∙ not-false _ w.2.left))))
-    (λ w. rw (w.1, w.2) (leads_on a (slot_rests _ _ a.next.holds.long (slot ∙ w.0.left)))))
+    (λ w. rw (w.3, w.4) (leads_on a (slot_changes_nothing _ _ a.next.holds.long (slot ∙ w.0.taken) (sym w.1.ensures ∙ not-false _ w.2.false))))
+    (λ w. rw (w.1, w.2) (leads_on a (slot_rests _ _ a.next.holds.long (slot ∙ w.0.false)))))
     c.if-slot_starts.branch
 
 pub next_offset-next-requires : goal.next_offset-next-requires
@@ -199,7 +199,7 @@ laid_part : (c : Joined-is_kept) → let r = c in let v = c.if-slot_starts in
 laid_part c h =
     let p = (turn_passes (turning c)).passes.pending in
     ⊎_elim (λ w. rw w.6 w.3.ensures)
-    (λ w. let x = ltb-false c.run_length-k.result 64 (neither (ltb c.run_length-k.result 64) _ (sym c.is_kept.ensures ∙ w.0.left)).0 in absurd (h (omega arith)))
+    (λ w. let x = ltb-false c.run_length-k.result 64 (neither (ltb c.run_length-k.result 64) _ (sym c.is_kept.ensures ∙ w.0.false)).0 in absurd (h (omega arith)))
     c.if-is_kept.branch
 
 pub give_rows-work-requires : goal.give_rows-work-requires
@@ -238,7 +238,7 @@ whole_runs c r o e g =
     (λ w.
     let k = c.run_length-k.result in
     let left = c.up_to.result in
-    let x = ltb-false left 128 (neither (ltb k 64) (ltb left 128) (sym c.is_kept.ensures ∙ w.0.left)).1 in
+    let x = ltb-false left 128 (neither (ltb k 64) (ltb left 128) (sym c.is_kept.ensures ∙ w.0.false)).1 in
     let l = as_laid ys v.work.renderer.pending k p.passes.pending v.state (fit_all ys g.fit) y.whole p.block in
     rw w.1
     (turn_skips q r l.0 o (passes_whole f p y l.1 e g) l.1.infos (ap (λ (s : Renderer714). s.pending) g.renderer)
@@ -255,8 +255,8 @@ loop-l-preserved c =
     let y = waiting (goal.at.loop-l-preserved c).After-pass-work in (
       subst (λ (t : ℕ). Running s.state.now (args (goal.at.loop-l-preserved c).After-start-1) t z.work c.if-is_kept.state z.out) (sym c.plus-t.ensures)
           (⊎_elim (λ w. rw (w.6, w.7) (whole_runs (goal.at.loop-l-preserved c).Joined-is_kept _ _ w.0.taken w.3.ensures))
-          (⊎_elim (λ w. rw (w.8, w.9) (turn_runs q _ _ _ (passes_given f p y (laid_part (goal.at.loop-l-preserved c).Joined-is_kept w.0.left) w.2.taken w.5.ensures)))
-          (λ w. rw (w.3, w.4) (turn_runs q _ _ _ (passes_on f p y (laid_part (goal.at.loop-l-preserved c).Joined-is_kept w.0.left) w.2.left))))
+          (⊎_elim (λ w. rw (w.8, w.9) (turn_runs q _ _ _ (passes_given f p y (laid_part (goal.at.loop-l-preserved c).Joined-is_kept w.0.false) w.2.taken w.5.ensures)))
+          (λ w. rw (w.3, w.4) (turn_runs q _ _ _ (passes_on f p y (laid_part (goal.at.loop-l-preserved c).Joined-is_kept w.0.false) w.2.false))))
           z.branch),
       c.loop-l.invariant.1,
     )

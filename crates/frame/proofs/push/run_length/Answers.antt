@@ -10,7 +10,7 @@ returns-then-started c =
     (run_started a.started a.phase a.pending c.up_to.result c.least-room.result c.least.result c.if-started.true
     c.least-room.ensures c.least.ensures)
 
-pub returns-then-started : goal.returns
-returns-then-started c =
+pub returns : goal.returns
+returns c =
     let a = c.args in
     rw (← c.up_to.ensures) (run_silent a.started a.phase a.pending c.up_to.result c.least-room.result c.if-started.false c.least-room.ensures)

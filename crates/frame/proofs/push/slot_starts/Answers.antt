@@ -5,5 +5,5 @@ use Rattle.frame.proofs.push.slot_starts.Goals as goal
 pub returns-then-started : goal.returns-then-started
 returns-then-started c = rw c.if-started.true refl
 
-pub returns-then-started : goal.returns
-returns-then-started c = rw c.if-started.false refl
+pub returns : goal.returns
+returns c = rw c.if-started.false refl

@@ -21,9 +21,9 @@ returns c =
     let w = c.requires in
     let d = c.render-done.ensures in
     rendered_left (args_with a.pcm.now a.meta.now a.out.now a.codes.now a.n) a.state.now
-    (λ i. omega (arith, c.slice-known.given i))
+    (λ i. omega (arith, c.slice_known-1.given i))
     (λ i. omega (arith, c.shared_slice_known-2-1.given i)) w.loaded.valid w.clear
-    c.render-done.result.renderer c.render-done.result.ready c.shown.result c.render-done.new.1.0
+    c.render-done.result.renderer c.render-done.result.ready c.shown.result c.render-done.new.state
     (λ i. omega (arith, c.slice_known-3-1.given i)) d.next.holds d.ready
     (c.shown.ensures ∙ ap shown d.meters)
-    c.ready.result c.save.new.0 c.render-done.new.1.1.1.1.0 c.ready.ensures c.save.ensures d.given
+    c.ready.result c.save.new.state c.render-done.new.out c.ready.ensures c.save.ensures d.given

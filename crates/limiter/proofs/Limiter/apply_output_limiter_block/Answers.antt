@@ -6,7 +6,6 @@ use lib.Ieee.{Float}
 use Rattle.limiter.specs.Limiter.{0·0, lowered, grown, block_peak, block_gain, scaled_block}
 use Rattle.limiter.specs.ChannelPlaces.{channels, channels_at, with_channels}
 use Rattle.limiter.proofs.Blocks.{channels_laid, channels_at_lengths}
-use borrow.Author.Rules.{rules}
 use Rattle.limiter.proofs.Limiter.apply_output_limiter_block.Goals as goal
 
 pub returns : goal.returns
@@ -19,7 +18,7 @@ returns c =
     let s = a.places.now in
     let cs = channels_at 12 n s 0 in
     let ls = channels_at_lengths 12 n s 0 in
-    let e : channels 12 n load.new.1.1.0 ≡ cs = ap (channels 12 n) load.ensures ∙ channels_laid 12 n cs _ ls.0 ls.1 c.requires.samples (lit≤ tt) in
+    let e : channels 12 n load.new.block ≡ cs = ap (channels 12 n) load.ensures ∙ channels_laid 12 n cs _ ls.0 ls.1 c.requires.samples (lit≤ tt) in
     let f : low.result.gain ≡ block_gain a.self.gain cs = low.ensures ∙ ap (λ (p : Float). lowered p a.self.gain) (top.ensures ∙ ap (block_peak 0·0) e) in
     record {
       gain = c.grow-next.ensures ∙ ap (grown n a.rate) f;

@@ -20,9 +20,9 @@ returns-then-gain c =
     let h = add binary32 a.self.gain (div binary32 (of_int binary32 (pos a.samples)) (of_int binary32 (pos a.rate))) in
     sym (ap (λ (b : Bool). cond b 1·0 h) c.if-gain.true)
 
-pub returns-then-gain : goal.returns
+pub returns : goal.returns
 unfolding of_bits grown
-returns-then-gain c =
+returns c =
     let a = c.args in
     let h = add binary32 a.self.gain (div binary32 (of_int binary32 (pos a.samples)) (of_int binary32 (pos a.rate))) in
     sym (ap (λ (b : Bool). cond b 1·0 h) c.if-gain.false)

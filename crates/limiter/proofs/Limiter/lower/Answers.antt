@@ -9,6 +9,6 @@ pub returns-then-peak-self : goal.returns-then-peak-self
 unfolding of_bits lowered
 returns-then-peak-self c = let a = c.args in sym (ap (λ (b : Bool). cond b (div binary32 0·9 a.peak) a.self.gain) c.if-peak-self.true)
 
-pub returns-then-peak-self : goal.returns
+pub returns : goal.returns
 unfolding of_bits lowered
-returns-then-peak-self c = let a = c.args in sym (ap (λ (b : Bool). cond b (div binary32 0·9 a.peak) a.self.gain) c.if-peak-self.false)
+returns c = let a = c.args in sym (ap (λ (b : Bool). cond b (div binary32 0·9 a.peak) a.self.gain) c.if-peak-self.false)

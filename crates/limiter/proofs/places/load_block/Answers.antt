@@ -1,11 +1,9 @@
 -- `limiter::places::load_block` meets its contract. Assumes nothing.
-use borrow.Author.Rules.{rules}
 use native.Mathlib.Omega.{arith}
 use mathlib.Core.Path.{◌≡◌, refl, ap, ◌∙◌}
-use mathlib.Core.List.{◌++◌}
 use Prim.Native.Nat.{◌+◌, ◌*◌, ◌≤◌}
-use lib.ListN.{length, take, drop}
-use Rattle.limiter.specs.ChannelPlaces.{overlaid, floats_at, channels_at}
+use lib.ListN.{length}
+use Rattle.limiter.specs.ChannelPlaces.{floats_at}
 use Rattle.limiter.proofs.Blocks.{part_length, load_next, load_end}
 use Rattle.limiter.proofs.places.load_block.Goals as goal
 
@@ -18,9 +16,9 @@ loop-left-preserved c =
     let a = c.args in
     let z = c.load_samples in
     let h : l.at + a.samples ≤ length l.block = omega arith in
-    let e : z.new.1.1.0 ≡ floats_at a.places.now (4 * l.at) a.samples = z.ensures
+    let e : z.new.samples ≡ floats_at a.places.now (4 * l.at) a.samples = z.ensures
     ∙ ap (floats_at a.places.now (4 * l.at)) (part_length a.samples l.at l.block h) in
-    let n = load_next a.places.now l.left a.samples l.at l.block z.new.1.1.0 (omega arith) (omega arith) (omega arith) e in
+    let n = load_next a.places.now l.left a.samples l.at l.block z.new.samples (omega arith) (omega arith) (omega arith) e in
     (omega arith, n.0 ∙ l.invariant.1, n.1 ∙ l.invariant.2)
 
 pub returns : goal.returns

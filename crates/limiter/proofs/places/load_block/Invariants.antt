@@ -1,12 +1,9 @@
 -- `limiter::places::load_block` meets its contract. Assumes nothing.
-use borrow.Author.Rules.{rules}
-use native.Mathlib.Omega.{arith}
-use mathlib.Core.Path.{◌≡◌, refl, ap, ◌∙◌}
+use mathlib.Core.Path.{◌≡◌}
 use mathlib.Core.List.{◌++◌}
-use Prim.Native.Nat.{◌+◌, ◌*◌, ◌≤◌}
+use Prim.Native.Nat.{◌+◌, ◌*◌}
 use lib.ListN.{length, take, drop}
-use Rattle.limiter.specs.ChannelPlaces.{overlaid, floats_at, channels_at}
-use Rattle.limiter.proofs.Blocks.{part_length, load_next, load_end}
+use Rattle.limiter.specs.ChannelPlaces.{overlaid, channels_at}
 use Rattle.limiter.proofs.places.load_block.Given as goal
 
 abbrev pub invariant-loop-left : goal.invariant-loop-left

@@ -1,10 +1,9 @@
 -- `limiter::places::load_samples` meets its contract. Assumes nothing.
-use borrow.Author.Rules.{rules}
 use native.Mathlib.Omega.{arith}
 use native.Mathlib.Numerals.{add-one}
 use mathlib.Core.Path.{◌≡◌, sym, ap, ◌∙◌}
-use Prim.Native.Nat.{◌-◌, ◌≤◌, ◌<◌}
-use lib.ListN.{length, take, length-set}
+use Prim.Native.Nat.{◌≤◌, ◌<◌}
+use lib.ListN.{length, length-set}
 use lib.Seq.{take-suc-set, take_all}
 use Rattle.limiter.specs.ChannelPlaces.{floats_at}
 use Rattle.words.proofs.Runs.{floats_more}

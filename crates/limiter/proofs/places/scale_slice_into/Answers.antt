@@ -1,11 +1,8 @@
 -- `limiter::places::scale_slice_into` meets its contract. Assumes nothing.
 use borrow.Author.Rules.{rules}
 use native.Mathlib.Omega.{arith}
-use mathlib.Core.Path.{◌≡◌, refl, ◌∙◌}
-use Prim.Native.Nat.{◌*◌, ◌-◌, ◌≤◌}
-use lib.ListN.{length, drop}
-use Rattle.limiter.specs.Limiter.{scaled}
-use Rattle.limiter.specs.ChannelPlaces.{with_floats}
+use mathlib.Core.Path.{refl, ◌∙◌}
+use Prim.Native.Nat.{◌*◌}
 use Rattle.limiter.proofs.Scaled.{write_more, write_end}
 use Rattle.limiter.proofs.places.scale_slice_into.Goals as goal
 
@@ -17,7 +14,7 @@ pub loop-i-preserved : goal.loop-i-preserved
 loop-i-preserved c =
     let a = c.args in
     let p = c.put_f32 in
-    (omega arith, search rules, write_more a.gain c.loop-i.out p.new.0 c.loop-i.i a.samples.now (omega arith) p.ensures ∙ c.loop-i.invariant.2)
+    (omega arith, search rules, write_more a.gain c.loop-i.out p.new.s c.loop-i.i a.samples.now (omega arith) p.ensures ∙ c.loop-i.invariant.2)
 
 pub returns : goal.returns
 returns c =

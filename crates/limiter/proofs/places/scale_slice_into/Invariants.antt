@@ -1,12 +1,9 @@
 -- `limiter::places::scale_slice_into` meets its contract. Assumes nothing.
-use borrow.Author.Rules.{rules}
-use native.Mathlib.Omega.{arith}
-use mathlib.Core.Path.{◌≡◌, refl, ◌∙◌}
+use mathlib.Core.Path.{◌≡◌}
 use Prim.Native.Nat.{◌*◌, ◌-◌, ◌≤◌}
 use lib.ListN.{length, drop}
 use Rattle.limiter.specs.Limiter.{scaled}
 use Rattle.limiter.specs.ChannelPlaces.{with_floats}
-use Rattle.limiter.proofs.Scaled.{write_more, write_end}
 use Rattle.limiter.proofs.places.scale_slice_into.Given as goal
 
 abbrev pub invariant-loop-i : goal.invariant-loop-i

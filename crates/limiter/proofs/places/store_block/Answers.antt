@@ -2,8 +2,8 @@
 use borrow.Author.Rules.{rules}
 use native.Mathlib.Omega.{arith}
 use mathlib.Core.Path.{◌≡◌, refl, sym, ap, ◌∙◌}
-use Prim.Native.Nat.{ℕ, ◌+◌, ◌*◌, ◌≤◌}
-use lib.ListN.{length, drop}
+use Prim.Native.Nat.{ℕ, ◌+◌, ◌*◌}
+use lib.ListN.{drop}
 use Rattle.limiter.specs.Limiter.{scaled_block}
 use Rattle.limiter.specs.ChannelPlaces.{channels, with_channels}
 use Rattle.limiter.proofs.Blocks.{part_length, store_part, store_next, store_end, room_next}
@@ -21,9 +21,6 @@ overflow_add-from c = let l = c.loop-unscaled in search (rules, room_next l.unsc
 pub overflow_add-until : goal.overflow_add-until
 overflow_add-until c = let l = c.loop-unscaled in search (rules, room_next l.unscaled c.args.step (omega arith))
 
-pub slice-bounds-scale-slice-into-end-2 : goal.slice-bounds-scale-slice-into-end-2
-slice-bounds-scale-slice-into-end-2 c = let l = c.loop-unscaled in search (rules, room_next l.unscaled c.args.step (omega arith))
-
 pub scale_slice_into-requires : goal.scale_slice_into-requires
 scale_slice_into-requires c =
     let l = c.loop-unscaled in
@@ -37,7 +34,7 @@ loop-unscaled-preserved c =
     let a = c.args in
     let z = c.scale_slice_into in
     let r = room_next l.unscaled a.step (omega arith) in
-    let part = store_part a.gain a.samples l.at (l.base + a.to) a.block.now l.out z.new.1.1.0 (omega arith) (omega arith) z.ensures in (
+    let part = store_part a.gain a.samples l.at (l.base + a.to) a.block.now l.out z.new.out (omega arith) (omega arith) z.ensures in (
       omega arith,
       omega arith,
       search rules,

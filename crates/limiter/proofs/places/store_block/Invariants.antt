@@ -1,12 +1,9 @@
 -- `limiter::places::store_block` meets its contract. Assumes nothing.
-use borrow.Author.Rules.{rules}
-use native.Mathlib.Omega.{arith}
-use mathlib.Core.Path.{◌≡◌, refl, sym, ap, ◌∙◌}
-use Prim.Native.Nat.{ℕ, ◌+◌, ◌*◌, ◌≤◌}
+use mathlib.Core.Path.{◌≡◌}
+use Prim.Native.Nat.{◌+◌, ◌*◌, ◌≤◌}
 use lib.ListN.{length, drop}
 use Rattle.limiter.specs.Limiter.{scaled_block}
 use Rattle.limiter.specs.ChannelPlaces.{channels, with_channels}
-use Rattle.limiter.proofs.Blocks.{part_length, store_part, store_next, store_end, room_next}
 use Rattle.limiter.proofs.places.store_block.Given as goal
 
 abbrev pub invariant-loop-unscaled : goal.invariant-loop-unscaled

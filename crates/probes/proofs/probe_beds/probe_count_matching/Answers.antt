@@ -6,5 +6,5 @@ use Rattle.probes.proofs.probe_beds.probe_count_matching.Goals as goal
 pub returns-then-codes-le18 : goal.returns-then-codes-le18
 returns-then-codes-le18 c = fits 0 c.if-codes-le18.true c.count_matching.ensures
 
-pub returns-then-codes-le18 : goal.returns
-returns-then-codes-le18 c = unfit _ _ c.if-codes-le18.false
+pub returns : goal.returns
+returns c = unfit _ _ c.if-codes-le18.false

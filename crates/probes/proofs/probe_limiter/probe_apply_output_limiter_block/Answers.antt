@@ -48,8 +48,8 @@ returns-then-samples-step c =
       lt-leb _ _ k,
     ) (refl, refl)
 
-pub returns-then-places-ne3072 : goal.returns
-returns-then-places-ne3072 c =
+pub returns : goal.returns
+returns c =
     let a = c.args in
     let h : 12 * a.step ≤ length a.out.now = omega arith in
     let k : a.to + 4 * a.samples ≤ a.step = omega arith in

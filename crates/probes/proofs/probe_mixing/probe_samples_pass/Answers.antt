@@ -12,8 +12,8 @@ returns-then-count-pcm c =
     let h : 4 * a.count ≤ length a.pcm.now = omega arith in
     fits_and h c.samples_pass.ensures
 
-pub returns-then-count-pcm : goal.returns
-returns-then-count-pcm c =
+pub returns : goal.returns
+returns c =
     let a = c.args in
     let h : length a.pcm.now < 4 * a.count = omega arith in
     unfit_and _ h

@@ -6,5 +6,5 @@ use Rattle.probes.proofs.probe_records.probe_block.Goals as goal
 pub returns-then-r-meta : goal.returns-then-r-meta
 returns-then-r-meta c = simp (le-ltb _ _ c.if-r-meta.true)
 
-pub returns-then-r-meta : goal.returns
-returns-then-r-meta c = simp (lt-ltb _ _ c.if-r-meta.false) c.block_at.ensures
+pub returns : goal.returns
+returns c = simp (lt-ltb _ _ c.if-r-meta.false) c.block_at.ensures

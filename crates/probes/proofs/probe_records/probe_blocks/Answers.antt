@@ -6,5 +6,5 @@ use Rattle.probes.proofs.probe_records.probe_blocks.Goals as goal
 pub returns-then-e-meta : goal.returns-then-e-meta
 returns-then-e-meta c = simp (le-ltb _ _ c.if-e-meta.true)
 
-pub returns-then-e-meta : goal.returns
-returns-then-e-meta c = simp (lt-ltb _ _ c.if-e-meta.false) c.blocks_at.ensures.0
+pub returns : goal.returns
+returns c = simp (lt-ltb _ _ c.if-e-meta.false) c.blocks_at.ensures.0

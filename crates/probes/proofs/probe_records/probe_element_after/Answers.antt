@@ -16,8 +16,8 @@ returns-then-blocks_at-gt8 c = simp (
   lt-leb _ _ (rw c.blocks_at.ensures.0 at c.if-blocks_at-gt8.true),
 )
 
-pub returns-then-e-meta : goal.returns
-returns-then-e-meta c = simp (
+pub returns : goal.returns
+returns c = simp (
   lt-ltb _ _ c.if-e-meta.false,
   le-leb _ _ c.if-objects-gt32.false,
   le-leb _ _ (rw c.blocks_at.ensures.0 at c.if-blocks_at-gt8.false),

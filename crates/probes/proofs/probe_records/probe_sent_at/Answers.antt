@@ -13,8 +13,8 @@ use Rattle.probes.proofs.probe_records.probe_sent_at.Goals as goal
 pub returns-then-from-l : goal.returns-then-from-l
 returns-then-from-l c = simp (lt-leb _ _ (rw c.layout_of-l.ensures.counted at c.if-from-l.true)) refl
 
-pub returns-then-from-l : goal.returns
-returns-then-from-l c =
+pub returns : goal.returns
+returns c =
     let a = c.args in
     let m = a.meta.now in
     let l = c.layout_of-l in

@@ -40,9 +40,9 @@ returns-then-s c = simp (
   lt-leb _ _ c.if-s.true,
 )
 
-pub returns-then-s-gt32 : goal.returns
+pub returns : goal.returns
 unfolding counts_suit
-returns-then-s-gt32 c = rw (
+returns c = rw (
   le-leb _ _ c.if-s-gt32.false,
   le-leb _ _ c.if-s-gt255.false,
   le-leb _ _ (rw c.dynamic.ensures at c.if-dynamic-gt16.false),

@@ -22,9 +22,9 @@ returns-then-remaining-gt140737489403904 c = simp (
   lt-leb _ _ c.if-remaining-gt140737489403904.true,
 )
 
-pub returns-then-e-gt8 : goal.returns
+pub returns : goal.returns
 unfolding element_fits
-returns-then-e-gt8 c = simp (
+returns c = simp (
   le-leb _ _ c.if-e-gt8.false,
   sym c.schedule_fits.ensures
       ∙ not-false _ c.if-not-schedule_fits.false,

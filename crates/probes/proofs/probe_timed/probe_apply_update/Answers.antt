@@ -64,11 +64,11 @@ apply_update-next-requires c =
     let fit = sym c.in_range.ensures ∙ not-false _ c.if-not-in_range.false in (
       omega arith,
       rw (g.firsts a.i one)
-          (passes m laid fit (λ k. omega (arith, c.shared-slice-known.given k)) a.i one),
+          (passes m laid fit (λ k. omega (arith, c.shared_slice_known-1.given k)) a.i one),
     )
 
-pub returns-then-infos-ne-INFOS_BYTES : goal.returns
-returns-then-infos-ne-INFOS_BYTES c =
+pub returns : goal.returns
+returns c =
     let a = c.args in
     let g = c.layout_of-l.ensures in
     let one : a.i < count a.meta.now = omega (arith, g.counted, c.if-i-count.false) in

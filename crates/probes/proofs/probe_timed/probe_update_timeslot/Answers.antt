@@ -29,8 +29,8 @@ update_timeslot-requires c = (
       (fits_within _ _ (sym c.state_fits.ensures ∙ not-false _ c.if-not-state_fits.false)),
 )
 
-pub returns-then-infos-ne-INFOS_BYTES : goal.returns
-returns-then-infos-ne-INFOS_BYTES c = simp (
+pub returns : goal.returns
+returns c = simp (
   eq-eqb _ _ c.if-infos-ne-INFOS_BYTES.false,
   le-leb _ _ c.if-start-gt1099511627776.false,
   sym c.state_fits.ensures ∙ not-false _ c.if-not-state_fits.false,

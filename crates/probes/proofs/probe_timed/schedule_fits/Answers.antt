@@ -38,6 +38,6 @@ loop-b-preserved c =
           (simp (le-leb x.offset 2097152 c.if-block-gt2097152.false, le-leb x.ramp 2097152 c.if-block-gt2097152-2.false)),
     )
 
-pub returns-then-block-gt2097152 : goal.returns
+pub returns : goal.returns
 unfolding schedule_fits
-returns-then-block-gt2097152 c = sym (all_passed _ 8 _ (omega arith) (omega arith) c.loop-b.invariant.1)
+returns c = sym (all_passed _ 8 _ (omega arith) (omega arith) c.loop-b.invariant.1)

@@ -32,9 +32,9 @@ returns-then-not-element_fits c =
       first,
     )
 
-pub returns-then-not-counts_fit : goal.returns
+pub returns : goal.returns
 unfolding state_fits
-returns-then-not-counts_fit c =
+returns c =
     let a = c.args in
     let first : element_fits a.position (element_of a.s 0) ≡ true = sym c.element_fits.ensures ∙ not-false _ c.if-not-element_fits.false in
     simp (

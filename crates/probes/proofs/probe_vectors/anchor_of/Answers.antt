@@ -8,5 +8,5 @@ returns-then-code-eq0 c = simp (eq-eqb _ _ c.if-code-eq0.true)
 pub returns-then-code-eq1 : goal.returns-then-code-eq1
 returns-then-code-eq1 c = simp (ne_eqb _ _ c.if-code-eq0.false, eq-eqb _ _ c.if-code-eq1.true)
 
-pub returns-then-code-eq0 : goal.returns
-returns-then-code-eq0 c = simp (ne_eqb _ _ c.if-code-eq0.false, ne_eqb _ _ c.if-code-eq1.false)
+pub returns : goal.returns
+returns c = simp (ne_eqb _ _ c.if-code-eq0.false, ne_eqb _ _ c.if-code-eq1.false)

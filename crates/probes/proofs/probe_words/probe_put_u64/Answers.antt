@@ -18,8 +18,8 @@ returns-then-at-s c =
     let h : length a.s.now < a.at + 8 = omega arith in
     unfit _ _ h
 
-pub returns-then-s-lt8 : goal.returns
-returns-then-s-lt8 c =
+pub returns : goal.returns
+returns c =
     let a = c.args in
     let h : a.at + 8 ≤ length a.s.now = omega arith in
     fits _ h c.put_u64.ensures

@@ -14,4 +14,4 @@ returns c =
     let p = c.process_in_place in
     let e : 192 + a.k - 192 ≡ a.k = omega arith in
     let after = p.ensures.0 ∙ ap (λ (n : ℕ). after_all a.filter (take n (drop 192 a.rows.now))) e in
-    (after, part_back (filtered a.filter) 192 a.k a.rows.now p.new.1.0 p.ensures.1)
+    (after, part_back (filtered a.filter) 192 a.k a.rows.now p.new.samples p.ensures.1)

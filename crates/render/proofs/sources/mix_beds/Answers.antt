@@ -19,9 +19,9 @@ pub loop-j-preserved : goal.loop-j-preserved
 loop-j-preserved c =
     let a = c.args in
     let p = a.scene in
-    let g = c.well-formed.1.1.1.0.1.1 in
-    let codes : length p.codes ≡ 18 = sym (length-map p.codes _) ∙ g.0.1.0.1 in
-    let gains : length p.gains ≡ 18 = sym (length-map p.gains _) ∙ g.1.0.1.0.1 in (
+    let g = c.well_formed.1.1.1.0.1.1 in
+    let codes : length p.codes ≡ 18 = g.0.1.0.1 in
+    let gains : length p.gains ≡ 18 = g.1.0.1.0.1 in (
       search rules,
       search rules,
       bed_step a.pcm.now a.span a.codes.now c.loop-j.j p.beds p.codes p.gains c.loop-j.rows (omega arith) (omega arith) (omega arith)

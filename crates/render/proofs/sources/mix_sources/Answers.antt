@@ -24,8 +24,8 @@ pub loop-object-preserved : goal.loop-object-preserved
 loop-object-preserved c =
     let a = c.args in
     let p = a.scene in
-    let g = c.well-formed.1.1.1.0.1.1 in
-    let sources : length p.sources ≡ 16 = sym (length-map p.sources _) ∙ g.1.1.1.0.1.0.1 in (
+    let g = c.well_formed.1.1.1.0.1.1 in
+    let sources : length p.sources ≡ 16 = g.1.1.1.0.1.0.1 in (
       search rules,
       search rules,
       object_step a.pcm.now a.span a.first c.loop-object.object p.objects _ p.sources c.loop-object.rows (omega arith) (omega arith)

@@ -10,8 +10,8 @@ use Rattle.render.proofs.terms.mix_spread.Goals as goal
 pub returns-then-gain : goal.returns-then-gain
 returns-then-gain c = sym (spread_none _ full_range _ _ c.if-gain.true)
 
-pub returns-then-gain : goal.returns
-returns-then-gain c =
+pub returns : goal.returns
+returns c =
     let a = c.args in
     c.mix_range-2.ensures
     ∙ ap (mixed_terms a.samples.now (spread (up_from 4 8) a.gain)) c.mix_range.ensures

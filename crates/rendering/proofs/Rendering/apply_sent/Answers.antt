@@ -54,7 +54,7 @@ loop-i-preserved c =
     let u = c.apply_one-next in (
       goes_on s.meta.now s.l s.t.0 s.at.0 (updated hall s.t.0 (sent_of s.meta.now) (held s.self.renderer s.state.now)) s.state.now
           c.requires.2 l.i c.sent_at-i-in-loop-i.result l.next.renderer u.result.renderer
-          l.state u.new.1.0
+          l.state u.new.state
           (omega (arith, c.loop-i-test)) l.invariant.0 u.ensures.next c.sent_at-i-in-loop-i.ensures,
       u.ensures.ready ∙ l.invariant.1,
       u.ensures.meters ∙ l.invariant.2,

@@ -13,7 +13,7 @@ use Rattle.rendering.proofs.Rendering.pass.Goals.{Start}
 full : (c : Start) → Full c.args.self.renderer.state c.args.objects
 full c =
     let m = c.args.self.renderer.state in
-    let g = c.well-formed.0.1.1.0.1.1.1.1.1.1.1.0.1.1.1.1.1.1.1.1 in
+    let g = c.well_formed.0.1.1.0.1.1.1.1.1.1.1.0.1.1.1.1.1.1.1.1 in
     let codes : length m.codes ≡ 18 = sym (length-map m.codes _) ∙ g.0.1.0.1 in
     let gains : length m.gains ≡ 18 = sym (length-map m.gains _) ∙ g.1.0.1.0.1 in
     let sources : length m.sources ≡ 16 = sym (length-map m.sources _) ∙ g.1.1.1.0.1.0.1 in
@@ -27,7 +27,7 @@ returns c =
     let mx = c.mix-filter in
     λ rate us b. waits (frame_with rate us a.codes.now a.objects a.pcm.now a.n) a.t.0 a.k a.self b
     (mixed a.self.renderer.state a.codes.now a.objects a.pcm.now a.n)
-    (same_heard rate us a.codes.now a.pcm.now a.objects a.n a.self.renderer b (full (goal.at.returns c).Start) p.dynamic) mx.new.1.1.0 mx.result
+    (same_heard rate us a.codes.now a.pcm.now a.objects a.n a.self.renderer b (full (goal.at.returns c).Start) p.dynamic) mx.new.rows mx.result
     (rw c.index-first.ensures at mx.ensures) c.settle-next.ensures
 
 pub mix-filter-requires : goal.mix-filter-requires

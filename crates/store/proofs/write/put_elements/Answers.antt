@@ -13,7 +13,7 @@ use Rattle.store.proofs.write.put_elements.Goals as goal
 pub returns : goal.returns
 returns c =
     let a = c.args in
-    let e : ℕ → List ℕ = λ i. element_format.put (get_or a.t3 i no_element) in
+    let e : ℕ → List ℕ = λ i. element_format.put (get_or a.xs i no_element) in
     c.put_element-2.ensures
     ∙ ap (λ (t : List ℕ). with_words t (a.at + 4 * element_format.width) (e 1)) c.put_element.ensures
-    ∙ elements_stored a.s.now a.at a.t3
+    ∙ elements_stored a.s.now a.at a.xs

@@ -11,5 +11,5 @@ use Rattle.store.proofs.write.put_gains.Goals as goal
 pub returns : goal.returns
 returns c =
     let a = c.args in
-    let n : length a.t3 ≡ 18 = omega (arith, c.well-formed) in
-    c.put_floats.ensures ∙ ap (λ (m : ℕ). with_words a.s.now a.at ((array m float).put a.t3)) n
+    let n : length a.xs ≡ 18 = omega arith in
+    c.put_floats.ensures ∙ ap (λ (m : ℕ). with_words a.s.now a.at ((array m float).put a.xs)) n

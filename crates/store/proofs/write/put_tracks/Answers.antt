@@ -13,19 +13,19 @@ use Rattle.store.proofs.SmallPartBack.{lawful_track}
 use Rattle.store.proofs.write.put_tracks.Goals as goal
 
 pub loop-i-init : goal.loop-i-init
-loop-i-init c = let a = c.args in (omega arith, refl, store_none track_format lawful_track a.s.now a.at a.t3)
+loop-i-init c = let a = c.args in (omega arith, refl, store_none track_format lawful_track a.s.now a.at a.xs)
 
 pub loop-i-preserved : goal.loop-i-preserved
 loop-i-preserved c =
     let l = c.loop-i in
     let a = c.args in
-    let h : l.i < length a.t3 = omega arith in
-    let q = store_turn track_format lawful_track no_track a.s.now l.s c.put_words.new.0 a.at l.i (a.at + 4 * track_format.width * l.i)
-    a.t3 c.track_words-w.result h (omega arith) (search rules) c.track_words-w.ensures l.invariant.2 c.put_words.ensures in
+    let h : l.i < length a.xs = omega arith in
+    let q = store_turn track_format lawful_track no_track a.s.now l.s c.put_words.new.s a.at l.i (a.at + 4 * track_format.width * l.i)
+    a.xs c.track_words-w.result h (omega arith) (search rules) c.track_words-w.ensures l.invariant.2 c.put_words.ensures in
     (omega arith, q.0, q.1)
 
 pub returns : goal.returns
 returns c =
     let l = c.loop-i in
     let a = c.args in
-    store_all track_format lawful_track a.s.now l.s a.at 16 l.i a.t3 (omega arith) (omega arith) l.invariant.2
+    store_all track_format lawful_track a.s.now l.s a.at 16 l.i a.xs (omega arith) (omega arith) l.invariant.2

@@ -1,5 +1,4 @@
 -- `limiter::meters::Meters::meet` meets its contract. Assumes nothing.
-use borrow.Author.Rules.{rules}
 use Rattle.limiter.proofs.meters.Meters.meet.Goals as goal
 
 pub returns : goal.returns

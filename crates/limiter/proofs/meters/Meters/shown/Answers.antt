@@ -15,6 +15,6 @@ pub returns-then-self : goal.returns-then-self
 unfolding of_bits shown
 returns-then-self c = let a = c.args in sym (ap (seen a.self) (sym (self_nan a.self.gain) ∙ c.if-self.true))
 
-pub returns-then-self : goal.returns
+pub returns : goal.returns
 unfolding of_bits shown
-returns-then-self c = let a = c.args in sym (ap (seen a.self) (sym (self_nan a.self.gain) ∙ c.if-self.false))
+returns c = let a = c.args in sym (ap (seen a.self) (sym (self_nan a.self.gain) ∙ c.if-self.false))
