@@ -1,11 +1,8 @@
 -- `mix_beds`: what is left to mix from bed j on still gives the whole.
 use borrow.Author.Rules.{rules}
-use mathlib.Core.Path.{◌≡◌, refl, sym, ◌∙◌}
+use mathlib.Core.Path.{◌≡◌, refl}
 use native.Mathlib.Omega.{arith}
-use Prim.Native.Nat.{◌-◌, ◌≤◌}
-use lib.ListN.{length, drop, length-map}
-use Rattle.render.specs.Run.{beds_of}
-use Rattle.render.specs.MixedSources.{mixed_beds}
+use lib.ListN.{length}
 use Rattle.render.proofs.MixedInOrder.{beds_start, bed_step, beds_done}
 use Rattle.render.proofs.sources.mix_beds.Goals as goal
 

@@ -9,7 +9,6 @@ use Rattle.panning.specs.Setup.{built_in}
 use Rattle.rules.specs.Mix.{added_terms}
 use Rattle.render.specs.Run.{plain_source}
 use Rattle.render.specs.MixedRows.{mixed_terms}
-use Rattle.render.specs.MixedSources.{channel_row}
 use Rattle.render.proofs.ChannelRows.{row_start, row_length, row_reaches}
 use Rattle.render.proofs.sources.mix_source.Goals as goal
 use Rattle.render.proofs.sources.mix_source.Goals.{After-read_channel}

@@ -1,11 +1,9 @@
 -- `mix_sources`: what is left to mix from an object on still gives the whole.
 use borrow.Author.Rules.{rules}
-use mathlib.Core.Path.{◌≡◌, refl, sym, ◌∙◌}
+use mathlib.Core.Path.{◌≡◌, refl}
 use native.Mathlib.Omega.{arith}
-use Prim.Native.Nat.{◌+◌, ◌-◌, ◌≤◌}
-use lib.ListN.{length, drop, length-map}
-use Rattle.render.specs.Run.{sources_of}
-use Rattle.render.specs.MixedSources.{mixed_objects}
+use Prim.Native.Nat.{◌+◌}
+use lib.ListN.{length}
 use Rattle.render.proofs.ChannelRows.{reached}
 use Rattle.render.proofs.MixedInOrder.{objects_start, object_step, objects_done}
 use Rattle.render.proofs.sources.mix_sources.Goals as goal

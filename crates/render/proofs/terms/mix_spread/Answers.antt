@@ -1,5 +1,4 @@
 -- `mix_spread`: all but channel 3 are the channels 0 to 2 and 4 to 11.
-use borrow.Author.Rules.{rules}
 use mathlib.Core.Path.{sym, ap, ◌∙◌}
 use Rattle.panning.specs.Speakers.{full_range}
 use Rattle.panning.specs.Terms.{spread}
