@@ -14,9 +14,8 @@ use Rattle.words.proofs.Back.{reads_back}
 use Rattle.words.proofs.Beside.{Kept, reads_before, reads_past, number_keeps}
 use Rattle.words.proofs.Numbers.{length_kept}
 use Rattle.words.proofs.Small.{number_small}
-use Rattle.vectors.specs.Head.{head_in, head_word, as_speaker}
+use Rattle.vectors.specs.Head.{head_in, as_speaker}
 use Rattle.vectors.specs.Vectors.{zero_vec3}
-use Rattle.vectors.specs.declared.Vec3.{Vec3}
 use Rattle.vectors.proofs.Theorems.{head_reads_back}
 use Rattle.timed.specs.InfoSizes.{info_bytes, gain_byte, size_byte, distance_byte, screen_byte, position_byte, send_byte, info_at}
 use Rattle.timed.specs.Infos.{info_of, vec_at}

@@ -1,5 +1,5 @@
 -- R-1. "Some programmes turn a bed channel into an object between two updates while the total stays." Assumes nothing.
-use Rattle.std.specs.Prelude.{ℕ, ◌+◌, ◌-◌, ◌*◌, ◌≤◌, ◌<◌, ◌≡◌, false, pos, length, get_or, replicate}
+use Rattle.std.specs.Prelude.{ℕ, ◌+◌, ◌-◌, ◌≤◌, ◌<◌, ◌≡◌, false, pos, length, get_or, replicate}
 use Rattle.vectors.specs.Vectors.{zero_vec3}
 use Rattle.vectors.specs.Head.{has}
 use Rattle.timed.specs.InfoSizes.{most_elements, most_objects, most_blocks, all_bytes, position_byte, last_byte, info_number, info_at}

@@ -1,10 +1,7 @@
 -- `append_rows`: what is left to write from a channel on still gives the whole.
 use borrow.Author.Rules.{rules}
-use mathlib.Core.Path.{◌≡◌}
 use native.Mathlib.Omega.{arith}
-use Prim.Native.Nat.{◌+◌, ◌*◌}
-use lib.ListN.{length, drop}
-use Rattle.limiter.specs.ChannelPlaces.{channels, with_channels}
+use lib.ListN.{drop}
 use Rattle.render.proofs.WrittenRows.{channel_step, channels_done}
 use Rattle.render.proofs.places.append_rows.Goals as goal
 

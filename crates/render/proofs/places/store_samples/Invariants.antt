@@ -1,11 +1,8 @@
 -- `store_samples`: what is left to write from sample i on still gives the whole.
-use borrow.Author.Rules.{rules}
-use mathlib.Core.Path.{◌≡◌, refl}
-use native.Mathlib.Omega.{arith}
+use mathlib.Core.Path.{◌≡◌}
 use Prim.Native.Nat.{◌+◌, ◌-◌, ◌*◌, ◌≤◌}
 use lib.ListN.{length, drop}
 use Rattle.limiter.specs.ChannelPlaces.{with_floats}
-use Rattle.render.proofs.WrittenRows.{store_start, store_step, store_done}
 use Rattle.render.proofs.places.store_samples.Given as goal
 
 abbrev pub invariant-loop-i : goal.invariant-loop-i

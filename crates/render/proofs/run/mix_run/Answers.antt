@@ -1,5 +1,4 @@
 -- `mix_run`: silence, then the beds, then the objects are what is heard.
-use borrow.Author.Rules.{rules}
 use mathlib.Core.Path.{◌≡◌, ap, ◌∙◌}
 use native.Mathlib.Omega.{arith}
 use lib.ListN.{length}

@@ -1,5 +1,4 @@
 -- `pass_run`: what is heard, with the bass row filtered, is what the rules give.
-use borrow.Author.Rules.{rules}
 use Rattle.render.specs.Run.{scene_at}
 use Rattle.render.proofs.BassRow.{passed}
 use Rattle.render.proofs.run.pass_run.Goals as goal

@@ -1,5 +1,4 @@
 -- `mix_added`: the terms that the object is panned to, and one more.
-use borrow.Author.Rules.{rules}
 use mathlib.Core.Path.{sym, ap, ◌∙◌}
 use mathlib.Core.List.{List, [], ◌∷◌}
 use Rattle.panning.specs.Setup.{built_in}

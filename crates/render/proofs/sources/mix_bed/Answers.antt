@@ -17,19 +17,19 @@ pub returns-in_default : goal.returns-in_default
 returns-in_default c =
     let a = c.args in
     by_found a.pcm.now a.span (bed_terms (bed_with a.code a.gain)) a.rows.now
-    (sym c.find_matching_input_bed_channel-found.ensures ∙ c.enum_told.given.1) refl
+    (sym c.find_matching_input_bed_channel-found.ensures ∙ c.in_default.is) refl
 
 pub read_channel-requires : goal.read_channel-requires
 read_channel-requires c =
     let a = c.args in
-    let i = found_inside a.code a.codes.now (sym c.find_matching_input_bed_channel-found.ensures ∙ c.found.given.1) in
+    let i = found_inside a.code a.codes.now (sym c.find_matching_input_bed_channel-found.ensures ∙ c.in-At.is) in
     (reached a.pcm.now a.span _ (length a.codes.now) c.requires.0 i, search rules)
 
 pub slice_bounds-row-end : goal.slice_bounds-row-end
 slice_bounds-row-end c = let a = c.args in row_reaches a.pcm.now a.span _ _ _ c.read_channel.ensures
 
 -- the row's part is as long as the run
-lent : (r : After-read_channel) → let a = r.args in length (take a.span.count r.read_channel.new.0) ≡ a.span.count
+lent : (r : After-read_channel) → let a = r.args in length (take a.span.count r.read_channel.new.row) ≡ a.span.count
 lent r = let a = r.args in row_length a.pcm.now a.span _ _ _ r.read_channel.ensures
 
 pub slice_bounds-mix_routed-end : goal.slice_bounds-mix_routed-end
@@ -39,11 +39,11 @@ pub mix_routed-requires : goal.mix_routed-requires
 mix_routed-requires c =
     record { short = omega (arith, lent (goal.at.mix_routed-requires c).After-read_channel, c.requires.0.short); whole = c.requires.1 }
 
-pub returns-in_default : goal.returns
-returns-in_default c =
+pub returns : goal.returns
+returns c =
     let a = c.args in
     let ts = bed_terms (bed_with a.code a.gain) in
     by_found a.pcm.now a.span ts a.rows.now
-    (sym c.find_matching_input_bed_channel-found.ensures ∙ c.found.given.1)
+    (sym c.find_matching_input_bed_channel-found.ensures ∙ c.in-At.is)
     (c.mix_routed.ensures
     ∙ ap (λ (xs : List Float). mixed_terms xs ts a.rows.now) (row_start a.pcm.now a.span _ _ _ c.read_channel.ensures))

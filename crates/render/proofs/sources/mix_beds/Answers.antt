@@ -1,11 +1,8 @@
 -- `mix_beds`: what is left to mix from bed j on still gives the whole.
 use borrow.Author.Rules.{rules}
-use mathlib.Core.Path.{◌≡◌, refl, sym, ◌∙◌}
+use mathlib.Core.Path.{◌≡◌, refl}
 use native.Mathlib.Omega.{arith}
-use Prim.Native.Nat.{◌-◌, ◌≤◌}
-use lib.ListN.{length, drop, length-map}
-use Rattle.render.specs.Run.{beds_of}
-use Rattle.render.specs.MixedSources.{mixed_beds}
+use lib.ListN.{length}
 use Rattle.render.proofs.MixedInOrder.{beds_start, bed_step, beds_done}
 use Rattle.render.proofs.sources.mix_beds.Goals as goal
 
@@ -20,8 +17,8 @@ loop-j-preserved c =
     let a = c.args in
     let p = a.scene in
     let g = c.well_formed.1.1.1.0.1.1 in
-    let codes : length p.codes ≡ 18 = sym (length-map p.codes _) ∙ g.0.1.0.1 in
-    let gains : length p.gains ≡ 18 = sym (length-map p.gains _) ∙ g.1.0.1.0.1 in (
+    let codes : length p.codes ≡ 18 = g.0.1.0.1 in
+    let gains : length p.gains ≡ 18 = g.1.0.1.0.1 in (
       search rules,
       search rules,
       bed_step a.pcm.now a.span a.codes.now c.loop-j.j p.beds p.codes p.gains c.loop-j.rows (omega arith) (omega arith) (omega arith)

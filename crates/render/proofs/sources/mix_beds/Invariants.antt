@@ -1,12 +1,9 @@
 -- `mix_beds`: what is left to mix from bed j on still gives the whole.
-use borrow.Author.Rules.{rules}
-use mathlib.Core.Path.{◌≡◌, refl, sym, ◌∙◌}
-use native.Mathlib.Omega.{arith}
+use mathlib.Core.Path.{◌≡◌}
 use Prim.Native.Nat.{◌-◌, ◌≤◌}
-use lib.ListN.{length, drop, length-map}
+use lib.ListN.{length, drop}
 use Rattle.render.specs.Run.{beds_of}
 use Rattle.render.specs.MixedSources.{mixed_beds}
-use Rattle.render.proofs.MixedInOrder.{beds_start, bed_step, beds_done}
 use Rattle.render.proofs.sources.mix_beds.Given as goal
 
 abbrev pub invariant-loop-j : goal.invariant-loop-j

@@ -26,26 +26,26 @@ pub returns-in-Bass : goal.returns-in-Bass
 unfolding route_terms
 returns-in-Bass c =
     let a = c.args in
-    by_told (goal.at.returns-in-Bass c).After-route_of-route c.enum_told.given.1
+    by_told (goal.at.returns-in-Bass c).After-route_of-route c.in-Bass.is
     (c.mix_term.ensures ∙ ap (λ (g : Float). mixed_term a.samples.now (term 3 g) a.rows.now) c.bass_gain.ensures)
 
 pub returns-in-Folded : goal.returns-in-Folded
 unfolding route_terms of_bits
 returns-in-Folded c =
     let a = c.args in
-    by_told (goal.at.returns-in-Folded c).After-route_of-route c.enum_told-in-Folded-1.given.1
+    by_told (goal.at.returns-in-Folded c).After-route_of-route c.in-Folded.is
     (c.mix_object.ensures
     ∙ ap (λ (p : Vec3). mixed_terms a.samples.now (terms714 p a.gain 0·0) a.rows.now) c.bed_channel_position.ensures)
 
 pub mix_term-requires-in-Direct : goal.mix_term-requires-in-Direct
 mix_term-requires-in-Direct c =
-    (search rules, (direct_channel c.args.code (sym c.route_of-route.ensures ∙ c.route.given.1)).0)
+    (search rules, (direct_channel c.args.code (sym c.route_of-route.ensures ∙ c.in-Direct.is)).0)
 
 pub returns-in-Direct : goal.returns-in-Direct
 unfolding route_terms
 returns-in-Direct c =
-    by_told (goal.at.returns-in-Direct c).After-route_of-route c.route.given.1 c.mix_term-in-Direct.ensures
+    by_told (goal.at.returns-in-Direct c).After-route_of-route c.in-Direct.is c.mix_term-in-Direct.ensures
 
 pub returns-in-Unsupported : goal.returns-in-Unsupported
 unfolding route_terms
-returns-in-Unsupported c = by_told (goal.at.returns-in-Unsupported c).After-route_of-route c.enum_told-in-Unsupported-1.given.1 refl
+returns-in-Unsupported c = by_told (goal.at.returns-in-Unsupported c).After-route_of-route c.in-Unsupported.is refl

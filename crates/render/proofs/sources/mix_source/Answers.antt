@@ -9,7 +9,6 @@ use Rattle.panning.specs.Setup.{built_in}
 use Rattle.rules.specs.Mix.{added_terms}
 use Rattle.render.specs.Run.{plain_source}
 use Rattle.render.specs.MixedRows.{mixed_terms}
-use Rattle.render.specs.MixedSources.{channel_row}
 use Rattle.render.proofs.ChannelRows.{row_start, row_length, row_reaches}
 use Rattle.render.proofs.sources.mix_source.Goals as goal
 use Rattle.render.proofs.sources.mix_source.Goals.{After-read_channel}
@@ -21,7 +20,7 @@ pub slice_bounds-row-end : goal.slice_bounds-row-end
 slice_bounds-row-end c = let a = c.args in row_reaches a.pcm.now a.span a.i _ _ c.read_channel.ensures
 
 -- the row's part is as long as the run
-lent : (r : After-read_channel) → let a = r.args in length (take a.span.count r.read_channel.new.0) ≡ a.span.count
+lent : (r : After-read_channel) → let a = r.args in length (take a.span.count r.read_channel.new.row) ≡ a.span.count
 lent r = let a = r.args in row_length a.pcm.now a.span a.i _ _ r.read_channel.ensures
 
 pub slice_bounds-mix_added-end : goal.slice_bounds-mix_added-end

@@ -1,11 +1,9 @@
 -- `mix_sources`: what is left to mix from an object on still gives the whole.
 use borrow.Author.Rules.{rules}
-use mathlib.Core.Path.{◌≡◌, refl, sym, ◌∙◌}
+use mathlib.Core.Path.{◌≡◌, refl}
 use native.Mathlib.Omega.{arith}
-use Prim.Native.Nat.{◌+◌, ◌-◌, ◌≤◌}
-use lib.ListN.{length, drop, length-map}
-use Rattle.render.specs.Run.{sources_of}
-use Rattle.render.specs.MixedSources.{mixed_objects}
+use Prim.Native.Nat.{◌+◌}
+use lib.ListN.{length}
 use Rattle.render.proofs.ChannelRows.{reached}
 use Rattle.render.proofs.MixedInOrder.{objects_start, object_step, objects_done}
 use Rattle.render.proofs.sources.mix_sources.Goals as goal
@@ -25,7 +23,7 @@ loop-object-preserved c =
     let a = c.args in
     let p = a.scene in
     let g = c.well_formed.1.1.1.0.1.1 in
-    let sources : length p.sources ≡ 16 = sym (length-map p.sources _) ∙ g.1.1.1.0.1.0.1 in (
+    let sources : length p.sources ≡ 16 = g.1.1.1.0.1.0.1 in (
       search rules,
       search rules,
       object_step a.pcm.now a.span a.first c.loop-object.object p.objects _ p.sources c.loop-object.rows (omega arith) (omega arith)

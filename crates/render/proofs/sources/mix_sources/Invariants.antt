@@ -1,13 +1,9 @@
 -- `mix_sources`: what is left to mix from an object on still gives the whole.
-use borrow.Author.Rules.{rules}
-use mathlib.Core.Path.{◌≡◌, refl, sym, ◌∙◌}
-use native.Mathlib.Omega.{arith}
+use mathlib.Core.Path.{◌≡◌}
 use Prim.Native.Nat.{◌+◌, ◌-◌, ◌≤◌}
-use lib.ListN.{length, drop, length-map}
+use lib.ListN.{length, drop}
 use Rattle.render.specs.Run.{sources_of}
 use Rattle.render.specs.MixedSources.{mixed_objects}
-use Rattle.render.proofs.ChannelRows.{reached}
-use Rattle.render.proofs.MixedInOrder.{objects_start, object_step, objects_done}
 use Rattle.render.proofs.sources.mix_sources.Given as goal
 
 abbrev pub invariant-loop-object : goal.invariant-loop-object

@@ -1,5 +1,4 @@
 -- `read_channel`: the start of the row comes back with the samples.
-use borrow.Author.Rules.{rules}
 use mathlib.Core.Path.{◌≡◌, sym, ap, ◌∙◌}
 use mathlib.Core.List.{List, ◌++◌}
 use lib.ListN.{length, take, drop}
@@ -18,7 +17,7 @@ pub slice_bounds-read_row-end-2 : goal.slice_bounds-read_row-end-2
 slice_bounds-read_row-end-2 c = sym (lent (goal.at.slice_bounds-read_row-end-2 c).Start)
 
 pub read_row-requires : goal.read_row-requires
-read_row-requires c = rw (lent (goal.at.read_row-requires c).Start) (c.requires.0.room, c.requires.0.plain)
+read_row-requires c = rw (lent (goal.at.read_row-requires c).Start) (record { row_in_bounds = c.requires.0.room; plain = c.requires.0.plain })
 
 pub returns : goal.returns
 returns c =

@@ -1,10 +1,5 @@
 -- `mix_corners`: what is left to mix from corner j on still gives the whole.
 use borrow.Author.Rules.{rules}
-use mathlib.Core.Path.{◌≡◌}
-use Prim.Native.Nat.{◌-◌, ◌≤◌}
-use lib.ListN.{length, drop}
-use Rattle.panning.specs.Terms.{paired}
-use Rattle.render.specs.MixedRows.{mixed_terms}
 use Rattle.render.proofs.MixedTerms.{corner_step, corners_done}
 use Rattle.render.proofs.terms.mix_corners.Goals as goal
 
@@ -15,9 +10,9 @@ pub loop-j-preserved : goal.loop-j-preserved
 loop-j-preserved c =
     let a = c.args in
     let m = c.mix_term in
-    (search rules, search rules, corner_step a.samples.now c.loop-j.j a.t3 a.t4 c.loop-j.rows (search rules) (search rules) m.ensures c.loop-j.invariant.2)
+    (search rules, search rules, corner_step a.samples.now c.loop-j.j a.corners a.coefficients c.loop-j.rows (search rules) (search rules) m.ensures c.loop-j.invariant.2)
 
 pub returns : goal.returns
 returns c =
     let a = c.args in
-    corners_done a.samples.now c.loop-j.j a.t3 a.t4 c.loop-j.rows (search rules) c.loop-j.invariant.2
+    corners_done a.samples.now c.loop-j.j a.corners a.coefficients c.loop-j.rows (search rules) c.loop-j.invariant.2

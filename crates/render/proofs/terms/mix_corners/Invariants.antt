@@ -1,11 +1,9 @@
 -- `mix_corners`: what is left to mix from corner j on still gives the whole.
-use borrow.Author.Rules.{rules}
 use mathlib.Core.Path.{◌≡◌}
 use Prim.Native.Nat.{◌-◌, ◌≤◌}
 use lib.ListN.{length, drop}
 use Rattle.panning.specs.Terms.{paired}
 use Rattle.render.specs.MixedRows.{mixed_terms}
-use Rattle.render.proofs.MixedTerms.{corner_step, corners_done}
 use Rattle.render.proofs.terms.mix_corners.Given as goal
 
 abbrev pub invariant-loop-j : goal.invariant-loop-j

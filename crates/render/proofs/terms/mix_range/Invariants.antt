@@ -1,12 +1,9 @@
 -- `mix_range`: what is left to mix from channel c on still gives the whole.
-use borrow.Author.Rules.{rules}
 use mathlib.Core.Path.{◌≡◌}
-use native.Mathlib.Omega.{arith}
 use Prim.Native.Nat.{◌-◌, ◌≤◌}
 use lib.ListN.{length}
 use Rattle.panning.specs.Terms.{spread}
 use Rattle.render.specs.MixedRows.{up_from, mixed_terms}
-use Rattle.render.proofs.MixedTerms.{range_step, range_done}
 use Rattle.render.proofs.terms.mix_range.Given as goal
 
 abbrev pub invariant-loop-c : goal.invariant-loop-c

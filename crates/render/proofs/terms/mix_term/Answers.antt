@@ -1,5 +1,4 @@
 -- `mix_term`: the part that was lent is the term's row.
-use borrow.Author.Rules.{rules}
 use Rattle.render.specs.MixedRows.{mixed_term}
 use Rattle.render.proofs.terms.mix_term.Goals as goal
 

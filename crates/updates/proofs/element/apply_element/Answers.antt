@@ -1,5 +1,4 @@
 -- `updates::element::apply_element`: from what is kept and what is stored. Assumes nothing.
-use borrow.Author.Rules.{rules}
 use Rattle.updates.proofs.element.apply_element.Goals as goal
 
 pub returns : goal.returns

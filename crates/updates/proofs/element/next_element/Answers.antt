@@ -1,5 +1,4 @@
 -- `updates::element::next_element`: by whether the element is kept. Assumes nothing.
-use borrow.Author.Rules.{rules}
 use Rattle.updates.specs.Applied.{element_next}
 use Rattle.updates.proofs.element.next_element.Goals as goal
 
@@ -7,6 +6,6 @@ pub returns-then-kept : goal.returns-then-kept
 unfolding element_next
 returns-then-kept c = rw (c.next_tracks-tracks.ensures, c.if-kept.true, c.schedule_of-schedule.ensures, c.requires.0)
 
-pub returns-then-kept : goal.returns
+pub returns : goal.returns
 unfolding element_next
-returns-then-kept c = rw (c.next_tracks-tracks.ensures, c.if-kept.false, c.schedule_of-schedule.ensures, c.requires.0)
+returns c = rw (c.next_tracks-tracks.ensures, c.if-kept.false, c.schedule_of-schedule.ensures, c.requires.0)

@@ -1,5 +1,4 @@
 -- `updates::element::next_tracks`: those there are, or sixteen times one track. Assumes nothing.
-use borrow.Author.Rules.{rules}
 use Rattle.updates.proofs.element.next_tracks.Goals as goal
 
 pub returns : goal.returns

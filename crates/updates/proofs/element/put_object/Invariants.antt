@@ -1,12 +1,10 @@
 -- `updates::element::put_object`: the turns left lead from the infos now to those at the end. Assumes nothing.
 use Prim.Native.Nat.{◌≤◌, ◌-◌}
-use mathlib.Core.Path.{◌≡◌, ◌∙◌}
-use native.Mathlib.Omega.{arith}
+use mathlib.Core.Path.{◌≡◌}
 use lib.ListN.{length}
-use borrow.Author.Rules.{rules}
-use Rattle.timed.proofs.Theorems.{Leads, leads, leads_on, leads_to}
+use Rattle.timed.proofs.Theorems.{Leads}
 use Rattle.timed.specs.InfoSizes.{all_bytes}
-use Rattle.updates.specs.Stored.{info_given, object_stored}
+use Rattle.updates.specs.Stored.{info_given}
 use Rattle.updates.specs.Said.{element_said}
 use Rattle.updates.proofs.element.put_object.Given as goal
 

@@ -1,14 +1,9 @@
 -- `updates::element::put_objects`: the turns left lead from the infos now to those at the end; each object's records are within the element. Assumes nothing.
-use Prim.Native.Nat.{◌≤◌, ◌-◌}
-use mathlib.Core.Path.{◌≡◌}
 use native.Mathlib.Omega.{arith}
-use lib.ListN.{length}
 use borrow.Author.Rules.{rules}
 use Rattle.fields.specs.Block.{blocks}
-use Rattle.timed.proofs.Theorems.{Leads, leads, leads_on, leads_to}
-use Rattle.timed.specs.InfoSizes.{all_bytes}
-use Rattle.updates.specs.Said.{element_said}
-use Rattle.updates.specs.Stored.{object_given, objects_stored}
+use Rattle.timed.proofs.Theorems.{leads, leads_on, leads_to}
+use Rattle.updates.specs.Stored.{objects_stored}
 use Rattle.updates.proofs.AppliedByParts.{cell_below}
 use Rattle.updates.proofs.element.put_objects.Goals as goal
 

@@ -1,11 +1,8 @@
 -- `updates::element::schedule_of`: the turns left lead from the schedule now to that at the end; offsets and ramps fit their words. Assumes nothing.
 use Prim.Native.Nat.{◌≤◌, ◌-◌}
-use mathlib.Core.Path.{◌∙◌}
-use native.Mathlib.Omega.{arith}
-use borrow.Author.Rules.{rules}
-use Rattle.timed.proofs.Theorems.{Leads, leads, leads_on, leads_to}
+use Rattle.timed.proofs.Theorems.{Leads}
 use Rattle.updates.specs.Said.{element_said}
-use Rattle.updates.specs.Applied.{block_given, scheduled}
+use Rattle.updates.specs.Applied.{block_given}
 use Rattle.updates.proofs.element.schedule_of.Given as goal
 
 abbrev pub invariant-loop-b : goal.invariant-loop-b

@@ -1,10 +1,8 @@
 -- `updates::update::next_codes`: the turns left lead from the codes now to those at the end. Assumes nothing.
-use Prim.Native.Nat.{◌≤◌, ◌-◌}
 use native.Mathlib.Omega.{arith}
 use borrow.Author.Rules.{rules}
-use Rattle.timed.proofs.Theorems.{Leads, leads, leads_on, leads_to}
-use Rattle.updates.specs.Applied.{code_given, codes_given}
-use Rattle.updates.specs.Said.{update_of}
+use Rattle.timed.proofs.Theorems.{leads, leads_on, leads_to}
+use Rattle.updates.specs.Applied.{codes_given}
 use Rattle.updates.proofs.update.next_codes.Goals as goal
 
 pub loop-k-init : goal.loop-k-init

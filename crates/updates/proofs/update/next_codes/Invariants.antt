@@ -1,9 +1,7 @@
 -- `updates::update::next_codes`: the turns left lead from the codes now to those at the end. Assumes nothing.
 use Prim.Native.Nat.{◌≤◌, ◌-◌}
-use native.Mathlib.Omega.{arith}
-use borrow.Author.Rules.{rules}
-use Rattle.timed.proofs.Theorems.{Leads, leads, leads_on, leads_to}
-use Rattle.updates.specs.Applied.{code_given, codes_given}
+use Rattle.timed.proofs.Theorems.{Leads}
+use Rattle.updates.specs.Applied.{code_given}
 use Rattle.updates.specs.Said.{update_of}
 use Rattle.updates.proofs.update.next_codes.Given as goal
 

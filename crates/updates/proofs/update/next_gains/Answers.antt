@@ -7,6 +7,6 @@ pub returns-then-was-count : goal.returns-then-was-count
 unfolding next_gains
 returns-then-was-count c = rw (eq-eqb c.args.was c.args.count c.if-was-count.true)
 
-pub returns-then-was-count : goal.returns
+pub returns : goal.returns
 unfolding next_gains
-returns-then-was-count c = rw (ne_eqb c.args.was c.args.count c.if-was-count.false)
+returns c = rw (ne_eqb c.args.was c.args.count c.if-was-count.false)

@@ -1,7 +1,6 @@
 -- `apply_update`: the state from its parts. Assumes nothing.
 use mathlib.Core.Path.{◌∙◌}
 use native.Mathlib.Omega.{arith}
-use borrow.Author.Rules.{rules}
 use Rattle.updates.proofs.AppliedByParts.{update_done}
 use Rattle.updates.proofs.update.TimedState.apply_update.Goals as goal
 
