@@ -17,7 +17,7 @@ use Rattle.panning.specs.Setup.{place_in, present, speakers_in, divisor_in}
 use Rattle.vectors.specs.declared.Vec3.{Vec3}
 use Rattle.timed.specs.Objects.{nowhere}
 use Rattle.timed.specs.State.{Timed}
-use Rattle.rules.specs.Parts.{0·0, Channels, Places, none as silent, joined, laid}
+use Rattle.rules.specs.Parts.{0·0, Channels, Places, none as silent, joined}
 use Rattle.rules.specs.Leaves.{Source, Bed, started}
 use Rattle.rules.specs.Mix.{send_of, sample_at, Moment}
 use Rattle.rules.specs.Samples as rules

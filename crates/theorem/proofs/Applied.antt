@@ -15,8 +15,6 @@ use Rattle.vectors.specs.Vectors.{zero_vec3}
 use Rattle.vectors.specs.Vectors as vectors
 use Rattle.panning.specs.Choice.{0·0, 1·0}
 use Rattle.panning.specs.Table.{between, 8·0, Position}
-use Rattle.fields.specs.Update.{objects, elements}
-use Rattle.fields.specs.Block.{blocks}
 use Rattle.records.specs.Laid.{laid_out, count, update_at}
 use Rattle.records.specs.ValuesInRange.{in_range}
 use Rattle.timed.specs.Infos.{maybe_at}
