@@ -1,13 +1,13 @@
 -- The first that stops: what a refusal, or a test, that stops or does not leaves of those after it. Assumes nothing.
 use Prim.Native.Nat.{ℕ, ◌+◌, ◌<◌, ◌≤◌}
 use mathlib.Core.Path.{◌≡◌, refl, sym, ap, ◌∙◌}
-use mathlib.Core.Bool.{Bool, true, false, not}
+use mathlib.Core.Bool.{Bool, true, false}
 use mathlib.Core.List.{List}
 use lib.ListN.{length, get_or, drop, drop_of_length-le}
 use lib.Seq.{drop-cons}
 use native.Mathlib.Numerals.{add-one}
 use native.Mathlib.Omega.{arith}
-use borrow.Author.Tests.{ne_eqb, not-true, not-false}
+use borrow.Author.Tests.{ne_eqb}
 use Rattle.beds.specs.Matching.{counted}
 use Rattle.rules.specs.Refusals.{Found, clear, stop, ◌then◌, unless, every, bed_found, beds_found}
 use Rattle.refusals.specs.RefusalNumbers.{found_of}
@@ -15,11 +15,11 @@ use Rattle.refusals.specs.declared.Refusal.{Refusal}
 use Rattle.refusals.specs.FirstFound.{is_none, is_clear}
 
 -- a test that the code makes and that fails, or does not
-pub failed : {b r : Bool} → r ≡ b → not r ≡ true → b ≡ false
-failed {b} {r} e t = sym e ∙ not-true r t
+pub failed : {b r : Bool} → r ≡ b → r ≡ false → b ≡ false
+failed e t = sym e ∙ t
 
-pub passed : {b r : Bool} → r ≡ b → not r ≡ false → b ≡ true
-passed {b} {r} e t = sym e ∙ not-false r t
+pub passed : {b r : Bool} → r ≡ b → r ≡ true → b ≡ true
+passed e t = sym e ∙ t
 
 pub stops : (f x : Found) → is_none f ≡ false → (f then x) ≡ f
 stops clear x e = absurd (let z : ◌≡◌ {A = ℕ} 0 1 = cc in omega arith)

@@ -1,6 +1,6 @@
 -- What others may cite of this crate, a line each. Assumes nothing.
 
--- a refusal other than `Clear`, by its tag, is found
+-- a refusal other than `Clear` is found
 pub use Rattle.refusals.proofs.Cleared.{told, not_clear}
 -- the small part of a block, with the block's infos and places, is what the block decodes to
 pub use Rattle.refusals.proofs.Loaded.{loaded}

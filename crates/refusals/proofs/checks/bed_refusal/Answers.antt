@@ -3,7 +3,6 @@ use mathlib.Core.Path.{sym, ◌∙◌, ap}
 use Rattle.rules.specs.Refusals.{stop}
 use Prim.Native.Nat.{ℕ}
 use Rattle.refusals.proofs.First.{bed_missing, bed_unsupported, bed_clear}
-use borrow.Author.Rules.{rules}
 use Rattle.refusals.proofs.checks.bed_refusal.Goals as goal
 
 pub returns-then-count_matching-eq0 : goal.returns-then-count_matching-eq0

@@ -1,11 +1,9 @@
 -- `checks::each_refusal`: nothing was found before bed i. Assumes nothing.
-use Prim.Native.Nat.{◌≤◌, ◌-◌}
-use mathlib.Core.Path.{◌≡◌, refl, sym, ◌∙◌}
+use mathlib.Core.Path.{refl, sym, ◌∙◌}
 use native.Mathlib.Omega.{arith}
 use borrow.Author.Rules.{rules}
-use borrow.Author.Tests.{not-true, not-false}
-use lib.ListN.{length, drop, get_or}
-use Rattle.rules.specs.Refusals.{bed_found, beds_found}
+use lib.ListN.{get_or}
+use Rattle.rules.specs.Refusals.{bed_found}
 use Rattle.refusals.proofs.First.{chain_stops, chain_passes, beds_step, beds_end}
 use Rattle.refusals.proofs.checks.each_refusal.Goals as goal
 
@@ -19,7 +17,7 @@ returns-then-not-is_clear c =
     let b = c.bed_refusal-r in
     chain_stops b.result (bed_found s.beds.now s.codes.now (get_or s.beds.now l.i 0)) _ _ b.ensures
     (sym (beds_step s.beds.now s.codes.now l.i (omega (arith, c.loop-i-test))) ∙ l.invariant.1)
-    (sym c.is_clear.ensures ∙ not-true _ c.if-not-is_clear.true)
+    (sym c.is_clear.ensures ∙ c.if-not-is_clear.true)
 
 pub loop-i-preserved : goal.loop-i-preserved
 loop-i-preserved c =
@@ -29,7 +27,7 @@ loop-i-preserved c =
       search rules,
       chain_passes b.result (bed_found s.beds.now s.codes.now (get_or s.beds.now l.i 0)) _ _ b.ensures
           (sym (beds_step s.beds.now s.codes.now l.i (omega (arith, c.loop-i-test))) ∙ l.invariant.1)
-          (sym c.is_clear.ensures ∙ not-false _ c.if-not-is_clear.false),
+          (sym c.is_clear.ensures ∙ c.if-not-is_clear.false),
     )
 
 pub returns : goal.returns

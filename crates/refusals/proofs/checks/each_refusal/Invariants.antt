@@ -1,12 +1,8 @@
 -- `checks::each_refusal`: nothing was found before bed i. Assumes nothing.
 use Prim.Native.Nat.{◌≤◌, ◌-◌}
-use mathlib.Core.Path.{◌≡◌, refl, sym, ◌∙◌}
-use native.Mathlib.Omega.{arith}
-use borrow.Author.Rules.{rules}
-use borrow.Author.Tests.{not-true, not-false}
-use lib.ListN.{length, drop, get_or}
-use Rattle.rules.specs.Refusals.{bed_found, beds_found}
-use Rattle.refusals.proofs.First.{chain_stops, chain_passes, beds_step, beds_end}
+use mathlib.Core.Path.{◌≡◌}
+use lib.ListN.{length, drop}
+use Rattle.rules.specs.Refusals.{beds_found}
 use Rattle.refusals.proofs.checks.each_refusal.Given as goal
 
 abbrev pub invariant-loop-i : goal.invariant-loop-i

@@ -1,5 +1,4 @@
 -- `checks::objects_refusal`. Assumes nothing.
-use borrow.Author.Rules.{rules}
 use Rattle.refusals.proofs.checks.objects_refusal.Goals as goal
 
 pub returns-then-p : goal.returns-then-p

@@ -1,7 +1,6 @@
 -- At most 34 channels of fewer than 2 ^ 32 samples. Assumes nothing.
 use native.Mathlib.Nat.{mul-le-mul_right}
 use native.Mathlib.Omega.{arith}
-use borrow.Author.Rules.{rules}
 use Rattle.refusals.proofs.early.pcm_bytes.Goals as goal
 
 pub overflow_mul-result : goal.overflow_mul-result

@@ -1,17 +1,8 @@
 -- `later::walk_refusal`: nothing was found before t. Assumes nothing.
-use Prim.Native.Nat.{ℕ, suc, ◌-◌, ◌<◌, ◌≤◌}
-use mathlib.Core.Path.{◌≡◌, sym, ap, ◌∙◌}
-use native.Mathlib.Omega.{arith}
-use native.Mathlib.Numerals.{unary_clauses}
-use borrow.Author.Tests.{ltb-true, ltb-false}
-use Rattle.records.specs.LayoutAnswers.{offset_at}
-use Rattle.records.proofs.Theorems.{next_within, next_above}
-use Rattle.rules.specs.Leaves.{Shape}
-use Rattle.rules.specs.Refusals.{Found, walk, ◌then◌}
-use Rattle.refusals.specs.RefusalNumbers.{found_of}
+use Prim.Native.Nat.{◌-◌, ◌≤◌}
+use mathlib.Core.Path.{◌≡◌}
+use Rattle.rules.specs.Refusals.{walk}
 use Rattle.refusals.specs.PresentShape.{told_of, present_shape}
-use Rattle.refusals.proofs.First.{failed, passed, is_none_is, chain_stops, chain_passes}
-use Rattle.refusals.proofs.Walks.{Walking, counted_at, after, mixed, from, walk_step, walk_skips, walk_ends}
 use Rattle.refusals.proofs.later.walk_refusal.Given as goal
 
 abbrev pub invariant-loop-l : goal.invariant-loop-l

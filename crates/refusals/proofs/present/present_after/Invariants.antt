@@ -1,9 +1,6 @@
 -- `present::present_after`: the updates from i on lead from the shape now to that at the end. Assumes nothing.
-use Prim.Native.Nat.{◌-◌, ◌<◌, ◌≤◌}
-use mathlib.Core.Path.{refl}
-use native.Mathlib.Omega.{arith}
-use Rattle.records.specs.Laid.{count}
-use Rattle.refusals.proofs.Sent.{ShapeFrom, shape_go, shape_end}
+use Prim.Native.Nat.{◌-◌, ◌≤◌}
+use Rattle.refusals.proofs.Sent.{ShapeFrom}
 use Rattle.refusals.proofs.present.present_after.Given as goal
 
 abbrev pub invariant-loop-i : goal.invariant-loop-i

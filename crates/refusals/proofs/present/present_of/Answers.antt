@@ -1,5 +1,4 @@
 -- `present::present_of`. Assumes nothing.
-use borrow.Author.Rules.{rules}
 use Rattle.refusals.proofs.present.present_of.Goals as goal
 
 pub returns : goal.returns
