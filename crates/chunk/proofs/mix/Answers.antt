@@ -1,5 +1,4 @@
 -- `mix`: beds and objects where there are any. Assumes nothing.
-use borrow.Author.Rules.{rules}
 use lib.ListN.{length}
 use Rattle.chunk.proofs.Counts.{count_within, framed_within}
 use Rattle.chunk.proofs.mix.Goals as goal
