@@ -11,43 +11,43 @@ by_kind : {x y : Refusal} {r : Answer} → x ≡ y → r ≡ code_of_found (foun
 by_kind e h = h ∙ ap (λ (x : Refusal). code_of_found (found_of x)) (sym e)
 
 pub returns-in-Clear : goal.returns-in-Clear
-returns-in-Clear c = by_kind c.enum_told.given.1 c.stopped.ensures
+returns-in-Clear c = by_kind c.in-Clear.is c.stopped.ensures
 
 pub returns-in-Lent : goal.returns-in-Lent
-returns-in-Lent c = by_kind c.enum_told-in-Lent-1.given.1 c.stopped-in-Lent.ensures
+returns-in-Lent c = by_kind c.in-Lent.is c.stopped-in-Lent.ensures
 
 pub returns-in-Sizes : goal.returns-in-Sizes
-returns-in-Sizes c = by_kind c.enum_told-in-Sizes-1.given.1 c.stopped-in-Sizes.ensures
+returns-in-Sizes c = by_kind c.in-Sizes.is c.stopped-in-Sizes.ensures
 
 pub returns-in-Rate : goal.returns-in-Rate
-returns-in-Rate c = by_kind c.enum_told-in-Rate-1.given.1 c.stopped-in-Rate.ensures
+returns-in-Rate c = by_kind c.in-Rate.is c.stopped-in-Rate.ensures
 
 pub returns-in-StreamEnd : goal.returns-in-StreamEnd
-returns-in-StreamEnd c = by_kind c.enum_told-in-StreamEnd-1.given.1 c.stopped-in-StreamEnd.ensures
+returns-in-StreamEnd c = by_kind c.in-StreamEnd.is c.stopped-in-StreamEnd.ensures
 
 pub returns-in-Records : goal.returns-in-Records
-returns-in-Records c = by_kind c.enum_told-in-Records-1.given.1 c.stopped-in-Records.ensures
+returns-in-Records c = by_kind c.in-Records.is c.stopped-in-Records.ensures
 
 pub returns-in-Ranges : goal.returns-in-Ranges
-returns-in-Ranges c = by_kind c.enum_told-in-Ranges-1.given.1 c.stopped-in-Ranges.ensures
+returns-in-Ranges c = by_kind c.in-Ranges.is c.stopped-in-Ranges.ensures
 
 pub returns-in-Samples : goal.returns-in-Samples
-returns-in-Samples c = by_kind c.enum_told-in-Samples-1.given.1 c.stopped-in-Samples.ensures
+returns-in-Samples c = by_kind c.in-Samples.is c.stopped-in-Samples.ensures
 
 pub returns-in-SampleRateChanged : goal.returns-in-SampleRateChanged
-returns-in-SampleRateChanged c = by_kind c.found.given.1 c.stopped-in-SampleRateChanged.ensures
+returns-in-SampleRateChanged c = by_kind c.in-SampleRateChanged.is c.stopped-in-SampleRateChanged.ensures
 
 pub returns-in-MissingOamd : goal.returns-in-MissingOamd
-returns-in-MissingOamd c = by_kind c.enum_told-in-MissingOamd-1.given.1 c.stopped-in-MissingOamd.ensures
+returns-in-MissingOamd c = by_kind c.in-MissingOamd.is c.stopped-in-MissingOamd.ensures
 
 pub returns-in-ObjectCountMismatch : goal.returns-in-ObjectCountMismatch
-returns-in-ObjectCountMismatch c = by_kind c.found-in-ObjectCountMismatch-1.given.1 c.stopped-in-ObjectCountMismatch.ensures
+returns-in-ObjectCountMismatch c = by_kind c.in-ObjectCountMismatch.is c.stopped-in-ObjectCountMismatch.ensures
 
 pub returns-in-UnsupportedSampleCount : goal.returns-in-UnsupportedSampleCount
-returns-in-UnsupportedSampleCount c = by_kind c.enum_told-in-UnsupportedSampleCount-1.given.1 c.stopped-in-UnsupportedSampleCount.ensures
+returns-in-UnsupportedSampleCount c = by_kind c.in-UnsupportedSampleCount.is c.stopped-in-UnsupportedSampleCount.ensures
 
 pub returns-in-BedChannelCountMismatch : goal.returns-in-BedChannelCountMismatch
-returns-in-BedChannelCountMismatch c = by_kind c.found-in-BedChannelCountMismatch-1.given.1 c.stopped-in-BedChannelCountMismatch.ensures
+returns-in-BedChannelCountMismatch c = by_kind c.in-BedChannelCountMismatch.is c.stopped-in-BedChannelCountMismatch.ensures
 
 pub returns-in-UnsupportedBedChannel : goal.returns-in-UnsupportedBedChannel
-returns-in-UnsupportedBedChannel c = by_kind c.found-in-UnsupportedBedChannel-1.given.1 c.stopped-in-UnsupportedBedChannel.ensures
+returns-in-UnsupportedBedChannel c = by_kind c.in-UnsupportedBedChannel.is c.stopped-in-UnsupportedBedChannel.ensures
