@@ -1,12 +1,11 @@
 -- The channels in line: one more channel, absent or put in its place, and which channels there are at the end. Assumes nothing.
-use mathlib.Core.Path.{◌≡◌, refl, sym, subst, ◌∙◌}
+use mathlib.Core.Path.{◌≡◌, sym, subst, ◌∙◌}
 use mathlib.Core.Logic.{◌⊎◌, inl, inr}
-use mathlib.Core.Bool.{Bool, true, false, not, ◌&&◌}
+use mathlib.Core.Bool.{Bool, not, ◌&&◌}
 use mathlib.Core.List.Memᴰ
 use mathlib.Core.List.{List, [], ◌∷◌}
 use Prim.Native.Nat.{ℕ, suc, zero, ◌+◌, ◌-◌, ◌≤◌, ◌<◌}
-use native.Mathlib.Nat.{le_refl, le_trans, le_of_lt, eq-or-lt_of_le, lt_of_lt_of_le}
-use native.Mathlib.Numerals.{add-one}
+use native.Mathlib.Nat.{le_refl, eq-or-lt_of_le}
 use native.Mathlib.Omega.{arith}
 use lib.Dec.{T, T_not, eqb}
 use lib.Ieee.{Float, eq}
@@ -14,7 +13,7 @@ use lib.Ieee.Fits.{and_i, and_l, and_r}
 use Rattle.ieee.specs.Units.{F32}
 use Rattle.ieee.proofs.Compare.{eq→, →eq}
 use Rattle.vectors.specs.declared.Vec3.{Vec3}
-use Rattle.panning.specs.Choice.{keep, every_of}
+use Rattle.panning.specs.Choice.{every_of}
 use Rattle.panning.specs.Table.{Table, alike, distinct}
 use Rattle.panning.proofs.Lists.{In, Each, keep→, →keep, every→}
 use Rattle.panning.proofs.Tables.{all_tame}

@@ -1,8 +1,8 @@
 -- The hall that is made of a table: its arrays can be walked, and the marked speakers stand in them. Assumes nothing.
-use mathlib.Core.Path.{◌≡◌, refl, sym, subst}
+use mathlib.Core.Path.{◌≡◌, subst}
 use mathlib.Core.Bool.{Bool}
 use mathlib.Core.List.{List}
-use Prim.Native.Nat.{ℕ, ◌+◌, ◌≤◌, ◌<◌}
+use Prim.Native.Nat.{ℕ, ◌≤◌, ◌<◌}
 use native.Mathlib.Nat.{le_trans, lt_of_lt_of_le}
 use native.Mathlib.Omega.{arith}
 use lib.ListN.{replicate, get_or-replicate}
@@ -13,7 +13,6 @@ use Rattle.panning.specs.Table.{Table}
 use Rattle.panning.proofs.Lists.{some_of}
 use Rattle.panning.proofs.Corners.{corner_in}
 use Rattle.corners.specs.EqualRuns.{coordinate_at, index_at}
-use Rattle.corners.specs.Walkable.{Walkable, StandAt}
 use Rattle.corners.specs.SpeakerOrder.{place_among, is_marked, speakers_of, InLine, Gathered, RunEnds}
 use Rattle.corners.specs.Sorted.{Sorted}
 use Rattle.corners.proofs.Lexical.{Fine, Lex, lex_of}

@@ -68,9 +68,5 @@ squeezed a b v f g w e h k =
 pub passed : {b : Bool} → b ≡ true → T b
 passed e = subst T (sym e) tt
 
-pub passed_not : (b : Bool) → not b ≡ false → T b
-passed_not true e = tt
-passed_not false e = subst T e tt
-
 pub failed : {b : Bool} → b ≡ false → T (not b)
 failed e = subst (λ (x : Bool). T (not x)) (sym e) tt

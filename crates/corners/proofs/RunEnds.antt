@@ -1,9 +1,9 @@
 -- The ends of the runs: worked out from the last speaker back, they are the ends of the runs of equal coordinates. So the sorted arrays can be walked. Assumes nothing.
 use mathlib.Core.Path.{◌≡◌, refl, sym, subst, ◌∙◌}
-use mathlib.Core.Logic.{◌⊎◌, inl, inr}
+use mathlib.Core.Logic.{inl, inr}
 use mathlib.Core.Bool.{Bool, true, false, not, ◌&&◌, cond}
 use Prim.Native.Nat.{ℕ, suc, zero, ◌+◌, ◌-◌, ◌≤◌, ◌<◌}
-use native.Mathlib.Nat.{le_refl, le_trans, le_of_lt, le_of_eq, eq-or-lt_of_le, lt_of_lt_of_le, lt_of_le_of_lt, le_antisymm}
+use native.Mathlib.Nat.{le_trans, le_of_eq, eq-or-lt_of_le, lt_of_lt_of_le, lt_of_le_of_lt, le_antisymm}
 use native.Mathlib.Omega.{arith}
 use lib.Dec.{T, T_not, ltb, ltb→lt, nltb→le}
 use lib.Ieee.{Float, le, eq}
@@ -11,7 +11,7 @@ use Rattle.ieee.specs.Units.{F32}
 use Rattle.ieee.proofs.Compare.{le→, →eq}
 use Rattle.vectors.specs.declared.Vec3.{Vec3}
 use Rattle.corners.specs.EqualRuns.{Runs}
-use Rattle.corners.specs.SpeakerOrder.{run_end, RunEnds}
+use Rattle.corners.specs.SpeakerOrder.{RunEnds}
 use Rattle.corners.specs.Walkable.{Walkable}
 use Rattle.corners.proofs.Rising.{le_self, through, eq_le}
 use Rattle.corners.proofs.Lexical.{Fine, Lex, lex_y, lex_z, lex_left, lex_apart}

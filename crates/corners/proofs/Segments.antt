@@ -1,20 +1,20 @@
 -- The ends of a list of channels are runs of indexes: where the channels of l stand in order from a up to b, those up to v from a up to s, the nearest up to v are the last run
 -- before s, and the nearest beyond v the run at s. Which channels l has counts, not their order in l. Assumes nothing.
 use mathlib.Core.Path.{◌≡◌, refl, sym, subst}
-use mathlib.Core.Logic.{◌⊎◌, inl, inr}
-use mathlib.Core.Bool.{Bool, true, false, not}
+use mathlib.Core.Logic.{inl, inr}
+use mathlib.Core.Bool.{Bool, not}
 use mathlib.Core.List.Memᴰ
 use mathlib.Core.List.{List, [], ◌∷◌}
 use Prim.Native.Nat.{ℕ, ◌+◌, ◌≤◌, ◌<◌}
-use native.Mathlib.Nat.{le_refl, le_trans, le_of_lt, lt_of_lt_of_le, lt_of_le_of_lt, lt_irrefl}
+use native.Mathlib.Nat.{le_refl, le_trans, le_of_lt, lt_of_lt_of_le}
 use native.Mathlib.Omega.{arith}
 use lib.Dec.{T, T_not, not_T}
-use lib.Ieee.{Float, binary32, fits, le, eq}
+use lib.Ieee.{Float, le}
 use Rattle.ieee.specs.Units.{F32}
-use Rattle.panning.specs.Choice.{keep, every_of, first, or_list, ge, outermost, below, above, level, end, flank}
-use Rattle.panning.proofs.Lists.{In, Each, keep→, →keep, every→, →every, or_else→}
-use Rattle.corners.specs.EqualRuns.{Members, Runs}
-use Rattle.corners.proofs.Rising.{less_or_not, le_self, through}
+use Rattle.panning.specs.Choice.{keep, every_of, first, or_list, ge, outermost, below, above}
+use Rattle.panning.proofs.Lists.{In, Each, keep→, →keep, every→, →every}
+use Rattle.corners.specs.EqualRuns.{Members}
+use Rattle.corners.proofs.Rising.{less_or_not, through}
 
 module _ {ch : ℕ → ℕ} {a b : ℕ} {l : List ℕ} (h : Members ch a b l) where
   -- what holds of each channel from a up to b holds of each member

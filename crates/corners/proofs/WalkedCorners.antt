@@ -2,16 +2,15 @@
 use mathlib.Core.Path.{◌≡◌, refl, sym}
 use mathlib.Core.Bool.{Bool, true, false}
 use mathlib.Core.List.{List, [], ◌∷◌, map}
-use Prim.Native.Nat.{ℕ, ◌+◌, ◌≤◌, ◌<◌}
+use Prim.Native.Nat.{ℕ, ◌≤◌, ◌<◌}
 use native.Mathlib.Nat.{le_trans, lt_of_lt_of_le}
-use native.Mathlib.Omega.{arith}
 use lib.Ieee.{Float}
 use Rattle.vectors.specs.declared.Vec3.{Vec3}
 use Rattle.panning.specs.Choice.{first, end, flank, row_among, side, corner, corners}
 use Rattle.panning.specs.Choice as choice
 use Rattle.corners.specs.declared.walk.Neighbours.{Neighbours}
 use Rattle.corners.specs.declared.walk.Quad.{Quad}
-use Rattle.corners.specs.EqualRuns.{Members, Runs, Along, neighbour, EndsAt, SidesAt}
+use Rattle.corners.specs.EqualRuns.{Along, neighbour, EndsAt, SidesAt}
 use Rattle.corners.specs.Walkable.{RowRuns, LayerRuns, Walkable, StandAt, RowAt, quad_row, LayerAt}
 
 pub row_at : {x : ℕ → Float} (ch : ℕ → ℕ) {a b : ℕ} {v : Float} {r : Neighbours} → SidesAt x a b v r → RowAt x ch a b v (record { low = ch r.low; high = ch r.high })

@@ -1,5 +1,5 @@
 -- The order in which the speakers are sorted, by (y, z, x), and which they are. A reader may skip the rest: the contracts of the functions that sort them. Assumes nothing.
-use Rattle.std.specs.Prelude.{ℕ, ◌+◌, ◌≤◌, ◌<◌, ◌≡◌, Bool, true, false, not, ◌&&◌, cond, List, [], ◌∷◌, T, ltb, get_or, Float}
+use Rattle.std.specs.Prelude.{ℕ, ◌+◌, ◌≤◌, ◌<◌, ◌≡◌, Bool, false, ◌&&◌, cond, List, [], ◌∷◌, T, ltb, get_or, Float}
 use Rattle.std.specs.Float.Ieee.{lt, eq}
 use Rattle.vectors.specs.declared.Vec3.{Vec3}
 use Rattle.panning.specs.Choice.{keep}

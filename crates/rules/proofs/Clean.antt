@@ -1,5 +1,5 @@
 -- What a renderer keeps between calls is finite. Assumes nothing beyond `Facts`.
-use mathlib.Core.Path.{◌≡◌, sym, subst}
+use mathlib.Core.Path.{sym, subst}
 use mathlib.Core.Logic.{inl, inr}
 use mathlib.Core.List.{List, [], ◌∷◌}
 use Prim.Native.Nat.{ℕ, ◌≤◌}
@@ -16,7 +16,6 @@ use Rattle.rules.specs.BlockCalls.{Layout}
 use Rattle.rules.specs.Demand3.{nine, Clean}
 use Rattle.rules.proofs.EachOf.{all_map}
 use Rattle.rules.proofs.Owed.{Facts}
-use Rattle.rules.proofs.ChannelBound.{Most}
 use Rattle.rules.proofs.Invariant.{Steady, Rest}
 use Rattle.rules.proofs.Ringing.{Fed}
 

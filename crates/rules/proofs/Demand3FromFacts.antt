@@ -15,7 +15,7 @@ use Rattle.rules.specs.Refusals.{Args, Found, clear, stop, room}
 use Rattle.rules.specs.Calls.{Call, push, flush, reset, found, asked, drained, step, final}
 use Rattle.rules.specs.Promises.{CallHolds, AllHold}
 use Rattle.rules.specs.Ringing.{fed_since, AllRing}
-use Rattle.rules.specs.BlockCalls.{Layout, out_of, stride_of, left, final_on, Seen, as_seen, seen_on, told}
+use Rattle.rules.specs.BlockCalls.{Layout, out_of, stride_of, final_on, Seen, as_seen, seen_on, told}
 use Rattle.rules.specs.Demand3.{GivenOut, AllClean, Lent, AllLent, AllGivenOut, Demand3, EveryList}
 use Rattle.rules.proofs.Owed.{Facts, InRanges}
 use Rattle.rules.proofs.Invariant.{Rest, fresh_rest}

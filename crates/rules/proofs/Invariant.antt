@@ -3,7 +3,7 @@ use mathlib.Core.Path.{◌≡◌, refl, sym, ap, ◌∙◌, subst}
 use mathlib.Core.Logic.{◌⊎◌, inl, inr}
 use mathlib.Core.Bool.{Bool, true, false, cond, ◌&&◌}
 use mathlib.Core.List.{List, [], ◌∷◌}
-use Prim.Native.Nat.{ℕ, suc, ◌+◌, ◌*◌, ◌≤◌, ◌<◌}
+use Prim.Native.Nat.{ℕ, ◌+◌, ◌*◌, ◌<◌}
 use native.Mathlib.Nat.{le_of_eq, not-suc-le-zero}
 use native.Mathlib.Omega.{arith}
 use borrow.Author.Tests.{leb-true, eq-eqb}
@@ -14,7 +14,7 @@ use lib.Ieee.Bits.{of_bits-to_bits}
 use Rattle.ieee.specs.Units.{One, F32, Gain, Unitary}
 use Rattle.ieee.specs.Bounds.{Bounded, All}
 use Rattle.ieee.proofs.Constants.{zero_f32}
-use Rattle.lowpass.specs.Lowpass.{output, next, new}
+use Rattle.lowpass.specs.Lowpass.{output, new}
 use Rattle.lowpass.proofs.Calm.{Calm, calm_next, output_bounded}
 use Rattle.lowpass.proofs.CalmAtRates.{calm_listed}
 use Rattle.angles.specs.Angle.{Listed}

@@ -15,13 +15,12 @@ use Rattle.ieee.proofs.Theorems.{mag_is, whole_grid, whole_less, mul_bounded, pr
 use Rattle.mixing.specs.Sums.{plus, total}
 use Rattle.mixing.proofs.Theorems.{total_append}
 use Rattle.panning.specs.Setup.{Setup, HallFits}
-use Rattle.panning.specs.Table.{between, 8·0}
 use Rattle.panning.specs.Terms.{Term, on_channel}
 use Rattle.panning.proofs.Theorems.{no_bass}
 use Rattle.panning.proofs.Tables.{gain8, size1}
 use Rattle.rules.specs.Parts.{0·0}
 use Rattle.rules.specs.Leaves.{Source}
-use Rattle.rules.specs.Mix.{Moment, object_terms, send_of, added_terms, object_adds, objects_on, beds_on, heard, fed, fed_by_beds}
+use Rattle.rules.specs.Mix.{Moment, object_terms, send_of, object_adds, objects_on, beds_on, heard, fed, fed_by_beds}
 use Rattle.rules.specs.Promises.{unsent}
 use Rattle.rules.proofs.Owed.{InHall}
 use Rattle.rules.proofs.TermBounds.{eight_bounded, Modest, panned_modest}

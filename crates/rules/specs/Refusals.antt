@@ -3,7 +3,7 @@ use Rattle.std.specs.Prelude.{ℕ, zero, suc, ◌+◌, ◌*◌, ◌%◌, Bool, t
 use Rattle.mixing.specs.FrameSamples.{all_pass}
 use Rattle.beds.specs.Matching.{counted}
 pub use Rattle.rates.specs.Rates.{listed}
-use Rattle.rules.specs.Leaves.{Leaves, Shape, started}
+use Rattle.rules.specs.Leaves.{Leaves, Shape}
 use Rattle.rules.specs.Samples.{State}
 
 -- what a push is handed besides the state block; the bed codes are as many as there are beds

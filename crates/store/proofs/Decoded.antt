@@ -1,6 +1,6 @@
 -- What a valid block of bytes holds is in range. Assumes nothing.
-use mathlib.Core.Path.{◌≡◌, refl, sym, ap, subst, ◌∙◌}
-use mathlib.Core.Bool.{Bool, true, not, ◌||◌, ◌&&◌}
+use mathlib.Core.Path.{◌≡◌, refl, ap, subst}
+use mathlib.Core.Bool.{Bool, not, ◌||◌, ◌&&◌}
 use mathlib.Core.List.{List, [], ◌∷◌}
 use Prim.Native.Nat.{ℕ, zero, suc, ◌+◌, ◌-◌, ◌*◌, ◌<◌, ◌≤◌}
 use native.Mathlib.Omega.{arith}
@@ -16,7 +16,7 @@ use Rattle.timed.specs.Slot.{middle, InRange, no_block}
 use Rattle.timed.specs.State.{no_element}
 use Rattle.timed.specs.State as timed
 use Rattle.rules.specs.Parts.{Places}
-use Rattle.formats.specs.Areas.{info_count, infos_bytes, row_count, row_places, row_bytes}
+use Rattle.formats.specs.Areas.{info_count, infos_bytes, row_places, row_bytes}
 use Rattle.store.specs.declared.renderer.Renderer714.{Renderer714}
 use Rattle.store.specs.Singles.{Brief}
 use Rattle.store.specs.Fields.{element_format, small_of}

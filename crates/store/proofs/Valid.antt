@@ -1,5 +1,5 @@
 -- The block of a renderer in range is valid. Assumes nothing.
-use mathlib.Core.Path.{◌≡◌, sym, subst}
+use mathlib.Core.Path.{sym, subst}
 use mathlib.Core.Bool.{◌&&◌}
 use mathlib.Core.List.{List}
 use Prim.Native.Nat.{ℕ}

@@ -1,5 +1,5 @@
 -- A block of bytes is valid exactly if it has the right length and its three parts pass the tests of their formats. Assumes nothing.
-use mathlib.Core.Path.{◌≡◌, refl, sym, ap, ◌∙◌}
+use mathlib.Core.Path.{◌≡◌, sym, ap, ◌∙◌}
 use mathlib.Core.Bool.{Bool, true, ◌&&◌}
 use mathlib.Core.List.{List, [], ◌∷◌}
 use Prim.Native.Nat.{ℕ, zero, suc, ◌^◌, ◌<◌}
@@ -12,7 +12,7 @@ use Rattle.words.proofs.Small.{run_small}
 use Rattle.formats.specs.Areas.{info_count, infos_format, row_count, row_places, row_format, places_format, place_count}
 use Rattle.formats.proofs.Theorems.{all_same, all_any, heads_format, and_true}
 use Rattle.store.specs.Layout.{small_width, places_at, size, infos_of}
-use Rattle.store.specs.ValidBlocks.{heads_valid, small_part, small_valid, valid}
+use Rattle.store.specs.ValidBlocks.{small_part, small_valid, valid}
 
 -- words of any bits pass
 

@@ -1,6 +1,6 @@
 -- The state block, from a renderer and to one. Document 01: "the renderer's state is a block of fixed length". It is 29,072 bytes: the small part's words (1,424), the object
 -- infos as they are (24,576), 12 rows of 64 places for pending samples (3,072). What is added later stands behind these. Assumes nothing.
-use Rattle.std.specs.Prelude.{ℕ, zero, suc, ◌+◌, ◌*◌, false, List, [], ◌∷◌, ◌++◌, get_or, take, drop, replicate}
+use Rattle.std.specs.Prelude.{ℕ, zero, suc, false, List, [], ◌∷◌, ◌++◌, get_or, take, drop, replicate}
 use Rattle.words.specs.Words.{words_at}
 use Rattle.formats.specs.Areas.{infos_bytes, row_count, places_format, place_count}
 use Rattle.vectors.specs.declared.Vec3.{Vec3}

@@ -9,7 +9,6 @@ use Rattle.formats.specs.Format.{Format, such}
 use Rattle.timed.specs.Slot.{middle}
 use Rattle.timed.specs.State.{element_of}
 use Rattle.timed.specs.declared.state.MetadataRendererState.{MetadataRendererState}
-use Rattle.rules.specs.Refusals.{listed}
 use Rattle.store.specs.declared.renderer.Renderer714.{Renderer714}
 use Rattle.store.specs.Fields.{small_format}
 use Rattle.store.specs.Layout.{small_width, size, infos_of}

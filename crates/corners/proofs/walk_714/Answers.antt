@@ -13,5 +13,5 @@ hall_of-h-requires c = table_714
 pub returns : goal.returns
 unfolding of_bits neg round positions714 xs ys zs
 returns c =
-    let w : T (fits binary32 c.args.place.x) = search (rules, c.well-formed) in
+    let w : T (fits binary32 c.args.place.x) = search (rules, c.well_formed) in
     same_as_714 c.hall_of-h.result (sorted_714 c.hall_of-h.result c.hall_of-h.ensures) c.args.place w c.cube.result c.cube.ensures

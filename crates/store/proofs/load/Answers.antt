@@ -1,5 +1,4 @@
 -- The fields; what is beside their words plays no part. Assumes nothing.
-use borrow.Author.Rules.{rules}
 use mathlib.Core.Path.{◌∙◌}
 use Rattle.store.proofs.BlockTests.{small_in_block}
 use Rattle.store.proofs.load.Goals as goal

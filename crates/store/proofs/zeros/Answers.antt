@@ -1,10 +1,9 @@
 -- The bytes before `i` are zero. Assumes nothing.
-use borrow.Author.Rules.{rules}
 use mathlib.Core.Path.{◌≡◌, sym, ap, ◌∙◌}
-use Prim.Native.Nat.{ℕ, ◌-◌, ◌≤◌, ◌<◌}
+use Prim.Native.Nat.{ℕ, ◌≤◌, ◌<◌}
 use native.Mathlib.Omega.{arith}
 use native.Mathlib.Numerals.{add-one}
-use lib.ListN.{length, take, replicate, length-set, replicate-append-replicate}
+use lib.ListN.{length, replicate, length-set, replicate-append-replicate}
 use lib.Seq.{take-suc-set, take_all}
 use Rattle.store.proofs.zeros.Goals as goal
 

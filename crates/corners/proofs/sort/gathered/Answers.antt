@@ -1,8 +1,8 @@
 -- `corners::sort::gathered` meets its contract. Assumes nothing.
-use mathlib.Core.Path.{◌≡◌, refl, ◌∙◌}
-use Prim.Native.Nat.{ℕ, ◌≤◌, ◌<◌, ◌-◌}
+use mathlib.Core.Path.{refl, ◌∙◌}
+use Prim.Native.Nat.{ℕ, ◌<◌}
 use native.Mathlib.Omega.{arith}
-use lib.ListN.{length, length-set}
+use lib.ListN.{length-set}
 use lib.Ieee.{nan}
 use borrow.Author.Rules.{rules}
 use Rattle.corners.specs.EqualRuns.{coordinate_at, index_at}
@@ -33,7 +33,7 @@ below : (c : In-loop-i) → index_at c.args.channel.now c.loop-i.i < 12
 below c = c.requires.1 c.loop-i.i c.loop-i-test.true
 
 pub offset_bounds-c-k : goal.offset_bounds-c-k
-offset_bounds-c-k c = let h = below c in search rules
+offset_bounds-c-k c = let h = below (goal.at.offset_bounds-c-k c).In-loop-i in search rules
 
 pub bounds-c-k : goal.bounds-c-k
-bounds-c-k c = below c
+bounds-c-k c = below (goal.at.bounds-c-k c).In-loop-i

@@ -1,12 +1,8 @@
 -- `corners::sort::gathered` meets its contract. Assumes nothing.
-use mathlib.Core.Path.{◌≡◌, refl, ◌∙◌}
+use mathlib.Core.Path.{◌≡◌}
 use Prim.Native.Nat.{ℕ, ◌≤◌, ◌<◌, ◌-◌}
-use native.Mathlib.Omega.{arith}
-use lib.ListN.{length, length-set}
-use lib.Ieee.{nan}
-use borrow.Author.Rules.{rules}
+use lib.ListN.{length}
 use Rattle.corners.specs.EqualRuns.{coordinate_at, index_at}
-use Rattle.corners.proofs.Writes.{filled_more}
 use Rattle.corners.proofs.sort.gathered.Given as goal
 
 abbrev pub invariant-loop-i : goal.invariant-loop-i

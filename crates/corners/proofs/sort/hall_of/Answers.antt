@@ -1,5 +1,4 @@
 -- `corners::sort::hall_of` meets its contract. Assumes nothing.
-use borrow.Author.Rules.{rules}
 use Prim.Native.Nat.{ℕ, ◌≤◌, ◌<◌}
 use native.Mathlib.Nat.{le_trans, le_of_eq, lt_of_lt_of_le}
 use lib.ListN.{get_or-replicate}

@@ -1,12 +1,13 @@
 -- `corners::sort::insert` meets its contract: the channels that come after k move up one by one. Assumes nothing.
-use Prim.Native.Nat.{ℕ, ◌≤◌, ◌<◌, ◌-◌}
+use Prim.Native.Nat.{ℕ, ◌<◌, ◌-◌}
 use native.Mathlib.Omega.{arith}
 use borrow.Author.Rules.{rules}
-use mathlib.Core.Path.{◌≡◌, subst}
+use mathlib.Core.Path.{◌≡◌, ap, subst}
+use mathlib.Core.Bool.{not}
 use lib.Dec.{T}
 use Rattle.corners.specs.EqualRuns.{index_at}
 use Rattle.corners.specs.SpeakerOrder.{place_among, precedes}
-use Rattle.corners.proofs.Rising.{passed_not}
+use Rattle.corners.proofs.Rising.{passed}
 use Rattle.corners.proofs.Writes.{Shifted, unshifted, shift_on, put_in, not_before}
 use Rattle.corners.proofs.sort.insert.Goals as goal
 use Rattle.corners.proofs.sort.insert.Goals.{After-precedes, At-loop-i}
@@ -33,33 +34,34 @@ said c =
 pub returns-then-not-precedes : goal.returns-then-not-precedes
 returns-then-not-precedes c =
     let a = c.args in
-    put_in c.requires.0 c.loop-i.invariant (not_before (place_among a.x.now a.y.now a.z.now) c.loop-i.r a.k c.loop-i.i _ (said (goal.at.returns-then-not-precedes c).After-precedes) c.if-not-precedes.true)
+    let e = said (goal.at.returns-then-not-precedes c).After-precedes in
+    put_in c.requires.0 c.loop-i.invariant (not_before (place_among a.x.now a.y.now a.z.now) c.loop-i.r a.k c.loop-i.i _ e (ap not c.if-not-precedes.true))
 
 pub loop-i-preserved : goal.loop-i-preserved
 loop-i-preserved c =
-    shift_on c.requires.0 c.loop-i-test.true c.loop-i.invariant (subst T (said (goal.at.loop-i-preserved c).After-precedes) (passed_not c.precedes.result c.if-not-precedes.false))
+    shift_on c.requires.0 c.loop-i-test.true c.loop-i.invariant (subst T (said (goal.at.loop-i-preserved c).After-precedes) (passed c.if-not-precedes.false))
 
-pub returns-then-not-precedes : goal.returns
-returns-then-not-precedes c =
+pub returns : goal.returns
+returns c =
     let a = c.args in
     let e : c.loop-i.i ≡ 0 = omega (arith, c.loop-i-test.false) in
     let h = subst (λ (x : ℕ). Shifted (place_among a.x.now a.y.now a.z.now) a.channel a.n a.k x c.loop-i.r) e c.loop-i.invariant in
     put_in c.requires.0 h (λ j q t. omega arith)
 
 pub offset_bounds-r-i : goal.offset_bounds-r-i
-offset_bounds-r-i c = let h = below c in search rules
+offset_bounds-r-i c = let h = below (goal.at.offset_bounds-r-i c).At-loop-i in search rules
 
 pub bounds-r-i : goal.bounds-r-i
-bounds-r-i c = let h = below c in omega arith
+bounds-r-i c = let h = below (goal.at.bounds-r-i c).At-loop-i in omega arith
 
 pub offset_bounds-r-i-then-not-precedes : goal.offset_bounds-r-i-then-not-precedes
-offset_bounds-r-i-then-not-precedes c = let h = below c in search rules
+offset_bounds-r-i-then-not-precedes c = let h = below (goal.at.offset_bounds-r-i-then-not-precedes c).At-loop-i in search rules
 
 pub bounds-r-i-then-not-precedes : goal.bounds-r-i-then-not-precedes
-bounds-r-i-then-not-precedes c = below c
+bounds-r-i-then-not-precedes c = below (goal.at.bounds-r-i-then-not-precedes c).At-loop-i
 
 pub offset_bounds-r-i-in-loop-i : goal.offset_bounds-r-i-in-loop-i
-offset_bounds-r-i-in-loop-i c = let h = below c in search rules
+offset_bounds-r-i-in-loop-i c = let h = below (goal.at.offset_bounds-r-i-in-loop-i c).At-loop-i in search rules
 
 pub bounds-r-i-in-loop-i : goal.bounds-r-i-in-loop-i
-bounds-r-i-in-loop-i c = below c
+bounds-r-i-in-loop-i c = below (goal.at.bounds-r-i-in-loop-i c).At-loop-i

@@ -1,13 +1,6 @@
 -- `corners::sort::insert` meets its contract: the channels that come after k move up one by one. Assumes nothing.
-use Prim.Native.Nat.{ℕ, ◌≤◌, ◌<◌, ◌-◌}
-use native.Mathlib.Omega.{arith}
-use borrow.Author.Rules.{rules}
-use mathlib.Core.Path.{◌≡◌, subst}
-use lib.Dec.{T}
-use Rattle.corners.specs.EqualRuns.{index_at}
-use Rattle.corners.specs.SpeakerOrder.{place_among, precedes}
-use Rattle.corners.proofs.Rising.{passed_not}
-use Rattle.corners.proofs.Writes.{Shifted, unshifted, shift_on, put_in, not_before}
+use Rattle.corners.specs.SpeakerOrder.{place_among}
+use Rattle.corners.proofs.Writes.{Shifted}
 use Rattle.corners.proofs.sort.insert.Given as goal
 
 abbrev pub invariant-loop-i : goal.invariant-loop-i

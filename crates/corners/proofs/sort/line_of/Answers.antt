@@ -1,8 +1,7 @@
 -- `corners::sort::line_of` meets its contract. Assumes nothing.
-use Prim.Native.Nat.{ℕ, ◌≤◌, ◌-◌}
-use native.Mathlib.Omega.{arith}
+use Prim.Native.Nat.{ℕ}
 use borrow.Author.Rules.{rules}
-use mathlib.Core.Path.{◌≡◌, subst}
+use mathlib.Core.Path.{subst}
 use native.Mathlib.Nat.{le_antisymm}
 use Rattle.corners.specs.EqualRuns.{index_at}
 use Rattle.corners.specs.SpeakerOrder.{place_among, is_marked, InLine}

@@ -1,12 +1,7 @@
 -- `corners::sort::line_of` meets its contract. Assumes nothing.
-use Prim.Native.Nat.{ℕ, ◌≤◌, ◌-◌}
-use native.Mathlib.Omega.{arith}
-use borrow.Author.Rules.{rules}
-use mathlib.Core.Path.{◌≡◌, subst}
-use native.Mathlib.Nat.{le_antisymm}
+use Prim.Native.Nat.{◌≤◌, ◌-◌}
 use Rattle.corners.specs.EqualRuns.{index_at}
 use Rattle.corners.specs.SpeakerOrder.{place_among, is_marked, InLine}
-use Rattle.corners.proofs.Lined.{line_start}
 use Rattle.corners.proofs.sort.line_of.Given as goal
 
 abbrev pub invariant-loop-k : goal.invariant-loop-k

@@ -1,5 +1,4 @@
 -- `corners::sort::run_end` meets its contract, by its tests. Assumes nothing.
-use borrow.Author.Rules.{rules}
 use Rattle.corners.specs.EqualRuns.{coordinate_at, index_at}
 use Rattle.corners.proofs.Writes.{run_on, run_apart, run_out}
 use Rattle.corners.proofs.sort.run_end.Goals as goal

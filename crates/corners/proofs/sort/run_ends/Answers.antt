@@ -1,11 +1,10 @@
 -- `corners::sort::run_ends` meets its contract. Assumes nothing.
-use mathlib.Core.Path.{◌≡◌, refl, ◌∙◌}
-use Prim.Native.Nat.{ℕ, ◌≤◌, ◌<◌, ◌-◌}
+use mathlib.Core.Path.{refl, ◌∙◌}
+use Prim.Native.Nat.{◌-◌}
 use native.Mathlib.Omega.{arith}
-use lib.ListN.{length, length-set}
+use lib.ListN.{length-set}
 use borrow.Author.Rules.{rules}
 use Rattle.corners.specs.EqualRuns.{coordinate_at, index_at}
-use Rattle.corners.specs.SpeakerOrder.{run_end}
 use Rattle.corners.proofs.Writes.{ends_more}
 use Rattle.corners.proofs.sort.run_ends.Goals as goal
 

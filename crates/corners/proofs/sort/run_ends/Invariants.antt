@@ -1,12 +1,9 @@
 -- `corners::sort::run_ends` meets its contract. Assumes nothing.
-use mathlib.Core.Path.{◌≡◌, refl, ◌∙◌}
-use Prim.Native.Nat.{ℕ, ◌≤◌, ◌<◌, ◌-◌}
-use native.Mathlib.Omega.{arith}
-use lib.ListN.{length, length-set}
-use borrow.Author.Rules.{rules}
+use mathlib.Core.Path.{◌≡◌}
+use Prim.Native.Nat.{ℕ, ◌≤◌, ◌<◌}
+use lib.ListN.{length}
 use Rattle.corners.specs.EqualRuns.{coordinate_at, index_at}
 use Rattle.corners.specs.SpeakerOrder.{run_end}
-use Rattle.corners.proofs.Writes.{ends_more}
 use Rattle.corners.proofs.sort.run_ends.Given as goal
 
 abbrev pub invariant-loop-j : goal.invariant-loop-j

@@ -1,5 +1,4 @@
 -- `corners::walk::cube` meets its contract. Assumes nothing.
-use borrow.Author.Rules.{rules}
 use mathlib.Core.Bool.{true, false}
 use Rattle.corners.proofs.WalkedCorners.{layer_runs, cube_is}
 use Rattle.corners.proofs.walk.cube.Goals as goal

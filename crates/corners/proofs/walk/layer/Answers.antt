@@ -1,5 +1,4 @@
 -- `corners::walk::layer` meets its contract. Assumes nothing.
-use borrow.Author.Rules.{rules}
 use mathlib.Core.Bool.{true, false}
 use Rattle.corners.proofs.WalkedCorners.{row_runs, layer_at}
 use Rattle.corners.proofs.walk.layer.Goals as goal

@@ -18,13 +18,13 @@ pub returns : goal.returns
 returns c = row_at (index_at c.args.channel.now) c.sides-s.ensures
 
 pub offset_bounds-channel-low : goal.offset_bounds-channel-low
-offset_bounds-channel-low c = let h = low_below c in search rules
+offset_bounds-channel-low c = let h = low_below (goal.at.offset_bounds-channel-low c).After-sides-s in search rules
 
 pub bounds-channel-low : goal.bounds-channel-low
-bounds-channel-low c = let h = low_below c in search rules
+bounds-channel-low c = let h = low_below (goal.at.bounds-channel-low c).After-sides-s in search rules
 
 pub offset_bounds-channel-high : goal.offset_bounds-channel-high
-offset_bounds-channel-high c = let h = high_below c in search rules
+offset_bounds-channel-high c = let h = high_below (goal.at.offset_bounds-channel-high c).After-sides-s in search rules
 
 pub bounds-channel-high : goal.bounds-channel-high
-bounds-channel-high c = let h = high_below c in search rules
+bounds-channel-high c = let h = high_below (goal.at.bounds-channel-high c).After-sides-s in search rules

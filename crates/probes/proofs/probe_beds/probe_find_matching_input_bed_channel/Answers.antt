@@ -4,11 +4,8 @@ use Rattle.probes.specs.Beds.{found_number}
 use borrow.Author.Rules.{rules}
 use Rattle.probes.proofs.probe_beds.probe_find_matching_input_bed_channel.Goals as goal
 
-}
-use Rattle.probes.proofs.probe_beds.probe_find_matching_input_bed_channel.Tie as tie
-
 pub returns-in-At : goal.returns-in-At
-returns-in-At c = sym (ap found_number (sym c.find_matching_input_bed_channel-found.ensures ∙ c.found.given.1))
+returns-in-At c = sym (ap found_number (sym c.find_matching_input_bed_channel-found.ensures ∙ c.in-At.is))
 
 pub returns-in-Nothing : goal.returns-in-Nothing
-returns-in-Nothing c = sym (ap found_number (sym c.find_matching_input_bed_channel-found.ensures ∙ c.enum_told.given.1))
+returns-in-Nothing c = sym (ap found_number (sym c.find_matching_input_bed_channel-found.ensures ∙ c.in-Nothing.is))

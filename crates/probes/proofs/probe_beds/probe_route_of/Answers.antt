@@ -5,13 +5,13 @@ use borrow.Author.Rules.{rules}
 use Rattle.probes.proofs.probe_beds.probe_route_of.Goals as goal
 
 pub returns-in-Direct : goal.returns-in-Direct
-returns-in-Direct c = sym (ap route_number (sym c.route_of-route.ensures ∙ c.route.given.1))
+returns-in-Direct c = sym (ap route_number (sym c.route_of-route.ensures ∙ c.in-Direct.is))
 
 pub returns-in-Bass : goal.returns-in-Bass
-returns-in-Bass c = sym (ap route_number (sym c.route_of-route.ensures ∙ c.enum_told.given.1))
+returns-in-Bass c = sym (ap route_number (sym c.route_of-route.ensures ∙ c.in-Bass.is))
 
 pub returns-in-Folded : goal.returns-in-Folded
-returns-in-Folded c = sym (ap route_number (sym c.route_of-route.ensures ∙ c.enum_told-in-Folded-1.given.1))
+returns-in-Folded c = sym (ap route_number (sym c.route_of-route.ensures ∙ c.in-Folded.is))
 
 pub returns-in-Unsupported : goal.returns-in-Unsupported
-returns-in-Unsupported c = sym (ap route_number (sym c.route_of-route.ensures ∙ c.enum_told-in-Unsupported-1.given.1))
+returns-in-Unsupported c = sym (ap route_number (sym c.route_of-route.ensures ∙ c.in-Unsupported.is))

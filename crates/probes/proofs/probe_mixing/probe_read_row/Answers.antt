@@ -9,7 +9,7 @@ use Rattle.probes.proofs.ProbeAnswers.{chosen, passed_over, fits_and, unfit_and}
 use Rattle.probes.proofs.probe_mixing.probe_read_row.Goals as goal
 
 pub read_row-requires : goal.read_row-requires
-read_row-requires c = (search rules, pass_plain _ 0 _ (sym c.samples_pass.ensures ∙ c.if-samples_pass.true))
+read_row-requires c = record { row_in_bounds = search rules; plain = pass_plain _ 0 _ (sym c.samples_pass.ensures ∙ c.if-samples_pass.true) }
 
 pub returns-then-samples_pass : goal.returns-then-samples_pass
 returns-then-samples_pass c =

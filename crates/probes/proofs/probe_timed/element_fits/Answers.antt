@@ -1,6 +1,6 @@
 -- Each test in turn. Assumes nothing.
 use mathlib.Core.Path.{sym, ◌∙◌}
-use borrow.Author.Tests.{not-true, not-false, le-leb, lt-leb}
+use borrow.Author.Tests.{le-leb, lt-leb}
 use borrow.Author.Rules.{rules}
 use Rattle.probes.specs.Timed.{element_fits}
 use Rattle.probes.proofs.probe_timed.element_fits.Goals as goal
@@ -11,14 +11,14 @@ returns-then-e-gt8 c = simp (lt-leb _ _ c.if-e-gt8.true)
 
 pub returns-then-not-schedule_fits : goal.returns-then-not-schedule_fits
 unfolding element_fits
-returns-then-not-schedule_fits c = simp (le-leb _ _ c.if-e-gt8.false, sym c.schedule_fits.ensures ∙ not-true _ c.if-not-schedule_fits.true)
+returns-then-not-schedule_fits c = simp (le-leb _ _ c.if-e-gt8.false, sym c.schedule_fits.ensures ∙ c.if-not-schedule_fits.true)
 
 pub returns-then-remaining-gt140737489403904 : goal.returns-then-remaining-gt140737489403904
 unfolding element_fits
 returns-then-remaining-gt140737489403904 c = simp (
   le-leb _ _ c.if-e-gt8.false,
   sym c.schedule_fits.ensures
-      ∙ not-false _ c.if-not-schedule_fits.false,
+      ∙ c.if-not-schedule_fits.false,
   lt-leb _ _ c.if-remaining-gt140737489403904.true,
 )
 
@@ -27,6 +27,6 @@ unfolding element_fits
 returns c = simp (
   le-leb _ _ c.if-e-gt8.false,
   sym c.schedule_fits.ensures
-      ∙ not-false _ c.if-not-schedule_fits.false,
+      ∙ c.if-not-schedule_fits.false,
   le-leb _ _ c.if-remaining-gt140737489403904.false,
 )

@@ -2,7 +2,7 @@
 use Prim.Native.Nat.{◌≤◌, ◌<◌}
 use mathlib.Core.Path.{refl, sym, ◌∙◌}
 use native.Mathlib.Omega.{arith}
-use borrow.Author.Tests.{not-true, not-false, eq-eqb, ne_eqb, lt-ltb, le-ltb}
+use borrow.Author.Tests.{eq-eqb, ne_eqb, lt-ltb, le-ltb}
 use borrow.Author.Rules.{rules}
 use Rattle.records.specs.Laid.{count}
 use Rattle.updates.proofs.Passed.{passes}
@@ -12,15 +12,15 @@ pub returns-then-infos-ne-INFOS_BYTES : goal.returns-then-infos-ne-INFOS_BYTES
 returns-then-infos-ne-INFOS_BYTES c = simp (ne_eqb _ _ c.if-infos-ne-INFOS_BYTES.true) (record { state = refl; infos = refl })
 
 pub returns-then-not-l : goal.returns-then-not-l
-returns-then-not-l c = simp (eq-eqb _ _ c.if-infos-ne-INFOS_BYTES.false, sym c.layout_of-l.ensures.fits ∙ not-true _ c.if-not-l.true)
+returns-then-not-l c = simp (eq-eqb _ _ c.if-infos-ne-INFOS_BYTES.false, sym c.layout_of-l.ensures.fits ∙ c.if-not-l.true)
     (record { state = refl; infos = refl })
 
 pub returns-then-not-in_range : goal.returns-then-not-in_range
 returns-then-not-in_range c = simp (
   eq-eqb _ _ c.if-infos-ne-INFOS_BYTES.false,
   sym c.layout_of-l.ensures.fits
-      ∙ not-false _ c.if-not-l.false,
-  sym c.in_range.ensures ∙ not-true _ c.if-not-in_range.true,
+      ∙ c.if-not-l.false,
+  sym c.in_range.ensures ∙ c.if-not-in_range.true,
 ) (record { state = refl; infos = refl })
 
 pub returns-then-i-count : goal.returns-then-i-count
@@ -30,20 +30,11 @@ returns-then-i-count c =
     simp (
       eq-eqb _ _ c.if-infos-ne-INFOS_BYTES.false,
       sym c.layout_of-l.ensures.fits
-          ∙ not-false _ c.if-not-l.false,
-      sym c.in_range.ensures ∙ not-false _ c.if-not-in_range.false,
+          ∙ c.if-not-l.false,
+      sym c.in_range.ensures ∙ c.if-not-in_range.false,
       le-ltb _ _ h,
     )
     (record { state = refl; infos = refl })
-
-pub overflow-mul-apply-update : goal.overflow-mul-apply-update
-overflow-mul-apply-update c =
-    omega (
-      arith,
-      c.layout_of-l.ensures.few,
-      c.layout_of-l.ensures.counted,
-      c.if-i-count.false,
-    )
 
 pub bounds-first-i : goal.bounds-first-i
 bounds-first-i c =
@@ -60,11 +51,11 @@ apply_update-next-requires c =
     let m = a.meta.now in
     let g = c.layout_of-l.ensures in
     let one : a.i < count m = omega (arith, g.counted, c.if-i-count.false) in
-    let laid = sym c.layout_of-l.ensures.fits ∙ not-false _ c.if-not-l.false in
-    let fit = sym c.in_range.ensures ∙ not-false _ c.if-not-in_range.false in (
+    let laid = sym c.layout_of-l.ensures.fits ∙ c.if-not-l.false in
+    let fit = sym c.in_range.ensures ∙ c.if-not-in_range.false in (
       omega arith,
       rw (g.firsts a.i one)
-          (passes m laid fit (λ k. omega (arith, c.shared_slice_known-1.given k)) a.i one),
+          (passes m laid fit (λ k. omega (arith, c.type_inv.meta k)) a.i one),
     )
 
 pub returns : goal.returns
@@ -75,9 +66,9 @@ returns c =
     simp (
       eq-eqb _ _ c.if-infos-ne-INFOS_BYTES.false,
       sym c.layout_of-l.ensures.fits
-          ∙ not-false _ c.if-not-l.false,
+          ∙ c.if-not-l.false,
       sym c.in_range.ensures
-          ∙ not-false _ c.if-not-in_range.false,
+          ∙ c.if-not-in_range.false,
       lt-ltb _ _ one,
     )
     (rw (g.firsts a.i one) at c.apply_update-next.ensures)

@@ -2,7 +2,7 @@
 use Prim.Native.Nat.{◌<◌}
 use mathlib.Core.Path.{refl, sym, ◌∙◌}
 use native.Mathlib.Omega.{arith}
-use borrow.Author.Tests.{not-true, not-false, eq-eqb, ne_eqb, le-leb, lt-leb}
+use borrow.Author.Tests.{eq-eqb, ne_eqb, le-leb, lt-leb}
 use borrow.Author.Rules.{rules}
 use Rattle.timed.proofs.Theorems.{within_later}
 use Rattle.probes.specs.Timed.{last_position}
@@ -18,7 +18,7 @@ returns-then-start-gt1099511627776 c =
     simp (eq-eqb _ _ c.if-infos-ne-INFOS_BYTES.false, lt-leb _ _ h) (record { state = refl; infos = refl })
 
 pub returns-then-not-state_fits : goal.returns-then-not-state_fits
-returns-then-not-state_fits c = simp (eq-eqb _ _ c.if-infos-ne-INFOS_BYTES.false, le-leb _ _ c.if-start-gt1099511627776.false, sym c.state_fits.ensures ∙ not-true _ c.if-not-state_fits.true)
+returns-then-not-state_fits c = simp (eq-eqb _ _ c.if-infos-ne-INFOS_BYTES.false, le-leb _ _ c.if-start-gt1099511627776.false, sym c.state_fits.ensures ∙ c.if-not-state_fits.true)
     (record { state = refl; infos = refl })
 
 pub update_timeslot-requires : goal.update_timeslot-requires
@@ -26,12 +26,12 @@ update_timeslot-requires c = (
   omega arith,
   omega arith,
   within_later c.args.start 1099511627776 _ (omega arith)
-      (fits_within _ _ (sym c.state_fits.ensures ∙ not-false _ c.if-not-state_fits.false)),
+      (fits_within _ _ (sym c.state_fits.ensures ∙ c.if-not-state_fits.false)),
 )
 
 pub returns : goal.returns
 returns c = simp (
   eq-eqb _ _ c.if-infos-ne-INFOS_BYTES.false,
   le-leb _ _ c.if-start-gt1099511627776.false,
-  sym c.state_fits.ensures ∙ not-false _ c.if-not-state_fits.false,
+  sym c.state_fits.ensures ∙ c.if-not-state_fits.false,
 ) c.update_timeslot.ensures

@@ -19,20 +19,20 @@ pub returns-then-block-gt2097152 : goal.returns-then-block-gt2097152
 unfolding schedule_fits
 returns-then-block-gt2097152 c =
     let b = c.loop-b.b in
-    let x = get_or c.args.t1 b no_block in
+    let x = get_or c.args.schedule b no_block in
     sym (all_fails _ 8 b (omega arith) (simp (lt-leb x.offset 2097152 c.if-block-gt2097152.true)))
 
 pub returns-then-block-gt2097152-2 : goal.returns-then-block-gt2097152-2
 unfolding schedule_fits
 returns-then-block-gt2097152-2 c =
     let b = c.loop-b.b in
-    let x = get_or c.args.t1 b no_block in
+    let x = get_or c.args.schedule b no_block in
     sym (all_fails _ 8 b (omega arith) (simp (le-leb x.offset 2097152 c.if-block-gt2097152.false, lt-leb x.ramp 2097152 c.if-block-gt2097152-2.true)))
 
 pub loop-b-preserved : goal.loop-b-preserved
 loop-b-preserved c =
     let b = c.loop-b.b in
-    let x = get_or c.args.t1 b no_block in (
+    let x = get_or c.args.schedule b no_block in (
       search rules,
       all_more _ b c.loop-b.invariant.1
           (simp (le-leb x.offset 2097152 c.if-block-gt2097152.false, le-leb x.ramp 2097152 c.if-block-gt2097152-2.false)),

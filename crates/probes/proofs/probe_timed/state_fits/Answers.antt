@@ -1,7 +1,6 @@
 -- The counts, the last update's position, both elements. Assumes nothing.
 use mathlib.Core.Path.{◌≡◌, sym, ◌∙◌}
 use mathlib.Core.Bool.{true, false}
-use borrow.Author.Tests.{not-true, not-false}
 use borrow.Author.Rules.{rules}
 use Rattle.timed.specs.State.{element_of}
 use Rattle.probes.specs.Timed.{element_fits, state_fits}
@@ -9,26 +8,26 @@ use Rattle.probes.proofs.probe_timed.state_fits.Goals as goal
 
 pub returns-then-not-counts_fit : goal.returns-then-not-counts_fit
 unfolding state_fits
-returns-then-not-counts_fit c = simp (sym c.counts_fit.ensures ∙ not-true _ c.if-not-counts_fit.true)
+returns-then-not-counts_fit c = simp (sym c.counts_fit.ensures ∙ c.if-not-counts_fit.true)
 
 pub returns-then-not-is_up_to : goal.returns-then-not-is_up_to
 unfolding state_fits
 returns-then-not-is_up_to c = simp (
-  sym c.counts_fit.ensures ∙ not-false _ c.if-not-counts_fit.false,
+  sym c.counts_fit.ensures ∙ c.if-not-counts_fit.false,
   sym c.is_up_to.ensures
-      ∙ not-true _ c.if-not-is_up_to.true,
+      ∙ c.if-not-is_up_to.true,
 )
 
 pub returns-then-not-element_fits : goal.returns-then-not-element_fits
 unfolding state_fits
 returns-then-not-element_fits c =
     let a = c.args in
-    let first : element_fits a.position (element_of a.s 0) ≡ false = sym c.element_fits.ensures ∙ not-true _ c.if-not-element_fits.true in
+    let first : element_fits a.position (element_of a.s 0) ≡ false = sym c.element_fits.ensures ∙ c.if-not-element_fits.true in
     simp (
       sym c.counts_fit.ensures
-          ∙ not-false _ c.if-not-counts_fit.false,
+          ∙ c.if-not-counts_fit.false,
       sym c.is_up_to.ensures
-          ∙ not-false _ c.if-not-is_up_to.false,
+          ∙ c.if-not-is_up_to.false,
       first,
     )
 
@@ -36,11 +35,11 @@ pub returns : goal.returns
 unfolding state_fits
 returns c =
     let a = c.args in
-    let first : element_fits a.position (element_of a.s 0) ≡ true = sym c.element_fits.ensures ∙ not-false _ c.if-not-element_fits.false in
+    let first : element_fits a.position (element_of a.s 0) ≡ true = sym c.element_fits.ensures ∙ c.if-not-element_fits.false in
     simp (
       sym c.counts_fit.ensures
-          ∙ not-false _ c.if-not-counts_fit.false,
-      sym c.is_up_to.ensures ∙ not-false _ c.if-not-is_up_to.false,
+          ∙ c.if-not-counts_fit.false,
+      sym c.is_up_to.ensures ∙ c.if-not-is_up_to.false,
       first,
     )
     c.element_fits-2.ensures

@@ -1,5 +1,4 @@
 -- Test by test. Assumes nothing.
-use borrow.Author.Rules.{rules}
 use Rattle.store.proofs.ranges.basics_fields.Goals as goal
 
 pub returns : goal.returns

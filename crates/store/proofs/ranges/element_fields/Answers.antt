@@ -1,5 +1,4 @@
 -- The head, and a column of a table after the other. Assumes nothing.
-use borrow.Author.Rules.{rules}
 use Prim.Native.Nat.{◌+◌}
 use Rattle.formats.specs.NumberWords.{in_words}
 use Rattle.formats.specs.Format.{array}

@@ -1,5 +1,4 @@
 -- Length, heads, words. Assumes nothing.
-use borrow.Author.Rules.{rules}
 use mathlib.Core.Path.{sym, ◌∙◌}
 use Rattle.store.proofs.BlockTests.{valid_in_block, wrong_length, bad_heads, good_heads}
 use Rattle.store.proofs.ranges.is_valid.Goals as goal

@@ -1,5 +1,4 @@
 -- By the index. Assumes nothing.
-use borrow.Author.Rules.{rules}
 use borrow.Author.Tests.{lt-ltb, le-ltb}
 use Rattle.store.proofs.ranges.least_flags.Goals as goal
 

@@ -1,5 +1,4 @@
 -- By the rate. Assumes nothing.
-use borrow.Author.Rules.{rules}
 use borrow.Author.Tests.{eq-eqb, ne_eqb}
 use Rattle.store.proofs.ranges.rate_valid.Goals as goal
 

@@ -1,5 +1,4 @@
 -- Test by test; the numbers of two words are in range. Assumes nothing.
-use borrow.Author.Rules.{rules}
 use native.Mathlib.Omega.{arith}
 use Rattle.formats.specs.NumberWords.{in_words}
 use Rattle.store.proofs.BlockTests.{longs, related_from}

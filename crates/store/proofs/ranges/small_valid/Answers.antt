@@ -1,5 +1,4 @@
 -- Each field, then what they owe each other. Assumes nothing.
-use borrow.Author.Rules.{rules}
 use mathlib.Core.Path.{sym, ◌∙◌}
 use Rattle.formats.specs.NumberWords.{in_words}
 use Rattle.store.proofs.BlockTests.{fields_good, fields_bad}

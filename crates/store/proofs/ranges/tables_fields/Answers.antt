@@ -1,5 +1,4 @@
 -- One table after the other. Assumes nothing.
-use borrow.Author.Rules.{rules}
 use Rattle.formats.specs.NumberWords.{in_words}
 use Rattle.store.proofs.BlockTests.{tables_test}
 use Rattle.store.proofs.ranges.tables_fields.Goals as goal

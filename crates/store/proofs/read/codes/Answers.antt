@@ -1,11 +1,10 @@
 -- The entries before `i` are read. Assumes nothing.
-use borrow.Author.Rules.{rules}
 use mathlib.Core.Path.{◌≡◌, refl, ap, ◌∙◌}
-use Prim.Native.Nat.{ℕ, ◌+◌, ◌-◌, ◌*◌, ◌%◌, ◌≤◌, ◌<◌}
+use Prim.Native.Nat.{ℕ, ◌+◌, ◌*◌, ◌%◌, ◌<◌}
 use native.Mathlib.Omega.{arith}
-use lib.ListN.{length, take, length-set}
+use lib.ListN.{length, length-set}
 use Rattle.formats.specs.NumberWords.{in_words}
-use Rattle.formats.specs.Format.{gets, array, u8_to}
+use Rattle.formats.specs.Format.{gets, u8_to}
 use Rattle.formats.proofs.Theorems.{gets_filled, gets_full}
 use Rattle.store.proofs.read.codes.Goals as goal
 

@@ -1,12 +1,9 @@
 -- The entries before `i` are read. Assumes nothing.
-use borrow.Author.Rules.{rules}
-use mathlib.Core.Path.{◌≡◌, refl, ap, ◌∙◌}
-use Prim.Native.Nat.{ℕ, ◌+◌, ◌-◌, ◌*◌, ◌%◌, ◌≤◌, ◌<◌}
-use native.Mathlib.Omega.{arith}
-use lib.ListN.{length, take, length-set}
+use mathlib.Core.Path.{◌≡◌}
+use Prim.Native.Nat.{◌-◌, ◌≤◌}
+use lib.ListN.{length, take}
 use Rattle.formats.specs.NumberWords.{in_words}
-use Rattle.formats.specs.Format.{gets, array, u8_to}
-use Rattle.formats.proofs.Theorems.{gets_filled, gets_full}
+use Rattle.formats.specs.Format.{array, u8_to}
 use Rattle.store.proofs.read.codes.Given as goal
 
 abbrev pub invariant-loop-i : goal.invariant-loop-i

@@ -1,11 +1,10 @@
 -- The entries before `i` are read. Assumes nothing.
-use borrow.Author.Rules.{rules}
-use mathlib.Core.Path.{◌≡◌, refl}
-use Prim.Native.Nat.{◌+◌, ◌-◌, ◌*◌, ◌≤◌, ◌<◌}
+use mathlib.Core.Path.{refl}
+use Prim.Native.Nat.{◌+◌, ◌*◌, ◌<◌}
 use native.Mathlib.Omega.{arith}
-use lib.ListN.{length, take, length-set}
+use lib.ListN.{length, length-set}
 use Rattle.formats.specs.NumberWords.{in_words}
-use Rattle.formats.specs.Format.{gets, array}
+use Rattle.formats.specs.Format.{gets}
 use Rattle.formats.proofs.Theorems.{gets_filled, gets_full}
 use Rattle.store.specs.Fields.{block_format}
 use Rattle.store.proofs.SmallPartBack.{lawful_block}

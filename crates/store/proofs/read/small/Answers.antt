@@ -1,5 +1,4 @@
 -- Field by field. Assumes nothing.
-use borrow.Author.Rules.{rules}
 use Rattle.formats.specs.NumberWords.{in_words}
 use Rattle.store.specs.Fields.{small_of}
 use Rattle.store.proofs.SmallPartBack.{lawful_small}

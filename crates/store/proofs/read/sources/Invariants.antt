@@ -1,14 +1,10 @@
 -- The entries before `i` are read. Assumes nothing.
-use borrow.Author.Rules.{rules}
-use mathlib.Core.Path.{◌≡◌, refl}
-use Prim.Native.Nat.{◌+◌, ◌-◌, ◌*◌, ◌≤◌, ◌<◌}
-use native.Mathlib.Omega.{arith}
-use lib.ListN.{length, take, length-set}
+use mathlib.Core.Path.{◌≡◌}
+use Prim.Native.Nat.{◌-◌, ◌≤◌}
+use lib.ListN.{length, take}
 use Rattle.formats.specs.NumberWords.{in_words}
-use Rattle.formats.specs.Format.{gets, array}
-use Rattle.formats.proofs.Theorems.{gets_filled, gets_full}
+use Rattle.formats.specs.Format.{array}
 use Rattle.store.specs.Fields.{source_format}
-use Rattle.store.proofs.SmallPartBack.{lawful_source}
 use Rattle.store.proofs.read.sources.Given as goal
 
 abbrev pub invariant-loop-i : goal.invariant-loop-i

@@ -1,5 +1,4 @@
 -- Field by field. Assumes nothing.
-use borrow.Author.Rules.{rules}
 use mathlib.Core.List.{[], ◌∷◌}
 use Rattle.formats.specs.NumberWords.{in_words}
 use Rattle.formats.specs.Format.{gets}

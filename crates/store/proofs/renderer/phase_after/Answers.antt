@@ -1,5 +1,4 @@
 -- The slot runs on or ends. Assumes nothing.
-use borrow.Author.Rules.{rules}
 use borrow.Author.Tests.{le-leb, lt-leb}
 use Rattle.store.proofs.renderer.phase_after.Goals as goal
 

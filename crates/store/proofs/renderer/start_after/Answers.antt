@@ -1,6 +1,4 @@
 -- The slot runs on or ends. Assumes nothing.
-use borrow.Author.Rules.{rules}
-use mathlib.Core.Path.{◌∙◌}
 use borrow.Author.Tests.{le-leb, lt-leb}
 use Rattle.store.proofs.renderer.start_after.Goals as goal
 

@@ -1,11 +1,9 @@
 -- The entries before `i` are stored. Assumes nothing.
 use borrow.Author.Rules.{rules}
-use mathlib.Core.Path.{◌≡◌, refl}
-use Prim.Native.Nat.{◌+◌, ◌-◌, ◌*◌, ◌≤◌, ◌<◌}
+use mathlib.Core.Path.{refl}
+use Prim.Native.Nat.{◌+◌, ◌*◌, ◌<◌}
 use native.Mathlib.Omega.{arith}
 use lib.ListN.{length}
-use Rattle.words.specs.Words.{with_words}
-use Rattle.formats.specs.Format.{array}
 use Rattle.formats.proofs.Theorems.{store_turn, store_none, store_all}
 use Rattle.timed.specs.Slot.{no_block}
 use Rattle.store.specs.Fields.{block_format}

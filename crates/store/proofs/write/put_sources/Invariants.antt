@@ -1,15 +1,10 @@
 -- The entries before `i` are stored. Assumes nothing.
-use borrow.Author.Rules.{rules}
-use mathlib.Core.Path.{◌≡◌, refl}
-use Prim.Native.Nat.{◌+◌, ◌-◌, ◌*◌, ◌≤◌, ◌<◌}
-use native.Mathlib.Omega.{arith}
+use mathlib.Core.Path.{◌≡◌}
+use Prim.Native.Nat.{◌-◌, ◌≤◌}
 use lib.ListN.{length}
 use Rattle.words.specs.Words.{with_words}
 use Rattle.formats.specs.Format.{array}
-use Rattle.formats.proofs.Theorems.{store_turn, store_none, store_all}
-use Rattle.timed.specs.Objects.{no_source}
 use Rattle.store.specs.Fields.{source_format}
-use Rattle.store.proofs.SmallPartBack.{lawful_source}
 use Rattle.store.proofs.write.put_sources.Given as goal
 
 abbrev pub invariant-loop-i : goal.invariant-loop-i

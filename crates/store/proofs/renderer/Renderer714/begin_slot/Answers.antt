@@ -1,5 +1,4 @@
 -- Field by field. Assumes nothing.
-use borrow.Author.Rules.{rules}
 use Rattle.store.proofs.renderer.Renderer714.begin_slot.Goals as goal
 
 pub returns : goal.returns

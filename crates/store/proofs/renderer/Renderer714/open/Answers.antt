@@ -1,5 +1,4 @@
 -- By whether a rate was set before. Assumes nothing.
-use borrow.Author.Rules.{rules}
 use borrow.Author.Tests.{eq-eqb, ne_eqb}
 use Rattle.store.proofs.renderer.Renderer714.open.Goals as goal
 

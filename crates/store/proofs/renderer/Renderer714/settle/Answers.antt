@@ -1,5 +1,4 @@
 -- The clock by its own law, the other fields as they stand. Assumes nothing.
-use borrow.Author.Rules.{rules}
 use mathlib.Core.Path.{ap}
 use Rattle.rules.specs.Samples as rules
 use Rattle.store.specs.Fields.{clock_from}
