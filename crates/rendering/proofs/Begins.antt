@@ -13,7 +13,6 @@ use Rattle.timed.specs.Resting.{rests_at}
 use Rattle.timed.specs.TimedResults.{IsTimed}
 use Rattle.timed.specs.declared.state.MetadataRendererState.{MetadataRendererState}
 use Rattle.timed.proofs.Theorems as timed
-use Rattle.fields.specs.Update.{offset}
 use Rattle.records.specs.Runs.{each}
 use Rattle.records.specs.Laid.{update_at, count}
 use Rattle.records.specs.UpdateWalk.{FirstAt}

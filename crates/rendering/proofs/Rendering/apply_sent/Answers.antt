@@ -1,11 +1,10 @@
 -- `apply_sent`: the updates from i on lead from the renderer now to that at the end. Assumes nothing.
-use Prim.Native.Nat.{◌-◌}
-use mathlib.Core.Path.{◌≡◌, refl, sym, ◌∙◌}
+use mathlib.Core.Path.{refl, sym, ◌∙◌}
 use native.Mathlib.Omega.{arith}
 use Rattle.rules.specs.Samples.{updated}
 use Rattle.theorem.specs.Instance.{hall, sent_of}
 use Rattle.rendering.specs.Held.{held}
-use Rattle.rendering.proofs.Begins.{Standing, standing, goes_on, ends, from_first}
+use Rattle.rendering.proofs.Begins.{standing, goes_on, ends, from_first}
 use Rattle.rendering.proofs.Rendering.apply_sent.Goals as goal
 
 pub sent_at-i-requires : goal.sent_at-i-requires
@@ -22,9 +21,6 @@ loop-i-init c =
       refl,
     )
 
-pub overflow-mul-apply-one : goal.overflow-mul-apply-one
-overflow-mul-apply-one c = omega (arith, c.requires.3.few, c.loop-i-test)
-
 pub bounds-first-i : goal.bounds-first-i
 bounds-first-i c = omega (arith, c.requires.3.few, c.loop-i-test)
 
@@ -35,8 +31,8 @@ apply_one-next-requires c = (
   c.requires.3.all c.loop-i.i (omega (arith, c.loop-i-test)),
 )
 
-pub overflow-add-sent-at : goal.overflow-add-sent-at
-overflow-add-sent-at c = omega (arith, c.requires.3.few, c.loop-i-test)
+pub overflow_add-i : goal.overflow_add-i
+overflow_add-i c = omega (arith, c.requires.3.few, c.loop-i-test)
 
 pub sent_at-i-requires-in-loop-i : goal.sent_at-i-requires-in-loop-i
 sent_at-i-requires-in-loop-i c = (

@@ -1,11 +1,10 @@
 -- `apply_sent`: the updates from i on lead from the renderer now to that at the end. Assumes nothing.
 use Prim.Native.Nat.{◌-◌}
-use mathlib.Core.Path.{◌≡◌, refl, sym, ◌∙◌}
-use native.Mathlib.Omega.{arith}
+use mathlib.Core.Path.{◌≡◌}
 use Rattle.rules.specs.Samples.{updated}
 use Rattle.theorem.specs.Instance.{hall, sent_of}
 use Rattle.rendering.specs.Held.{held}
-use Rattle.rendering.proofs.Begins.{Standing, standing, goes_on, ends, from_first}
+use Rattle.rendering.proofs.Begins.{Standing}
 use Rattle.rendering.proofs.Rendering.apply_sent.Given as goal
 
 abbrev pub invariant-loop-i : goal.invariant-loop-i

@@ -2,7 +2,6 @@
 use Prim.Native.Nat.{ℕ}
 use mathlib.Core.Path.{ap, ◌∙◌}
 use native.Mathlib.Omega.{arith}
-use borrow.Author.Rules.{rules}
 use Rattle.limiter.specs.Meters.{meets_all}
 use Rattle.limiter.specs.declared.meters.Meters.{Meters}
 use Rattle.rules.specs.Samples.{flushed}

@@ -1,7 +1,6 @@
 -- `give`: the limiter over the pending samples. Assumes nothing.
 use mathlib.Core.Path.{refl}
 use native.Mathlib.Omega.{arith}
-use borrow.Author.Rules.{rules}
 use Rattle.rendering.proofs.Given.{gave}
 use Rattle.rendering.proofs.Rendering.give.Goals as goal
 

@@ -2,7 +2,6 @@
 use Prim.Native.Nat.{◌*◌}
 use mathlib.Core.Path.{◌≡◌, refl, ap, ◌∙◌}
 use native.Mathlib.Omega.{arith}
-use borrow.Author.Rules.{rules}
 use lib.Ieee.{Float}
 use Rattle.limiter.specs.Limiter.{0·0, lowered, grown, block_peak, block_gain, scaled_block}
 use Rattle.limiter.specs.Meters.{meets}
@@ -23,7 +22,7 @@ returns c =
     let a = c.args in
     let g = a.self.renderer.limiter.gain in
     let cs = row_channels a.rows.now in
-    let fit = c.shared_slice_known-1.given in
+    let fit = c.type_inv.rows in
     let top = c.max_abs_slice-peak in
     let low = c.lower-scaling in
     let met = c.meters-met in
@@ -36,5 +35,5 @@ returns c =
       given = c.store_block.ensures
           ∙ ap (λ (x : Float). with_channels (scaled_block x cs) (4 * a.stride) (4 * a.self.ready) a.out.now) f;
       ready = refl;
-      meters = c.meet-meters.ensures ∙ ap (meets a.self.meters-met) (λ i. record { peak = (met.ensures.0 ∙ e) i; gain = (met.ensures.1 ∙ f) i });
+      meters = c.meet-meters.ensures ∙ ap (meets a.self.meters) (λ i. record { peak = (met.ensures.0 ∙ e) i; gain = (met.ensures.1 ∙ f) i });
     }

@@ -1,6 +1,5 @@
 -- `of`: no block is met yet. Assumes nothing.
 use mathlib.Core.Path.{ap}
-use borrow.Author.Rules.{rules}
 use Rattle.limiter.specs.declared.meters.Meters.{Meters}
 use Rattle.rendering.specs.declared.Rendering.{Rendering}
 use Rattle.rendering.proofs.Rendering.of.Goals as goal

@@ -1,33 +1,27 @@
 -- `pass`: rows, low-pass and the clock. Assumes nothing.
-use borrow.Author.Rules.{rules}
 use mathlib.Core.Path.{◌≡◌, sym, ap, ◌∙◌}
-use lib.ListN.{length, length-map}
+use lib.ListN.{length}
 use native.Mathlib.Omega.{arith}
 use Rattle.render.proofs.Theorems.{silent_long}
 use Rattle.rendering.specs.Pass.{frame_with}
 use Rattle.rendering.proofs.MixedMoments.{Full, mixed, same_heard, waits}
 use Rattle.rendering.proofs.Rendering.pass.Goals as goal
-use Rattle.rendering.proofs.Rendering.pass.Goals.{Start}
-
--- tables have their full length
-full : (c : Start) → Full c.args.self.renderer.state c.args.objects
-full c =
-    let m = c.args.self.renderer.state in
-    let g = c.well_formed.0.1.1.0.1.1.1.1.1.1.1.0.1.1.1.1.1.1.1.1 in
-    let codes : length m.codes ≡ 18 = sym (length-map m.codes _) ∙ g.0.1.0.1 in
-    let gains : length m.gains ≡ 18 = sym (length-map m.gains _) ∙ g.1.0.1.0.1 in
-    let sources : length m.sources ≡ 16 = sym (length-map m.sources _) ∙ g.1.1.1.0.1.0.1 in
-    let p = c.requires.0 in
-    record { codes = omega arith; gains = omega arith; sources = omega arith }
 
 pub returns : goal.returns
 returns c =
     let a = c.args in
     let p = c.requires.0 in
     let mx = c.mix-filter in
+    -- tables have their full length
+    let m = a.self.renderer.state in
+    let g = c.well_formed.0.1.1.0.1.1.1.1.1.1.1.0.1.1.1.1.1.1.1.1 in
+    let codes : length m.codes ≡ 18 = g.0.1.0.1 in
+    let gains : length m.gains ≡ 18 = g.1.0.1.0.1 in
+    let sources : length m.sources ≡ 16 = g.1.1.1.0.1.0.1 in
+    let full : Full m a.objects = record { codes = omega arith; gains = omega arith; sources = omega arith } in
     λ rate us b. waits (frame_with rate us a.codes.now a.objects a.pcm.now a.n) a.t.0 a.k a.self b
     (mixed a.self.renderer.state a.codes.now a.objects a.pcm.now a.n)
-    (same_heard rate us a.codes.now a.pcm.now a.objects a.n a.self.renderer b (full (goal.at.returns c).Start) p.dynamic) mx.new.rows mx.result
+    (same_heard rate us a.codes.now a.pcm.now a.objects a.n a.self.renderer b full p.dynamic) mx.new.rows mx.result
     (rw c.index-first.ensures at mx.ensures) c.settle-next.ensures
 
 pub mix-filter-requires : goal.mix-filter-requires
@@ -35,8 +29,8 @@ mix-filter-requires c =
     let p = c.requires in
     (rw c.index-first.ensures p.0.framed, p.1, p.0.inputs, p.0.beds, p.0.few)
 
-pub overflow-cast-settle : goal.overflow-cast-settle
-overflow-cast-settle c = let p = c.requires.0 in omega (arith, p.pending)
+pub overflow_cast-k : goal.overflow_cast-k
+overflow_cast-k c = let p = c.requires.0 in omega (arith, p.pending)
 
 pub settle-next-requires : goal.settle-next-requires
 settle-next-requires c =

@@ -1,6 +1,5 @@
 -- `restate`: by whether a new slot starts. Assumes nothing.
 use mathlib.Core.Path.{ap, ◌∙◌}
-use borrow.Author.Rules.{rules}
 use Rattle.store.specs.Steps.{in_new_slot}
 use Rattle.store.specs.declared.renderer.Renderer714.{Renderer714}
 use Rattle.rendering.specs.declared.Rendering.{Rendering}

@@ -15,7 +15,7 @@ returns c =
     let r = c.restate in
     record {
       next = slot_starts s.self.renderer s.state.now u.result u.new.infos r.result.renderer c.requires.0
-          (search (rules, u.auto, update_timeslot-after-requires c u.lifetimes)) c.requires.2 u.ensures
+          (search (rules, u.auto)) c.requires.2 u.ensures
           (ap (λ (w : Rendering). w.renderer) r.ensures);
       ready = ap (λ (w : Rendering). w.ready) r.ensures;
       meters = ap (λ (w : Rendering). w.meters) r.ensures;

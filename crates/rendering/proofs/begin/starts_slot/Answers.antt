@@ -1,6 +1,5 @@
 -- `rendering::begin::starts_slot`: by whether an update was applied before. Assumes nothing.
 use mathlib.Core.Path.{◌∙◌}
-use borrow.Author.Rules.{rules}
 use Rattle.rendering.proofs.begin.starts_slot.Goals as goal
 
 pub returns : goal.returns
