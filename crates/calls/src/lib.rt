@@ -12,6 +12,7 @@ use fields::bytes::byte_at;
 use hall::answer::Answer;
 
 // Puts the text of an answer to the front of `text`, and answers how long it is.
+#[tactic(auto, unfolding(crate::specs::CallResults::text_of_code))]
 fn tell(text: &mut [u8], answer: Answer, out: &[u8]) -> usize
     requires { (length text.old ≡ 27675) × (length out.now ≡ 12288) }
     ensures { Told result text.new (text_of_code answer out.now) }

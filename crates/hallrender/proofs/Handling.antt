@@ -13,7 +13,7 @@ use Rattle.theorem.specs.Instance.{hall, block}
 use Rattle.framing.specs.Framing.{is_frame, is_plain, is_body, metadata_bytes, pcm_bytes, pcm_of, pcm_records, record_bytes, record_count, are_pcm}
 use Rattle.framing.specs.PcmTaken.{Unpacked}
 use Rattle.framing.proofs.Theorems.{none_are}
-use Rattle.calls.specs.Asked.{frame_args, out_after, push_of, plain_call, call_of, is_call}
+use Rattle.calls.specs.Asked.{frame_args, push_of, plain_call, call_of}
 use Rattle.calls.specs.CallResults.{Called}
 use Rattle.hallrender.specs.ProgramRun.{calls_of, out_on, Ran}
 use Rattle.hallrender.specs.RunResults.{FrameTaken, NotAlone, Handled, RecordTaken}

@@ -1,7 +1,6 @@
 -- `plain`: each arm makes the call of its kind. Assumes nothing.
 use borrow.Author.Tests.{ne_eqb}
 use Rattle.calls.proofs.Calling.{flushed, renewed}
-use borrow.Author.Rules.{rules}
 use Rattle.calls.proofs.plain.Goals as goal
 
 pub returns-then-rec-eq7 : goal.returns-then-rec-eq7

@@ -5,7 +5,6 @@ use mathlib.Core.List.{◌++◌}
 use Rattle.framing.specs.Framing.{record_bytes}
 use Rattle.hallrender.proofs.Handling.{clash, cut_alone, bad_alone, framed}
 use native.Mathlib.Omega.{arith}
-use borrow.Author.Tests.{not-true, not-false}
 use borrow.Rule.Slice.PartMut.{mid_len}
 use lib.ListN.{length, take, drop}
 use lib.Seq.{length-take-le}
@@ -13,13 +12,13 @@ use borrow.Author.Rules.{rules}
 use Rattle.hallrender.proofs.frame.Goals as goal
 
 pub returns-then-not-is_frame : goal.returns-then-not-is_frame
-returns-then-not-is_frame c = rw c.bad.ensures (λ f z. clash (sym c.is_frame.ensures ∙ not-true _ c.if-not-is_frame.true) f, record { block = refl; output = refl })
+returns-then-not-is_frame c = rw c.bad.ensures (λ f z. clash (sym c.is_frame.ensures ∙ c.if-not-is_frame.true) f, record { block = refl; output = refl })
 
 pub metadata_bytes-m-requires : goal.metadata_bytes-m-requires
-metadata_bytes-m-requires c = sym c.is_frame.ensures ∙ not-false _ c.if-not-is_frame.false
+metadata_bytes-m-requires c = sym c.is_frame.ensures ∙ c.if-not-is_frame.false
 
 pub pcm_bytes-n-requires : goal.pcm_bytes-n-requires
-pcm_bytes-n-requires c = sym c.is_frame.ensures ∙ not-false _ c.if-not-is_frame.false
+pcm_bytes-n-requires c = sym c.is_frame.ensures ∙ c.if-not-is_frame.false
 
 pub slice_bounds-read_full-end-2 : goal.slice_bounds-read_full-end-2
 slice_bounds-read_full-end-2 c = sym (length-take-le _ _ (omega arith))
@@ -40,7 +39,7 @@ unpack-requires c =
     let size = m + c.record_bytes.result in
     let a = c.args in
     let l : length (take n a.pcm.now) ≡ n = length-take-le n _ (omega arith) in
-    let read = c.read_full.new.buf in (
+    let read = c.read_full.new.bytes in (
       mid_len m size (read ++ drop size a.body.now) (search rules) ∙ (omega (arith, c.record_bytes.ensures.0)) ∙ ap record_bytes (sym l),
       omega (arith, l),
     )
@@ -49,7 +48,7 @@ pub returns-then-not-unpack : goal.returns-then-not-unpack
 returns-then-not-unpack c =
     rw c.bad-then-not-unpack.ensures (
       bad_alone _ _ c.unpack.new.pcm _ c.unpack.result
-          (length-take-le _ _ (search rules) ∙ c.pcm_bytes-n.ensures.0) (not-true _ c.if-not-unpack.true) c.unpack.ensures,
+          (length-take-le _ _ (search rules) ∙ c.pcm_bytes-n.ensures.0) c.if-not-unpack.true c.unpack.ensures,
       record { block = refl; output = refl },
     )
 
@@ -61,7 +60,7 @@ slice_bounds-push-end-4 c = sym (length-take-le _ _ (search rules))
 
 pub push-requires : goal.push-requires
 push-requires c =
-    (sym c.is_frame.ensures ∙ not-false _ c.if-not-is_frame.false, search rules, search rules)
+    (sym c.is_frame.ensures ∙ c.if-not-is_frame.false, search rules, search rules)
 
 pub returns : goal.returns
 returns c =
@@ -69,7 +68,7 @@ returns c =
     let n = c.pcm_bytes-n in
     let a = c.args in
     let w : length (take n.result a.pcm.now) ≡ n.result = length-take-le _ _ (search rules) in
-    let got = not-false _ c.if-not-unpack.false in
+    let got = c.if-not-unpack.false in
     framed a.rec.now _ c.unpack.new.pcm _ _ _ _ _ _ m.result n.result c.push.result (m.result + c.record_bytes.result - m.result) _ c.unpack.result
-    m.ensures.0 n.ensures.0 (sym c.is_frame.ensures ∙ not-false _ c.if-not-is_frame.false) (omega (arith, c.record_bytes.ensures.0))
-    w (c.unpack.auto.1.0 ∙ w) got c.unpack.ensures c.push.ensures
+    m.ensures.0 n.ensures.0 (sym c.is_frame.ensures ∙ c.if-not-is_frame.false) (omega (arith, c.record_bytes.ensures.0))
+    w (c.unpack.auto.pcm ∙ w) got c.unpack.ensures c.push.ensures

@@ -1,10 +1,8 @@
 -- `run`: the budget of turns falls; what is run from here on was run from the entry on. Assumes nothing.
-use mathlib.Core.Path.{◌≡◌, refl, sym}
+use mathlib.Core.Path.{refl, sym}
 use mathlib.Core.List.{[]}
-use lib.ListN.{length}
 use lib.Seq.{length-take-le}
-use Rattle.hallrender.specs.RunResults.{Rooms}
-use Rattle.hallrender.proofs.Handling.{From, said_fits, stops, goes}
+use Rattle.hallrender.proofs.Handling.{said_fits, stops, goes}
 use borrow.Author.Rules.{rules}
 use Rattle.hallrender.proofs.run.Goals as goal
 
