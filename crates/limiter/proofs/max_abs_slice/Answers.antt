@@ -1,8 +1,11 @@
 -- `limiter::max_abs_slice` meets its contract: the four maxima and what is left have the bounds of the whole. Assumes nothing.
 use mathlib.Core.Path.{◌∙◌}
+use Prim.Native.Nat.{ℕ}
 use native.Mathlib.Omega.{arith}
-use lib.Ieee.{of_bits}
-use Rattle.limiter.proofs.Levels.{Raised, raised_by}
+use borrow.Author.Rules.{rules}
+use lib.ListN.{get_or}
+use lib.Ieee.{of_bits, nan}
+use Rattle.limiter.proofs.Levels.{Fit, Raised, raised_by}
 use Rattle.limiter.proofs.Peaks.{lanes_start, lanes_again, lanes_rest}
 use Rattle.limiter.proofs.max_abs_slice.Goals as goal
 use Rattle.limiter.proofs.max_abs_slice.Goals.{After-raise, After-raise-2, After-raise-m}
@@ -28,9 +31,10 @@ loop-i-preserved c =
     let xs = c.args.samples.now in
     let r1 = c.raise-a in
     let r2 = c.raise-b in
-    let r3 = c.raise-c in (
+    let r3 = c.raise-c in
+    let w : (k : ℕ) → Fit (get_or xs k nan) = search rules in (
       omega arith,
-      lanes_again xs c.loop-i.i (omega arith) c.shared_slice_known-1.given c.loop-i.invariant.1 r1.ensures.0 r2.ensures.0 r3.ensures.0
+      lanes_again xs c.loop-i.i (omega arith) w c.loop-i.invariant.1 r1.ensures.0 r2.ensures.0 r3.ensures.0
           c.raise-d.ensures.0,
     )
 
@@ -64,8 +68,9 @@ max_abs_from-requires c = c.raise-m.ensures.1
 
 pub returns : goal.returns
 returns c =
-    let xs = c.args.samples.now in (
-      c.max_abs_from.ensures.0 ∙ lanes_rest xs c.loop-i.i c.shared_slice_known-1.given c.loop-i.invariant.1 (first (goal.at.returns c).After-raise)
+    let xs = c.args.samples.now in
+    let w : (k : ℕ) → Fit (get_or xs k nan) = search rules in (
+      c.max_abs_from.ensures.0 ∙ lanes_rest xs c.loop-i.i w c.loop-i.invariant.1 (first (goal.at.returns c).After-raise)
           (second (goal.at.returns c).After-raise-2) (third (goal.at.returns c).After-raise-m),
       c.max_abs_from.ensures.1,
     )

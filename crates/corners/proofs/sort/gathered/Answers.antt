@@ -28,12 +28,3 @@ loop-i-preserved c =
 
 pub returns : goal.returns
 returns c = λ i q. c.loop-i.invariant.2 i (omega (arith, c.loop-i-test.false))
-
-below : (c : In-loop-i) → index_at c.args.channel.now c.loop-i.i < 12
-below c = c.requires.1 c.loop-i.i c.loop-i-test.true
-
-pub offset_bounds-c-k : goal.offset_bounds-c-k
-offset_bounds-c-k c = let h = below (goal.at.offset_bounds-c-k c).In-loop-i in search rules
-
-pub bounds-c-k : goal.bounds-c-k
-bounds-c-k c = below (goal.at.bounds-c-k c).In-loop-i

@@ -47,21 +47,3 @@ returns c =
     let e : c.loop-i.i ≡ 0 = omega (arith, c.loop-i-test.false) in
     let h = subst (λ (x : ℕ). Shifted (place_among a.x.now a.y.now a.z.now) a.channel a.n a.k x c.loop-i.r) e c.loop-i.invariant in
     put_in c.requires.0 h (λ j q t. omega arith)
-
-pub offset_bounds-r-i : goal.offset_bounds-r-i
-offset_bounds-r-i c = let h = below (goal.at.offset_bounds-r-i c).At-loop-i in search rules
-
-pub bounds-r-i : goal.bounds-r-i
-bounds-r-i c = let h = below (goal.at.bounds-r-i c).At-loop-i in omega arith
-
-pub offset_bounds-r-i-then-not-precedes : goal.offset_bounds-r-i-then-not-precedes
-offset_bounds-r-i-then-not-precedes c = let h = below (goal.at.offset_bounds-r-i-then-not-precedes c).At-loop-i in search rules
-
-pub bounds-r-i-then-not-precedes : goal.bounds-r-i-then-not-precedes
-bounds-r-i-then-not-precedes c = below (goal.at.bounds-r-i-then-not-precedes c).At-loop-i
-
-pub offset_bounds-r-i-in-loop-i : goal.offset_bounds-r-i-in-loop-i
-offset_bounds-r-i-in-loop-i c = let h = below (goal.at.offset_bounds-r-i-in-loop-i c).At-loop-i in search rules
-
-pub bounds-r-i-in-loop-i : goal.bounds-r-i-in-loop-i
-bounds-r-i-in-loop-i c = below (goal.at.bounds-r-i-in-loop-i c).At-loop-i

@@ -19,9 +19,6 @@ loop-i-init c = walk_start c.requires.1
 low_below : (c : At-loop-i) → c.loop-i.low < 12
 low_below c = let n = low_inside c.requires.1 c.loop-i.invariant.to c.loop-i.invariant.last in omega (arith, n.1, c.requires.2)
 
-pub offset_bounds-x-low : goal.offset_bounds-x-low
-offset_bounds-x-low c = let n = low_below (goal.at.offset_bounds-x-low c).At-loop-i in search rules
-
 pub bounds-x-low : goal.bounds-x-low
 bounds-x-low c = let n = low_below (goal.at.bounds-x-low c).At-loop-i in search rules
 
