@@ -2,7 +2,6 @@
 use mathlib.Core.Path.{refl}
 use lib.Ieee.{of_bits}
 use native.Mathlib.Omega.{arith}
-use borrow.Author.Rules.{rules}
 use Rattle.probes.proofs.ProbeAnswers.{listed_within, unlisted_below, unlisted_above}
 use Rattle.probes.proofs.probe_angles.probe_angle.Goals as goal
 

@@ -1,6 +1,5 @@
 -- The count of at most 18 codes.
 use Rattle.probes.proofs.ProbeAnswers.{fits, unfit}
-use borrow.Author.Rules.{rules}
 use Rattle.probes.proofs.probe_beds.probe_count_matching.Goals as goal
 
 pub returns-then-codes-le18 : goal.returns-then-codes-le18

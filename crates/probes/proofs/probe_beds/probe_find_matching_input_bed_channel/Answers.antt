@@ -1,7 +1,6 @@
 -- The place found, as a number.
 use mathlib.Core.Path.{sym, ap, ◌∙◌}
 use Rattle.probes.specs.Beds.{found_number}
-use borrow.Author.Rules.{rules}
 use Rattle.probes.proofs.probe_beds.probe_find_matching_input_bed_channel.Goals as goal
 
 pub returns-in-At : goal.returns-in-At

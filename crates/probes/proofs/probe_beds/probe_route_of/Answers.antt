@@ -1,7 +1,6 @@
 -- The route, as a number.
 use mathlib.Core.Path.{sym, ap, ◌∙◌}
 use Rattle.probes.specs.Beds.{route_number}
-use borrow.Author.Rules.{rules}
 use Rattle.probes.proofs.probe_beds.probe_route_of.Goals as goal
 
 pub returns-in-Direct : goal.returns-in-Direct

@@ -4,7 +4,6 @@ use mathlib.Core.Path.{refl}
 use native.Mathlib.Omega.{arith}
 use lib.ListN.{length}
 use borrow.Author.Tests.{eq-eqb, ne_eqb, le-leb, lt-leb}
-use borrow.Author.Rules.{rules}
 use Rattle.probes.proofs.probe_limiter.probe_apply_output_limiter_block.Goals as goal
 
 pub returns-then-places-ne3072 : goal.returns-then-places-ne3072

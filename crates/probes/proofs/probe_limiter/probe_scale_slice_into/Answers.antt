@@ -4,7 +4,6 @@ use mathlib.Core.Path.{◌≡◌, refl}
 use native.Mathlib.Omega.{arith}
 use lib.ListN.{length}
 use borrow.Author.Tests.{eq-eqb, ne_eqb}
-use borrow.Author.Rules.{rules}
 use Rattle.probes.proofs.probe_limiter.probe_scale_slice_into.Goals as goal
 
 pub returns-then-out-samples : goal.returns-then-out-samples

@@ -1,6 +1,5 @@
 -- Mixed where the lengths fit.
 use Rattle.probes.proofs.ProbeAnswers.{fits, unfit}
-use borrow.Author.Rules.{rules}
 use Rattle.probes.proofs.probe_mixing.probe_mix_add_scaled.Goals as goal
 
 pub returns-then-input-output : goal.returns-then-input-output

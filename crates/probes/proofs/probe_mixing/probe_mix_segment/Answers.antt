@@ -3,7 +3,6 @@ use Rattle.probes.proofs.ProbeAnswers.{fits, unfit}
 use native.Mathlib.Omega.{arith}
 use Prim.Native.Nat.{◌+◌, ◌≤◌, ◌<◌}
 use lib.ListN.{length}
-use borrow.Author.Rules.{rules}
 use Rattle.probes.proofs.probe_mixing.probe_mix_segment.Goals as goal
 
 pub returns-then-input-output : goal.returns-then-input-output

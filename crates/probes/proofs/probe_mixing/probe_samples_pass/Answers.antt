@@ -3,7 +3,6 @@ use Rattle.probes.proofs.ProbeAnswers.{fits_and, unfit_and}
 use native.Mathlib.Omega.{arith}
 use Prim.Native.Nat.{◌*◌, ◌≤◌, ◌<◌}
 use lib.ListN.{length}
-use borrow.Author.Rules.{rules}
 use Rattle.probes.proofs.probe_mixing.probe_samples_pass.Goals as goal
 
 pub returns-then-count-pcm : goal.returns-then-count-pcm

@@ -1,6 +1,5 @@
 -- The record, where it is there. Assumes nothing.
 use borrow.Author.Tests.{lt-ltb, le-ltb}
-use borrow.Author.Rules.{rules}
 use Rattle.probes.proofs.probe_records.probe_blocks.Goals as goal
 
 pub returns-then-e-meta : goal.returns-then-e-meta

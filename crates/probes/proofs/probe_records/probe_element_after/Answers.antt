@@ -1,6 +1,5 @@
 -- The record after it, where the element is there and its counts fit. Assumes nothing.
 use borrow.Author.Tests.{lt-ltb, le-ltb, le-leb, lt-leb}
-use borrow.Author.Rules.{rules}
 use Rattle.probes.proofs.probe_records.probe_element_after.Goals as goal
 
 pub returns-then-e-meta : goal.returns-then-e-meta

@@ -1,6 +1,5 @@
 -- The record, where it is there. Assumes nothing.
 use borrow.Author.Tests.{lt-ltb, le-ltb}
-use borrow.Author.Rules.{rules}
 use Rattle.probes.proofs.probe_records.probe_header.Goals as goal
 
 pub returns-then-u-meta : goal.returns-then-u-meta

@@ -6,7 +6,6 @@ use Rattle.records.specs.Laid.{update_at, count}
 use Rattle.records.specs.UpdateWalk.{next_offset}
 use Rattle.records.specs.LayoutAnswers.{offset_at}
 use Rattle.records.proofs.Theorems.{next_same}
-use borrow.Author.Rules.{rules}
 use Rattle.probes.proofs.probe_records.probe_next_offset.Goals as goal
 
 pub returns : goal.returns

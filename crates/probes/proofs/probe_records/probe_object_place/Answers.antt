@@ -1,6 +1,5 @@
 -- Its record, where the element is there and the numbers fit. Assumes nothing.
 use borrow.Author.Tests.{lt-ltb, le-ltb, le-leb, lt-leb}
-use borrow.Author.Rules.{rules}
 use Rattle.probes.proofs.probe_records.probe_object_place.Goals as goal
 
 pub returns-then-e-meta : goal.returns-then-e-meta

@@ -1,6 +1,5 @@
 -- Update i, of the layout. Assumes nothing.
 use borrow.Author.Tests.{lt-ltb, le-ltb}
-use borrow.Author.Rules.{rules}
 use Rattle.probes.proofs.probe_records.probe_update_place.Goals as goal
 
 pub returns-then-i-l : goal.returns-then-i-l

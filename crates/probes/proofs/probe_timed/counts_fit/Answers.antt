@@ -1,6 +1,5 @@
 -- Each test in turn. Assumes nothing.
 use borrow.Author.Tests.{le-leb, lt-leb}
-use borrow.Author.Rules.{rules}
 use Rattle.probes.specs.Timed.{counts_suit}
 use Rattle.probes.proofs.probe_timed.counts_fit.Goals as goal
 

@@ -1,7 +1,6 @@
 -- Each test in turn. Assumes nothing.
 use mathlib.Core.Path.{sym, ◌∙◌}
 use borrow.Author.Tests.{le-leb, lt-leb}
-use borrow.Author.Rules.{rules}
 use Rattle.probes.specs.Timed.{element_fits}
 use Rattle.probes.proofs.probe_timed.element_fits.Goals as goal
 

@@ -2,8 +2,7 @@
 use Prim.Native.Nat.{◌≤◌, ◌<◌}
 use mathlib.Core.Path.{refl, sym, ◌∙◌}
 use native.Mathlib.Omega.{arith}
-use borrow.Author.Tests.{eq-eqb, ne_eqb, lt-ltb, le-ltb}
-use borrow.Author.Rules.{rules}
+use borrow.Author.Tests.{not-true, not-false, eq-eqb, ne_eqb, lt-ltb, le-ltb}
 use Rattle.records.specs.Laid.{count}
 use Rattle.updates.proofs.Passed.{passes}
 use Rattle.probes.proofs.probe_timed.probe_apply_update.Goals as goal
@@ -12,14 +11,14 @@ pub returns-then-infos-ne-INFOS_BYTES : goal.returns-then-infos-ne-INFOS_BYTES
 returns-then-infos-ne-INFOS_BYTES c = simp (ne_eqb _ _ c.if-infos-ne-INFOS_BYTES.true) (record { state = refl; infos = refl })
 
 pub returns-then-not-l : goal.returns-then-not-l
-returns-then-not-l c = simp (eq-eqb _ _ c.if-infos-ne-INFOS_BYTES.false, sym c.layout_of-l.ensures.fits ∙ c.if-not-l.true)
+returns-then-not-l c = simp (eq-eqb _ _ c.if-infos-ne-INFOS_BYTES.false, sym c.layout_of-l.ensures.fits ∙ not-true _ c.if-not-l.true)
     (record { state = refl; infos = refl })
 
 pub returns-then-not-in_range : goal.returns-then-not-in_range
 returns-then-not-in_range c = simp (
   eq-eqb _ _ c.if-infos-ne-INFOS_BYTES.false,
   sym c.layout_of-l.ensures.fits
-      ∙ c.if-not-l.false,
+      ∙ not-false _ c.if-not-l.false,
   sym c.in_range.ensures ∙ c.if-not-in_range.true,
 ) (record { state = refl; infos = refl })
 
@@ -30,7 +29,7 @@ returns-then-i-count c =
     simp (
       eq-eqb _ _ c.if-infos-ne-INFOS_BYTES.false,
       sym c.layout_of-l.ensures.fits
-          ∙ c.if-not-l.false,
+          ∙ not-false _ c.if-not-l.false,
       sym c.in_range.ensures ∙ c.if-not-in_range.false,
       le-ltb _ _ h,
     )
@@ -51,7 +50,7 @@ apply_update-next-requires c =
     let m = a.meta.now in
     let g = c.layout_of-l.ensures in
     let one : a.i < count m = omega (arith, g.counted, c.if-i-count.false) in
-    let laid = sym c.layout_of-l.ensures.fits ∙ c.if-not-l.false in
+    let laid = sym c.layout_of-l.ensures.fits ∙ not-false _ c.if-not-l.false in
     let fit = sym c.in_range.ensures ∙ c.if-not-in_range.false in (
       omega arith,
       rw (g.firsts a.i one)
@@ -66,7 +65,7 @@ returns c =
     simp (
       eq-eqb _ _ c.if-infos-ne-INFOS_BYTES.false,
       sym c.layout_of-l.ensures.fits
-          ∙ c.if-not-l.false,
+          ∙ not-false _ c.if-not-l.false,
       sym c.in_range.ensures
           ∙ c.if-not-in_range.false,
       lt-ltb _ _ one,

@@ -1,9 +1,8 @@
 -- `probes::probe_timed::probe_update_timeslot`: the slot of a state within its ranges. Assumes nothing.
-use Prim.Native.Nat.{◌<◌}
+use Prim.Native.Nat.{◌≤◌}
 use mathlib.Core.Path.{refl, sym, ◌∙◌}
 use native.Mathlib.Omega.{arith}
-use borrow.Author.Tests.{eq-eqb, ne_eqb, le-leb, lt-leb}
-use borrow.Author.Rules.{rules}
+use borrow.Author.Tests.{eq-eqb, ne_eqb, le-leb}
 use Rattle.timed.proofs.Theorems.{within_later}
 use Rattle.probes.specs.Timed.{last_position}
 use Rattle.probes.proofs.Timed.{fits_within}
@@ -12,14 +11,10 @@ use Rattle.probes.proofs.probe_timed.probe_update_timeslot.Goals as goal
 pub returns-then-infos-ne-INFOS_BYTES : goal.returns-then-infos-ne-INFOS_BYTES
 returns-then-infos-ne-INFOS_BYTES c = simp (ne_eqb _ _ c.if-infos-ne-INFOS_BYTES.true) (record { state = refl; infos = refl })
 
-pub returns-then-start-gt1099511627776 : goal.returns-then-start-gt1099511627776
-returns-then-start-gt1099511627776 c =
-    let h : last_position < c.args.start = omega arith in
-    simp (eq-eqb _ _ c.if-infos-ne-INFOS_BYTES.false, lt-leb _ _ h) (record { state = refl; infos = refl })
-
 pub returns-then-not-state_fits : goal.returns-then-not-state_fits
-returns-then-not-state_fits c = simp (eq-eqb _ _ c.if-infos-ne-INFOS_BYTES.false, le-leb _ _ c.if-start-gt1099511627776.false, sym c.state_fits.ensures ∙ c.if-not-state_fits.true)
-    (record { state = refl; infos = refl })
+returns-then-not-state_fits c =
+    let h : c.args.start ≤ last_position = omega arith in
+    simp (eq-eqb _ _ c.if-infos-ne-INFOS_BYTES.false, le-leb _ _ h, sym c.state_fits.ensures ∙ c.if-not-state_fits.true) (record { state = refl; infos = refl })
 
 pub update_timeslot-requires : goal.update_timeslot-requires
 update_timeslot-requires c = (
@@ -30,8 +25,6 @@ update_timeslot-requires c = (
 )
 
 pub returns : goal.returns
-returns c = simp (
-  eq-eqb _ _ c.if-infos-ne-INFOS_BYTES.false,
-  le-leb _ _ c.if-start-gt1099511627776.false,
-  sym c.state_fits.ensures ∙ c.if-not-state_fits.false,
-) c.update_timeslot.ensures
+returns c =
+    let h : c.args.start ≤ last_position = omega arith in
+    simp (eq-eqb _ _ c.if-infos-ne-INFOS_BYTES.false, le-leb _ _ h, sym c.state_fits.ensures ∙ c.if-not-state_fits.false) c.update_timeslot.ensures

@@ -1,7 +1,6 @@
 -- The counts, the last update's position, both elements. Assumes nothing.
 use mathlib.Core.Path.{◌≡◌, sym, ◌∙◌}
 use mathlib.Core.Bool.{true, false}
-use borrow.Author.Rules.{rules}
 use Rattle.timed.specs.State.{element_of}
 use Rattle.probes.specs.Timed.{element_fits, state_fits}
 use Rattle.probes.proofs.probe_timed.state_fits.Goals as goal

@@ -1,5 +1,4 @@
 -- `probes::probe_vectors::maybe_of`: absent where the flag says so. Assumes nothing.
-use borrow.Author.Rules.{rules}
 use Rattle.probes.proofs.probe_vectors.maybe_of.Goals as goal
 
 pub returns-then-present : goal.returns-then-present

@@ -1,5 +1,4 @@
 -- `probes::probe_vectors::probe_room_anchored_position`: the leaf at the decoded distance. Assumes nothing.
-use borrow.Author.Rules.{rules}
 use mathlib.Core.Path.{ap, ◌∙◌}
 use Rattle.vectors.specs.Anchors.{room_anchored}
 use Rattle.probes.proofs.probe_vectors.probe_room_anchored_position.Goals as goal

@@ -1,5 +1,4 @@
 -- `probes::probe_vectors::probe_update_source_position`: the leaf at the decoded block. Assumes nothing.
-use borrow.Author.Rules.{rules}
 use mathlib.Core.Path.{◌∙◌}
 use Rattle.vectors.specs.Target.{placed}
 use Rattle.probes.proofs.probe_vectors.probe_update_source_position.Goals as goal

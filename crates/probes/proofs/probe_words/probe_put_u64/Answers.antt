@@ -2,7 +2,6 @@
 use Prim.Native.Nat.{◌+◌, ◌≤◌, ◌<◌}
 use native.Mathlib.Omega.{arith}
 use lib.ListN.{length}
-use borrow.Author.Rules.{rules}
 use Rattle.probes.proofs.ProbeAnswers.{fits, unfit}
 use Rattle.probes.proofs.probe_words.probe_put_u64.Goals as goal
 
