@@ -55,7 +55,8 @@ pub fn plain(state: &mut [u8], out: &mut [u8], text: &mut [u8], rec: &[u8; 40]) 
     ensures { Called (plain_call rec.now out.old)
         state.old out.old state.new out.new result text.new }
 {
-    if rec[0] == 7 {
+    let flushes = rec[0] == 7;
+    if flushes {
         let answer = hall::hall_flush(state, out, 256);
         return tell(text, answer, out);
     }
