@@ -14,7 +14,7 @@ drain-last-requires c =
     let a = c.args in
     let w = c.requires in
     rw c.of-work.ensures (
-      can_give a.state.now a.s w.loaded.small (λ k. omega (arith, c.type_inv.state k)) w.loaded.valid a.out.now a.stride
+      can_give a.state.now a.s w.loaded.small (λ k. omega (arith, c.slice_known-1.given k)) w.loaded.valid a.out.now a.stride
           w.room,
       refl,
       refl,
@@ -29,7 +29,7 @@ returns c =
     let w = c.requires in
     let d = rw c.of-work.ensures at c.drain-last.ensures in
     flushed_left a.state.now a.s w.loaded.small
-    (λ k. omega (arith, (goal.at.returns c).After-of-work.type_inv.state k))
+    (λ k. omega (arith, c.slice_known-1.given k))
     w.loaded.valid a.out.now a.stride w.room
     w.some c.drain-last.result.renderer c.shown.result d.next (c.shown.ensures ∙ ap shown d.meters) c.ready.result
     c.save.new.state c.drain-last.new.out (c.ready.ensures ∙ ap (λ (n : ℕ). ready_of n c.shown.result) d.ready)
