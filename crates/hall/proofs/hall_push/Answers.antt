@@ -9,7 +9,6 @@ use Rattle.hall.proofs.Appending.{with_appends}
 use Rattle.hall.proofs.WaysOut.{leaves_as, wrong, refused_push}
 use Rattle.refusals.proofs.Theorems.{not_clear}
 use Rattle.hall.proofs.Known.{valid_long, loaded_ranged}
-use borrow.Author.Rules.{rules}
 use Rattle.hall.proofs.hall_push.Goals as goal
 use Rattle.hall.proofs.hall_push.Goals.{After-is_valid}
 

@@ -6,7 +6,6 @@ use Rattle.hall.specs.Answers.{ready_of}
 use Rattle.hall.proofs.Known.{valid_long}
 use Rattle.limiter.specs.Meters.{shown}
 use Rattle.hall.proofs.Done.{can_give, flushed_left}
-use borrow.Author.Rules.{rules}
 use Rattle.hall.proofs.work.drain.Goals as goal
 
 pub drain-last-requires : goal.drain-last-requires

@@ -4,7 +4,6 @@ use native.Mathlib.Omega.{arith}
 use Rattle.refusals.specs.FirstFound.{args_with}
 use Rattle.limiter.specs.Meters.{shown}
 use Rattle.hall.proofs.Done.{rendered_left}
-use borrow.Author.Rules.{rules}
 use Rattle.hall.proofs.work.render.Goals as goal
 
 pub render-done-requires : goal.render-done-requires
