@@ -4,7 +4,6 @@ use borrow.Author.Tests.{eq-eqb}
 use Rattle.rules.specs.Calls.{flush}
 use Rattle.hall.proofs.WaysOut.{leaves_as, wrong, no_room, nothing_waits}
 use Rattle.hall.proofs.Known.{valid_long, pos_of, loaded_pending}
-use borrow.Author.Rules.{rules}
 use Rattle.hall.proofs.hall_flush.Goals as goal
 
 pub returns-then-not-is_valid : goal.returns-then-not-is_valid

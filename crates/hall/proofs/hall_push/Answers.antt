@@ -9,13 +9,12 @@ use Rattle.hall.proofs.Appending.{with_appends}
 use Rattle.hall.proofs.WaysOut.{leaves_as, wrong, refused_push}
 use Rattle.refusals.proofs.Theorems.{not_clear}
 use Rattle.hall.proofs.Known.{valid_long, loaded_ranged}
-use borrow.Author.Rules.{rules}
 use Rattle.hall.proofs.hall_push.Goals as goal
 use Rattle.hall.proofs.hall_push.Goals.{After-is_valid}
 
 -- the state block and the metadata are bytes
 lent : (c : After-is_valid) → let a = c.args in Bytes a.state.now × Bytes a.meta.now
-lent c = ((λ i. omega (arith, c.type_inv.state i)), λ i. omega (arith, c.type_inv.meta i))
+lent c = ((λ i. omega (arith, c.slice_known-1.given i)), λ i. omega (arith, c.type_inv.meta i))
 
 pub returns-then-not-is_valid : goal.returns-then-not-is_valid
 returns-then-not-is_valid c =
@@ -31,7 +30,7 @@ load-s-requires c = valid_long c.args.state.now (sym c.is_valid.ensures ∙ c.if
 pub push_refusal-found-requires : goal.push_refusal-found-requires
 push_refusal-found-requires c =
     let valid = sym c.is_valid.ensures ∙ c.if-not-is_valid.false in
-    let w = (loaded_ranged c.args.state.now c.load-s.result c.load-s.ensures (λ i. omega (arith, c.type_inv.state i)) valid).meta.state.within in
+    let w = (loaded_ranged c.args.state.now c.load-s.result c.load-s.ensures (λ i. omega (arith, c.slice_known-1.given i)) valid).meta.state.within in
     (w.beds, w.objects, c.layout_of-l.ensures)
 
 pub render-requires : goal.render-requires

@@ -5,7 +5,6 @@ use Rattle.rules.specs.Calls.{reset}
 use Rattle.rules.specs.BlockCalls.{Outcome}
 use Rattle.hall.specs.Answers.{code_of}
 use Rattle.hall.proofs.WaysOut.{wrong, resets}
-use borrow.Author.Rules.{rules}
 use Rattle.hall.proofs.hall_reset.Goals as goal
 
 pub returns-then-state-ne-SIZE : goal.returns-then-state-ne-SIZE

@@ -1,4 +1,3 @@
-
 use borrow.Author.Tests.{lt-ltb, le-ltb}
 use Rattle.frame.proofs.push.least.Goals as goal
 

@@ -1,5 +1,5 @@
 -- `render` meets its contract: the loop keeps `Running`, and what is left of the frame falls at each turn. Assumes nothing.
-use Prim.Native.Nat.{ℕ, ◌+◌, ◌-◌, ◌<◌}
+use Prim.Native.Nat.{ℕ, ◌+◌}
 use mathlib.Core.Path.{◌≡◌, refl, sym, ap, ◌∙◌, subst}
 use mathlib.Core.List.{List}
 use mathlib.Core.Bool.{Bool, true, false, ◌||◌}
@@ -10,7 +10,6 @@ use native.Mathlib.Nat.{le_of_lt}
 use borrow.Author.Rules.{rules}
 use borrow.Author.Tests.{ltb-true, ltb-false}
 use Rattle.limiter.specs.Meters.{unmet}
-use Rattle.rules.specs.Refusals.{Args}
 use Rattle.rules.specs.Calls.{frame_of}
 use Rattle.rules.specs.Samples.{Renderer, updated, slotted}
 use Rattle.timed.specs.State.{Timed}
@@ -22,7 +21,6 @@ use Rattle.rendering.specs.Held.{held, IsNext, Leads}
 use Rattle.rendering.specs.declared.Rendering.{Rendering}
 use Rattle.rendering.specs.Begin.{CanStart}
 use Rattle.rendering.specs.Give.{GaveRows}
-use Rattle.rendering.specs.Pass.{moment_here, Waits}
 use Rattle.chunk.specs.ChunkRows.{Laid}
 use Rattle.frame.specs.Turn.{CanBegin}
 use Rattle.rendering.proofs.Theorems.{can_start, slotted_after, none_applied, slot_rests, slot_changes_nothing}
@@ -94,13 +92,13 @@ updates_done c k =
     let s = c.args in
     let x = c.loop-l in
     elim c.if-is_sent.branch [
-      then-is_sent w ↦ rw (w.work-is, w.state-is) w.apply_sent-work.ensures
-    | else-is_sent w ↦ rw (w.work-is, w.state-is)
-        (record {
-          next = none_applied s.meta.now s.l k.layout x.t.0 x.work.renderer x.state x.invariant.0.long (rw w.if-is_sent.false at c.is_sent.ensures);
-          ready = refl;
-          meters = refl;
-        })
+      | then-is_sent w ↦ rw (w.work-is, w.state-is) w.apply_sent-work.ensures
+      | else-is_sent w ↦ rw (w.work-is, w.state-is)
+          (record {
+            next = none_applied s.meta.now s.l k.layout x.t.0 x.work.renderer x.state x.invariant.0.long (rw w.if-is_sent.false at c.is_sent.ensures);
+            ready = refl;
+            meters = refl;
+          })
     ]
 
 -- the slot that starts may
@@ -135,12 +133,12 @@ begun : (c : Joined-slot_starts) → let s = c.args in let x = c.loop-l in
 begun c a =
     let slot = sym c.slot_starts.ensures in
     elim c.if-slot_starts.branch [
-      then-slot_starts+then-not-rests w ↦
-        let b = w.start_slot-work.ensures in
-        rw (w.work-is, w.state-is) (record { next = slotted_after a.next b.next; ready = b.ready ∙ a.ready; meters = b.meters ∙ a.meters })
-    | then-slot_starts+else-not-rests w ↦
-        rw (w.work-is, w.state-is) (leads_on a (slot_changes_nothing _ _ a.next.holds.long (slot ∙ w.if-slot_starts.true) (sym w.rests.ensures ∙ w.if-not-rests.false)))
-    | else-slot_starts w ↦ rw (w.work-is, w.state-is) (leads_on a (slot_rests _ _ a.next.holds.long (slot ∙ w.if-slot_starts.false)))
+      | then-slot_starts+then-not-rests w ↦
+          let b = w.start_slot-work.ensures in
+          rw (w.work-is, w.state-is) (record { next = slotted_after a.next b.next; ready = b.ready ∙ a.ready; meters = b.meters ∙ a.meters })
+      | then-slot_starts+else-not-rests w ↦
+          rw (w.work-is, w.state-is) (leads_on a (slot_changes_nothing _ _ a.next.holds.long (slot ∙ w.if-slot_starts.true) (sym w.rests.ensures ∙ w.if-not-rests.false)))
+      | else-slot_starts w ↦ rw (w.work-is, w.state-is) (leads_on a (slot_rests _ _ a.next.holds.long (slot ∙ w.if-slot_starts.false)))
     ]
 
 pub next_offset-next-requires : goal.next_offset-next-requires
@@ -208,10 +206,10 @@ laid_part : (c : Joined-is_kept) → let s = c.args in let x = c.loop-l in let v
 laid_part c q h =
     let p = (turn_passes q).passes.pending in
     elim c.if-is_kept.branch [
-      then-is_kept w ↦ rw w.state-is w.lay.ensures
-    | else-is_kept w ↦
-        let x = ltb-false c.run_length-k.result 64 (neither (ltb c.run_length-k.result 64) _ (sym c.is_kept.ensures ∙ w.if-is_kept.false)).0 in
-        absurd (h (omega arith))
+      | then-is_kept w ↦ rw w.state-is w.lay.ensures
+      | else-is_kept w ↦
+          let x = ltb-false c.run_length-k.result 64 (neither (ltb c.run_length-k.result 64) _ (sym c.is_kept.ensures ∙ w.if-is_kept.false)).0 in
+          absurd (h (omega arith))
     ]
 
 pub give_rows-work-requires : goal.give_rows-work-requires
@@ -276,15 +274,15 @@ whole_runs c r o q e g =
     let p = turn_passes q in
     let y = c.pass-work.ensures s.n.rate (sent_of s.meta.now) v.state in
     elim c.if-is_kept.branch [
-      then-is_kept w ↦ rw w.state-is (turn_runs q r _ o (passes_whole f p y w.lay.ensures e g))
-    | else-is_kept w ↦
-        let k = c.run_length-k.result in
-        let left = c.up_to.result in
-        let x = ltb-false left 128 (neither (ltb k 64) (ltb left 128) (sym c.is_kept.ensures ∙ w.if-is_kept.false)).1 in
-        let l = as_laid ys v.work.renderer.pending k p.passes.pending v.state (fit_all ys g.fit) y.whole p.block in
-        rw w.state-is
-        (turn_skips q r l.0 o (passes_whole f p y l.1 e g) l.1.infos (ap (λ (s : Renderer714). s.pending) g.renderer)
-        (omega (arith, x, c.up_to.ensures, c.loop-l.invariant.1)))
+      | then-is_kept w ↦ rw w.state-is (turn_runs q r _ o (passes_whole f p y w.lay.ensures e g))
+      | else-is_kept w ↦
+          let k = c.run_length-k.result in
+          let left = c.up_to.result in
+          let x = ltb-false left 128 (neither (ltb k 64) (ltb left 128) (sym c.is_kept.ensures ∙ w.if-is_kept.false)).1 in
+          let l = as_laid ys v.work.renderer.pending k p.passes.pending v.state (fit_all ys g.fit) y.whole p.block in
+          rw w.state-is
+          (turn_skips q r l.0 o (passes_whole f p y l.1 e g) l.1.infos (ap (λ (s : Renderer714). s.pending) g.renderer)
+          (omega (arith, x, c.up_to.ensures, c.loop-l.invariant.1)))
     ]
 
 pub loop-l-preserved : goal.loop-l-preserved
@@ -300,11 +298,11 @@ loop-l-preserved c =
     let y = c.pass-work.ensures s.n.rate (sent_of s.meta.now) c.if-slot_starts.state in (
       subst (λ (t : ℕ). Running s.state.now a t z.work c.if-is_kept.state z.out) (sym c.plus-t.ensures)
           (elim z.branch [
-            then-k-eq64 w ↦ rw (w.work-is, w.out-is) (whole_runs at.Joined-is_kept _ _ q w.if-k-eq64.true w.give_rows-work.ensures)
-          | else-k-eq64+then-work-eq64 w ↦ rw (w.work-is, w.out-is)
-              (turn_runs q _ _ _ (passes_given f p y (laid_part at.Joined-is_kept q w.if-k-eq64.false) w.if-work-eq64.true w.give-work.ensures))
-          | else-k-eq64+else-work-eq64 w ↦ rw (w.work-is, w.out-is)
-              (turn_runs q _ _ _ (passes_on f p y (laid_part at.Joined-is_kept q w.if-k-eq64.false) w.if-work-eq64.false))
+            | then-k-eq64 w ↦ rw (w.work-is, w.out-is) (whole_runs at.Joined-is_kept _ _ q w.if-k-eq64.true w.give_rows-work.ensures)
+            | else-k-eq64+then-work-eq64 w ↦ rw (w.work-is, w.out-is)
+                (turn_runs q _ _ _ (passes_given f p y (laid_part at.Joined-is_kept q w.if-k-eq64.false) w.if-work-eq64.true w.give-work.ensures))
+            | else-k-eq64+else-work-eq64 w ↦ rw (w.work-is, w.out-is)
+                (turn_runs q _ _ _ (passes_on f p y (laid_part at.Joined-is_kept q w.if-k-eq64.false) w.if-work-eq64.false))
           ]),
       c.loop-l.invariant.1,
     )

@@ -1,5 +1,3 @@
-
-use borrow.Author.Rules.{rules}
 use Rattle.frame.proofs.Opening.{run_started, run_silent}
 use Rattle.frame.proofs.push.run_length.Goals as goal
 

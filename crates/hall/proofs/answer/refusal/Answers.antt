@@ -4,7 +4,6 @@ use Rattle.refusals.specs.RefusalNumbers.{found_of}
 use Rattle.refusals.specs.declared.Refusal.{Refusal}
 use Rattle.hall.specs.declared.answer.Answer.{Answer}
 use Rattle.hall.specs.Answers.{code_of_found}
-use borrow.Author.Rules.{rules}
 use Rattle.hall.proofs.answer.refusal.Goals as goal
 
 by_kind : {x y : Refusal} {r : Answer} → x ≡ y → r ≡ code_of_found (found_of y) → r ≡ code_of_found (found_of x)

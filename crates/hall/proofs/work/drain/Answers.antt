@@ -6,7 +6,6 @@ use Rattle.hall.specs.Answers.{ready_of}
 use Rattle.hall.proofs.Known.{valid_long}
 use Rattle.limiter.specs.Meters.{shown}
 use Rattle.hall.proofs.Done.{can_give, flushed_left}
-use borrow.Author.Rules.{rules}
 use Rattle.hall.proofs.work.drain.Goals as goal
 
 pub drain-last-requires : goal.drain-last-requires
@@ -14,7 +13,7 @@ drain-last-requires c =
     let a = c.args in
     let w = c.requires in
     rw c.of-work.ensures (
-      can_give a.state.now a.s w.loaded.small (λ k. omega (arith, c.type_inv.state k)) w.loaded.valid a.out.now a.stride
+      can_give a.state.now a.s w.loaded.small (λ k. omega (arith, c.slice_known-1.given k)) w.loaded.valid a.out.now a.stride
           w.room,
       refl,
       refl,
@@ -29,7 +28,7 @@ returns c =
     let w = c.requires in
     let d = rw c.of-work.ensures at c.drain-last.ensures in
     flushed_left a.state.now a.s w.loaded.small
-    (λ k. omega (arith, (goal.at.returns c).After-of-work.type_inv.state k))
+    (λ k. omega (arith, c.slice_known-1.given k))
     w.loaded.valid a.out.now a.stride w.room
     w.some c.drain-last.result.renderer c.shown.result d.next (c.shown.ensures ∙ ap shown d.meters) c.ready.result
     c.save.new.state c.drain-last.new.out (c.ready.ensures ∙ ap (λ (n : ℕ). ready_of n c.shown.result) d.ready)

@@ -4,7 +4,6 @@ use native.Mathlib.Omega.{arith}
 use Rattle.refusals.specs.FirstFound.{args_with}
 use Rattle.limiter.specs.Meters.{shown}
 use Rattle.hall.proofs.Done.{rendered_left}
-use borrow.Author.Rules.{rules}
 use Rattle.hall.proofs.work.render.Goals as goal
 
 pub render-done-requires : goal.render-done-requires
@@ -20,11 +19,10 @@ returns c =
     let a = c.args in
     let w = c.requires in
     let d = c.render-done.ensures in
-    let p = goal.at.returns c in
     rendered_left (args_with a.pcm.now a.meta.now a.out.now a.codes.now a.n) a.state.now
-    (λ i. omega (arith, p.After-of-work.type_inv.state i))
-    (λ i. omega (arith, p.After-of-work.type_inv.meta i)) w.loaded.valid w.clear
+    (λ i. omega (arith, c.slice_known-1.given i))
+    (λ i. omega (arith, c.type_inv.meta i)) w.loaded.valid w.clear
     c.render-done.result.renderer c.render-done.result.ready c.shown.result c.render-done.new.state
-    (λ i. omega (arith, p.After-render-done.type_inv.state i)) d.next.holds d.ready
+    (λ i. omega (arith, c.slice_known-3-1.given i)) d.next.holds d.ready
     (c.shown.ensures ∙ ap shown d.meters)
     c.ready.result c.save.new.state c.render-done.new.out c.ready.ensures c.save.ensures d.given
