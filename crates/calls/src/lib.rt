@@ -27,6 +27,7 @@ fn tell(text: &mut [u8], answer: Answer, out: &[u8]) -> usize
 }
 
 // The push of a frame whose header is `rec`; how long the answer's text is.
+#[tactic(auto, using(crate::proofs::Calling::code_text))]
 pub fn push(
     state: &mut [u8],
     meta: &[u8],
@@ -50,13 +51,13 @@ pub fn push(
 }
 
 // The flush or the reset that `rec` asks for; how long the answer's text is.
+#[tactic(auto, using(crate::proofs::Calling::code_text), unfolding(crate::specs::Asked::plain_call))]
 pub fn plain(state: &mut [u8], out: &mut [u8], text: &mut [u8], rec: &[u8; 40]) -> usize
     requires { (length out.old ≡ 12288) × (length text.old ≡ 27675) }
     ensures { Called (plain_call rec.now out.old)
         state.old out.old state.new out.new result text.new }
 {
-    let flushes = rec[0] == 7;
-    if flushes {
+    if rec[0] == 7 {
         let answer = hall::hall_flush(state, out, 256);
         return tell(text, answer, out);
     }
