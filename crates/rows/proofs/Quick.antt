@@ -216,17 +216,17 @@ stepped run r (push a) = asked run (found hall r a) a r
 stepped run r (flush out stride) = step hall r (flush out stride)
 stepped run r reset = step hall r reset
 
-unfoldable pub SaidOf : Answer → ℕ → List ℕ → Said
+unfoldable pub said_of : Answer → ℕ → List ℕ → Said
 unfolding read
-SaidOf (refused n a b) stride out = refusal n a b
-SaidOf (rendered g m) stride out = ready (read g stride out)
-SaidOf nothing stride out = none
-SaidOf cleared stride out = renewed
+said_of (refused n a b) stride out = refusal n a b
+said_of (rendered g m) stride out = ready (read g stride out)
+said_of nothing stride out = none
+said_of cleared stride out = renewed
 
 unfoldable pub said_by : Run → State hall → List Call → List Said
-unfolding stepped SaidOf
+unfolding stepped said_of
 said_by run r [] = []
-said_by run r (c ∷ cs) = let x = stepped run r c in SaidOf x.answer (stride_of c) (out_of c) ∷ said_by run x.next cs
+said_by run r (c ∷ cs) = let x = stepped run r c in said_of x.answer (stride_of c) (out_of c) ∷ said_by run x.next cs
 
 unfoldable pub plainly : Row → List Said
 unfolding everything plain said_by

@@ -36,7 +36,7 @@ use Rattle.rows.specs.Rows.{ready, words_on, samples_on, said, all_said, Row, st
 use Rattle.rows.proofs.Quick.{firsts, memo, with_places, settled, both, Run, samples, plain, Feed, feeds, fed_from, bed_feeds, all_terms, object_feeds}
 use Rattle.rows.proofs.Quick.{mixer_at, mixer}
 use Rattle.rows.proofs.Quick.{scaled, mixed, passing, sent_for, begins, mixes, quick, small, level, line, lines, words_of, reading, read}
-use Rattle.rows.proofs.Quick.{asked, stepped, SaidOf, said_by, plainly, quickly}
+use Rattle.rows.proofs.Quick.{asked, stepped, said_of, said_by, plainly, quickly}
 
 -- ---- a function's first values
 
@@ -252,8 +252,8 @@ read_is g stride out =
 -- ---- calls
 
 said_is : (x : Answer) (s : State hall) (stride : ℕ) (out b : List ℕ)
-    → SaidOf x stride out ≡ said (left hall block x s out stride b).answer stride (left hall block x s out stride b).out
-unfolding SaidOf
+    → said_of x stride out ≡ said (left hall block x s out stride b).answer stride (left hall block x s out stride b).out
+unfolding said_of
 said_is (refused n a b) s stride out b' = refl
 said_is (rendered g m) s stride out b = ap ready (read_is g stride out)
 said_is nothing s stride out b = refl
@@ -276,7 +276,7 @@ module _ (run : Run) (is : (f : Frame Sent) (r : State hall) → run f r ≡ pus
   all_said_is r [] = refl
   all_said_is r (c ∷ cs) =
       let x = step hall r c in
-      ap (λ (x : Result hall). SaidOf x.answer (stride_of c) (out_of c) ∷ said_by run x.next cs) (stepped_is r c)
+      ap (λ (x : Result hall). said_of x.answer (stride_of c) (out_of c) ∷ said_by run x.next cs) (stepped_is r c)
       ∙ ap₂ ◌∷◌ (said_is x.answer x.next (stride_of c) (out_of c) []) (all_said_is x.next cs)
 
 pub plainly_is : (r : Row) → plainly r ≡ seen r
