@@ -1,9 +1,11 @@
 -- `hall_push`: each way out by its law.
-use mathlib.Core.Path.{refl, sym, ap, ◌∙◌}
+use mathlib.Core.Path.{◌≡◌, refl, sym, ap, ◌∙◌}
 use native.Mathlib.Omega.{arith}
+use borrow.Author.Rules.{rules}
 use Rattle.words.specs.Words.{Bytes}
 use Rattle.rules.specs.Calls.{push}
 use Rattle.refusals.specs.RefusalNumbers.{found_of}
+use Rattle.refusals.specs.declared.Refusal.TheVariants.{Clear}
 use Rattle.rules.specs.Refusals.{args_of}
 use Rattle.hall.proofs.Appending.{with_appends}
 use Rattle.hall.proofs.WaysOut.{leaves_as, wrong, refused_push}
@@ -38,7 +40,9 @@ render-requires c =
     let a = c.args in
     record {
       loaded = record { small = c.load-s.ensures; valid = sym c.is_valid.ensures ∙ c.if-not-is_valid.false };
-      clear = sym (c.push_refusal-found.ensures a.state.now a.out.now c.load-s.ensures refl) ∙ ap found_of c.in-Clear.is;
+      clear =
+          let e : c.push_refusal-found.result ≡ Clear = search rules in
+          sym (c.push_refusal-found.ensures a.state.now a.out.now c.load-s.ensures refl) ∙ ap found_of e;
       layout = c.layout_of-l.ensures;
     }
 
