@@ -8,3 +8,4 @@ pub mod Return
 pub mod InRange
 pub mod CallMeters
 pub mod Theorems
+pub mod Lowering

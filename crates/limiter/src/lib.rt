@@ -98,6 +98,7 @@ impl Limiter {
     }
 
     // The limiter that scales a block of this peak.
+    #[tactic(auto, using(crate::proofs::Lowering::lowered_above, crate::proofs::Lowering::lowered_below))]
     pub fn lower(self, peak: f32) -> Self
         ensures { result.gain ≡ lowered peak self.gain }
     {
