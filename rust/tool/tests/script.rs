@@ -101,7 +101,7 @@ impl Project {
 }
 
 const FIRST: &str = "\
-voqlisna: the library is proved and compiled first: 5 crates, about 15 minutes on four cores where none is proved yet
+voqlisna: the library is proved and compiled first: 5 crates, about 8 minutes on four cores where none is proved yet
 voqlisna: crate 1 of 5: words
 voqlisna: crate 2 of 5: ieee
 voqlisna: crate 3 of 5: frame
