@@ -1,16 +1,16 @@
-// Samples counted from the stream's start and from a frame's start: two types that only the frame's own start joins (`at`). What is asked of a count is asked here.
+// Samples counted from the stream's start and from a frame's start: two types that only the frame's own start joins (`at`). `==`, `<` and `<=` compare two of one type as their numbers.
 #![tactic(auto)]
 
 ghost use Rattle.std.specs.Prelude.{◌≡◌, ◌+◌, ◌-◌, ◌≤◌, eqb, leb, ltb};
 
 // A sample counted from the stream's start.
 #[repr(C)]
-#[derive(Clone, Copy)]
+#[derive(Clone, Copy, PartialEq, Eq, PartialOrd, Ord)]
 pub struct StreamSample(pub u64);
 
 // A sample counted from the frame's start.
 #[repr(C)]
-#[derive(Clone, Copy)]
+#[derive(Clone, Copy, PartialEq, Eq, PartialOrd, Ord)]
 pub struct FrameOffset(pub u32);
 
 // The frame's first sample.
