@@ -10,79 +10,54 @@ ghost use Rattle.words.specs.Words.{half, with_half, word, with_word, long, with
 ghost use Rattle.words.specs.Words.{signed_at, float_at, with_float};
 ghost use Rattle.words.specs.Words.{with_words};
 
-fn wide(x: u8) -> u16
-    ensures { (result ≡ x) × (result < 256) }
-{
-    x as u16
-}
-
 pub fn u16_at(s: &[u8], at: usize) -> u16
     requires { at + 2 ≤ length s.now }
     ensures { result ≡ half s.now at }
 {
-    let low = s[at];
-    let high = s[at + 1];
-    wide(low) + wide(high) * 256
+    u16::from_le_bytes([s[at], s[at + 1]])
 }
 
-fn wider(x: u8) -> u32
-    ensures { (result ≡ x) × (result < 256) }
-{
-    x as u32
-}
-
-// One sum of four bytes, which compiles to one load also where a loop over it is vectorised.
+// This compiles to one load also where a loop over it is vectorised.
 pub fn u32_at(s: &[u8], at: usize) -> u32
     requires { at + 4 ≤ length s.now }
     ensures { result ≡ word s.now at }
 {
-    let a = s[at];
-    let b = s[at + 1];
-    let c = s[at + 2];
-    let d = s[at + 3];
-    wider(a) + wider(b) * 256 + wider(c) * 65536 + wider(d) * 16777216
+    u32::from_le_bytes([s[at], s[at + 1], s[at + 2], s[at + 3]])
 }
 
 pub fn u64_at(s: &[u8], at: usize) -> u64
     requires { at + 8 ≤ length s.now }
     ensures { result ≡ long s.now at }
 {
-    u32_at(s, at) as u64 + (u32_at(s, at + 4) as u64) * 4294967296
+    u64::from(u32_at(s, at)) + u64::from(u32_at(s, at + 4)) * 4294967296
 }
 
 pub fn put_u16(s: &mut [u8], at: usize, n: u16)
     requires { at + 2 ≤ length s.old }
     ensures { s.new ≡ with_half s.old at n }
 {
-    s[at] = (n % 256) as u8;
-    s[at + 1] = (n / 256) as u8;
+    s[at..at + 2].copy_from_slice(&n.to_le_bytes());
 }
 
 pub fn put_u32(s: &mut [u8], at: usize, n: u32)
     requires { at + 4 ≤ length s.old }
     ensures { s.new ≡ with_word s.old at n }
 {
-    put_u16(s, at, (n % 65536) as u16);
-    put_u16(s, at + 2, (n / 65536) as u16);
+    s[at..at + 4].copy_from_slice(&n.to_le_bytes());
 }
 
 pub fn put_u64(s: &mut [u8], at: usize, n: u64)
     requires { at + 8 ≤ length s.old }
     ensures { s.new ≡ with_long s.old at n }
 {
-    put_u32(s, at, (n % 4294967296) as u32);
-    put_u32(s, at + 4, (n / 4294967296) as u32);
+    s[at..at + 8].copy_from_slice(&n.to_le_bytes());
 }
 
 // The signed number of a pattern of 64 bits.
 pub fn signed_of(n: u64) -> i64
     ensures { result ≡ to_z w64 n }
 {
-    if n < 9223372036854775808 {
-        return n as i64;
-    }
-    let m = 18446744073709551615 - n;
-    -1 - (m as i64)
+    n.cast_signed()
 }
 
 pub fn i64_at(s: &[u8], at: usize) -> i64
@@ -97,8 +72,7 @@ pub fn f32_of(n: u32) -> f32
     ensures { result ≡ of_bits binary32 n }
 {
     if n % 0x8000_0000 > 0x7f80_0000 {
-        let z = 0.0f32;
-        return z / z;
+        return f32::NAN;
     }
     f32::from_bits(n)
 }
@@ -107,10 +81,10 @@ pub fn f32_of(n: u32) -> f32
 pub fn bits_of(x: f32) -> u32
     ensures { result ≡ to_bits binary32 x }
 {
-    if x != x {
+    if x.is_nan() {
         return 0x7fc0_0000;
     }
-    f32::to_bits(x)
+    x.to_bits()
 }
 
 pub fn f32_at(s: &[u8], at: usize) -> f32
@@ -132,10 +106,8 @@ pub fn put_words(s: &mut [u8], at: usize, ws: &[u32])
     requires { at + 4 * length ws.now ≤ length s.old }
     ensures { s.new ≡ with_words s.old at ws.now }
 {
-    let mut i = 0usize;
-    while i < ws.len() {
-        put_u32(s, at + 4 * i, ws[i]);
-        i += 1;
+    for (i, w) in ws.iter().enumerate() {
+        put_u32(s, at + 4 * i, *w);
     }
 }
 
@@ -144,9 +116,5 @@ pub fn copy_bytes(src: &[u8], dst: &mut [u8])
     requires { length src.now ≤ length dst.old }
     ensures { dst.new ≡ src.now ++ drop (length src.now) dst.old }
 {
-    let mut i = 0usize;
-    while i < src.len() {
-        dst[i] = src[i];
-        i += 1;
-    }
+    dst[..src.len()].copy_from_slice(src);
 }

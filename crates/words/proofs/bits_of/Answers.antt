@@ -1,14 +1,13 @@
 -- `bits_of` is `to_bits`: what differs from itself is the NaN. Assumes nothing.
-use mathlib.Core.Path.{sym, subst, ap}
+use mathlib.Core.Path.{sym, subst, ap, ◌∙◌}
 use lib.Dec.{T}
 use lib.Ieee.{to_bits, binary32}
-use lib.Ieee.Compare.{differs_from_itself}
-use Rattle.words.proofs.Nan.{self_equal}
+use Rattle.words.proofs.Nan.{is_nan_is, not_nan}
 use Rattle.words.proofs.bits_of.Goals as goal
 
-pub returns-then-x : goal.returns-then-x
+pub returns-then-is_nan : goal.returns-then-is_nan
 unfolding to_bits
-returns-then-x c = sym (ap (to_bits binary32) (differs_from_itself c.args.x (subst T (sym c.if-x.true) tt)))
+returns-then-is_nan c = sym (ap (to_bits binary32) (is_nan_is c.args.x (sym c.is_nan.ensures.value ∙ c.if-is_nan.true)))
 
 pub float_to_bits-result : goal.float_to_bits-result
-float_to_bits-result c = self_equal c.args.x c.if-x.false
+float_to_bits-result c = not_nan c.args.x (sym c.is_nan.ensures.value ∙ c.if-is_nan.false)

@@ -1,6 +1,7 @@
--- `put_u64`: two words. Assumes nothing.
-use Rattle.words.proofs.Numbers.{written_joined}
+-- `put_u64`: eight bytes. Assumes nothing.
+use Rattle.std.proofs.Common.{◌∙◌, arith, rules, refl}
+use Rattle.words.proofs.Written.{number_put}
 use Rattle.words.proofs.put_u64.Goals as goal
 
 pub returns : goal.returns
-returns c = cc (written_joined c.args.s.now c.args.at 4 4 c.args.n)
+returns c = number_put c.args.s.now c.args.at _ 8 c.args.n _ refl c.requires (c.copy_from_slice.ensures.after ∙ c.to_le_bytes.ensures)
