@@ -1,7 +1,7 @@
 -- A number's bytes, as the library's `to_le_bytes` has them, put over those of a slice. Assumes nothing.
 use mathlib.Core.Path.{◌≡◌, refl, sym, ap, ◌∙◌}
 use mathlib.Core.List.{List, [], ◌∷◌, ◌++◌}
-use Prim.Native.Nat.{ℕ, zero, suc, ◌+◌, ◌-◌, ◌*◌, ◌/◌, ◌%◌, ◌^◌, ◌<◌, ◌≤◌}
+use Prim.Native.Nat.{ℕ, zero, suc, ◌+◌, ◌-◌, ◌/◌, ◌%◌, ◌^◌, ◌≤◌}
 use native.Mathlib.Nat.{add-zero, zero-add, div-one}
 use native.Mathlib.Omega.{arith}
 use borrow.Rule.Slice.PartMut.{put_mid}
@@ -35,7 +35,7 @@ written s at (suc n) v h =
     let l : length (p ++ bs) ≡ at + n = rw (length-append p bs, length-take-le at s (omega arith), length_bytes 0 n v) refl in
     let rest : drop (at + n) s ≡ get_or s (at + n) 0 ∷ d = drop-cons s (at + n) 0 (omega arith) ∙ ap (λ (k : ℕ). get_or s (at + n) 0 ∷ drop k s) (let e : suc (at + n) ≡ at + suc n = omega arith in e) in
     let before : with_number s at n v ≡ p ++ bs ++ (get_or s (at + n) 0 ∷ d) =
-        sym (written s at n v (omega arith)) ∙ sym (append_assoc p bs (drop (at + n) s)) ∙ ap (λ (t : List ℕ). p ++ bs ++ t) rest in
+    sym (written s at n v (omega arith)) ∙ sym (append_assoc p bs (drop (at + n) s)) ∙ ap (λ (t : List ℕ). p ++ bs ++ t) rest in
     let more : bytes_low_first 0 (suc n) v ≡ bs ++ (new ∷ []) = rw zero-add at (bytes_more 0 n v) ∙ ap (λ (b : ℕ). bs ++ (b ∷ [])) (byte_is n v) in
     sym (ap (λ (t : List ℕ). set t (at + n) new) before
     ∙ set_at (p ++ bs) (get_or s (at + n) 0) d new (at + n) l

@@ -1,20 +1,28 @@
 // Numbers in byte slices, little-endian: u16, u32, u64, i64 and f32 at any place, and runs of u32.
 #![tactic(auto)]
 
-ghost use Rattle.std.specs.Prelude.{◌≡◌, ◌++◌, ◌+◌, ◌*◌, ◌<◌, ◌≤◌, length, drop};
+ghost use Rattle.std.specs.Prelude.{◌≡◌, ◌++◌, ◌+◌, ◌*◌, ◌<◌, ◌≤◌, length, take, drop};
 ghost use Rattle.std.specs.Float.{binary32};
 ghost use Rattle.std.specs.Float.Ieee.{of_bits, to_bits};
-ghost use Rattle.std.specs.Int.{w64};
-ghost use Rattle.std.proofs.Common.{to_z};
 ghost use Rattle.words.specs.Words.{half, with_half, word, with_word, long, with_long};
 ghost use Rattle.words.specs.Words.{signed_at, float_at, with_float};
 ghost use Rattle.words.specs.Words.{with_words};
+
+// The N bytes from `at` on.
+fn bytes_at<const N: usize>(s: &[u8], at: usize) -> [u8; N]
+    requires { at + N ≤ length s.now }
+    ensures { result ≡ take N (drop at s.now) }
+{
+    let mut bytes = [0; N];
+    bytes.copy_from_slice(&s[at..at + N]);
+    bytes
+}
 
 pub fn u16_at(s: &[u8], at: usize) -> u16
     requires { at + 2 ≤ length s.now }
     ensures { result ≡ half s.now at }
 {
-    u16::from_le_bytes([s[at], s[at + 1]])
+    u16::from_le_bytes(bytes_at(s, at))
 }
 
 // This compiles to one load also where a loop over it is vectorised.
@@ -22,14 +30,14 @@ pub fn u32_at(s: &[u8], at: usize) -> u32
     requires { at + 4 ≤ length s.now }
     ensures { result ≡ word s.now at }
 {
-    u32::from_le_bytes([s[at], s[at + 1], s[at + 2], s[at + 3]])
+    u32::from_le_bytes(bytes_at(s, at))
 }
 
 pub fn u64_at(s: &[u8], at: usize) -> u64
     requires { at + 8 ≤ length s.now }
     ensures { result ≡ long s.now at }
 {
-    u64::from(u32_at(s, at)) + u64::from(u32_at(s, at + 4)) * 4294967296
+    u64::from_le_bytes(bytes_at(s, at))
 }
 
 pub fn put_u16(s: &mut [u8], at: usize, n: u16)
@@ -53,18 +61,11 @@ pub fn put_u64(s: &mut [u8], at: usize, n: u64)
     s[at..at + 8].copy_from_slice(&n.to_le_bytes());
 }
 
-// The signed number of a pattern of 64 bits.
-pub fn signed_of(n: u64) -> i64
-    ensures { result ≡ to_z w64 n }
-{
-    n.cast_signed()
-}
-
 pub fn i64_at(s: &[u8], at: usize) -> i64
     requires { at + 8 ≤ length s.now }
     ensures { result ≡ signed_at s.now at }
 {
-    signed_of(u64_at(s, at))
+    u64_at(s, at).cast_signed()
 }
 
 // The float of a bit pattern; every NaN pattern gives a NaN.
@@ -87,6 +88,7 @@ pub fn bits_of(x: f32) -> u32
     x.to_bits()
 }
 
+#[tactic(auto, unfolding(crate::specs::Words::float_at))]
 pub fn f32_at(s: &[u8], at: usize) -> f32
     requires { at + 4 ≤ length s.now }
     ensures { result ≡ float_at s.now at }
@@ -94,6 +96,7 @@ pub fn f32_at(s: &[u8], at: usize) -> f32
     f32_of(u32_at(s, at))
 }
 
+#[tactic(auto, unfolding(crate::specs::Words::with_float))]
 pub fn put_f32(s: &mut [u8], at: usize, x: f32)
     requires { at + 4 ≤ length s.old }
     ensures { s.new ≡ with_float s.old at x }

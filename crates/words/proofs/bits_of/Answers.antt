@@ -1,6 +1,5 @@
 -- `bits_of` is `to_bits`: what differs from itself is the NaN. Assumes nothing.
-use mathlib.Core.Path.{sym, subst, ap, ◌∙◌}
-use lib.Dec.{T}
+use mathlib.Core.Path.{sym, ap, ◌∙◌}
 use lib.Ieee.{to_bits, binary32}
 use Rattle.words.proofs.Nan.{is_nan_is, not_nan}
 use Rattle.words.proofs.bits_of.Goals as goal

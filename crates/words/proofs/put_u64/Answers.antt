@@ -1,5 +1,5 @@
 -- `put_u64`: eight bytes. Assumes nothing.
-use Rattle.std.proofs.Common.{◌∙◌, arith, rules, refl}
+use Rattle.std.proofs.Common.{◌∙◌, refl}
 use Rattle.words.proofs.Written.{number_put}
 use Rattle.words.proofs.put_u64.Goals as goal
 
