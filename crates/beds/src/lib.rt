@@ -21,13 +21,6 @@ pub enum Route {
     Unsupported,
 }
 
-// Where a code stands among the inputs.
-#[derive(Clone, Copy)]
-pub enum Found {
-    At(usize),
-    Nothing,
-}
-
 // `map_bed_channel_to_714`, with the beds that the source takes apart before it.
 pub fn route_of(code: u8) -> Route
     ensures { result ≡ route_of code }
@@ -98,34 +91,25 @@ pub fn bed_channel_matches_input(requested: u8, provided: u8) -> bool
 }
 
 // The first of the codes that is `a` or `b`.
-fn first_of(codes: &[u8], a: u8, b: u8) -> Found
+#[tactic(auto, unfolding(crate::specs::Matching::first_of))]
+fn first_of(codes: &[u8], a: u8, b: u8) -> Option<usize>
     ensures { result ≡ first_of a b codes.now }
 {
-    let mut i = 0usize;
-    while i < codes.len() {
-        if codes[i] == a || codes[i] == b {
-            return Found::At(i);
-        }
-        i += 1;
-    }
-    Found::Nothing
+    codes.iter().position(|c| *c == a || *c == b)
 }
 
 // The input that feeds a bed: the first of the same code; where there is none, for an LFE bed the first LFE input.
-pub fn find_matching_input_bed_channel(requested: u8, inputs: &[u8]) -> Found
+#[tactic(auto, unfolding(crate::specs::Matching::matching))]
+pub fn find_matching_input_bed_channel(requested: u8, inputs: &[u8]) -> Option<usize>
     ensures { result ≡ matching requested inputs.now }
 {
-    let exact = first_of(inputs, requested, requested);
-    match exact {
-        Found::At(i) => Found::At(i),
-        Found::Nothing => {
-            if is_low_frequency_bed(requested) {
-                first_of(inputs, 3, 17)
-            } else {
-                Found::Nothing
-            }
+    first_of(inputs, requested, requested).or_else(|| {
+        if is_low_frequency_bed(requested) {
+            first_of(inputs, 3, 17)
+        } else {
+            None
         }
-    }
+    })
 }
 
 // How many of the codes match a bed: the counts of `BedChannelCountMismatch`.
@@ -133,13 +117,8 @@ pub fn count_matching(requested: u8, codes: &[u8]) -> u32
     requires { length codes.now ≤ 18 }
     ensures { result ≡ counted requested codes.now }
 {
-    let mut n = 0u32;
-    let mut i = 0usize;
-    while i < codes.len() {
-        if bed_channel_matches_input(requested, codes[i]) {
-            n += 1;
-        }
-        i += 1;
-    }
-    n
+    codes
+        .iter()
+        .filter(|provided| bed_channel_matches_input(requested, **provided))
+        .count() as u32
 }

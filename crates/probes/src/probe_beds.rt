@@ -4,7 +4,7 @@ ghost use Rattle.beds.specs.Positions.{bed_position};
 ghost use Rattle.beds.specs.Matching.{matches, matching, counted};
 ghost use Rattle.probes.specs.Beds.{route_number, found_number};
 
-use beds::{Found, Route};
+use beds::Route;
 use vectors::Vec3;
 
 #[unsafe(no_mangle)]
@@ -45,10 +45,9 @@ pub extern "C" fn probe_bed_channel_matches_input(requested: u8, provided: u8) -
 pub extern "C" fn probe_find_matching_input_bed_channel(requested: u8, inputs: &[u8]) -> u64
     ensures { result ≡ found_number (matching requested inputs.now) }
 {
-    let found = beds::find_matching_input_bed_channel(requested, inputs);
-    match found {
-        Found::At(i) => i as u64,
-        Found::Nothing => u64::MAX,
+    match beds::find_matching_input_bed_channel(requested, inputs) {
+        Some(i) => i as u64,
+        None => u64::MAX,
     }
 }
 

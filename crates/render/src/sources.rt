@@ -12,7 +12,7 @@ ghost use Rattle.render.specs.MixedRows.{Sized, mixed_terms};
 ghost use Rattle.render.specs.MixedSources.{Reached, bed_terms, channel_row, mixed_found, mixed_beds, mixed_objects};
 
 use crate::{Scene, Span};
-use beds::{Found, Route};
+use beds::Route;
 use formats::areas;
 use timed::state::DynamicSourceState;
 
@@ -55,8 +55,7 @@ fn mix_bed(rows: &mut [f32], pcm: &[u8], codes: &[u8], code: u8, gain: f32, span
     requires { Framed pcm.now (length codes.now) span × (length rows.old ≡ place_count) }
     ensures { rows.new ≡ mixed_found pcm.now span (bed_terms (bed_with code gain)) (matching code codes.now) rows.old }
 {
-    let found = beds::find_matching_input_bed_channel(code, codes);
-    let Found::At(i) = found else {
+    let Some(i) = beds::find_matching_input_bed_channel(code, codes) else {
         return;
     };
     let mut row = [0.0f32; areas::ROW_PLACES];

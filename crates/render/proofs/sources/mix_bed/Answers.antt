@@ -17,12 +17,12 @@ pub returns-in_default : goal.returns-in_default
 returns-in_default c =
     let a = c.args in
     by_found a.pcm.now a.span (bed_terms (bed_with a.code a.gain)) a.rows.now
-    (sym c.find_matching_input_bed_channel-found.ensures ∙ c.in_default.is) refl
+    (sym c.find_matching_input_bed_channel.ensures ∙ c.in_default.is) refl
 
 pub read_channel-requires : goal.read_channel-requires
 read_channel-requires c =
     let a = c.args in
-    let i = found_inside a.code a.codes.now (sym c.find_matching_input_bed_channel-found.ensures ∙ c.in-At.is) in
+    let i = found_inside a.code a.codes.now (sym c.find_matching_input_bed_channel.ensures ∙ c.in-Some.is) in
     (reached a.pcm.now a.span _ (length a.codes.now) c.requires.0 i, search rules)
 
 pub slice_bounds-row-end : goal.slice_bounds-row-end
@@ -44,6 +44,6 @@ returns c =
     let a = c.args in
     let ts = bed_terms (bed_with a.code a.gain) in
     by_found a.pcm.now a.span ts a.rows.now
-    (sym c.find_matching_input_bed_channel-found.ensures ∙ c.in-At.is)
+    (sym c.find_matching_input_bed_channel.ensures ∙ c.in-Some.is)
     (c.mix_routed.ensures
     ∙ ap (λ (xs : List Float). mixed_terms xs ts a.rows.now) (row_start a.pcm.now a.span _ _ _ c.read_channel.ensures))
