@@ -6,8 +6,9 @@ use mathlib.Core.List.{List}
 use lib.Dec.{eqb}
 use lib.ListN.{length, get_or, length-set}
 use lib.Ieee.{Float, nan}
+use Rattle.std.specs.Prelude.{unwrap_or}
 use Rattle.timed.specs.Infos.{gain_at}
-use Rattle.timed.specs.Objects.{no_source, no_track, or_else, object_moved, moved_at, moved_all, bed_at, bed_gains, ramped, ramped_at, ramped_all}
+use Rattle.timed.specs.Objects.{no_source, no_track, object_moved, moved_at, moved_all, bed_at, bed_gains, ramped, ramped_at, ramped_all}
 use Rattle.timed.specs.Objects as objects
 use Rattle.timed.specs.Rules.{no_block, remaining_of, due, left_after, ramp_over, share, active}
 use Rattle.timed.specs.Slot.{SlotWork, block_applied, block_turn, blocks_applied, ramp_applied, updated_sources}
@@ -78,7 +79,7 @@ bed_gains_long : (is : List ℕ) (first count : ℕ) (gs : List Float) → lengt
 unfolding bed_gains
 bed_gains_long is first count gs =
     times_keeps (λ (x : List Float). length x ≡ length gs) (bed_at is first)
-    (λ i x h. length-set x i (or_else (gain_at is (first + 8 * i)) (get_or x i nan)) ∙ h) count 0 gs refl
+    (λ i x h. length-set x i (unwrap_or (gain_at is (first + 8 * i)) (get_or x i nan)) ∙ h) count 0 gs refl
 
 -- ---- blocks and the ramp
 

@@ -3,13 +3,13 @@
 
 // The object infos: what an object in a block says, and what it keeps from update to update. The numbers are those of specs/InfoSizes.antt.
 ghost use Rattle.std.specs.Prelude.{◌≡◌, ◌+◌, ◌*◌, ◌<◌, ◌≤◌, length};
-ghost use Rattle.vectors.specs.Head.{anchor_of, has};
+ghost use Rattle.vectors.specs.Head.{has};
 ghost use Rattle.timed.specs.InfoSizes.{all_infos, info_bytes, info_at};
-ghost use Rattle.timed.specs.Infos.{depth_of, maybe_at, vec_at, send_at, with_vec, block_position};
+ghost use Rattle.timed.specs.Infos.{maybe_at, vec_at, send_at, with_vec, block_position};
 
 use formats::info;
 use roots::Depth;
-use vectors::{Anchor, BlockPosition, Maybe, Vec3};
+use vectors::{Anchor, BlockPosition, Vec3};
 
 // The infos of an object in an element, and those of the element.
 pub const BLOCKS: usize = 8;
@@ -33,27 +33,6 @@ pub const LAST: usize = info::LAST;
 
 pub const SEND: usize = info::SEND;
 
-fn anchor_of(n: u32) -> Anchor
-    ensures { result ≡ anchor_of n }
-{
-    match n {
-        0 => Anchor::Room,
-        1 => Anchor::Screen,
-        _ => Anchor::Speaker,
-    }
-}
-
-fn depth_of(n: u32) -> Depth
-    ensures { result ≡ depth_of n }
-{
-    match n {
-        0 => Depth::Fourth,
-        1 => Depth::Half,
-        2 => Depth::One,
-        _ => Depth::Two,
-    }
-}
-
 // Whether a head has the flag that stands for `bit`.
 fn has(head: u32, bit: u32) -> bool
     requires { 0 < bit }
@@ -63,17 +42,20 @@ fn has(head: u32, bit: u32) -> bool
 }
 
 // The value at a place of an info that is present with `bit`.
-pub fn maybe_at(infos: &[u8], k: usize, bit: u32, at: usize) -> Maybe
+#[tactic(auto, unfolding(crate::specs::Infos::maybe_at))]
+pub fn maybe_at(infos: &[u8], k: usize, bit: u32, at: usize) -> Option<f32>
     requires { (info_at k + info_bytes ≤ length infos.now) × (at + 4 ≤ info_bytes) × (k < all_infos) × (0 < bit) }
     ensures { result ≡ maybe_at infos.now k bit at }
 {
     let head = words::u32_at(infos, INFO_BYTES * k);
     if has(head, bit) {
-        return Maybe::Value(words::f32_at(infos, INFO_BYTES * k + at));
+        Some(words::f32_at(infos, INFO_BYTES * k + at))
+    } else {
+        None
     }
-    Maybe::Absent
 }
 
+#[tactic(auto, unfolding(crate::specs::Infos::vec_at))]
 fn vec_at(infos: &[u8], at: usize) -> Vec3
     requires { at + 12 ≤ length infos.now }
     ensures { result ≡ vec_at infos.now at }
@@ -86,6 +68,7 @@ fn vec_at(infos: &[u8], at: usize) -> Vec3
 }
 
 // Stores a position at a place.
+#[tactic(auto, unfolding(crate::specs::Infos::with_vec))]
 pub fn put_vec(infos: &mut [u8], at: usize, v: Vec3)
     requires { at + 12 ≤ length infos.old }
     ensures { infos.new ≡ with_vec infos.old at v }
@@ -104,23 +87,20 @@ pub fn send_at(infos: &[u8], k: usize) -> f32
 }
 
 // What info k says of its object's position.
+#[tactic(auto, unfolding(crate::specs::Infos::block_position))]
 pub fn block_position(infos: &[u8], k: usize) -> BlockPosition
     requires { (info_at k + info_bytes ≤ length infos.now) × (k < all_infos) }
     ensures { result ≡ block_position infos.now k }
 {
     let head = words::u32_at(infos, INFO_BYTES * k);
-    let distance = maybe_at(infos, k, 16, DISTANCE);
-    let position = vec_at(infos, INFO_BYTES * k + POSITION);
-    let last = vec_at(infos, INFO_BYTES * k + LAST);
-    let screen = words::f32_at(infos, INFO_BYTES * k + SCREEN);
     BlockPosition {
         valid: has(head, 1),
         differential: has(head, 2),
-        anchor: anchor_of(head / 256 % 256),
-        position: position,
-        last: last,
-        distance: distance,
-        screen: screen,
-        depth: depth_of(head / 65536),
+        anchor: Anchor::from(head / 256 % 256),
+        position: vec_at(infos, INFO_BYTES * k + POSITION),
+        last: vec_at(infos, INFO_BYTES * k + LAST),
+        distance: maybe_at(infos, k, 16, DISTANCE),
+        screen: words::f32_at(infos, INFO_BYTES * k + SCREEN),
+        depth: Depth::from(head / 65536),
     }
 }

@@ -4,31 +4,20 @@
 // What a block and a ramp do to beds and dynamic objects.
 ghost use Rattle.std.specs.Prelude.{◌≡◌, ℕ, ◌+◌, ◌*◌, ◌<◌, ◌≤◌, length};
 ghost use Rattle.timed.specs.InfoSizes.{most_blocks, all_infos, info_bytes, all_bytes, info_at};
-ghost use Rattle.timed.specs.Objects.{or_else, with_levels, object_moved, moved_all, bed_gains, ramped, ramped_all};
+ghost use Rattle.timed.specs.Objects.{with_levels, object_moved, moved_all, bed_gains, ramped, ramped_all};
 ghost use Rattle.timed.specs.TimedResults.{IsMoved, IsMovedAll};
 
 use crate::infos;
 use crate::infos::{BLOCKS, GAIN, INFO_BYTES, LAST, POSITION, SIZE};
 use crate::state::{DynamicSourceState, Track};
-use vectors::Maybe;
-
-// The value of a maybe, or another.
-fn or_else(m: Maybe, other: f32) -> f32
-    ensures { result ≡ or_else m other }
-{
-    match m {
-        Maybe::Value(x) => x,
-        Maybe::Absent => other,
-    }
-}
 
 // The object with gain and size where info k has them, and with its send.
 fn with_levels(infos: &[u8], k: usize, source: DynamicSourceState) -> DynamicSourceState
     requires { (info_at k + info_bytes ≤ length infos.now) × (k < all_infos) }
     ensures { result ≡ with_levels infos.now k source }
 {
-    let gain = or_else(infos::maybe_at(infos, k, 4, GAIN), source.gain);
-    let size = or_else(infos::maybe_at(infos, k, 32, SIZE), source.size);
+    let gain = infos::maybe_at(infos, k, 4, GAIN).unwrap_or(source.gain);
+    let size = infos::maybe_at(infos, k, 32, SIZE).unwrap_or(source.size);
     source.heard_with(gain, size, infos::send_at(infos, k))
 }
 
@@ -50,33 +39,27 @@ fn update_source_state(
     ensures { IsMoved (object_moved arrived k source infos.old) result infos.new }
 {
     let heard = with_levels(infos, k, source);
-    let here = source.place;
     let block = infos::block_position(infos, k);
-    let to = vectors::update_source_position(block, here);
-    let target = to.target;
+    let to = block.placed(source.place);
     infos::put_vec(infos, INFO_BYTES * k + POSITION, to.position);
     infos::put_vec(infos, INFO_BYTES * k + LAST, to.last);
     let track = Track {
         now: block.valid,
-        future: target,
+        future: to.target,
     };
-    if block.valid {
-        if arrived {
-            return Moved {
-                source: DynamicSourceState {
-                    gain: heard.gain,
-                    size: heard.size,
-                    place: target,
-                    placed: true,
-                    send: heard.send,
-                },
-                track: track,
-            };
-        }
+    if block.valid && arrived {
+        return Moved {
+            source: DynamicSourceState {
+                place: to.target,
+                placed: true,
+                ..heard
+            },
+            track,
+        };
     }
     Moved {
         source: heard,
-        track: track,
+        track,
     }
 }
 
@@ -126,32 +109,23 @@ impl Moving {
 }
 
 // One object of a ramp: `last` is its flag at the element's previous slot.
+#[tactic(auto, unfolding(crate::specs::Objects::ramped))]
 fn ramp_one(source: DynamicSourceState, track: Track, last: bool, t: f32) -> DynamicSourceState
     ensures { result ≡ ramped t last track source }
 {
-    let here = source.place;
-    let future = track.future;
-    if track.now {
-        if last {
-            if source.placed {
-                return DynamicSourceState {
-                    gain: source.gain,
-                    size: source.size,
-                    place: vectors::lerp_vec3(here, future, t),
-                    placed: true,
-                    send: source.send,
-                };
-            }
-        }
-        return DynamicSourceState {
-            gain: source.gain,
-            size: source.size,
-            place: future,
-            placed: true,
-            send: source.send,
-        };
+    if !track.now {
+        return source;
     }
-    source
+    let place = if last && source.placed {
+        source.place.lerp(track.future, t)
+    } else {
+        track.future
+    };
+    DynamicSourceState {
+        place,
+        placed: true,
+        ..source
+    }
 }
 
 // The beds' gains after a block; the info of bed i is `first` + 8 i.
@@ -162,7 +136,7 @@ pub fn bed_gains(gains: [f32; 18], infos: &[u8], first: usize, count: usize) -> 
     let mut next = gains;
     let mut i = 0usize;
     while i < count {
-        next[i] = or_else(infos::maybe_at(infos, first + BLOCKS * i, 4, GAIN), next[i]);
+        next[i] = infos::maybe_at(infos, first + BLOCKS * i, 4, GAIN).unwrap_or(next[i]);
         i += 1;
     }
     next

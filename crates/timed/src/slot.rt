@@ -33,16 +33,12 @@ pub struct Reach {
 
 impl BlockState {
     // Whether the block is applied in this slot.
+    #[tactic(auto, using(crate::proofs::Shifted::due_shifted_is))]
     fn due(self, when: Timing) -> bool
         requires { InTime when }
         ensures { result ≡ due when self }
     {
-        if self.used {
-            return false;
-        }
-        let payload = when.payload;
-        let start = when.start;
-        payload.plus(self.offset).is_before(start.plus(1048576))
+        !self.used && when.payload.plus(self.offset) < when.start.plus(1048576)
     }
 
     // The ramp that remains after the block, plus 2^47.
@@ -50,10 +46,8 @@ impl BlockState {
         requires { InTime when }
         ensures { result ≡ kept_as (left_after when self) }
     {
-        let payload = when.payload;
-        let start = when.start;
-        let end = payload.plus(self.offset).plus(self.ramp);
-        end.past(start.plus(2097152))
+        let end = when.payload.plus(self.offset).plus(self.ramp);
+        end.past(when.start.plus(2097152))
     }
 }
 
@@ -174,26 +168,15 @@ impl ElementRendererState {
         requires { InTime when }
         ensures { result ≡ begins when self }
     {
-        if self.active() {
-            let schedule = self.schedule;
-            let block = schedule[0];
-            let payload = when.payload;
-            let start = when.start;
-            return payload.plus(block.offset).is_up_to(start.plus(1048576));
-        }
-        false
+        self.active() && when.payload.plus(self.schedule[0].offset) <= when.start.plus(1048576)
     }
 
     // Whether the element has blocks and a first offset of 0 or more: else it does nothing.
+    #[tactic(auto, using(crate::proofs::Shifted::active_shifted_is))]
     pub fn active(self) -> bool
         ensures { result ≡ active self }
     {
-        if self.blocks == 0 {
-            return false;
-        }
-        let schedule = self.schedule;
-        let block = schedule[0];
-        1048576 <= block.offset
+        self.blocks != 0 && 1048576 <= self.schedule[0].offset
     }
 
     // Whether a slot of this element changes nothing: no ramp remains, and no block is due.

@@ -12,7 +12,7 @@ pub maybe_at-requires : goal.maybe_at-requires
 maybe_at-requires c = let h = c.requires.2 c.loop-i.i (search rules) in (omega arith, omega arith, omega arith, omega arith)
 
 pub loop-i-preserved : goal.loop-i-preserved
-loop-i-preserved c = (search rules, rw (c.or_else.ensures, c.maybe_at.ensures) (leads_on c.loop-i.invariant.1 (search rules)))
+loop-i-preserved c = (search rules, rw (c.unwrap_or.ensures, c.maybe_at.ensures) (leads_on c.loop-i.invariant.1 (search rules)))
 
 pub returns : goal.returns
 unfolding bed_gains
