@@ -1,7 +1,7 @@
 // What an entry answers. An enum does not cross the C boundary, so a refusal's number and counts do.
 ghost use Rattle.std.specs.Prelude.{◌≡◌};
 ghost use Rattle.rules.specs.Calls.{refused, nothing, cleared};
-ghost use Rattle.refusals.specs.RefusalNumbers.{found_of};
+ghost use Rattle.refusals.specs.RefusalNumbers.{stop_of};
 ghost use Rattle.hall.specs.Answers.{ready_of, bare, code_of, code_of_found};
 
 use limiter::meters::Meters;
@@ -43,10 +43,9 @@ fn stopped(number: u32, first: u32, second: u32) -> Answer
 }
 
 pub fn refusal(found: Refusal) -> Answer
-    ensures { result ≡ code_of_found (found_of found) }
+    ensures { result ≡ code_of_found (stop_of found) }
 {
     match found {
-        Refusal::Clear => stopped(0, 0, 0),
         Refusal::Lent => stopped(1, 0, 0),
         Refusal::Sizes => stopped(2, 0, 0),
         Refusal::Rate => stopped(3, 0, 0),

@@ -52,11 +52,10 @@ pub fn hall_push(
         objects,
         stride,
     };
-    let found = refusals::push_refusal(s, pcm, meta, out.len(), codes, l, n);
-    if let Refusal::Clear = found {
-        return work::render(s, state, pcm, meta, out, codes, l, n);
+    match refusals::check_push(s, pcm, meta, out.len(), codes, l, n) {
+        Ok(()) => work::render(s, state, pcm, meta, out, codes, l, n),
+        Err(refusal) => answer::refusal(refusal),
     }
-    answer::refusal(found)
 }
 
 // Gives out the samples that wait.

@@ -1,18 +1,24 @@
 -- The first that stops: what a refusal, or a test, that stops or does not leaves of those after it. Assumes nothing.
-use Prim.Native.Nat.{ℕ, ◌+◌, ◌<◌, ◌≤◌}
+use Prim.Native.Nat.{ℕ, zero, suc, ◌+◌, ◌<◌, ◌≤◌}
 use mathlib.Core.Path.{◌≡◌, refl, sym, ap, ◌∙◌}
 use mathlib.Core.Bool.{Bool, true, false}
-use mathlib.Core.List.{List}
+use mathlib.Core.Logic.{◌↔◌}
+use mathlib.Core.List.{List, [], ◌∷◌}
+use lib.Dec.{leb}
 use lib.ListN.{length, get_or, drop, drop_of_length-le}
 use lib.Seq.{drop-cons}
 use native.Mathlib.Numerals.{add-one}
 use native.Mathlib.Omega.{arith}
-use borrow.Author.Tests.{ne_eqb}
+use borrow.Author.Tests.{ne_eqb, le-leb, leb-true}
+use Rattle.std.specs.Prelude.{EachIndex, IsTrue}
+use Rattle.fields.proofs.All.{and_left, and_right}
 use Rattle.beds.specs.Matching.{counted}
 use Rattle.rules.specs.Refusals.{Found, clear, stop, ◌then◌, unless, every, bed_found, beds_found}
-use Rattle.refusals.specs.RefusalNumbers.{found_of}
+use Rattle.refusals.specs.RefusalNumbers.{stop_of}
 use Rattle.refusals.specs.declared.Refusal.{Refusal}
-use Rattle.refusals.specs.FirstFound.{is_none, is_clear}
+use Rattle.refusals.specs.declared.Refusal.TheVariants.{Lent, Sizes, Rate, StreamEnd, Records, Ranges, Samples}
+use Rattle.refusals.specs.declared.Refusal.TheVariants.{SampleRateChanged, MissingOamd, ObjectCountMismatch}
+use Rattle.refusals.specs.declared.Refusal.TheVariants.{UnsupportedSampleCount, BedChannelCountMismatch, UnsupportedBedChannel}
 
 -- a test that the code makes and that fails, or does not
 pub failed : {b r : Bool} → r ≡ b → r ≡ false → b ≡ false
@@ -21,34 +27,34 @@ failed e t = sym e ∙ t
 pub passed : {b r : Bool} → r ≡ b → r ≡ true → b ≡ true
 passed e t = sym e ∙ t
 
-pub stops : (f x : Found) → is_none f ≡ false → (f then x) ≡ f
-stops clear x e = absurd (let z : ◌≡◌ {A = ℕ} 0 1 = cc in omega arith)
-stops (stop n a b) x e = refl
+-- a refusal stops whatever is after it
+pub stops : (r : Refusal) (x : Found) → (stop_of r then x) ≡ stop_of r
+stops Lent x = refl
+stops Sizes x = refl
+stops Rate x = refl
+stops StreamEnd x = refl
+stops Records x = refl
+stops Ranges x = refl
+stops Samples x = refl
+stops (SampleRateChanged a b) x = refl
+stops MissingOamd x = refl
+stops (ObjectCountMismatch a b) x = refl
+stops UnsupportedSampleCount x = refl
+stops (BedChannelCountMismatch a) x = refl
+stops (UnsupportedBedChannel a) x = refl
 
-pub passes : (f x : Found) → is_none f ≡ true → (f then x) ≡ x
-passes clear x e = refl
-passes (stop n a b) x e = absurd (let z : ◌≡◌ {A = ℕ} 0 1 = cc in omega arith)
+-- a refusal is no `clear`
+pub not_clear : (r : Refusal) → stop_of r ≡ clear → ⊥
+not_clear r e = let z : stop 0 0 0 ≡ clear = sym (ap (λ (f : Found). f then stop 0 0 0) e) ∙ stops r (stop 0 0 0) ∙ e in absurd cc
 
-pub is_none_is : (f : Found) → is_none f ≡ true → f ≡ clear
-is_none_is clear e = refl
-is_none_is (stop n a b) e = absurd (let z : ◌≡◌ {A = ℕ} 0 1 = cc in omega arith)
+-- ---- a part f of a chain, and the rest x of it
 
--- the first that stops is what is found
-pub first_stops : (x y : Found) → (x ≡ clear → ⊥) → x ≡ (x then y)
-first_stops clear y n = absurd (n refl)
-first_stops (stop k a b) y n = refl
+module _ (f x all : Found) (rest : (f then x) ≡ all) where
+  pub chain_stops : (r : Refusal) → stop_of r ≡ f → stop_of r ≡ all
+  chain_stops r is = sym (stops r x) ∙ ap (λ (g : Found). g then x) is ∙ rest
 
-pub then_second : (x y z : Found) → x ≡ clear → z ≡ y → z ≡ (x then y)
-then_second x y z e h = h ∙ ap (λ (f : Found). f then y) (sym e)
-
--- ---- one refusal r of a chain, which is f
-
-module _ (r : Refusal) (f x all : Found) (is : found_of r ≡ f) (rest : (f then x) ≡ all) where
-  pub chain_stops : is_clear r ≡ false → found_of r ≡ all
-  chain_stops e = sym (stops (found_of r) x e) ∙ rw is rest
-
-  pub chain_passes : is_clear r ≡ true → x ≡ all
-  chain_passes e = sym (passes (found_of r) x e) ∙ rw is rest
+  pub chain_passes : clear ≡ f → x ≡ all
+  chain_passes is = ap (λ (g : Found). g then x) is ∙ rest
 
 -- ---- the beds in order
 
@@ -79,11 +85,21 @@ module _ (t : Bool) (n a b : ℕ) (x : Found) where
   pub unless_passes : t ≡ true → x ≡ (unless t n a b then x)
   unless_passes e = rw e
 
--- ---- a test along a list
+-- ---- whether each of a list is listed
 
-module _ (f : ℕ → Bool) (s : List ℕ) (i : ℕ) (h : i < length s) where
-  pub every_stops : f (get_or s i 0) ≡ false → every f (drop i s) ≡ false
-  every_stops e = rw (drop-cons s i 0 h, e)
+each_listed : (s : List ℕ) → EachIndex s (λ k. get_or s k 0 ≤ 17) → every (λ c. leb c 17) s ≡ true
+each_listed [] h = refl
+each_listed (x ∷ s) h = rw (le-leb x 17 (h 0 (omega arith))) (each_listed s (λ k l. h (suc k) (omega arith)))
 
-  pub every_goes_on : f (get_or s i 0) ≡ true → every f (drop i s) ≡ every f (drop (i + 1) s)
-  every_goes_on e = rw (drop-cons s i 0 h, e, add-one)
+listed_each : (s : List ℕ) → every (λ c. leb c 17) s ≡ true → EachIndex s (λ k. get_or s k 0 ≤ 17)
+listed_each [] e k l = absurd (omega arith)
+listed_each (x ∷ s) e zero l = leb-true x 17 (and_left (leb x 17) _ e)
+listed_each (x ∷ s) e (suc k) l = listed_each s (and_right (leb x 17) _ e) k (omega arith)
+
+pub all_listed : (s : List ℕ) (r : Bool) → (IsTrue r ↔ EachIndex s (λ k. get_or s k 0 ≤ 17)) → r ≡ every (λ c. leb c 17) s
+all_listed s r h = same r (every (λ c. leb c 17) s) (λ e. each_listed s (h.0 e)) (λ e. h.1 (listed_each s e))
+  where
+    same : (a b : Bool) → (a ≡ true → b ≡ true) → (b ≡ true → a ≡ true) → a ≡ b
+    same true b f g = sym (f refl)
+    same false true f g = g refl
+    same false false f g = refl

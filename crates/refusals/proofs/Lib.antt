@@ -1,5 +1,4 @@
 pub mod First
-pub mod Cleared
 pub mod LowestFirst
 pub mod Sent
 pub mod Walks

@@ -16,10 +16,9 @@ ghost use Rattle.refusals.specs.FirstFound.{args_with, IsFound};
 use records::layout::Layout;
 use store::renderer::Renderer714;
 
-// The refusals of a push, and none. `found_of` gives document 01's number and counts for each.
-#[derive(Clone, Copy)]
+// The refusals of a push. `found_of` gives document 01's number and counts for each.
+#[derive(Clone, Copy, PartialEq, Eq, Debug)]
 pub enum Refusal {
-    Clear,
     // 1 to 8; 7 is not in use
     Lent,
     Sizes,
@@ -47,7 +46,7 @@ pub struct Numbers {
 }
 
 // `s` is the small part of a valid block, `l` the metadata's layout; the output has `bytes` bytes.
-pub fn push_refusal(
+pub fn check_push(
     s: Renderer714,
     pcm: &[u8],
     meta: &[u8],
@@ -55,14 +54,10 @@ pub fn push_refusal(
     codes: &[u8],
     l: Layout,
     n: Numbers,
-) -> Refusal
+) -> Result<(), Refusal>
     requires { (s.state.beds ≤ 18) × (s.state.objects ≤ 32) × IsLayout meta.now l }
     ensures { IsFound s bytes (λ out. args_with pcm.now meta.now out codes.now n) result }
 {
-    let first = early::refusal(s.clock.position, pcm, meta, bytes, codes, l.laid, n);
-    let Refusal::Clear = first else {
-        return first;
-    };
-    let state = s.state;
-    later::refusal(s.rate, state, meta, l, codes, n)
+    early::check(s.clock.position, pcm, meta, bytes, codes, l.laid, n)?;
+    later::check(s.rate, s.state, meta, l, codes, n)
 }

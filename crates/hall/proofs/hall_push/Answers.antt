@@ -1,11 +1,9 @@
 -- `hall_push`: each way out by its law.
-use mathlib.Core.Path.{◌≡◌, refl, sym, ap, ◌∙◌}
+use mathlib.Core.Path.{refl, sym, ◌∙◌}
 use native.Mathlib.Omega.{arith}
-use borrow.Author.Rules.{rules}
 use Rattle.words.specs.Words.{Bytes}
 use Rattle.rules.specs.Calls.{push}
-use Rattle.refusals.specs.RefusalNumbers.{found_of}
-use Rattle.refusals.specs.declared.Refusal.TheVariants.{Clear}
+use Rattle.refusals.specs.RefusalNumbers.{stop_of}
 use Rattle.rules.specs.Refusals.{args_of}
 use Rattle.hall.proofs.Appending.{with_appends}
 use Rattle.hall.proofs.WaysOut.{leaves_as, wrong, refused_push}
@@ -29,8 +27,8 @@ returns-then-not-is_valid c =
 pub load-s-requires : goal.load-s-requires
 load-s-requires c = valid_long c.args.state.now (sym c.is_valid.ensures ∙ c.if-not-is_valid.false)
 
-pub push_refusal-found-requires : goal.push_refusal-found-requires
-push_refusal-found-requires c =
+pub check_push-requires : goal.check_push-requires
+check_push-requires c =
     let valid = sym c.is_valid.ensures ∙ c.if-not-is_valid.false in
     let w = (loaded_ranged c.args.state.now c.load-s.result c.load-s.ensures (λ i. omega (arith, c.slice_known-1.given i)) valid).meta.state.within in
     (w.beds, w.objects, c.layout_of-l.ensures)
@@ -40,25 +38,23 @@ render-requires c =
     let a = c.args in
     record {
       loaded = record { small = c.load-s.ensures; valid = sym c.is_valid.ensures ∙ c.if-not-is_valid.false };
-      clear =
-          let e : c.push_refusal-found.result ≡ Clear = search rules in
-          sym (c.push_refusal-found.ensures a.state.now a.out.now c.load-s.ensures refl) ∙ ap found_of e;
+      clear = sym (c.in-Ok.ensures a.state.now a.out.now c.load-s.ensures refl);
       layout = c.layout_of-l.ensures;
     }
 
-pub returns-in-Clear : goal.returns-in-Clear
-returns-in-Clear c =
+pub returns-in-Ok : goal.returns-in-Ok
+returns-in-Ok c =
     let s = c.args in
     let a = args_of s.pcm.now s.meta.now s.out.now s.codes.now s.rate s.samples s.objects s.stride in
-    let w = with_appends a s.state.now (lent (goal.at.returns-in-Clear c).After-is_valid) c.render.ensures in
+    let w = with_appends a s.state.now (lent (goal.at.returns-in-Ok c).After-is_valid) c.render.ensures in
     record { left = w.0; appends = w.1 }
 
-pub returns : goal.returns
-returns c =
+pub returns-in-Err : goal.returns-in-Err
+returns-in-Err c =
     let s = c.args in
     let a = args_of s.pcm.now s.meta.now s.out.now s.codes.now s.rate s.samples s.objects s.stride in
-    let x = c.push_refusal-found.result in
-    let w = with_appends a s.state.now (lent (goal.at.returns c).After-is_valid)
-    (refused_push a s.state.now c.refusal-2.result (found_of x) (sym c.is_valid.ensures ∙ c.if-not-is_valid.false)
-    (c.push_refusal-found.ensures s.state.now s.out.now c.load-s.ensures refl) (not_clear x c.in_default.not-Clear) c.refusal-2.ensures) in
+    let r = c.in-Err.refusal in
+    let w = with_appends a s.state.now (lent (goal.at.returns-in-Err c).After-is_valid)
+    (refused_push a s.state.now c.refusal-in-Err.result (stop_of r) (sym c.is_valid.ensures ∙ c.if-not-is_valid.false)
+    (c.in-Err.ensures s.state.now s.out.now c.load-s.ensures refl) (not_clear r) c.refusal-in-Err.ensures) in
     record { left = w.0; appends = w.1 }

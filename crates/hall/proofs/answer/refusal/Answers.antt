@@ -1,19 +1,16 @@
 -- `refusal`: each case has its number.
 use mathlib.Core.Path.{◌≡◌, sym, ap, ◌∙◌}
-use Rattle.refusals.specs.RefusalNumbers.{found_of}
+use Rattle.refusals.specs.RefusalNumbers.{stop_of}
 use Rattle.refusals.specs.declared.Refusal.{Refusal}
 use Rattle.hall.specs.declared.answer.Answer.{Answer}
 use Rattle.hall.specs.Answers.{code_of_found}
 use Rattle.hall.proofs.answer.refusal.Goals as goal
 
-by_kind : {x y : Refusal} {r : Answer} → x ≡ y → r ≡ code_of_found (found_of y) → r ≡ code_of_found (found_of x)
-by_kind e h = h ∙ ap (λ (x : Refusal). code_of_found (found_of x)) (sym e)
-
-pub returns-in-Clear : goal.returns-in-Clear
-returns-in-Clear c = by_kind c.in-Clear.is c.stopped.ensures
+by_kind : {x y : Refusal} {r : Answer} → x ≡ y → r ≡ code_of_found (stop_of y) → r ≡ code_of_found (stop_of x)
+by_kind e h = h ∙ ap (λ (x : Refusal). code_of_found (stop_of x)) (sym e)
 
 pub returns-in-Lent : goal.returns-in-Lent
-returns-in-Lent c = by_kind c.in-Lent.is c.stopped-in-Lent.ensures
+returns-in-Lent c = by_kind c.in-Lent.is c.stopped.ensures
 
 pub returns-in-Sizes : goal.returns-in-Sizes
 returns-in-Sizes c = by_kind c.in-Sizes.is c.stopped-in-Sizes.ensures

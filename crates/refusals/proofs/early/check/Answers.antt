@@ -1,4 +1,4 @@
--- `refusal`: each early answer is a test that fails after those that hold. Assumes nothing.
+-- `early::check`: each early answer is a test that fails after those that hold. Assumes nothing.
 use Prim.Native.Nat.{ℕ, suc}
 use mathlib.Core.Path.{◌≡◌, ap, ◌∙◌}
 use mathlib.Core.Bool.{Bool, true}
@@ -8,8 +8,8 @@ use Rattle.rules.specs.Refusals.{Args, room}
 use Rattle.refusals.specs.FirstFound.{args_with}
 use Rattle.refusals.proofs.First.{failed, passed}
 use Rattle.refusals.proofs.LowestFirst.{Test, Hold, at, more, tests, refuses, refuses_none, pcm_samples}
-use Rattle.refusals.proofs.early.refusal.Goals as goal
-use Rattle.refusals.proofs.early.refusal.Goals.{Start}
+use Rattle.refusals.proofs.early.check.Goals as goal
+use Rattle.refusals.proofs.early.check.Goals.{Start}
 
 -- ---- the tests, as the code makes them
 

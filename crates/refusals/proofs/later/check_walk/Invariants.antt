@@ -3,7 +3,7 @@ use Prim.Native.Nat.{◌-◌, ◌≤◌}
 use mathlib.Core.Path.{◌≡◌}
 use Rattle.rules.specs.Refusals.{walk}
 use Rattle.refusals.specs.PresentShape.{told_of, present_shape}
-use Rattle.refusals.proofs.later.walk_refusal.Given as goal
+use Rattle.refusals.proofs.later.check_walk.Given as goal
 
 abbrev pub invariant-loop-l : goal.invariant-loop-l
 invariant-loop-l l =
