@@ -7,7 +7,12 @@ use native.Mathlib.Omega.{arith}
 use lib.Dec.{lit≤}
 use lib.Pow.{pow-add}
 use lib.ListN.{length, get_or, set, length-set}
-use Rattle.words.specs.Words.{number, with_number, word}
+use Rattle.words.specs.Words.{number, with_number, half, word}
+
+-- two bytes
+pub half_read : (s : List ℕ) (at : ℕ) → get_or s at 0 + get_or s (at + 1) 0 * 256 ≡ half s at
+unfolding number
+half_read s at = rw (add-zero at) (omega arith)
 
 -- four bytes
 pub word_read : (s : List ℕ) (at : ℕ) → get_or s at 0 + get_or s (at + 1) 0 * 256 + get_or s (at + 2) 0 * 65536 + get_or s (at + 3) 0 * 16777216 ≡ word s at

@@ -1,43 +1,34 @@
 // Numbers in byte slices, little-endian: u16, u32, u64, i64 and f32 at any place, and runs of u32.
 #![tactic(auto)]
 
-ghost use Rattle.std.specs.Prelude.{◌≡◌, ◌++◌, ◌+◌, ◌*◌, ◌<◌, ◌≤◌, length, take, drop};
+ghost use Rattle.std.specs.Prelude.{◌≡◌, ◌++◌, ◌+◌, ◌*◌, ◌<◌, ◌≤◌, length, drop};
 ghost use Rattle.std.specs.Float.{binary32};
 ghost use Rattle.std.specs.Float.Ieee.{of_bits, to_bits};
 ghost use Rattle.words.specs.Words.{half, with_half, word, with_word, long, with_long};
 ghost use Rattle.words.specs.Words.{signed_at, float_at, with_float};
 ghost use Rattle.words.specs.Words.{with_words};
 
-// The N bytes from `at` on.
-fn bytes_at<const N: usize>(s: &[u8], at: usize) -> [u8; N]
-    requires { at + N ≤ length s.now }
-    ensures { result ≡ take N (drop at s.now) }
-{
-    let mut bytes = [0; N];
-    bytes.copy_from_slice(&s[at..at + N]);
-    bytes
-}
-
+// A width each: a trait over them would have one impl a width, of these same lines.
 pub fn u16_at(s: &[u8], at: usize) -> u16
     requires { at + 2 ≤ length s.now }
     ensures { result ≡ half s.now at }
 {
-    u16::from_le_bytes(bytes_at(s, at))
+    u16::from_le_bytes([s[at], s[at + 1]])
 }
 
-// This compiles to one load also where a loop over it is vectorised.
+// By its bytes, which compiles to one load also where a loop over it is vectorised: a copy of them into an array keeps a test and a stack slot a read.
 pub fn u32_at(s: &[u8], at: usize) -> u32
     requires { at + 4 ≤ length s.now }
     ensures { result ≡ word s.now at }
 {
-    u32::from_le_bytes(bytes_at(s, at))
+    u32::from_le_bytes([s[at], s[at + 1], s[at + 2], s[at + 3]])
 }
 
 pub fn u64_at(s: &[u8], at: usize) -> u64
     requires { at + 8 ≤ length s.now }
     ensures { result ≡ long s.now at }
 {
-    u64::from_le_bytes(bytes_at(s, at))
+    u64::from(u32_at(s, at)) + u64::from(u32_at(s, at + 4)) * 4294967296
 }
 
 pub fn put_u16(s: &mut [u8], at: usize, n: u16)
@@ -68,7 +59,7 @@ pub fn i64_at(s: &[u8], at: usize) -> i64
     u64_at(s, at).cast_signed()
 }
 
-// The float of a bit pattern; every NaN pattern gives a NaN.
+// The float of a bit pattern; every NaN pattern gives a NaN, where the library's `from_bits` asks that there is none.
 pub fn f32_of(n: u32) -> f32
     ensures { result ≡ of_bits binary32 n }
 {
@@ -78,7 +69,7 @@ pub fn f32_of(n: u32) -> f32
     f32::from_bits(n)
 }
 
-// The bit pattern of a float, 0x7fc00000 for every NaN.
+// The bit pattern of a float, 0x7fc00000 for every NaN, where the library's `to_bits` asks that there is none.
 pub fn bits_of(x: f32) -> u32
     ensures { result ≡ to_bits binary32 x }
 {

@@ -7,7 +7,7 @@ use Rattle.formats.proofs.floats.Goals as goal
 
 pub loop-i-init : goal.loop-i-init
 unfolding gets
-loop-i-init c = (omega arith, refl)
+loop-i-init c = refl
 
 pub loop-i-preserved : goal.loop-i-preserved
 loop-i-preserved c =
@@ -15,4 +15,4 @@ loop-i-preserved c =
     let g = float.get (in_words c.args.s.now) in
     let h : l.i < length l.a = omega arith in
     let e : c.args.at + l.i ≡ c.args.at + 1 * l.i = omega arith in
-    (omega arith, gets_filled g 1 c.args.at l.i l.a c.float.result h l.invariant.1 (c.float.ensures ∙ ap g e))
+    gets_filled g 1 c.args.at l.i l.a c.float.result h l.invariant (c.float.ensures ∙ ap g e)

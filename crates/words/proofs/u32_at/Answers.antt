@@ -1,7 +1,7 @@
 -- `u32_at`: four bytes. Assumes nothing.
-use Rattle.std.proofs.Common.{◌∙◌, refl}
-use Rattle.words.proofs.Read.{number_read}
+use Rattle.std.proofs.Common.{◌∙◌}
+use Rattle.words.proofs.Numbers.{word_read}
 use Rattle.words.proofs.u32_at.Goals as goal
 
 pub returns : goal.returns
-returns c = c.from_le_bytes.ensures ∙ number_read c.args.s.now _ c.args.at 3 4 c.bytes_at.ensures refl
+returns c = c.from_le_bytes.ensures ∙ word_read c.args.s.now c.args.at
