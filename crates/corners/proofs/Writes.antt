@@ -12,7 +12,7 @@ use lib.ListN.{length, get_or, set, length-set}
 use lib.Seq.{get_or-set_same, get_or-set_other}
 use lib.Ieee.{Float, lt, eq}
 use Rattle.vectors.specs.declared.Vec3.{Vec3}
-use Rattle.corners.specs.EqualRuns.{index_at}
+use Rattle.corners.specs.Axes.{index_at}
 use Rattle.corners.specs.SpeakerOrder.{precedes, Inserted, run_end}
 use Rattle.corners.proofs.Rising.{passed}
 
@@ -98,26 +98,3 @@ pub not_before : (sp : ℕ → Vec3) (now : List ℕ) (k i : ℕ) (r : Bool) →
 not_before sp now k i r e f j q t =
     let z : j ≡ i - 1 = omega arith in
     T_not r (passed f) (subst T (sym e) (subst (λ (x : ℕ). T (precedes (sp k) (sp (index_at now x)))) z t))
-
--- ---- the tests, as the code has them
-pub by_x : (v w : Vec3) → eq v.y w.y ≡ true → eq v.z w.z ≡ true → lt v.x w.x ≡ precedes v w
-unfolding precedes
-by_x v w e f = rw (e, f)
-
-pub by_z : (v w : Vec3) → eq v.y w.y ≡ true → eq v.z w.z ≡ false → lt v.z w.z ≡ precedes v w
-unfolding precedes
-by_z v w e f = rw (e, f)
-
-pub by_y : (v w : Vec3) → eq v.y w.y ≡ false → lt v.y w.y ≡ precedes v w
-unfolding precedes
-by_y v w e = rw e
-
-module _ (c : ℕ → Float) (bound e : ℕ → ℕ) (j : ℕ) where
-  pub run_on : j + 1 < bound j → eq (c (j + 1)) (c j) ≡ true → e (j + 1) ≡ run_end c bound e j
-  run_on h q = rw (lt-ltb _ _ h, q)
-
-  pub run_apart : j + 1 < bound j → eq (c (j + 1)) (c j) ≡ false → j + 1 ≡ run_end c bound e j
-  run_apart h q = rw (lt-ltb _ _ h, q)
-
-  pub run_out : bound j ≤ j + 1 → j + 1 ≡ run_end c bound e j
-  run_out h = rw (le-ltb _ _ h)

@@ -1,0 +1,27 @@
+-- The speakers of a hall by index: their places, their coordinates along an axis, and where the runs of equal ones end. Assumes nothing.
+use Rattle.std.specs.Prelude.{ℕ, ◌+◌, List, get_or, Float}
+use Rattle.std.specs.Float.{nan}
+use Rattle.vectors.specs.declared.Vec3.{Vec3}
+use Rattle.corners.specs.declared.Axis.{Axis}
+use Rattle.corners.specs.declared.Axis.TheVariants.{X, Y, Z}
+
+abbrev pub coordinate : Axis → Vec3 → Float
+coordinate X v = v.x
+coordinate Y v = v.y
+coordinate Z v = v.z
+
+-- what stands in an array
+abbrev pub place_among : List Vec3 → ℕ → Vec3
+place_among places i = get_or places i (record { x = nan; y = nan; z = nan })
+
+abbrev pub along : Axis → List Vec3 → ℕ → Float
+along axis places i = coordinate axis (place_among places i)
+
+abbrev pub index_at : List ℕ → ℕ → ℕ
+index_at l i = get_or l i 0
+
+-- where the run at i ends, by the ends of the layers and of the rows; along a row each speaker is a run
+abbrev pub run_after : Axis → (ℕ → ℕ) → (ℕ → ℕ) → ℕ → ℕ
+run_after X layerEnd rowEnd i = i + 1
+run_after Y layerEnd rowEnd i = layerEnd i
+run_after Z layerEnd rowEnd i = rowEnd i
