@@ -5,9 +5,11 @@ use Rattle.corners.proofs.Hall.of.Goals as goal
 pub run_ends-rows-requires : goal.run_ends-rows-requires
 run_ends-rows-requires c =
     let a = c.args in
-    let l = c.of-line in
-    (l.ensures.few, layer_below a.places.now a.present.now c.requires l.result.count l.result.channels l.ensures c.places-places.result c.places-places.ensures
-    c.run_ends-layers.result c.run_ends-layers.ensures)
+    let l = c.of-line in (
+      l.ensures.few,
+      layer_below a.places.now a.present.now c.requires l.result.count l.result.channels l.ensures c.places-places.result c.places-places.ensures
+          c.run_ends-layers.result c.run_ends-layers.ensures,
+    )
 
 pub returns : goal.returns
 returns c =
