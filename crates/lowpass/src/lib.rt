@@ -8,6 +8,9 @@ ghost use Rattle.std.specs.Prelude.{◌≡◌};
 ghost use Rattle.angles.specs.Angle.{Listed};
 ghost use Rattle.lowpass.specs.Lowpass.{new, output, next, filtered, after_all};
 
+use angles::filter::Coefficients;
+
+// The coefficients stand beside the memory, as in the block: a `Coefficients` within would put one name more into each term of the sum.
 #[repr(C)]
 #[derive(Clone, Copy)]
 pub struct BiquadLowpassState {
@@ -22,26 +25,19 @@ pub struct BiquadLowpassState {
     pub y2: f32,
 }
 
-// A sample filtered, and the filter for the sample after it.
-#[derive(Clone, Copy)]
-pub struct Filtered {
-    pub sample: f32,
-    pub filter: BiquadLowpassState,
-}
-
 impl BiquadLowpassState {
     // The filter of a listed rate, with nothing in its memory.
-    pub fn new(rate: u32) -> BiquadLowpassState
+    pub fn new(rate: u32) -> Self
         requires { Listed rate }
         ensures { result ≡ new rate }
     {
-        let c = angles::coefficients(rate);
+        let Coefficients { a1, a2, b0, b1, b2 } = angles::coefficients(rate);
         BiquadLowpassState {
-            a1: c.a1,
-            a2: c.a2,
-            b0: c.b0,
-            b1: c.b1,
-            b2: c.b2,
+            a1,
+            a2,
+            b0,
+            b1,
+            b2,
             x1: 0.0,
             x2: 0.0,
             y1: 0.0,
@@ -50,40 +46,28 @@ impl BiquadLowpassState {
     }
 
     // One sample.
-    pub fn process(self, current: f32) -> Filtered
-        ensures { (result.sample ≡ output self current) × (result.filter ≡ next self current) }
+    pub fn process(&mut self, current: f32) -> f32
+        ensures { (result ≡ output self.old current) × (self.new ≡ next self.old current) }
     {
         let sample = self.b2 * self.x2 + self.b1 * self.x1 + self.b0 * current
             - self.a1 * self.y1
             - self.a2 * self.y2;
-        Filtered {
-            sample,
-            filter: BiquadLowpassState {
-                a1: self.a1,
-                a2: self.a2,
-                b0: self.b0,
-                b1: self.b1,
-                b2: self.b2,
-                x1: current,
-                x2: self.x1,
-                y1: sample,
-                y2: self.y1,
-            },
-        }
+        *self = BiquadLowpassState {
+            x1: current,
+            x2: self.x1,
+            y1: sample,
+            y2: self.y1,
+            ..*self
+        };
+        sample
     }
 
     // All samples, each replaced by its filtered value.
-    pub fn process_in_place(self, samples: &mut [f32]) -> BiquadLowpassState
-        ensures { (result ≡ after_all self samples.old) × (samples.new ≡ filtered self samples.old) }
+    pub fn process_in_place(&mut self, samples: &mut [f32])
+        ensures { (self.new ≡ after_all self.old samples.old) × (samples.new ≡ filtered self.old samples.old) }
     {
-        let mut filter = self;
-        let mut i = 0usize;
-        while i < samples.len() {
-            let done = filter.process(samples[i]);
-            samples[i] = done.sample;
-            filter = done.filter;
-            i += 1;
+        for i in 0..samples.len() {
+            samples[i] = self.process(samples[i]);
         }
-        filter
     }
 }
