@@ -24,15 +24,15 @@ fn audible(started: bool, count: usize) -> usize
 // The rows of the chunk, in which nothing sounds yet, and the filter after it. Before the first update nothing is heard.
 pub fn mix(
     m: MetadataRendererState,
-    filter: BiquadLowpassState,
+    filter: &mut BiquadLowpassState,
     rows: &mut [f32],
     pcm: &[u8],
     codes: &[u8],
     objects: usize,
     span: Span,
-) -> BiquadLowpassState
+)
     requires { Framed pcm.now (length codes.now + objects) span × (rows.old ≡ silent_rows) × (length codes.now ≤ 18) × (m.beds ≤ 18) × (objects ≤ 16) }
-    ensures { Passed (scene_at (scene_of m objects) codes.now pcm.now span.frame) filter span.first span.count rows.new result }
+    ensures { Passed (scene_at (scene_of m objects) codes.now pcm.now span.frame) filter.old span.first span.count rows.new filter.new }
 {
     let wanted = m.codes;
     let gains = m.gains;
@@ -46,7 +46,7 @@ pub fn mix(
         sources,
         objects: dynamic,
     };
-    render::run::pass_run(rows, pcm, codes, scene, span, filter)
+    render::run::pass_run(rows, pcm, codes, scene, span, filter);
 }
 
 // The rows' first k places behind the pending samples of the block.
