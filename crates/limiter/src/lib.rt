@@ -44,33 +44,24 @@ fn max_abs_from(max: f32, samples: &[f32]) -> f32
     ensures { (result ≡ peak_from max samples.now) × Level result }
 {
     let mut m = max;
-    let mut i: usize = 0;
-    while i < samples.len() {
-        m = raise(m, samples[i]);
-        i += 1;
+    for x in samples {
+        m = raise(m, *x);
     }
     m
 }
 
-// Four running maxima, which the compiler makes one vector.
+// Four running maxima, which the compiler makes one vector, and then the rest.
 pub fn max_abs_slice(samples: &[f32]) -> f32
     ensures { (result ≡ peak samples.now) × Level result }
 {
-    let n = samples.len();
-    let mut a: f32 = 0.0;
-    let mut b: f32 = 0.0;
-    let mut c: f32 = 0.0;
-    let mut d: f32 = 0.0;
-    let mut i: usize = 0;
-    while n - i >= 4 {
-        a = raise(a, samples[i]);
-        b = raise(b, samples[i + 1]);
-        c = raise(c, samples[i + 2]);
-        d = raise(d, samples[i + 3]);
-        i += 4;
+    let mut lanes = [0.0f32; 4];
+    let fours = samples.len() / 4;
+    for j in 0..fours {
+        for k in 0..4 {
+            lanes[k] = raise(lanes[k], samples[4 * j + k]);
+        }
     }
-    let m = raise(raise(raise(a, b), c), d);
-    max_abs_from(m, &samples[i..])
+    max_abs_from(max_abs_from(0.0, &lanes), &samples[4 * fours..])
 }
 
 // The peak of a block: twelve channels of 64 places, `samples` of each in use.
@@ -79,13 +70,9 @@ fn block_peak(block: &[f32], samples: usize) -> f32
     ensures { result ≡ block_peak 0·0 (channels row_count samples block.now) }
 {
     let mut max: f32 = 0.0;
-    let mut at: usize = 0;
-    let mut left: usize = areas::ROW_COUNT;
-    while left > 0 {
-        let end = at + samples;
-        max = raise(max, max_abs_slice(&block[at..end]));
-        at += areas::ROW_PLACES;
-        left -= 1;
+    for c in 0..areas::ROW_COUNT {
+        let at = areas::ROW_PLACES * c;
+        max = raise(max, max_abs_slice(&block[at..at + samples]));
     }
     max
 }

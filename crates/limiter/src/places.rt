@@ -14,10 +14,8 @@ pub fn load_samples(places: &[u8], at: usize, samples: &mut [f32])
     requires { at + 4 * length samples.old ≤ length places.now }
     ensures { samples.new ≡ floats_at places.now at (length samples.old) }
 {
-    let mut i: usize = 0;
-    while i < samples.len() {
+    for i in 0..samples.len() {
         samples[i] = words::f32_at(places, at + 4 * i);
-        i += 1;
     }
 }
 
@@ -26,10 +24,8 @@ pub fn scale_slice_into(samples: &[f32], gain: f32, out: &mut [u8])
     requires { length out.old ≡ 4 * length samples.now }
     ensures { out.new ≡ with_floats out.old 0 (scaled gain samples.now) }
 {
-    let mut i: usize = 0;
-    while i < samples.len() {
-        words::put_f32(out, 4 * i, samples[i] * gain);
-        i += 1;
+    for (i, x) in samples.iter().enumerate() {
+        words::put_f32(out, 4 * i, x * gain);
     }
 }
 
@@ -38,13 +34,9 @@ pub fn load_block(places: &[u8], samples: usize, block: &mut [f32])
     requires { (length places.now ≡ places_bytes) × (length block.old ≡ place_count) × (samples ≤ row_places) }
     ensures { block.new ≡ overlaid (channels_at row_count samples places.now 0) block.old }
 {
-    let mut at: usize = 0;
-    let mut left: usize = areas::ROW_COUNT;
-    while left > 0 {
-        let end = at + samples;
-        load_samples(places, 4 * at, &mut block[at..end]);
-        at += areas::ROW_PLACES;
-        left -= 1;
+    for c in 0..areas::ROW_COUNT {
+        let at = areas::ROW_PLACES * c;
+        load_samples(places, 4 * at, &mut block[at..at + samples]);
     }
 }
 
@@ -53,16 +45,10 @@ pub fn store_block(block: &[f32], samples: usize, gain: f32, out: &mut [u8], ste
     requires { (length block.now ≡ place_count) × (samples ≤ row_places) × (to + 4 * samples ≤ step) × (row_count * step ≤ length out.old) }
     ensures { out.new ≡ with_channels (scaled_block gain (channels row_count samples block.now)) step to out.old }
 {
-    let mut at: usize = 0;
-    let mut base: usize = 0;
-    let mut unscaled: usize = areas::ROW_COUNT;
-    while unscaled > 0 {
-        let end = at + samples;
-        let from = base + to;
+    for c in 0..areas::ROW_COUNT {
+        let at = areas::ROW_PLACES * c;
+        let from = step * c + to;
         let until = from + 4 * samples;
-        scale_slice_into(&block[at..end], gain, &mut out[from..until]);
-        at += areas::ROW_PLACES;
-        base += step;
-        unscaled -= 1;
+        scale_slice_into(&block[at..at + samples], gain, &mut out[from..until]);
     }
 }

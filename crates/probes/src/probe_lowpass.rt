@@ -33,5 +33,7 @@ pub extern "C" fn probe_lowpass_process_in_place(
 ) -> BiquadLowpassState
     ensures { (result ≡ after_all filter samples.old) × (samples.new ≡ filtered filter samples.old) }
 {
-    filter.process_in_place(samples)
+    let mut filter = filter;
+    filter.process_in_place(samples);
+    filter
 }

@@ -29,14 +29,14 @@ impl Rendering {
             → Waits (moment_here (frame_with rate us codes.now objects pcm.now n) t.0 k self.renderer b) self t.0 k rows.new result }
     {
         let m = self.renderer.state;
-        let before = self.renderer.filter;
+        let mut filter = self.renderer.filter;
         let first = t.index();
         let span = Span {
             frame: n,
             first,
             count: k,
         };
-        let filter = mix(m, before, rows, pcm, codes, objects, span);
+        mix(m, &mut filter, rows, pcm, codes, objects, span);
         let next = self.renderer.settle(filter, k as u32);
         self.renderer = next;
         self
