@@ -23,13 +23,6 @@ pub struct Limiter {
     pub gain: f32,
 }
 
-// The limiter after a block, and what it met there.
-#[derive(Clone, Copy)]
-pub struct Limited {
-    pub limiter: Limiter,
-    pub meters: Meters,
-}
-
 // The maximum of a level and the size of a sample: a maximum instruction, since a level is no NaN.
 fn raise(max: f32, sample: f32) -> f32
     requires { Level max }
@@ -84,15 +77,14 @@ impl Limiter {
         Limiter { gain: 1.0 }
     }
 
-    // The limiter that scales a block of this peak.
+    // Lowered for a block of this peak.
     #[tactic(auto, using(crate::proofs::Lowering::lowered_above, crate::proofs::Lowering::lowered_below))]
-    pub fn lower(self, peak: f32) -> Self
-        ensures { result.gain ≡ lowered peak self.gain }
+    pub fn lower(&mut self, peak: f32)
+        ensures { self.new.gain ≡ lowered peak self.old.gain }
     {
         if peak * self.gain > 1.0 {
-            return Limiter { gain: 0.9 / peak };
+            self.gain = 0.9 / peak;
         }
-        self
     }
 
     // What is shown of a block of this peak that this limiter scales.
@@ -105,41 +97,37 @@ impl Limiter {
         }
     }
 
-    // The limiter after a block of this length.
-    pub fn grow(self, samples: u32, rate: u32) -> Self
+    // Grown after a block of this length.
+    pub fn grow(&mut self, samples: u32, rate: u32)
         requires { (samples ≤ 16777216) × (rate ≤ 16777216) }
-        ensures { result.gain ≡ grown samples rate self.gain }
+        ensures { self.new.gain ≡ grown samples rate self.old.gain }
     {
-        let decay = samples as f32 / rate as f32;
-        let gain = self.gain + decay;
-        if gain > 1.0 {
-            return Limiter { gain: 1.0 };
+        self.gain += samples as f32 / rate as f32;
+        if self.gain > 1.0 {
+            self.gain = 1.0;
         }
-        Limiter { gain }
     }
 
-    // One block from the places of a state block to the output, channel c at `to` + c x `step`.
+    // One block from the places of a state block to the output, channel c at `to` + c x `step`; and what was met there.
     pub fn apply_output_limiter_block(
-        self,
+        &mut self,
         places: &[u8],
         samples: usize,
         rate: u32,
         out: &mut [u8],
         step: usize,
         to: usize,
-    ) -> Limited
+    ) -> Meters
         requires { Room places.now samples rate out.old step to }
-        ensures { Given self.gain samples rate places.now step to out.old result out.new }
+        ensures { Given self.old.gain samples rate places.now step to out.old self.new result out.new }
     {
         let mut block = [0.0f32; areas::PLACE_COUNT];
         places::load_block(places, samples, &mut block);
         let peak = block_peak(&block, samples);
-        let scaling = self.lower(peak);
-        places::store_block(&block, samples, scaling.gain, out, step, to);
-        let next = scaling.grow(samples as u32, rate);
-        Limited {
-            limiter: next,
-            meters: scaling.meters(peak),
-        }
+        self.lower(peak);
+        let meters = self.meters(peak);
+        places::store_block(&block, samples, self.gain, out, step, to);
+        self.grow(samples as u32, rate);
+        meters
     }
 }

@@ -34,8 +34,8 @@ pub fn load_block(places: &[u8], samples: usize, block: &mut [f32])
     requires { (length places.now ≡ places_bytes) × (length block.old ≡ place_count) × (samples ≤ row_places) }
     ensures { block.new ≡ overlaid (channels_at row_count samples places.now 0) block.old }
 {
-    for c in 0..areas::ROW_COUNT {
-        let at = areas::ROW_PLACES * c;
+    for row in 0..areas::ROW_COUNT {
+        let at = areas::ROW_PLACES * row;
         load_samples(places, 4 * at, &mut block[at..at + samples]);
     }
 }

@@ -7,22 +7,22 @@ use Rattle.limiter.specs.ChannelPlaces.{floats_at}
 use Rattle.limiter.proofs.Blocks.{part_length, load_next, load_end}
 use Rattle.limiter.proofs.places.load_block.Goals as goal
 
-pub loop-c-init : goal.loop-c-init
-loop-c-init c = refl
+pub loop-row-init : goal.loop-row-init
+loop-row-init c = refl
 
-pub loop-c-preserved : goal.loop-c-preserved
-loop-c-preserved c =
-    let l = c.loop-c in
+pub loop-row-preserved : goal.loop-row-preserved
+loop-row-preserved c =
+    let l = c.loop-row in
     let a = c.args in
     let z = c.load_samples in
-    let at = 64 * l.c in
+    let at = 64 * l.row in
     let h : at + a.samples ≤ length l.block = omega arith in
     let e : z.new.samples ≡ floats_at a.places.now (4 * at) a.samples = z.ensures ∙ ap (floats_at a.places.now (4 * at)) (part_length a.samples at l.block h) in
-    let k : 12 - (l.c + 1) ≡ 12 - l.c - 1 = omega arith in
-    let j : 64 * (l.c + 1) ≡ at + 64 = omega arith in
-    rw (k, j) ((load_next a.places.now (12 - l.c) a.samples at l.block z.new.samples (omega arith) (omega arith) (omega arith) e).1 ∙ l.invariant)
+    let k : 12 - (l.row + 1) ≡ 12 - l.row - 1 = omega arith in
+    let j : 64 * (l.row + 1) ≡ at + 64 = omega arith in
+    rw (k, j) ((load_next a.places.now (12 - l.row) a.samples at l.block z.new.samples (omega arith) (omega arith) (omega arith) e).1 ∙ l.invariant)
 
 pub returns : goal.returns
 returns c =
-    let l = c.loop-c in
-    load_end c.args.places.now (12 - l.c) c.args.samples (64 * l.c) l.block (omega arith) ∙ l.invariant
+    let l = c.loop-row in
+    load_end c.args.places.now (12 - l.row) c.args.samples (64 * l.row) l.block (omega arith) ∙ l.invariant

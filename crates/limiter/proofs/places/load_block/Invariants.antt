@@ -6,6 +6,6 @@ use lib.ListN.{take, drop}
 use Rattle.limiter.specs.ChannelPlaces.{overlaid, channels_at}
 use Rattle.limiter.proofs.places.load_block.Given as goal
 
-abbrev pub invariant-loop-c : goal.invariant-loop-c
-invariant-loop-c l =
-    take (64 * l.c) l.block ++ overlaid (channels_at (12 - l.c) l.samples l.places (4 * (64 * l.c))) (drop (64 * l.c) l.block) ≡ overlaid (channels_at 12 l.samples l.places 0) l.initial.block
+abbrev pub invariant-loop-row : goal.invariant-loop-row
+invariant-loop-row l =
+    take (64 * l.row) l.block ++ overlaid (channels_at (12 - l.row) l.samples l.places (4 * (64 * l.row))) (drop (64 * l.row) l.block) ≡ overlaid (channels_at 12 l.samples l.places 0) l.initial.block

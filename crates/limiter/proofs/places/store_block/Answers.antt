@@ -1,7 +1,7 @@
 -- `limiter::places::store_block` meets its contract. Assumes nothing.
 use borrow.Author.Rules.{rules}
 use native.Mathlib.Omega.{arith}
-use mathlib.Core.Path.{◌≡◌, refl, sym, ap, ◌∙◌}
+use mathlib.Core.Path.{refl, sym, ap, ◌∙◌}
 use Prim.Native.Nat.{ℕ, ◌+◌, ◌*◌}
 use Rattle.limiter.specs.Limiter.{scaled_block}
 use Rattle.limiter.specs.ChannelPlaces.{channels, with_channels}

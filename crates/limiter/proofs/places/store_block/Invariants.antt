@@ -1,6 +1,5 @@
 -- `limiter::places::store_block` meets its contract. Assumes nothing.
 use mathlib.Core.Path.{◌≡◌}
-use lib.ListN.{length}
 use Rattle.limiter.specs.Limiter.{scaled_block}
 use Rattle.limiter.specs.ChannelPlaces.{channels, with_channels}
 use Rattle.limiter.proofs.places.store_block.Given as goal
