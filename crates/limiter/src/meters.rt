@@ -24,13 +24,11 @@ impl Meters {
     }
 
     // With a block more. Of equal ones, as the two zeros are, the earlier stays.
-    pub fn meet(self, block: Meters) -> Self
-        ensures { result ≡ meets self block }
+    pub fn meet(&mut self, block: Meters)
+        ensures { self.new ≡ meets self.old block }
     {
-        Meters {
-            peak: ieee::max(self.peak, block.peak),
-            gain: ieee::min(self.gain, block.gain),
-        }
+        self.peak = ieee::max(self.peak, block.peak);
+        self.gain = ieee::min(self.gain, block.gain);
     }
 
     // As a call answers them: with no gain but NaNs, 1.
@@ -38,10 +36,7 @@ impl Meters {
         ensures { result ≡ shown self }
     {
         if self.gain != self.gain {
-            return Meters {
-                peak: self.peak,
-                gain: 1.0,
-            };
+            return Meters { gain: 1.0, ..self };
         }
         self
     }

@@ -90,13 +90,8 @@ pub fn mix_beds(rows: &mut [f32], pcm: &[u8], codes: &[u8], scene: Scene, span: 
     requires { Framed pcm.now (length codes.now) span × (length rows.old ≡ place_count) × (scene.beds ≤ 18) }
     ensures { rows.new ≡ mixed_beds pcm.now span codes.now (beds_of scene.beds scene.codes scene.gains) rows.old }
 {
-    let wanted = scene.codes;
-    let gains = scene.gains;
-    let count = scene.beds;
-    let mut j = 0usize;
-    while j < count {
-        mix_bed(rows, pcm, codes, wanted[j], gains[j], span);
-        j += 1;
+    for j in 0..scene.beds {
+        mix_bed(rows, pcm, codes, scene.codes[j], scene.gains[j], span);
     }
 }
 
@@ -105,11 +100,7 @@ pub fn mix_sources(rows: &mut [f32], pcm: &[u8], first: usize, scene: Scene, spa
     requires { Framed pcm.now (first + scene.objects) span × (length rows.old ≡ place_count) × (first ≤ 18) × (scene.objects ≤ 16) }
     ensures { rows.new ≡ mixed_objects pcm.now span first (sources_of scene.objects scene.sources) rows.old }
 {
-    let sources = scene.sources;
-    let count = scene.objects;
-    let mut object = 0usize;
-    while object < count {
-        mix_source(rows, pcm, first + object, sources[object], span);
-        object += 1;
+    for object in 0..scene.objects {
+        mix_source(rows, pcm, first + object, scene.sources[object], span);
     }
 }

@@ -23,10 +23,8 @@ fn mix_range(rows: &mut [f32], samples: &[f32], from: usize, to: usize, gain: f3
     requires { Sized samples.now rows.old × (from ≤ to) × (to ≤ 12) }
     ensures { rows.new ≡ mixed_terms samples.now (spread (up_from from (to - from)) gain) rows.old }
 {
-    let mut c = from;
-    while c < to {
+    for c in from..to {
         mix_term(rows, samples, c, gain);
-        c += 1;
     }
 }
 
@@ -47,10 +45,8 @@ fn mix_corners(rows: &mut [f32], samples: &[f32], corners: [usize; 8], coefficie
     requires { Sized samples.now rows.old × AmongTwelve corners }
     ensures { rows.new ≡ mixed_terms samples.now (paired corners coefficients) rows.old }
 {
-    let mut j = 0usize;
-    while j < 8 {
+    for j in 0..8 {
         mix_term(rows, samples, corners[j], coefficients[j]);
-        j += 1;
     }
 }
 

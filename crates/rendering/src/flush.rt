@@ -18,10 +18,10 @@ impl Rendering {
         requires { CanGive self state.now out.old stride }
         ensures { Gave self state.now stride out.old result out.new }
     {
-        let limiter = self.renderer.limiter;
+        let mut limiter = self.renderer.limiter;
         let pending = self.renderer.pending as usize;
         let start = store::PLACES;
-        let after = limiter.apply_output_limiter_block(
+        let block = limiter.apply_output_limiter_block(
             &state[start..],
             pending,
             self.renderer.rate,
@@ -29,11 +29,10 @@ impl Rendering {
             4 * stride,
             4 * self.ready,
         );
-        let next = self.renderer.empty(after.limiter);
+        let next = self.renderer.empty(limiter);
         self.renderer = next;
         self.ready = self.ready + pending;
-        let meters = self.meters.meet(after.meters);
-        self.meters = meters;
+        self.meters.meet(block);
         self
     }
 
@@ -42,17 +41,16 @@ impl Rendering {
         requires { CanGiveRows self rows.now out.old stride }
         ensures { GaveRows self rows.now stride out.old result out.new }
     {
-        let limiter = self.renderer.limiter;
+        let mut limiter = self.renderer.limiter;
         let peak = limiter::max_abs_slice(rows);
-        let scaling = limiter.lower(peak);
-        store_block(rows, 64, scaling.gain, out, 4 * stride, 4 * self.ready);
-        let grown = scaling.grow(64, self.renderer.rate);
-        let next = self.renderer.empty(grown);
+        limiter.lower(peak);
+        let met = limiter.meters(peak);
+        store_block(rows, 64, limiter.gain, out, 4 * stride, 4 * self.ready);
+        limiter.grow(64, self.renderer.rate);
+        let next = self.renderer.empty(limiter);
         self.renderer = next;
         self.ready = self.ready + 64;
-        let met = scaling.meters(peak);
-        let meters = self.meters.meet(met);
-        self.meters = meters;
+        self.meters.meet(met);
         self
     }
 

@@ -52,7 +52,7 @@ returns c =
     let a = c.args in
     let h : 12 * a.step ≤ length a.out.now = omega arith in
     let k : a.to + 4 * a.samples ≤ a.step = omega arith in
-    let e = c.apply_output_limiter_block-done.ensures in
+    let e = c.apply_output_limiter_block.ensures in
     simp (
       eq-eqb _ _ c.if-places-ne3072.false,
       le-leb _ _ c.if-samples-gt64.false,

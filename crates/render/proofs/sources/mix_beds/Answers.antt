@@ -1,6 +1,5 @@
 -- `mix_beds`: what is left to mix from bed j on still gives the whole.
-use borrow.Author.Rules.{rules}
-use mathlib.Core.Path.{◌≡◌, refl}
+use mathlib.Core.Path.{◌≡◌}
 use native.Mathlib.Omega.{arith}
 use lib.ListN.{length}
 use Rattle.render.proofs.MixedInOrder.{beds_start, bed_step, beds_done}
@@ -10,7 +9,7 @@ pub loop-j-init : goal.loop-j-init
 loop-j-init c =
     let a = c.args in
     let p = a.scene in
-    (search rules, refl, beds_start a.pcm.now a.span a.codes.now p.beds p.codes p.gains a.rows.now)
+    beds_start a.pcm.now a.span a.codes.now p.beds p.codes p.gains a.rows.now
 
 pub loop-j-preserved : goal.loop-j-preserved
 loop-j-preserved c =
@@ -18,15 +17,12 @@ loop-j-preserved c =
     let p = a.scene in
     let g = c.well_formed.1.1.1.0.1.1 in
     let codes : length p.codes ≡ 18 = g.0.1.0.1 in
-    let gains : length p.gains ≡ 18 = g.1.0.1.0.1 in (
-      search rules,
-      search rules,
-      bed_step a.pcm.now a.span a.codes.now c.loop-j.j p.beds p.codes p.gains c.loop-j.rows (omega arith) (omega arith) (omega arith)
-          c.mix_bed.ensures c.loop-j.invariant.2,
-    )
+    let gains : length p.gains ≡ 18 = g.1.0.1.0.1 in
+    bed_step a.pcm.now a.span a.codes.now c.loop-j.j p.beds p.codes p.gains c.loop-j.rows (omega arith) (omega arith) (omega arith)
+    c.mix_bed.ensures c.loop-j.invariant
 
 pub returns : goal.returns
 returns c =
     let a = c.args in
     let p = a.scene in
-    beds_done a.pcm.now a.span a.codes.now c.loop-j.j p.beds p.codes p.gains c.loop-j.rows (omega arith) c.loop-j.invariant.2
+    beds_done a.pcm.now a.span a.codes.now c.loop-j.j p.beds p.codes p.gains c.loop-j.rows (omega arith) c.loop-j.invariant

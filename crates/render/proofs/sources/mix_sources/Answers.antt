@@ -1,6 +1,6 @@
 -- `mix_sources`: what is left to mix from an object on still gives the whole.
 use borrow.Author.Rules.{rules}
-use mathlib.Core.Path.{◌≡◌, refl}
+use mathlib.Core.Path.{◌≡◌}
 use native.Mathlib.Omega.{arith}
 use Prim.Native.Nat.{◌+◌}
 use lib.ListN.{length}
@@ -11,7 +11,7 @@ use Rattle.render.proofs.sources.mix_sources.Goals as goal
 pub loop-object-init : goal.loop-object-init
 loop-object-init c =
     let a = c.args in
-    (search rules, refl, objects_start a.pcm.now a.span a.first a.scene.objects a.scene.sources a.rows.now)
+    objects_start a.pcm.now a.span a.first a.scene.objects a.scene.sources a.rows.now
 
 pub mix_source-requires : goal.mix_source-requires
 mix_source-requires c =
@@ -23,14 +23,11 @@ loop-object-preserved c =
     let a = c.args in
     let p = a.scene in
     let g = c.well_formed.1.1.1.0.1.1 in
-    let sources : length p.sources ≡ 16 = g.1.1.1.0.1.0.1 in (
-      search rules,
-      search rules,
-      object_step a.pcm.now a.span a.first c.loop-object.object p.objects _ p.sources c.loop-object.rows (omega arith) (omega arith)
-          c.mix_source.ensures c.loop-object.invariant.2,
-    )
+    let sources : length p.sources ≡ 16 = g.1.1.1.0.1.0.1 in
+    object_step a.pcm.now a.span a.first c.loop-object.object p.objects _ p.sources c.loop-object.rows (omega arith) (omega arith)
+    c.mix_source.ensures c.loop-object.invariant
 
 pub returns : goal.returns
 returns c =
     let a = c.args in
-    objects_done a.pcm.now a.span (a.first + c.loop-object.object) c.loop-object.object a.scene.objects a.scene.sources c.loop-object.rows (omega arith) c.loop-object.invariant.2
+    objects_done a.pcm.now a.span (a.first + c.loop-object.object) c.loop-object.object a.scene.objects a.scene.sources c.loop-object.rows (omega arith) c.loop-object.invariant
