@@ -1,5 +1,5 @@
 -- The order of triples of floats, as `<` of the language has it, is that of the speakers. Assumes nothing.
-use mathlib.Core.Path.{◌≡◌, refl, ◌∙◌}
+use mathlib.Core.Path.{◌≡◌, refl}
 use mathlib.Core.Bool.{Bool, true, false, cond}
 use lib.Dec.{T}
 use lib.Ieee.{Float, lt, eq}
@@ -10,7 +10,6 @@ use Rattle.std.specs.Ordering.{is_lt, is_some_and, partial_ordering_then, float_
 use Rattle.std.proofs.lemmas.Float.{eq-not_lt}
 use Rattle.vectors.specs.declared.Vec3.{Vec3}
 use Rattle.corners.specs.SpeakerOrder.{precedes}
-use Rattle.corners.proofs.Rising.{passed}
 
 abbrev before : Option Ordering → Bool
 before o = is_some_and is_lt o

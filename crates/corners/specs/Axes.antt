@@ -4,6 +4,7 @@ use Rattle.std.specs.Float.{nan}
 use Rattle.vectors.specs.declared.Vec3.{Vec3}
 use Rattle.corners.specs.declared.Axis.{Axis}
 use Rattle.corners.specs.declared.Axis.TheVariants.{X, Y, Z}
+use Rattle.corners.specs.declared.Hall.{Hall}
 
 abbrev pub coordinate : Axis → Vec3 → Float
 coordinate X v = v.x
@@ -20,8 +21,8 @@ along axis places i = coordinate axis (place_among places i)
 abbrev pub index_at : List ℕ → ℕ → ℕ
 index_at l i = get_or l i 0
 
--- where the run at i ends, by the ends of the layers and of the rows; along a row each speaker is a run
-abbrev pub run_after : Axis → (ℕ → ℕ) → (ℕ → ℕ) → ℕ → ℕ
-run_after X layerEnd rowEnd i = i + 1
-run_after Y layerEnd rowEnd i = layerEnd i
-run_after Z layerEnd rowEnd i = rowEnd i
+-- where the run at i ends; along a row each speaker is a run
+abbrev pub run_after : Axis → Hall → ℕ → ℕ
+run_after X h i = i + 1
+run_after Y h i = index_at h.layers i
+run_after Z h i = index_at h.rows i

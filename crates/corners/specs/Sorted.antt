@@ -1,10 +1,16 @@
 -- A hall whose speakers can be walked, who stands in it, and what `Hall::of` answers: the channels of l, at the places sp, so that they can be walked. Assumes nothing.
-use Rattle.std.specs.Prelude.{ℕ, List}
+use Rattle.std.specs.Prelude.{ℕ, ◌≤◌, ◌<◌, List}
 use Rattle.vectors.specs.declared.Vec3.{Vec3}
+use Rattle.corners.specs.declared.Axis.{Axis}
 use Rattle.corners.specs.declared.Axis.TheVariants.{X, Y, Z}
 use Rattle.corners.specs.declared.Hall.{Hall}
-use Rattle.corners.specs.Axes.{along, index_at}
+use Rattle.corners.specs.Axes.{along, index_at, run_after}
+use Rattle.corners.specs.EqualRuns.{Runs}
 use Rattle.corners.specs.Walkable.{Walkable, StandAt}
+
+-- from a up to b there are runs along an axis
+abbrev pub RunsIn : Axis → Hall → ℕ → ℕ → Type 0
+RunsIn axis h a b = Runs (along axis h.places) (run_after axis h) a b × (a < b) × (b ≤ 12)
 
 abbrev pub CanWalk : Hall → Type 0
 CanWalk h = Walkable (along X h.places) (along Y h.places) (along Z h.places) (index_at h.layers) (index_at h.rows) h.count

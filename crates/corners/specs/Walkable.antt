@@ -1,6 +1,6 @@
 -- The speakers of a hall in the order of (y, z, x): what the arrays must be for a walk over them (`Walkable`), and who stands in them (`StandAt`). A reader may skip the rest:
 -- the contracts of `row` and `layer`. Assumes nothing.
-use Rattle.std.specs.Prelude.{ℕ, ◌+◌, ◌≤◌, ◌<◌, ◌≡◌, Bool, true, false, List, Float}
+use Rattle.std.specs.Prelude.{ℕ, ◌+◌, ◌≤◌, ◌<◌, ◌≡◌, Bool, List, Float}
 use Rattle.vectors.specs.declared.Vec3.{Vec3}
 use Rattle.panning.specs.Choice.{first, flank, row_among, side}
 use Rattle.panning.specs.declared.Ends.{Ends}

@@ -31,16 +31,15 @@ impl Line {
         ensures at { Inserted (place_among places.now) (index_at self.old.channels) self.old.count k (index_at self.new.channels) }
         ensures more { self.new.count ≡ self.old.count + 1 }
     {
-        let mut i = self.count;
+        let n = self.count;
         self.count += 1;
-        while i > 0 {
-            let other = self.channels[i - 1];
+        for i in (0..n).rev() {
+            let other = self.channels[i];
             if !precedes(places[k], places[other]) {
-                self.channels[i] = k;
+                self.channels[i + 1] = k;
                 return;
             }
-            self.channels[i] = other;
-            i -= 1;
+            self.channels[i + 1] = other;
         }
         self.channels[0] = k;
     }
@@ -101,9 +100,7 @@ fn run_ends(axis: Axis, places: &[Vec3; 12], bound: &[usize; 12], n: usize) -> [
     ensures { RunEnds (along axis places.now) (index_at bound.now) n (index_at result) }
 {
     let mut ends = [0; 12];
-    let mut j = n;
-    while j > 0 {
-        j -= 1;
+    for j in (0..n).rev() {
         ends[j] = run_end(axis, places, bound, &ends, j);
     }
     ends

@@ -6,9 +6,9 @@ ghost use Rattle.vectors.specs.declared.Vec3.{Vec3};
 ghost use Rattle.panning.specs.Choice.{corner, corners};
 ghost use Rattle.corners.specs.declared.Axis.TheVariants.{X, Z};
 ghost use Rattle.corners.specs.Axes.{along, index_at, run_after};
-ghost use Rattle.corners.specs.EqualRuns.{Runs, StopsAt, EndsAt, SidesAt};
+ghost use Rattle.corners.specs.EqualRuns.{StopsAt, EndsAt, SidesAt};
 ghost use Rattle.corners.specs.Walkable.{RowRuns, LayerRuns, RowAt, LayerAt};
-ghost use Rattle.corners.specs.Sorted.{CanWalk, StandIn};
+ghost use Rattle.corners.specs.Sorted.{RunsIn, CanWalk, StandIn};
 
 use crate::{Axis, Hall};
 use panning::{Cube, Ends, Layer};
@@ -18,7 +18,7 @@ impl Hall {
     // Where the run that begins at `i` ends. Along a row each speaker is a run.
     fn run_after(&self, axis: Axis, i: usize) -> usize
         requires { i < 12 }
-        ensures { result ≡ run_after axis (index_at self.now.layers) (index_at self.now.rows) i }
+        ensures { result ≡ run_after axis self.now i }
     {
         match axis {
             Axis::X => i + 1,
@@ -29,8 +29,8 @@ impl Hall {
 
     // The walk over the runs from `a` up to `b`: where the last that is not beyond `v` begins, and where the walk stops.
     fn walk(&self, axis: Axis, a: usize, b: usize, v: f32) -> Ends
-        requires { Runs (along axis self.now.places) (run_after axis (index_at self.now.layers) (index_at self.now.rows)) a b × (a < b) × (b ≤ 12) }
-        ensures { StopsAt (along axis self.now.places) (run_after axis (index_at self.now.layers) (index_at self.now.rows)) a b v result }
+        requires { RunsIn axis self.now a b }
+        ensures { StopsAt (along axis self.now.places) (run_after axis self.now) a b v result }
     {
         let mut low = a;
         let mut i = a;
@@ -43,8 +43,8 @@ impl Hall {
 
     // Where the low and the high end about `v` of the runs from `a` up to `b` begin, each filled by the other.
     fn ends(&self, axis: Axis, a: usize, b: usize, v: f32) -> Ends
-        requires { Runs (along axis self.now.places) (run_after axis (index_at self.now.layers) (index_at self.now.rows)) a b × (a < b) × (b ≤ 12) }
-        ensures { EndsAt (along axis self.now.places) (run_after axis (index_at self.now.layers) (index_at self.now.rows)) a b v result }
+        requires { RunsIn axis self.now a b }
+        ensures { EndsAt (along axis self.now.places) (run_after axis self.now) a b v result }
     {
         let stop = self.walk(axis, a, b, v);
         if stop.high < b {
@@ -59,7 +59,7 @@ impl Hall {
 
     // The two sides about `v` of the row from `a` up to `b`; a speaker at `v` itself is both.
     fn sides(&self, a: usize, b: usize, v: f32) -> Ends
-        requires { Runs (along X self.now.places) (λ i. i + 1) a b × (a < b) × (b ≤ 12) }
+        requires { RunsIn X self.now a b }
         ensures { SidesAt (along X self.now.places) a b v result }
     {
         let stop = self.walk(Axis::X, a, b, v);

@@ -4,7 +4,7 @@ use Prim.Native.Nat.{ℕ}
 use lib.Dec.{T}
 use lib.Ieee.{Float, binary32, fits, le}
 use borrow.Author.Rules.{rules}
-use Rattle.corners.specs.Axes.{along, index_at, run_after}
+use Rattle.corners.specs.Axes.{along, run_after}
 use Rattle.corners.specs.EqualRuns.{Walked}
 use Rattle.corners.proofs.Rising.{passed}
 use Rattle.corners.proofs.Stops.{walk_step}
@@ -16,5 +16,5 @@ loop-i-preserved c =
     let h = a.self.now in
     let fits_v : T (fits binary32 a.v) = search (rules, c.well_formed) in
     let near = subst (λ (x : Float). T (le x a.v)) c.of.ensures (passed c.if-of-v.true) in
-    subst (λ (x : ℕ). Walked (along a.axis h.places) (run_after a.axis (index_at h.layers) (index_at h.rows)) a.a a.b a.v c.loop-i.i x) (sym c.run_after-i.ensures)
+    subst (λ (x : ℕ). Walked (along a.axis h.places) (run_after a.axis h) a.a a.b a.v c.loop-i.i x) (sym c.run_after-i.ensures)
     (walk_step fits_v c.requires.0 c.loop-i.invariant c.loop-i-test.true near)

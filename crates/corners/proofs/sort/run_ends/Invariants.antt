@@ -5,8 +5,5 @@ use Rattle.corners.specs.SpeakerOrder.{run_end}
 use Rattle.corners.proofs.sort.run_ends.Given as goal
 
 abbrev pub invariant-loop-j : goal.invariant-loop-j
-invariant-loop-j l = (l.j ≤ l.n) × (length l.ends ≡ 12)
+invariant-loop-j l = (length l.ends ≡ 12)
     × ((i : ℕ) → l.j ≤ i → i < l.n → index_at l.ends i ≡ run_end (along l.axis l.places) (index_at l.bound) (index_at l.ends) i)
-
-abbrev pub decreases-loop-j : goal.decreases-loop-j
-decreases-loop-j l = l.j
