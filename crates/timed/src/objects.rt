@@ -63,7 +63,7 @@ fn update_source_state(
     }
 }
 
-// The dynamic objects, each with where it is going.
+// The dynamic objects, each with where it is going: two tables, since the state has one of the objects, and each element one of where it moves them.
 #[derive(Clone, Copy)]
 pub struct Moving {
     pub sources: [DynamicSourceState; 16],
@@ -72,39 +72,25 @@ pub struct Moving {
 
 impl Moving {
     // A block applied to `count` objects; the info of object d is `first` + 8 d.
-    pub fn apply_block(self, infos: &mut [u8], first: usize, count: usize, arrived: bool) -> Moving
+    pub fn apply_block(&mut self, infos: &mut [u8], first: usize, count: usize, arrived: bool)
         requires { (length infos.old ≡ all_bytes) × (count ≤ 16) × ((d : ℕ) → d < count → first + most_blocks * d < all_infos) }
-        ensures { IsMovedAll (moved_all arrived first count self infos.old) result infos.new }
+        ensures { IsMovedAll (moved_all arrived first count self.old infos.old) self.new infos.new }
     {
-        let mut next = self;
-        let mut d = 0usize;
-        while d < count {
-            let source = next.sources[d];
-            let m = update_source_state(infos, first + BLOCKS * d, source, arrived);
-            let s = m.source;
-            let t = m.track;
-            next.sources[d] = s;
-            next.tracks[d] = t;
-            d += 1;
+        for d in 0..count {
+            let moved = update_source_state(infos, first + BLOCKS * d, self.sources[d], arrived);
+            self.sources[d] = moved.source;
+            self.tracks[d] = moved.track;
         }
-        next
     }
 
     // The ramp's share t for `count` objects; `before` has their flags at the element's previous slot.
-    pub fn ramp(self, before: [Track; 16], count: usize, t: f32) -> Moving
+    pub fn ramp(&mut self, before: [Track; 16], count: usize, t: f32)
         requires { count ≤ 16 }
-        ensures { result ≡ ramped_all t before count self }
+        ensures { self.new ≡ ramped_all t before count self.old }
     {
-        let mut next = self;
-        let mut d = 0usize;
-        while d < count {
-            let source = next.sources[d];
-            let track = next.tracks[d];
-            let last = before[d];
-            next.sources[d] = ramp_one(source, track, last.now, t);
-            d += 1;
+        for d in 0..count {
+            self.sources[d] = ramp_one(self.sources[d], self.tracks[d], before[d].now, t);
         }
-        next
     }
 }
 
@@ -129,15 +115,11 @@ fn ramp_one(source: DynamicSourceState, track: Track, last: bool, t: f32) -> Dyn
 }
 
 // The beds' gains after a block; the info of bed i is `first` + 8 i.
-pub fn bed_gains(gains: [f32; 18], infos: &[u8], first: usize, count: usize) -> [f32; 18]
+pub fn bed_gains(gains: &mut [f32; 18], infos: &[u8], first: usize, count: usize)
     requires { (length infos.now ≡ all_bytes) × (count ≤ 18) × ((d : ℕ) → d < count → first + most_blocks * d < all_infos) }
-    ensures { result ≡ bed_gains infos.now first count gains }
+    ensures { gains.new ≡ bed_gains infos.now first count gains.old }
 {
-    let mut next = gains;
-    let mut i = 0usize;
-    while i < count {
-        next[i] = infos::maybe_at(infos, first + BLOCKS * i, 4, GAIN).unwrap_or(next[i]);
-        i += 1;
+    for i in 0..count {
+        gains[i] = infos::maybe_at(infos, first + BLOCKS * i, 4, GAIN).unwrap_or(gains[i]);
     }
-    next
 }

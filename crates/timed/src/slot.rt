@@ -51,105 +51,64 @@ impl BlockState {
     }
 }
 
+// The remaining ramp 0, as it is kept: 2^47.
+const RAMP_OVER: u64 = 140737488355328;
+
 // The share of a ramp that one slot takes.
 fn share(remaining: u64) -> f32
     requires { (140737488355328 ≤ remaining) × (remaining ≤ 140737489403904) }
     ensures { result ≡ share (remaining_of remaining) }
 {
-    ieee::min(64.0 / ((remaining - 140737488355328) as f32), 1.0)
+    ieee::min(64.0 / ((remaining - RAMP_OVER) as f32), 1.0)
 }
 
-// An element's blocks, remaining ramp and tracks, and the beds and objects that it moves.
+// An element's blocks and remaining ramp, and the beds and objects that it moves.
 #[derive(Clone, Copy)]
 pub struct Slot {
     pub schedule: [BlockState; 8],
     pub remaining: u64,
     pub gains: [f32; 18],
-    pub sources: [DynamicSourceState; 16],
-    pub tracks: [Track; 16],
+    pub moving: Moving,
 }
 
 impl Slot {
     // Block b, applied.
-    fn apply_block(self, infos: &mut [u8], b: usize, when: Timing, reach: Reach) -> Slot
+    fn apply_block(&mut self, infos: &mut [u8], b: usize, when: Timing, reach: Reach)
         requires { (length infos.old ≡ all_bytes) × (b < most_blocks) × InTime when × Reaches reach }
-        ensures { IsSlotWork (block_applied when reach b (record { slot = self; infos = infos.old })) result infos.new }
+        ensures { IsSlotWork (block_applied when reach b (record { slot = self.old; infos = infos.old })) self.new infos.new }
     {
-        let mut schedule = self.schedule;
-        let block = schedule[b];
+        let block = self.schedule[b];
         let left = block.left(when);
-        schedule[b] = BlockState {
-            offset: block.offset,
-            ramp: block.ramp,
+        self.schedule[b] = BlockState {
             used: true,
+            ..block
         };
-        let gains = self.gains;
-        let heard = objects::bed_gains(gains, infos, reach.beds + b, reach.channels);
-        let sources = self.sources;
-        let tracks = self.tracks;
-        let moving = Moving {
-            sources: sources,
-            tracks: tracks,
-        };
-        let moved = moving.apply_block(
-            infos,
-            reach.first + b,
-            reach.count,
-            left <= 140737488355328,
-        );
-        let next = moved.sources;
-        let going = moved.tracks;
-        Slot {
-            schedule: schedule,
-            remaining: left,
-            gains: heard,
-            sources: next,
-            tracks: going,
-        }
+        self.remaining = left;
+        objects::bed_gains(&mut self.gains, infos, reach.beds + b, reach.channels);
+        self.moving
+            .apply_block(infos, reach.first + b, reach.count, left <= RAMP_OVER);
     }
 
     // The first n blocks in order, each applied where it is due.
-    fn apply_blocks(self, infos: &mut [u8], n: usize, when: Timing, reach: Reach) -> Slot
+    fn apply_blocks(&mut self, infos: &mut [u8], n: usize, when: Timing, reach: Reach)
         requires { (length infos.old ≡ all_bytes) × (n ≤ most_blocks) × InTime when × Reaches reach }
-        ensures { IsSlotWork (blocks_applied when reach n (record { slot = self; infos = infos.old })) result infos.new }
+        ensures { IsSlotWork (blocks_applied when reach n (record { slot = self.old; infos = infos.old })) self.new infos.new }
     {
-        let mut next = self;
-        let mut b = 0usize;
-        while b < n {
-            let block = next.schedule[b];
-            if block.due(when) {
-                next = next.apply_block(infos, b, when, reach);
+        for b in 0..n {
+            if self.schedule[b].due(when) {
+                self.apply_block(infos, b, when, reach);
             }
-            b += 1;
         }
-        next
     }
 
     // The ramp, where one remains; `before` has the flags of the element's previous slot.
-    fn ramp(self, before: [Track; 16], count: usize) -> Slot
-        requires { (count ≤ 16) × (self.remaining ≤ 140737489403904) }
-        ensures { result ≡ ramp_applied before count self }
+    fn ramp(&mut self, before: [Track; 16], count: usize)
+        requires { (count ≤ 16) × (self.old.remaining ≤ 140737489403904) }
+        ensures { self.new ≡ ramp_applied before count self.old }
     {
-        let remaining = self.remaining;
-        if remaining <= 140737488355328 {
-            return self;
-        }
-        let sources = self.sources;
-        let tracks = self.tracks;
-        let moving = Moving {
-            sources: sources,
-            tracks: tracks,
-        };
-        let moved = moving.ramp(before, count, share(remaining));
-        let schedule = self.schedule;
-        let gains = self.gains;
-        let next = moved.sources;
-        Slot {
-            schedule: schedule,
-            remaining: remaining - 64,
-            gains: gains,
-            sources: next,
-            tracks: tracks,
+        if self.remaining > RAMP_OVER {
+            self.moving.ramp(before, count, share(self.remaining));
+            self.remaining -= 64;
         }
     }
 }
@@ -184,20 +143,10 @@ impl ElementRendererState {
         requires { (self.blocks ≤ most_blocks) × InTime when }
         ensures { result ≡ resting when self }
     {
-        if self.remaining > 140737488355328 {
-            return false;
-        }
-        let schedule = self.schedule;
-        let n = self.blocks;
-        let mut b = 0usize;
-        while b < n {
-            let block = schedule[b];
-            if block.due(when) {
-                return false;
-            }
-            b += 1;
-        }
-        true
+        self.remaining <= RAMP_OVER
+            && self.schedule[..self.blocks]
+                .iter()
+                .all(|block| !block.due(when))
     }
 
     // A slot of this element.
@@ -214,29 +163,33 @@ impl ElementRendererState {
     {
         let schedule = self.schedule;
         let before = self.tracks;
-        let slot = Slot {
-            schedule: schedule,
-            remaining: self.remaining,
-            gains: gains,
-            sources: sources,
+        let moving = Moving {
+            sources,
             tracks: before,
         };
-        let applied = slot.apply_blocks(infos, self.blocks, when, reach);
-        let done = applied.ramp(before, reach.count);
-        let times = done.schedule;
-        let tracks = done.tracks;
-        let heard = done.gains;
-        let next = done.sources;
+        let mut slot = Slot {
+            schedule,
+            remaining: self.remaining,
+            gains,
+            moving,
+        };
+        slot.apply_blocks(infos, self.blocks, when, reach);
+        slot.ramp(before, reach.count);
+        let Slot {
+            schedule,
+            remaining,
+            gains,
+            moving: Moving { sources, tracks },
+        } = slot;
         Updated {
             element: ElementRendererState {
-                blocks: self.blocks,
-                flags: self.flags,
-                remaining: done.remaining,
-                schedule: times,
-                tracks: tracks,
+                remaining,
+                schedule,
+                tracks,
+                ..self
             },
-            gains: heard,
-            sources: next,
+            gains,
+            sources,
         }
     }
 }

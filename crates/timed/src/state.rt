@@ -25,13 +25,11 @@ impl DynamicSourceState {
     pub fn heard_with(self, gain: f32, size: f32, send: f32) -> DynamicSourceState
         ensures { result ≡ heard_with self gain size send }
     {
-        let place = self.place;
         DynamicSourceState {
-            gain: gain,
-            size: size,
-            place: place,
-            placed: self.placed,
-            send: send,
+            gain,
+            size,
+            send,
+            ..self
         }
     }
 }

@@ -4,14 +4,13 @@
 // A slot of the whole state: the element that it takes, and what that element moves.
 ghost use Rattle.std.specs.Prelude.{◌≡◌, ◌+◌, ◌<◌, ◌≤◌, length};
 ghost use Rattle.timed.specs.InfoSizes.{most_elements, all_bytes};
-ghost use Rattle.timed.specs.State.{element_taken, slot_of, slot_at};
+ghost use Rattle.timed.specs.State.{element_taken, reach_of, slot_of, slot_at};
 ghost use Rattle.timed.specs.Resting.{rests_at};
 ghost use Rattle.timed.specs.Preconditions.{InTime, Within};
 ghost use Rattle.timed.specs.TimedResults.{IsTimed};
 
 use crate::infos::{BLOCKS, ELEMENT_INFOS};
-use crate::slot::{Reach, Timing};
-use crate::state;
+use crate::slot::{Reach, Timing, Updated};
 use crate::state::MetadataRendererState;
 use clock::StreamSample;
 
@@ -19,21 +18,28 @@ impl MetadataRendererState {
     // The last element whose first block offset is from 0 up to the timecode, else element 0.
     fn element_at(self, when: Timing) -> usize
         requires { (self.elements ≤ most_elements) × InTime when }
-        ensures { result ≡ element_taken when self.states self.elements }
+        ensures taken { result ≡ element_taken when self.states self.elements }
+        ensures low { result < most_elements }
     {
-        let states = self.states;
-        let mut i = self.elements;
-        let index = loop {
-            if i == 0 {
-                break 0;
+        for i in (0..self.elements).rev() {
+            if self.states[i].begins(when) {
+                return i;
             }
-            i -= 1;
-            let element = states[i];
-            if element.begins(when) {
-                break i;
-            }
-        };
-        index
+        }
+        0
+    }
+
+    // Where element `index` finds its infos.
+    fn reach(self, index: usize) -> Reach
+        requires { (index < most_elements) × Within 1099511627776 self }
+        ensures { result ≡ reach_of self index }
+    {
+        Reach {
+            beds: index * ELEMENT_INFOS,
+            channels: self.beds,
+            first: index * ELEMENT_INFOS + BLOCKS * self.isf,
+            count: self.objects.saturating_sub(self.isf),
+        }
     }
 
     // A slot of element `index`.
@@ -41,34 +47,18 @@ impl MetadataRendererState {
         requires { (length infos.old ≡ all_bytes) × (index < most_elements) × InTime when × Within 1099511627776 self }
         ensures { IsTimed (slot_of when index (record { state = self; infos = infos.old })) result infos.new }
     {
-        let reach = Reach {
-            beds: index * ELEMENT_INFOS,
-            channels: self.beds,
-            first: index * ELEMENT_INFOS + BLOCKS * self.isf,
-            count: state::dynamic(self.objects, self.isf),
-        };
         let mut states = self.states;
-        let element = states[index];
-        let gains = self.gains;
-        let sources = self.sources;
-        let done = element.update_sources(infos, when, reach, gains, sources);
-        let next = done.element;
-        states[index] = next;
-        let heard = done.gains;
-        let moved = done.sources;
-        let payload = self.payload;
-        let codes = self.codes;
+        let Updated {
+            element,
+            gains,
+            sources,
+        } = states[index].update_sources(infos, when, self.reach(index), self.gains, self.sources);
+        states[index] = element;
         MetadataRendererState {
-            initialized: self.initialized,
-            payload: payload,
-            objects: self.objects,
-            isf: self.isf,
-            beds: self.beds,
-            elements: self.elements,
-            codes: codes,
-            gains: heard,
-            states: states,
-            sources: moved,
+            gains,
+            states,
+            sources,
+            ..self
         }
     }
 
@@ -80,18 +70,12 @@ impl MetadataRendererState {
         if self.elements == 0 {
             return true;
         }
-        let payload = self.payload;
         let when = Timing {
-            start: start,
-            payload: payload,
+            start,
+            payload: self.payload,
         };
-        let index = self.element_at(when);
-        let states = self.states;
-        let element = states[index];
-        if element.active() {
-            return element.rests(when);
-        }
-        true
+        let element = self.states[self.element_at(when)];
+        !element.active() || element.rests(when)
     }
 
     // The slot that starts at a sample of the stream.
@@ -102,15 +86,12 @@ impl MetadataRendererState {
         if self.elements == 0 {
             return self;
         }
-        let payload = self.payload;
         let when = Timing {
-            start: start,
-            payload: payload,
+            start,
+            payload: self.payload,
         };
         let index = self.element_at(when);
-        let states = self.states;
-        let element = states[index];
-        if element.active() {
+        if self.states[index].active() {
             return self.slot_of(infos, index, when);
         }
         self
