@@ -7,19 +7,32 @@ ghost use Rattle.timed.specs.InfoSizes.{most_blocks, all_bytes};
 ghost use Rattle.timed.specs.Rules.{remaining_of, kept_as, due, left_after, share, active, begins};
 ghost use Rattle.timed.specs.Slot.{block_applied, blocks_applied, ramp_applied, updated_sources};
 ghost use Rattle.timed.specs.Resting.{resting};
-ghost use Rattle.timed.specs.Preconditions.{InTime, InRange, Reaches};
+ghost use Rattle.timed.specs.Preconditions.{InRange};
 ghost use Rattle.timed.specs.TimedResults.{IsSlotWork, IsUpdated};
 
 use crate::objects;
 use crate::objects::Moving;
 use crate::state::{BlockState, DynamicSourceState, ElementRendererState, Track};
 use clock::StreamSample;
+use std::marker::Model;
 
 // The stream positions of a slot's start and of the last applied update: the timecode is their difference.
 #[derive(Clone, Copy)]
 pub struct Timing {
     pub start: StreamSample,
     pub payload: StreamSample,
+}
+
+impl Model for Timing {
+    ghost use Rattle.timed.specs.Times.{Times, InTime};
+
+    ghost Value = { Times };
+
+    ghost view = { λ w. record { start = w.start; payload = w.payload } };
+
+    ghost inverse = { λ w. record { start = w.start; payload = w.payload } };
+
+    ghost invariant = { λ w. InTime (record { start = w.start; payload = w.payload }) };
 }
 
 // Where an element finds its infos: those of bed i from `beds` + 8 i on, those of dynamic object d from `first` + 8 d on, and how many there are of each.
@@ -31,11 +44,22 @@ pub struct Reach {
     pub count: usize,
 }
 
+impl Model for Reach {
+    ghost use Rattle.timed.specs.Times.{Places, Reaches};
+
+    ghost Value = { Places };
+
+    ghost view = { λ r. record { beds = r.beds; channels = r.channels; first = r.first; count = r.count } };
+
+    ghost inverse = { λ r. record { beds = r.beds; channels = r.channels; first = r.first; count = r.count } };
+
+    ghost invariant = { λ r. Reaches (record { beds = r.beds; channels = r.channels; first = r.first; count = r.count }) };
+}
+
 impl BlockState {
     // Whether the block is applied in this slot.
     #[tactic(auto, using(crate::proofs::Shifted::due_shifted_is))]
     fn due(self, when: Timing) -> bool
-        requires { InTime when }
         ensures { result ≡ due when self }
     {
         !self.used && when.payload.plus(self.offset) < when.start.plus(1048576)
@@ -43,7 +67,6 @@ impl BlockState {
 
     // The ramp that remains after the block, plus 2^47.
     fn left(self, when: Timing) -> u64
-        requires { InTime when }
         ensures { result ≡ kept_as (left_after when self) }
     {
         let end = when.payload.plus(self.offset).plus(self.ramp);
@@ -74,7 +97,7 @@ pub struct Slot {
 impl Slot {
     // Block b, applied.
     fn apply_block(&mut self, infos: &mut [u8], b: usize, when: Timing, reach: Reach)
-        requires { (length infos.old ≡ all_bytes) × (b < most_blocks) × InTime when × Reaches reach }
+        requires { (length infos.old ≡ all_bytes) × (b < most_blocks) }
         ensures { IsSlotWork (block_applied when reach b (record { slot = self.old; infos = infos.old })) self.new infos.new }
     {
         let block = self.schedule[b];
@@ -91,7 +114,7 @@ impl Slot {
 
     // The first n blocks in order, each applied where it is due.
     fn apply_blocks(&mut self, infos: &mut [u8], n: usize, when: Timing, reach: Reach)
-        requires { (length infos.old ≡ all_bytes) × (n ≤ most_blocks) × InTime when × Reaches reach }
+        requires { (length infos.old ≡ all_bytes) × (n ≤ most_blocks) }
         ensures { IsSlotWork (blocks_applied when reach n (record { slot = self.old; infos = infos.old })) self.new infos.new }
     {
         for b in 0..n {
@@ -124,7 +147,6 @@ pub struct Updated {
 impl ElementRendererState {
     // Whether the first block's offset is from 0 up to the timecode.
     pub fn begins(self, when: Timing) -> bool
-        requires { InTime when }
         ensures { result ≡ begins when self }
     {
         self.active() && when.payload.plus(self.schedule[0].offset) <= when.start.plus(1048576)
@@ -140,7 +162,7 @@ impl ElementRendererState {
 
     // Whether a slot of this element changes nothing: no ramp remains, and no block is due.
     pub fn rests(self, when: Timing) -> bool
-        requires { (self.blocks ≤ most_blocks) × InTime when }
+        requires { self.blocks ≤ most_blocks }
         ensures { result ≡ resting when self }
     {
         self.remaining <= RAMP_OVER
@@ -158,7 +180,7 @@ impl ElementRendererState {
         gains: [f32; 18],
         sources: [DynamicSourceState; 16],
     ) -> Updated
-        requires { (length infos.old ≡ all_bytes) × InTime when × Reaches reach × InRange 1099511627776 self }
+        requires { (length infos.old ≡ all_bytes) × InRange 1099511627776 self }
         ensures { IsUpdated (updated_sources when reach self gains sources infos.old) result infos.new }
     {
         let schedule = self.schedule;

@@ -6,7 +6,7 @@ ghost use Rattle.std.specs.Prelude.{◌≡◌, ◌+◌, ◌<◌, ◌≤◌, leng
 ghost use Rattle.timed.specs.InfoSizes.{most_elements, all_bytes};
 ghost use Rattle.timed.specs.State.{element_taken, reach_of, slot_of, slot_at};
 ghost use Rattle.timed.specs.Resting.{rests_at};
-ghost use Rattle.timed.specs.Preconditions.{InTime, Within};
+ghost use Rattle.timed.specs.Preconditions.{Within};
 ghost use Rattle.timed.specs.TimedResults.{IsTimed};
 
 use crate::infos::{BLOCKS, ELEMENT_INFOS};
@@ -17,7 +17,7 @@ use clock::StreamSample;
 impl MetadataRendererState {
     // The last element whose first block offset is from 0 up to the timecode, else element 0.
     fn element_at(self, when: Timing) -> usize
-        requires { (self.elements ≤ most_elements) × InTime when }
+        requires { self.elements ≤ most_elements }
         ensures taken { result ≡ element_taken when self.states self.elements }
         ensures low { result < most_elements }
     {
@@ -44,7 +44,7 @@ impl MetadataRendererState {
 
     // A slot of element `index`.
     fn slot_of(self, infos: &mut [u8], index: usize, when: Timing) -> MetadataRendererState
-        requires { (length infos.old ≡ all_bytes) × (index < most_elements) × InTime when × Within 1099511627776 self }
+        requires { (length infos.old ≡ all_bytes) × (index < most_elements) × Within 1099511627776 self }
         ensures { IsTimed (slot_of when index (record { state = self; infos = infos.old })) result infos.new }
     {
         let mut states = self.states;

@@ -1,6 +1,5 @@
 -- `timed::state::MetadataRendererState::update_timeslot`: by whether there is an element, and whether it does anything. Assumes nothing.
 use mathlib.Core.Path.{sym, ◌∙◌}
-use native.Mathlib.Omega.{arith}
 use Rattle.timed.proofs.Slots.{slot_empty, slot_idle, slot_moves}
 use Rattle.timed.proofs.state.MetadataRendererState.update_timeslot.Goals as goal
 
@@ -9,8 +8,7 @@ returns-then-self-eq0 c = slot_empty c.args.start.0 (record { state = c.args.sel
 
 pub slot_of-requires : goal.slot_of-requires
 slot_of-requires c =
-    let p = c.requires in
-    (omega (arith, p), c.element_at-index.ensures.low, record { start = p.1; payload = p.2.payload }, p.2)
+    (c.requires.0, c.element_at-index.ensures.low, c.requires.2)
 
 pub returns-then-active : goal.returns-then-active
 returns-then-active c =
