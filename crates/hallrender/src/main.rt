@@ -126,6 +126,7 @@ impl Program {
     }
 }
 
+#[tactic(auto, unfolding(crate::specs::ProgramRun::new_block, store::specs::Layout::decode))]
 fn main(rt: HostRuntime) {
     let mut program = Program {
         state: [0; hall::STATE_BYTES],
