@@ -7,7 +7,7 @@ ghost use Rattle.vectors.specs.Head.{has};
 ghost use Rattle.timed.specs.InfoSizes.{all_infos, info_bytes, info_at};
 ghost use Rattle.timed.specs.Infos.{maybe_at, vec_at, send_at, with_vec, block_position};
 
-use formats::info;
+use formats::{areas, info};
 use roots::Depth;
 use vectors::{Anchor, BlockPosition, Vec3};
 
@@ -15,6 +15,9 @@ use vectors::{Anchor, BlockPosition, Vec3};
 pub const BLOCKS: usize = 8;
 
 pub const ELEMENT_INFOS: usize = 256;
+
+// The bytes of all infos.
+pub type Bytes = [u8; areas::INFOS_BYTES];
 
 // An info's bytes, and where its words stand after the head.
 pub const INFO_BYTES: usize = info::BYTES;
@@ -43,8 +46,8 @@ fn has(head: u32, bit: u32) -> bool
 
 // The value at a place of an info that is present with `bit`.
 #[tactic(auto, unfolding(crate::specs::Infos::maybe_at))]
-pub fn maybe_at(infos: &[u8], k: usize, bit: u32, at: usize) -> Option<f32>
-    requires { (info_at k + info_bytes ≤ length infos.now) × (at + 4 ≤ info_bytes) × (k < all_infos) × (0 < bit) }
+pub(crate) fn maybe_at(infos: &Bytes, k: usize, bit: u32, at: usize) -> Option<f32>
+    requires { (k < all_infos) × (at + 4 ≤ info_bytes) × (0 < bit) }
     ensures { result ≡ maybe_at infos.now k bit at }
 {
     let head = words::u32_at(infos, INFO_BYTES * k);
@@ -56,7 +59,7 @@ pub fn maybe_at(infos: &[u8], k: usize, bit: u32, at: usize) -> Option<f32>
 }
 
 #[tactic(auto, unfolding(crate::specs::Infos::vec_at))]
-fn vec_at(infos: &[u8], at: usize) -> Vec3
+fn vec_at(infos: &Bytes, at: usize) -> Vec3
     requires { at + 12 ≤ length infos.now }
     ensures { result ≡ vec_at infos.now at }
 {
@@ -69,7 +72,7 @@ fn vec_at(infos: &[u8], at: usize) -> Vec3
 
 // Stores a position at a place.
 #[tactic(auto, unfolding(crate::specs::Infos::with_vec))]
-pub fn put_vec(infos: &mut [u8], at: usize, v: Vec3)
+pub(crate) fn put_vec(infos: &mut Bytes, at: usize, v: Vec3)
     requires { at + 12 ≤ length infos.old }
     ensures { infos.new ≡ with_vec infos.old at v }
 {
@@ -79,8 +82,8 @@ pub fn put_vec(infos: &mut [u8], at: usize, v: Vec3)
 }
 
 // Its send, which is always there.
-pub fn send_at(infos: &[u8], k: usize) -> f32
-    requires { (info_at k + info_bytes ≤ length infos.now) × (k < all_infos) }
+pub(crate) fn send_at(infos: &Bytes, k: usize) -> f32
+    requires { k < all_infos }
     ensures { result ≡ send_at infos.now k }
 {
     words::f32_at(infos, INFO_BYTES * k + SEND)
@@ -88,8 +91,8 @@ pub fn send_at(infos: &[u8], k: usize) -> f32
 
 // What info k says of its object's position.
 #[tactic(auto, unfolding(crate::specs::Infos::block_position))]
-pub fn block_position(infos: &[u8], k: usize) -> BlockPosition
-    requires { (info_at k + info_bytes ≤ length infos.now) × (k < all_infos) }
+pub(crate) fn block_position(infos: &Bytes, k: usize) -> BlockPosition
+    requires { k < all_infos }
     ensures { result ≡ block_position infos.now k }
 {
     let head = words::u32_at(infos, INFO_BYTES * k);

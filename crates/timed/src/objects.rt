@@ -8,12 +8,12 @@ ghost use Rattle.timed.specs.Objects.{with_levels, object_moved, moved_all, bed_
 ghost use Rattle.timed.specs.TimedResults.{IsMoved, IsMovedAll};
 
 use crate::infos;
-use crate::infos::{BLOCKS, GAIN, INFO_BYTES, LAST, POSITION, SIZE};
+use crate::infos::{BLOCKS, Bytes, GAIN, INFO_BYTES, LAST, POSITION, SIZE};
 use crate::state::{DynamicSourceState, Track};
 
 // The object with gain and size where info k has them, and with its send.
-fn with_levels(infos: &[u8], k: usize, source: DynamicSourceState) -> DynamicSourceState
-    requires { (info_at k + info_bytes ≤ length infos.now) × (k < all_infos) }
+fn with_levels(infos: &Bytes, k: usize, source: DynamicSourceState) -> DynamicSourceState
+    requires { k < all_infos }
     ensures { result ≡ with_levels infos.now k source }
 {
     let gain = infos::maybe_at(infos, k, 4, GAIN).unwrap_or(source.gain);
@@ -30,12 +30,12 @@ pub struct Moved {
 
 // `update_source_state` of info k; where no ramp remains (`arrived`), the object is put at its target.
 fn update_source_state(
-    infos: &mut [u8],
+    infos: &mut Bytes,
     k: usize,
     source: DynamicSourceState,
     arrived: bool,
 ) -> Moved
-    requires { (info_at k + info_bytes ≤ length infos.old) × (k < all_infos) }
+    requires { k < all_infos }
     ensures { IsMoved (object_moved arrived k source infos.old) result infos.new }
 {
     let heard = with_levels(infos, k, source);
@@ -72,8 +72,8 @@ pub struct Moving {
 
 impl Moving {
     // A block applied to `count` objects; the info of object d is `first` + 8 d.
-    pub fn apply_block(&mut self, infos: &mut [u8], first: usize, count: usize, arrived: bool)
-        requires { (length infos.old ≡ all_bytes) × (count ≤ 16) × ((d : ℕ) → d < count → first + most_blocks * d < all_infos) }
+    pub fn apply_block(&mut self, infos: &mut Bytes, first: usize, count: usize, arrived: bool)
+        requires { (count ≤ 16) × ((d : ℕ) → d < count → first + most_blocks * d < all_infos) }
         ensures { IsMovedAll (moved_all arrived first count self.old infos.old) self.new infos.new }
     {
         for d in 0..count {
@@ -115,8 +115,8 @@ fn ramp_one(source: DynamicSourceState, track: Track, last: bool, t: f32) -> Dyn
 }
 
 // The beds' gains after a block; the info of bed i is `first` + 8 i.
-pub fn bed_gains(gains: &mut [f32; 18], infos: &[u8], first: usize, count: usize)
-    requires { (length infos.now ≡ all_bytes) × (count ≤ 18) × ((d : ℕ) → d < count → first + most_blocks * d < all_infos) }
+pub fn bed_gains(gains: &mut [f32; 18], infos: &Bytes, first: usize, count: usize)
+    requires { (count ≤ 18) × ((d : ℕ) → d < count → first + most_blocks * d < all_infos) }
     ensures { gains.new ≡ bed_gains infos.now first count gains.old }
 {
     for i in 0..count {

@@ -10,6 +10,7 @@ ghost use Rattle.timed.specs.Resting.{resting};
 ghost use Rattle.timed.specs.Preconditions.{InRange};
 ghost use Rattle.timed.specs.TimedResults.{IsSlotWork, IsUpdated};
 
+use crate::infos::Bytes;
 use crate::objects;
 use crate::objects::Moving;
 use crate::state::{BlockState, DynamicSourceState, ElementRendererState, Track};
@@ -96,8 +97,8 @@ pub struct Slot {
 
 impl Slot {
     // Block b, applied.
-    fn apply_block(&mut self, infos: &mut [u8], b: usize, when: Timing, reach: Reach)
-        requires { (length infos.old ≡ all_bytes) × (b < most_blocks) }
+    fn apply_block(&mut self, infos: &mut Bytes, b: usize, when: Timing, reach: Reach)
+        requires { (b < most_blocks) }
         ensures { IsSlotWork (block_applied when reach b (record { slot = self.old; infos = infos.old })) self.new infos.new }
     {
         let block = self.schedule[b];
@@ -113,8 +114,8 @@ impl Slot {
     }
 
     // The first n blocks in order, each applied where it is due.
-    fn apply_blocks(&mut self, infos: &mut [u8], n: usize, when: Timing, reach: Reach)
-        requires { (length infos.old ≡ all_bytes) × (n ≤ most_blocks) }
+    fn apply_blocks(&mut self, infos: &mut Bytes, n: usize, when: Timing, reach: Reach)
+        requires { (n ≤ most_blocks) }
         ensures { IsSlotWork (blocks_applied when reach n (record { slot = self.old; infos = infos.old })) self.new infos.new }
     {
         for b in 0..n {
@@ -174,13 +175,13 @@ impl ElementRendererState {
     // A slot of this element.
     pub fn update_sources(
         self,
-        infos: &mut [u8],
+        infos: &mut Bytes,
         when: Timing,
         reach: Reach,
         gains: [f32; 18],
         sources: [DynamicSourceState; 16],
     ) -> Updated
-        requires { (length infos.old ≡ all_bytes) × InRange 1099511627776 self }
+        requires { InRange 1099511627776 self }
         ensures { IsUpdated (updated_sources when reach self gains sources infos.old) result infos.new }
     {
         let schedule = self.schedule;

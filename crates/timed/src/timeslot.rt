@@ -9,7 +9,7 @@ ghost use Rattle.timed.specs.Resting.{rests_at};
 ghost use Rattle.timed.specs.Preconditions.{Within};
 ghost use Rattle.timed.specs.TimedResults.{IsTimed};
 
-use crate::infos::{BLOCKS, ELEMENT_INFOS};
+use crate::infos::{BLOCKS, Bytes, ELEMENT_INFOS};
 use crate::slot::{Reach, Timing, Updated};
 use crate::state::MetadataRendererState;
 use clock::StreamSample;
@@ -43,8 +43,8 @@ impl MetadataRendererState {
     }
 
     // A slot of element `index`.
-    fn slot_of(self, infos: &mut [u8], index: usize, when: Timing) -> MetadataRendererState
-        requires { (length infos.old ≡ all_bytes) × (index < most_elements) × Within 1099511627776 self }
+    fn slot_of(self, infos: &mut Bytes, index: usize, when: Timing) -> MetadataRendererState
+        requires { (index < most_elements) × Within 1099511627776 self }
         ensures { IsTimed (slot_of when index (record { state = self; infos = infos.old })) result infos.new }
     {
         let mut states = self.states;
@@ -92,7 +92,7 @@ impl MetadataRendererState {
         };
         let index = self.element_at(when);
         if self.states[index].active() {
-            return self.slot_of(infos, index, when);
+            return self.slot_of(infos.as_mut_array().unwrap(), index, when);
         }
         self
     }

@@ -11,8 +11,8 @@ loop-d-init c = leads
 
 pub update_source_state-moved-requires : goal.update_source_state-moved-requires
 update_source_state-moved-requires c =
-    let h = c.requires.2 c.loop-d.d (search rules) in
-    (omega arith, omega arith)
+    let h = c.requires.1 c.loop-d.d (search rules) in
+    omega arith
 
 pub loop-d-preserved : goal.loop-d-preserved
 loop-d-preserved c =
@@ -29,4 +29,4 @@ returns c =
     record { objects = ap (λ (w : ObjectsWork). w.moving) w; infos = ap (λ (w : ObjectsWork). w.infos) w }
 
 pub overflow_add-first : goal.overflow_add-first
-overflow_add-first c = omega (arith, c.requires.2 c.loop-d.d (search rules))
+overflow_add-first c = omega (arith, c.requires.1 c.loop-d.d (search rules))

@@ -6,11 +6,11 @@ use Rattle.timed.proofs.Shifted.{left_shifted_is, left_over}
 use Rattle.timed.proofs.slot.Slot.apply_block.Goals as goal
 
 pub bed_gains-requires : goal.bed_gains-requires
-bed_gains-requires c = (search rules, search rules, λ d h. omega (arith, c.reach.invariant.beds d h))
+bed_gains-requires c = (search rules, λ d h. omega (arith, c.reach.invariant.beds d h))
 
 pub apply_block-requires : goal.apply_block-requires
 apply_block-requires c =
-    (search rules, search rules, λ d h. omega (arith, c.reach.invariant.objects d h))
+    (search rules, λ d h. omega (arith, c.reach.invariant.objects d h))
 
 pub returns : goal.returns
 unfolding block_applied

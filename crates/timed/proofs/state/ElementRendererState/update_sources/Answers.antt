@@ -11,7 +11,7 @@ pub ramp-requires : goal.ramp-requires
 ramp-requires c =
     let w = c.args.when in
     let p = 1099511627776 + w.start.0 in
-    let h = later 1099511627776 p c.args.self (omega arith) c.requires.1 in (
+    let h = later 1099511627776 p c.args.self (omega arith) c.requires in (
       c.reach.invariant.some,
       rw c.apply_blocks.ensures.slot (blocks_ramps p w c.args.reach (omega arith) c.args.self.blocks _ h.blocks h.ramps).most,
     )

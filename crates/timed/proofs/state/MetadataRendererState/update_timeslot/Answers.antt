@@ -8,13 +8,15 @@ returns-then-self-eq0 c = slot_empty c.args.start.0 (record { state = c.args.sel
 
 pub slot_of-requires : goal.slot_of-requires
 slot_of-requires c =
-    (c.requires.0, c.element_at-index.ensures.low, c.requires.2)
+    (c.element_at-index.ensures.low, c.requires.2)
 
 pub returns-then-active : goal.returns-then-active
 returns-then-active c =
-    slot_moves c.args.start.0 (record { state = c.args.self; infos = c.args.infos.now }) c.element_at-index.result c.if-self-eq0.false c.element_at-index.ensures.taken c.slot_of.result
+    let s = c.args in
+    let whole = (rw c.unwrap.ensures at c.as_mut_array.ensures.cases).same in
+    slot_moves s.start.0 (record { state = s.self; infos = s.infos.now }) c.element_at-index.result c.if-self-eq0.false c.element_at-index.ensures.taken c.slot_of.result
     c.slot_of.new.infos
-    (sym c.active.ensures ∙ c.if-active.true) c.slot_of.ensures
+    (sym c.active.ensures ∙ c.if-active.true) (rw whole at c.slot_of.ensures)
 
 pub returns : goal.returns
 returns c =
