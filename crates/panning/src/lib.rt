@@ -185,6 +185,7 @@ fn cube_714(place: Vec3) -> Cube
 }
 
 // The share of b where v lies between a and b.
+#[tactic(auto, unfolding(crate::specs::Terms::ratio))]
 pub fn ratio(a: f32, b: f32, v: f32) -> f32
     ensures { result ≡ ratio a b v }
 {
@@ -192,6 +193,7 @@ pub fn ratio(a: f32, b: f32, v: f32) -> f32
 }
 
 // The gain that the size leaves to the corners.
+#[tactic(auto, unfolding(crate::specs::Terms::inner_gain))]
 fn inner_gain(gain: f32, size: f32) -> f32
     ensures { result ≡ inner_gain gain size }
 {
@@ -203,6 +205,7 @@ fn inner_gain(gain: f32, size: f32) -> f32
 }
 
 // What the size adds to every speaker but the bass.
+#[tactic(auto, unfolding(crate::specs::Terms::extra))]
 fn extra(gain: f32, size: f32) -> f32
     ensures { result ≡ extra 12·0 gain size }
 {
