@@ -3,6 +3,7 @@
 #![tactic(auto)]
 
 pub mod bytes; // bytes.rt: bytes of a list of records
+pub mod record; // record.rt: a record and its bytes
 pub mod update; // update.rt: kind 1, update
 pub mod block; // block.rt: kind 2, element, and kind 3, block
 pub mod object; // object.rt: kind 4, object in a block

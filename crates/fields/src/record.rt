@@ -1,0 +1,38 @@
+// A record and its bytes.
+ghost use Rattle.std.specs.Prelude.{◌≡◌, ◌+◌, ◌*◌, ◌<◌, ◌≤◌, length};
+ghost use Rattle.words.specs.Words.{word};
+ghost use Rattle.fields.specs.RecordBytes.{byte, zero_bytes};
+
+// Record `place` of a list of records: it is there.
+#[derive(Clone, Copy)]
+pub struct Record<'a> {
+    pub meta: &'a [u8],
+    pub place: usize,
+    ghost there: { 40 * place + 40 ≤ length meta.now },
+}
+
+impl Record<'_> {
+    // Byte k.
+    pub fn byte(self, k: usize) -> u8
+        requires { k < 40 }
+        ensures { result ≡ byte self.entry.meta.now self.entry.place k }
+    {
+        self.meta[40 * self.place + k]
+    }
+
+    // The word at byte k.
+    pub fn word(self, k: usize) -> u32
+        requires { k + 4 ≤ 40 }
+        ensures { result ≡ word self.entry.meta.now (40 * self.entry.place + k) }
+    {
+        words::u32_at(self.meta, 40 * self.place + k)
+    }
+
+    // Whether the n bytes from byte k on are zero, with no branch.
+    pub fn is_zero(self, k: usize, n: usize) -> bool
+        requires { k + n ≤ 40 }
+        ensures { result ≡ zero_bytes self.entry.meta.now (40 * self.entry.place + k) n }
+    {
+        crate::bytes::zeros(self.meta, 40 * self.place + k, n)
+    }
+}
