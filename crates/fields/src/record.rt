@@ -1,7 +1,9 @@
 // A record and its bytes.
 ghost use Rattle.std.specs.Prelude.{◌≡◌, ◌+◌, ◌*◌, ◌<◌, ◌≤◌, length};
 ghost use Rattle.words.specs.Words.{word};
-ghost use Rattle.fields.specs.RecordBytes.{byte, zero_bytes};
+ghost use Rattle.fields.specs.RecordBytes.{byte, kind, zero_bytes};
+
+use crate::bytes::zeros;
 
 // Record `place` of a list of records: it is there.
 #[derive(Clone, Copy)]
@@ -12,6 +14,13 @@ pub struct Record<'a> {
 }
 
 impl Record<'_> {
+    // The kind, byte 0.
+    pub fn kind(self) -> u8
+        ensures { result ≡ kind self.entry.meta.now self.entry.place }
+    {
+        self.meta[40 * self.place]
+    }
+
     // Byte k.
     pub fn byte(self, k: usize) -> u8
         requires { k < 40 }
@@ -28,11 +37,11 @@ impl Record<'_> {
         words::u32_at(self.meta, 40 * self.place + k)
     }
 
-    // Whether the n bytes from byte k on are zero, with no branch.
+    // Whether the n bytes from byte k on are zero.
     pub fn is_zero(self, k: usize, n: usize) -> bool
         requires { k + n ≤ 40 }
         ensures { result ≡ zero_bytes self.entry.meta.now (40 * self.entry.place + k) n }
     {
-        crate::bytes::zeros(self.meta, 40 * self.place + k, n)
+        zeros(self.meta, 40 * self.place + k, n)
     }
 }

@@ -1,9 +1,9 @@
--- `fields::update::header_at`: field by field. Assumes nothing.
-use Rattle.std.proofs.Common.{◌≡◌, ℕ}
+-- `fields::record::Record::header`: field by field. Assumes nothing.
+use Rattle.std.proofs.Common.{◌≡◌, ℕ, ◌∙◌}
 use Rattle.clock.specs.declared.FrameOffset.{FrameOffset}
 use Rattle.clock.proofs.SameCount.{offset_is}
 use Rattle.fields.specs.declared.update.Header.{Header}
-use Rattle.fields.proofs.update.header_at.Goals as goal
+use Rattle.fields.proofs.record.Record.header.Goals as goal
 
 fields_same : (o : FrameOffset) {x a a' b b' d d' e e' : ℕ} → o.0 ≡ x → a ≡ a' → b ≡ b' → d ≡ d' → e ≡ e'
     → ◌≡◌ {A = Header} (record { offset = o; objects = a; bed_or_isf = b; beds = d; elements = e })
@@ -12,4 +12,4 @@ fields_same o p q r s t = cc (offset_is o p)
 
 pub returns : goal.returns
 returns c =
-    fields_same _ c.offset_at.ensures c.byte_at.ensures.0 c.byte_at-2.ensures.0 c.byte_at-3.ensures.0 c.byte_at-4.ensures.0
+    fields_same _ c.offset.ensures (c.from.ensures ∙ c.byte.ensures) (c.from-2.ensures ∙ c.byte-2.ensures) (c.from-3.ensures ∙ c.byte-3.ensures) (c.from-4.ensures ∙ c.byte-4.ensures)

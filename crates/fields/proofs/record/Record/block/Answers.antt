@@ -1,6 +1,6 @@
 -- `fields::block::block_at`: field by field. Assumes nothing.
 use Rattle.std.proofs.Common.{◌≡◌, ℤ, ◌∙◌, ap₂, w64, to_z, of_z, rules}
-use Rattle.fields.proofs.block.block_at.Goals as goal
+use Rattle.fields.proofs.record.Record.block.Goals as goal
 
 pub returns : goal.returns
 returns c =
