@@ -1,16 +1,14 @@
 -- A reader may skip this file: what the functions that read a layout answer, by `laid_out`, `count` and `update_at` of specs/Laid. Assumes nothing.
-use Rattle.std.specs.Prelude.{ℕ, ◌≤◌, ◌<◌, ◌≡◌, Bool, true, false, List, get_or, replicate}
+use Rattle.std.specs.Prelude.{ℕ, ◌≤◌, ◌<◌, ◌≡◌, Bool, true, false, List, get_or, replicate, Option, Some, None}
 use Rattle.clock.specs.Start.{frame_start}
 use Rattle.fields.specs.Update.{offset}
 use Rattle.records.specs.Laid.{update_at, laid_out, count}
-use Rattle.records.specs.declared.layout.End.{End}
-use Rattle.records.specs.declared.layout.End.TheVariants.{At, Broken}
 use Rattle.records.specs.declared.layout.Layout.{Layout}
 
 -- the record after a part that is whole
-unfoldable pub end_if : Bool → ℕ → End
-end_if true r = At r
-end_if false r = Broken
+unfoldable pub end_if : Bool → ℕ → Option ℕ
+end_if true r = Some r
+end_if false r = None
 
 -- the sample offset of update i, as a layout has it
 abbrev pub offset_at : Layout → ℕ → ℕ

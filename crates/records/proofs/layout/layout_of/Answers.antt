@@ -24,13 +24,13 @@ pub returns-in_default : goal.returns-in_default
 returns-in_default c =
     let m = c.args.meta.now in
     let q = c.loop-r.invariant.at in
-    let b : is_whole_update m c.loop-r.r ≡ false = end_broken _ _ (sym c.update_end-end.ensures ∙ c.in_default.is) in
+    let b : is_whole_update m c.loop-r.r ≡ false = end_broken _ _ (sym c.update_end.ensures ∙ c.in_default.is) in
     walk_fails _ _ c.broken-in_default.ensures (not_whole m c.loop-r.n (omega arith) (rw q at b))
 
 pub loop-r-preserved : goal.loop-r-preserved
 loop-r-preserved c =
-    let e = sym c.update_end-end.ensures ∙ c.in-At.is in
-    walk_goes_on _ _ _ _ _ _ _ c.if-meta-ne0.false c.loop-r.invariant (omega arith) (end_whole _ _ _ e) (end_at _ _ _ e) c.offset_at.ensures
+    let e = sym c.update_end.ensures ∙ c.in-Some.is in
+    walk_goes_on _ _ _ _ _ _ _ c.if-meta-ne0.false c.loop-r.invariant (omega arith) (end_whole _ _ _ e) (end_at _ _ _ e) c.offset.ensures
 
 pub returns : goal.returns
 returns c = walk_ends _ _ _ _ _ c.if-meta-ne0.false c.loop-r.invariant c.loop-r-test.false
