@@ -56,7 +56,11 @@ fn update_end(meta: &[u8], u: usize) -> Option<usize>
     if !update.is_update() {
         return None;
     }
-    let Header { objects, elements, .. } = update.header();
+    let Header {
+        objects,
+        elements,
+        ..
+    } = update.header();
     let mut next = u + 1;
     for _e in 0..elements {
         next = element_end(meta, objects, next)?;
