@@ -131,7 +131,11 @@ pub extern "C" fn probe_apply_update(
         return s;
     }
     let first = l.first;
+    let update = fields::record::Record {
+        meta,
+        place: first[i],
+    };
     let timed = updates::update::TimedState(s);
-    let next = timed.apply_update(infos, meta, first[i], StreamSample(at));
+    let next = timed.apply_update(infos, update, StreamSample(at));
     next.0
 }

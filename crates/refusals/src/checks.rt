@@ -14,7 +14,7 @@ use crate::Refusal;
 use crate::present::Present;
 use beds::count_matching;
 use clock::FrameOffset;
-use fields::update::header_at;
+use fields::record::Record;
 use records::layout::Layout;
 
 // 11: so many dynamic objects expected and provided.
@@ -34,8 +34,11 @@ pub fn check_counts(meta: &[u8], l: Layout, t: FrameOffset, objects: u32) -> Res
 {
     for i in 0..l.count {
         if l.offset[i].is(t) {
-            let h = header_at(meta, l.first[i]);
-            check_match(h.objects.saturating_sub(h.bed_or_isf) as u32, objects)?;
+            let update = Record {
+                meta,
+                place: l.first[i],
+            };
+            check_match(update.header().dynamic() as u32, objects)?;
         }
     }
     Ok(())

@@ -6,7 +6,7 @@ ghost use Rattle.refusals.specs.PresentShape.{said_shape, present_shape, present
 ghost use Rattle.refusals.specs.FirstFound.{IsAfter};
 
 use clock::FrameOffset;
-use fields::update::header_at;
+use fields::record::Record;
 use records::layout::Layout;
 use timed::state::MetadataRendererState;
 use updates::update::next_codes;
@@ -34,18 +34,17 @@ pub fn present_of(state: MetadataRendererState) -> Present
     }
 }
 
-// That of the update at record u.
-fn present_said(meta: &[u8], u: usize) -> Present
-    requires { WholeUpdate meta.now u }
-    ensures { (present_shape result ≡ said_shape meta.now u) × (result.beds ≤ 18) }
+// That of an update.
+fn present_said(said: Record<'_>) -> Present
+    requires { WholeUpdate said.meta.now said.place }
+    ensures { (present_shape result ≡ said_shape said.entry.meta.now said.entry.place) × (result.beds ≤ 18) }
 {
-    let h = header_at(meta, u);
-    let codes = next_codes([0; 18], meta, u);
+    let header = said.header();
     Present {
         started: true,
-        objects: h.objects.saturating_sub(h.bed_or_isf) as u32,
-        beds: h.beds,
-        codes,
+        objects: header.dynamic() as u32,
+        beds: header.beds,
+        codes: next_codes([0; 18], said),
     }
 }
 
@@ -57,7 +56,10 @@ pub fn present_after(p: Present, meta: &[u8], l: Layout, t: FrameOffset) -> Pres
     let mut present = p;
     for i in 0..l.count {
         if l.offset[i].is(t) {
-            present = present_said(meta, l.first[i]);
+            present = present_said(Record {
+                meta,
+                place: l.first[i],
+            });
         }
     }
     present

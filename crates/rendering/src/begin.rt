@@ -14,6 +14,7 @@ ghost use Rattle.rendering.specs.Begin.{restated, CanStart, Starts};
 
 use crate::Rendering;
 use clock::{FrameOffset, START, StreamSample};
+use fields::record::Record;
 use records::layout::Layout;
 use records::order::sent_at;
 use timed::state::MetadataRendererState;
@@ -61,7 +62,7 @@ impl Rendering {
         let first = store::INFOS;
         let end = store::PLACES;
         let timed = TimedState(before);
-        let after = timed.apply_update(&mut state[first..end], meta, u, at);
+        let after = timed.apply_update(&mut state[first..end], Record { meta, place: u }, at);
         self.restate(after.0, new)
     }
 

@@ -123,9 +123,10 @@ fn next_element(
             ..element
         };
     }
+    let flags = counts.dynamic();
     ElementRendererState {
         blocks,
-        flags: counts.dynamic(),
+        flags,
         remaining: NO_RAMP,
         schedule,
         tracks: [NEW_TRACK; 16],

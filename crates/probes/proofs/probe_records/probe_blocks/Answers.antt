@@ -6,4 +6,4 @@ pub returns-then-e-meta : goal.returns-then-e-meta
 returns-then-e-meta c = simp (le-ltb _ _ c.if-e-meta.true)
 
 pub returns : goal.returns
-returns c = simp (lt-ltb _ _ c.if-e-meta.false) c.blocks_at.ensures.0
+returns c = simp (lt-ltb _ _ c.if-e-meta.false) c.blocks-2.ensures.0

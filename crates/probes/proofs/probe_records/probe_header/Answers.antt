@@ -6,4 +6,4 @@ pub returns-then-u-meta : goal.returns-then-u-meta
 returns-then-u-meta c = simp (le-ltb _ _ c.if-u-meta.true)
 
 pub returns : goal.returns
-returns c = simp (lt-ltb _ _ c.if-u-meta.false) c.header_at.ensures
+returns c = simp (lt-ltb _ _ c.if-u-meta.false) c.header.ensures

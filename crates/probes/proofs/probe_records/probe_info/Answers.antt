@@ -6,4 +6,4 @@ pub returns-then-r-meta : goal.returns-then-r-meta
 returns-then-r-meta c = simp (le-ltb _ _ c.if-r-meta.true)
 
 pub returns : goal.returns
-returns c = simp (lt-ltb _ _ c.if-r-meta.false) c.info_at.ensures
+returns c = simp (lt-ltb _ _ c.if-r-meta.false) c.info.ensures

@@ -11,12 +11,12 @@ returns-then-o-ge32 c = simp (lt-ltb _ _ c.if-e-meta.false, le-ltb _ _ c.if-o-ge
 pub returns-then-b-ge8 : goal.returns-then-b-ge8
 returns-then-b-ge8 c = simp (lt-ltb _ _ c.if-e-meta.false, lt-ltb _ _ c.if-o-ge32.false, le-ltb _ _ c.if-b-ge8.true)
 
-pub returns-then-blocks_at-gt8 : goal.returns-then-blocks_at-gt8
-returns-then-blocks_at-gt8 c = simp (
+pub returns-then-blocks-gt8 : goal.returns-then-blocks-gt8
+returns-then-blocks-gt8 c = simp (
   lt-ltb _ _ c.if-e-meta.false,
   lt-ltb _ _ c.if-o-ge32.false,
   lt-ltb _ _ c.if-b-ge8.false,
-  lt-leb _ _ (rw c.blocks_at.ensures.0 at c.if-blocks_at-gt8.true),
+  lt-leb _ _ (rw c.blocks-2.ensures.0 at c.if-blocks-gt8.true),
 )
 
 pub returns : goal.returns
@@ -24,5 +24,5 @@ returns c = simp (
   lt-ltb _ _ c.if-e-meta.false,
   lt-ltb _ _ c.if-o-ge32.false,
   lt-ltb _ _ c.if-b-ge8.false,
-  le-leb _ _ (rw c.blocks_at.ensures.0 at c.if-blocks_at-gt8.false),
+  le-leb _ _ (rw c.blocks-2.ensures.0 at c.if-blocks-gt8.false),
 ) c.object_place.ensures

@@ -44,6 +44,17 @@ bounds-first-i c =
       c.if-i-count.false,
     )
 
+pub invariant_of-update : goal.invariant_of-update
+invariant_of-update c =
+    let a = c.args in
+    let m = a.meta.now in
+    let g = c.layout_of-l.ensures in
+    let one : a.i < count m = omega (arith, g.counted, c.if-i-count.false) in
+    let laid = sym c.layout_of-l.ensures.fits ∙ not-false _ c.if-not-l.false in
+    let fit = sym c.in_range.ensures ∙ c.if-not-in_range.false in
+    let w = passes m laid fit (λ k. omega (arith, c.type_inv.meta k)) a.i one in
+    record { there = rw (g.firsts a.i one) w.within }
+
 pub apply_update-next-requires : goal.apply_update-next-requires
 apply_update-next-requires c =
     let a = c.args in

@@ -17,10 +17,10 @@ returns-in_err-check_match c =
     let g = c.requires.0 in
     let b : i < count s.meta.now = omega (arith, c.loop-i-test.true, g.counted) in
     let p = err_from_is_err_and c.from_residual.result c.from_residual.ensures.1 in
-    let h = ap (λ (x : Header). x.objects - x.bed_or_isf) c.header_at-h.ensures in
+    let h = ap (λ (x : Header). x.objects - x.bed_or_isf) c.header.ensures in
     rw (p.1, p.2) (counts_stop s.meta.now s.objects s.t.0 i b c.loop-i.invariant c.in_err-check_match.field-0.0
     (rw (← g.offsets i b, ← g.firsts i b, ← c.is.ensures, c.if-is.true)
-    (c.in_err-check_match.ensures ∙ ap (λ (n : ℕ). matched n s.objects) (c.saturating_sub.ensures ∙ h))))
+    (c.in_err-check_match.ensures ∙ ap (λ (n : ℕ). matched n s.objects) (c.dynamic.ensures ∙ h))))
 
 pub loop-i-preserved : goal.loop-i-preserved
 loop-i-preserved c =
@@ -31,9 +31,9 @@ loop-i-preserved c =
     counts_go s.meta.now s.objects s.t.0 i b c.loop-i.invariant
     (elim c.if-is.branch [
       | then-is+in_ok-check_match w ↦
-          let h = ap (λ (x : Header). x.objects - x.bed_or_isf) w.header_at-h.ensures in
+          let h = ap (λ (x : Header). x.objects - x.bed_or_isf) w.header.ensures in
           rw (← g.offsets i b, ← g.firsts i b, ← c.is.ensures, w.if-is.true)
-          (w.in_ok-check_match.ensures ∙ ap (λ (n : ℕ). matched n s.objects) (w.saturating_sub.ensures ∙ h))
+          (w.in_ok-check_match.ensures ∙ ap (λ (n : ℕ). matched n s.objects) (w.dynamic.ensures ∙ h))
       | else-is w ↦ rw (← g.offsets i b, ← c.is.ensures, w.if-is.false) refl
     ])
 

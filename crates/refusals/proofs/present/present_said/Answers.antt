@@ -10,10 +10,10 @@ use Rattle.refusals.proofs.present.present_said.Goals as goal
 
 pub returns : goal.returns
 returns c =
-    let h = c.header_at-h.ensures in
-    let few : beds c.args.meta.now c.args.u ≤ 18 = c.requires.few_beds in
-    let n : c.header_at-h.result.beds ≤ 18 = omega (arith, ap (λ (x : Header). x.beds) h) in (
-      said_present c.args.meta.now c.args.u c.saturating_sub.result c.header_at-h.result.beds c.next_codes-codes.result (replicate 18 0)
-          (c.saturating_sub.ensures ∙ ap (λ (x : Header). x.objects - x.bed_or_isf) h) (ap (λ (x : Header). x.beds) h) n c.next_codes-codes.ensures refl,
+    let h = c.header-header.ensures in
+    let few : beds c.args.said.meta.now c.args.said.place ≤ 18 = c.requires.few_beds in
+    let n : c.header-header.result.beds ≤ 18 = omega (arith, ap (λ (x : Header). x.beds) h) in (
+      said_present c.args.said.meta.now c.args.said.place c.dynamic.result c.header-header.result.beds c.next_codes.result (replicate 18 0)
+          (c.dynamic.ensures ∙ ap (λ (x : Header). x.objects - x.bed_or_isf) h) (ap (λ (x : Header). x.beds) h) n c.next_codes.ensures refl,
       n,
     )

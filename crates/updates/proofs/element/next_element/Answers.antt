@@ -8,4 +8,4 @@ returns-then-kept c = rw (c.if-kept.true, c.schedule_of-schedule.ensures, c.bloc
 
 pub returns : goal.returns
 unfolding element_next
-returns c = rw (c.if-kept.false, c.schedule_of-schedule.ensures, c.blocks-blocks.ensures.0, c.dynamic.ensures)
+returns c = rw (c.if-kept.false, c.schedule_of-schedule.ensures, c.blocks-blocks.ensures.0, c.dynamic-flags.ensures)
