@@ -1,12 +1,14 @@
 // Numbers in byte slices, little-endian: u16, u32, u64, i64 and f32 at any place, and runs of u32.
 #![tactic(auto)]
 
-ghost use Rattle.std.specs.Prelude.{◌≡◌, ◌++◌, ◌+◌, ◌*◌, ◌<◌, ◌≤◌, length, drop};
+ghost use Rattle.std.specs.Prelude.{◌≡◌, ◌+◌, ◌*◌, ◌≤◌, length};
 ghost use Rattle.std.specs.Float.{binary32};
 ghost use Rattle.std.specs.Float.Ieee.{of_bits, to_bits};
 ghost use Rattle.words.specs.Words.{half, with_half, word, with_word, long, with_long};
 ghost use Rattle.words.specs.Words.{signed_at, float_at, with_float};
 ghost use Rattle.words.specs.Words.{with_words};
+
+use std::num;
 
 // A width each: a trait over them would have one impl a width, of these same lines.
 pub fn u16_at(s: &[u8], at: usize) -> u16
@@ -59,24 +61,18 @@ pub fn i64_at(s: &[u8], at: usize) -> i64
     u64_at(s, at).cast_signed()
 }
 
-// The float of a bit pattern; every NaN pattern gives a NaN, where the library's `from_bits` asks that there is none.
+// The float of a bit pattern; every NaN pattern gives a NaN.
 pub fn f32_of(n: u32) -> f32
     ensures { result ≡ of_bits binary32 n }
 {
-    if n % 0x8000_0000 > 0x7f80_0000 {
-        return f32::NAN;
-    }
-    f32::from_bits(n)
+    num::f32_from_bits_with_nan(n)
 }
 
-// The bit pattern of a float, 0x7fc00000 for every NaN, where the library's `to_bits` asks that there is none.
+// The bit pattern of a float, 0x7fc00000 for every NaN.
 pub fn bits_of(x: f32) -> u32
     ensures { result ≡ to_bits binary32 x }
 {
-    if x.is_nan() {
-        return 0x7fc0_0000;
-    }
-    x.to_bits()
+    num::f32_to_bits_with_nan(x)
 }
 
 #[tactic(auto, unfolding(crate::specs::Words::float_at))]
@@ -103,12 +99,4 @@ pub fn put_words(s: &mut [u8], at: usize, ws: &[u32])
     for (i, w) in ws.iter().enumerate() {
         put_u32(s, at + 4 * i, *w);
     }
-}
-
-// The bytes of `src` at the front of `dst`.
-pub fn copy_bytes(src: &[u8], dst: &mut [u8])
-    requires { length src.now ≤ length dst.old }
-    ensures { dst.new ≡ src.now ++ drop (length src.now) dst.old }
-{
-    dst[..src.len()].copy_from_slice(src);
 }
