@@ -23,7 +23,7 @@ pub struct Limiter {
     pub gain: f32,
 }
 
-// The maximum of a level and the size of a sample: a maximum instruction, since a level is no NaN.
+// The maximum of a level and the size of a sample: a maximum instruction, since a level is no NaN. `ieee::max` tests for one.
 fn raise(max: f32, sample: f32) -> f32
     requires { Level max }
     ensures { (result ≡ larger max (absolute sample)) × Level result }

@@ -9,7 +9,7 @@ ghost use Rattle.limiter.specs.ChannelPlaces.{floats_at, with_floats, channels, 
 
 use formats::areas;
 
-// The floats from `at` on, as many as `samples` has.
+// The floats from `at` on, as many as `samples` has. `mixing::read_row` reads without a test for NaNs, which it asks of the bytes, and is quicker.
 pub fn load_samples(places: &[u8], at: usize, samples: &mut [f32])
     requires { at + 4 * length samples.old ≤ length places.now }
     ensures { samples.new ≡ floats_at places.now at (length samples.old) }

@@ -5,7 +5,7 @@ ghost use Rattle.limiter.specs.ChannelPlaces.{channels, with_floats, with_channe
 
 use formats::areas;
 
-// The samples written from `at` on.
+// The samples written from `at` on. `limiter::places::scale_slice_into` times a gain: one function for both would take a closure, and say by `post` what a sample becomes.
 fn store_samples(samples: &[f32], places: &mut [u8], at: usize)
     requires { at + 4 * length samples.now ≤ length places.old }
     ensures { places.new ≡ with_floats places.old at samples.now }

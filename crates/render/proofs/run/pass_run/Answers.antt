@@ -10,5 +10,5 @@ pub returns : goal.returns
 returns c =
     let a = c.args in
     let f = c.filter_bass in
-    passed (scene_at a.scene a.codes.now a.pcm.now a.span.frame) a.filter.now a.span.first a.span.count
+    passed (scene_at a.scene.now a.input.codes.now a.input.pcm.now a.input.span.frame) a.filter.now a.input.span.first a.input.span.count
     c.mix_run.new.rows f.new.rows f.new.filter c.mix_run.ensures c.requires.framed.short f.ensures.1 f.ensures.0

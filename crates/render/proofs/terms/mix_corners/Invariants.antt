@@ -7,4 +7,4 @@ use Rattle.render.proofs.terms.mix_corners.Given as goal
 
 abbrev pub invariant-loop-j : goal.invariant-loop-j
 invariant-loop-j l =
-    (mixed_terms l.samples (paired (drop l.j l.corners) (drop l.j l.coefficients)) l.rows ≡ mixed_terms l.samples (paired l.corners l.coefficients) l.initial.rows)
+    (mixed_terms l.samples (paired (drop l.j l.p.corners) (drop l.j l.p.coefficients)) l.rows ≡ mixed_terms l.samples (paired l.p.corners l.p.coefficients) l.initial.rows)

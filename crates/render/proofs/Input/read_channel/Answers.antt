@@ -6,12 +6,12 @@ use lib.Seq.{length-take-le}
 use lib.Ieee.{Float}
 use Rattle.mixing.specs.FrameSamples.{samples}
 use Rattle.render.specs.MixedSources.{channel_start}
-use Rattle.render.proofs.sources.read_channel.Goals as goal
-use Rattle.render.proofs.sources.read_channel.Goals.{Start}
+use Rattle.render.proofs.Input.read_channel.Goals as goal
+use Rattle.render.proofs.Input.read_channel.Goals.{Start}
 
 -- the part that is lent is as long as the run
-lent : (c : Start) → length (take c.args.span.count c.args.row.now) ≡ c.args.span.count
-lent c = length-take-le c.args.span.count c.args.row.now c.requires.1
+lent : (c : Start) → length (take c.args.self.span.count c.args.row.now) ≡ c.args.self.span.count
+lent c = length-take-le c.args.self.span.count c.args.row.now c.requires.1
 
 pub slice_bounds-read_row-end-2 : goal.slice_bounds-read_row-end-2
 slice_bounds-read_row-end-2 c = sym (lent (goal.at.slice_bounds-read_row-end-2 c).Start)
@@ -22,4 +22,4 @@ read_row-requires c = rw (lent (goal.at.read_row-requires c).Start) (record { ro
 pub returns : goal.returns
 returns c =
     let a = c.args in
-    ap (λ (xs : List Float). xs ++ drop a.span.count a.row.now) (c.read_row.ensures ∙ ap (samples a.pcm.now (channel_start a.span a.i)) (lent (goal.at.returns c).Start))
+    ap (λ (xs : List Float). xs ++ drop a.self.span.count a.row.now) (c.read_row.ensures ∙ ap (samples a.self.pcm.now (channel_start a.self.span a.i)) (lent (goal.at.returns c).Start))
