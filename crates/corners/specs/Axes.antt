@@ -4,6 +4,7 @@ use Rattle.std.specs.Float.{nan}
 use Rattle.vectors.specs.declared.Vec3.{Vec3}
 use Rattle.corners.specs.declared.Axis.{Axis}
 use Rattle.corners.specs.declared.Axis.TheVariants.{X, Y, Z}
+use Rattle.corners.specs.declared.Speaker.{Speaker}
 use Rattle.corners.specs.declared.Hall.{Hall}
 
 abbrev pub coordinate : Axis → Vec3 → Float
@@ -15,8 +16,14 @@ coordinate Z v = v.z
 abbrev pub place_among : List Vec3 → ℕ → Vec3
 place_among places i = get_or places i (record { x = nan; y = nan; z = nan })
 
-abbrev pub along : Axis → List Vec3 → ℕ → Float
-along axis places i = coordinate axis (place_among places i)
+abbrev pub speaker_at : List Speaker → ℕ → Speaker
+speaker_at speakers i = get_or speakers i (record { channel = 0; place = record { x = nan; y = nan; z = nan } })
+
+abbrev pub channel_at : List Speaker → ℕ → ℕ
+channel_at speakers i = (speaker_at speakers i).channel
+
+abbrev pub along : Axis → List Speaker → ℕ → Float
+along axis speakers i = coordinate axis (speaker_at speakers i).place
 
 abbrev pub index_at : List ℕ → ℕ → ℕ
 index_at l i = get_or l i 0

@@ -3,6 +3,8 @@ use Rattle.std.specs.Prelude.{ℕ, ◌+◌, ◌≤◌, ◌<◌, ◌≡◌, Bool,
 use Rattle.std.specs.Float.Ieee.{lt, eq}
 use Rattle.vectors.specs.declared.Vec3.{Vec3}
 use Rattle.panning.specs.Choice.{keep}
+use Rattle.corners.specs.declared.Speaker.{Speaker}
+use Rattle.corners.specs.Axes.{speaker_at}
 
 -- lower before higher; in a layer rear before front; in a row left before right
 unfoldable pub precedes : Vec3 → Vec3 → Bool
@@ -35,9 +37,9 @@ pub record InLine (sp : ℕ → Vec3) (here : ℕ → Bool) (k n : ℕ) (channel
   pub out : (j : ℕ) → j < k → T (here j) → (i : ℕ) × (i < n) × (j ≡ channel i)
   pub rising : (i j : ℕ) → i < j → j < n → T (precedes (sp (channel i)) (sp (channel j)))
 
--- the places of the first n channels
-abbrev pub Gathered : (ℕ → Vec3) → (ℕ → ℕ) → ℕ → (ℕ → Vec3) → Type 0
-Gathered sp channel n r = (i : ℕ) → i < n → r i ≡ sp (channel i)
+-- the first n channels with their places
+abbrev pub Gathered : (ℕ → Vec3) → (ℕ → ℕ) → ℕ → List Speaker → Type 0
+Gathered sp channel n speakers = (i : ℕ) → i < n → speaker_at speakers i ≡ record { channel = channel i; place = sp (channel i) }
 
 -- the end of the run at j, from that at j + 1: where the next is in bounds and at an equal coordinate, the run goes on
 abbrev pub run_end : (ℕ → Float) → (ℕ → ℕ) → (ℕ → ℕ) → ℕ → ℕ

@@ -34,12 +34,17 @@ impl Axis {
     }
 }
 
-// The speakers of a hall in the order of (y, z, x): where the first `count` stand, their channels, and where the runs of equal y (`layers`), and of equal y and z (`rows`), end.
-// The ends stand in arrays of their own, since each is worked out from those after it.
+#[derive(Clone, Copy)]
+pub struct Speaker {
+    pub channel: usize,
+    pub place: Vec3,
+}
+
+// The first `count` speakers stand in the order of (y, z, x), and `layers` and `rows` have the ends of the runs of equal y, and of equal y and z: arrays of their own, since each
+// end is worked out from those after it, and the ends of the layers bound those of the rows.
 #[derive(Clone, Copy)]
 pub struct Hall {
-    pub places: [Vec3; 12],
-    pub channels: [usize; 12],
+    pub speakers: [Speaker; 12],
     pub layers: [usize; 12],
     pub rows: [usize; 12],
     pub count: usize,

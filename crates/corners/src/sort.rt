@@ -7,7 +7,7 @@ ghost use Rattle.corners.specs.Axes.{place_among, along, index_at};
 ghost use Rattle.corners.specs.SpeakerOrder.{precedes, is_marked, speakers_of, Inserted, InLine, Gathered, run_end, RunEnds};
 ghost use Rattle.corners.specs.Sorted.{Sorted};
 
-use crate::{Axis, Hall};
+use crate::{Axis, Hall, Speaker};
 use vectors::Vec3;
 
 // Whether a speaker at `v` comes before one at `w`.
@@ -62,32 +62,39 @@ impl Line {
         line
     }
 
-    // Where the channels stand, in their order.
-    fn places(&self, places: &[Vec3; 12]) -> [Vec3; 12]
+    // The channels with their places.
+    fn speakers(&self, places: &[Vec3; 12]) -> [Speaker; 12]
         requires { (self.now.count ≤ 12) × ((i : ℕ) → i < self.now.count → index_at self.now.channels i < 12) }
-        ensures { Gathered (place_among places.now) (index_at self.now.channels) self.now.count (place_among result) }
+        ensures { Gathered (place_among places.now) (index_at self.now.channels) self.now.count result }
     {
-        let mut sorted = *places;
+        let mut speakers = [Speaker {
+            channel: 0,
+            place: places[0],
+        }; 12];
         for i in 0..self.count {
-            sorted[i] = places[self.channels[i]];
+            let channel = self.channels[i];
+            speakers[i] = Speaker {
+                channel,
+                place: places[channel],
+            };
         }
-        sorted
+        speakers
     }
 }
 
 // The end of the run at `j` of equal coordinates that stops at `bound[j]` at the latest, `ends` having those of the later ones.
 fn run_end(
     axis: Axis,
-    places: &[Vec3; 12],
+    speakers: &[Speaker; 12],
     bound: &[usize; 12],
     ends: &[usize; 12],
     j: usize,
 ) -> usize
     requires { (j < 12) × (index_at bound.now j ≤ 12) }
-    ensures { result ≡ run_end (along axis places.now) (index_at bound.now) (index_at ends.now) j }
+    ensures { result ≡ run_end (along axis speakers.now) (index_at bound.now) (index_at ends.now) j }
 {
     let i = j + 1;
-    if i < bound[j] && axis.of(places[i]) == axis.of(places[j]) {
+    if i < bound[j] && axis.of(speakers[i].place) == axis.of(speakers[j].place) {
         ends[i]
     } else {
         i
@@ -95,13 +102,13 @@ fn run_end(
 }
 
 // The ends of the runs of equal coordinates, each within its bound.
-fn run_ends(axis: Axis, places: &[Vec3; 12], bound: &[usize; 12], n: usize) -> [usize; 12]
+fn run_ends(axis: Axis, speakers: &[Speaker; 12], bound: &[usize; 12], n: usize) -> [usize; 12]
     requires { (n ≤ 12) × ((i : ℕ) → i < n → index_at bound.now i ≤ 12) }
-    ensures { RunEnds (along axis places.now) (index_at bound.now) n (index_at result) }
+    ensures { RunEnds (along axis speakers.now) (index_at bound.now) n (index_at result) }
 {
     let mut ends = [0; 12];
     for j in (0..n).rev() {
-        ends[j] = run_end(axis, places, bound, &ends, j);
+        ends[j] = run_end(axis, speakers, bound, &ends, j);
     }
     ends
 }
@@ -113,14 +120,13 @@ impl Hall {
         ensures { Sorted (place_among places.now) (speakers_of present.now) result }
     {
         let line = Line::of(places, present);
-        let Line { channels, count } = line;
-        let places = line.places(places);
+        let speakers = line.speakers(places);
+        let count = line.count;
         let bounds = [count; 12];
-        let layers = run_ends(Axis::Y, &places, &bounds, count);
-        let rows = run_ends(Axis::Z, &places, &layers, count);
+        let layers = run_ends(Axis::Y, &speakers, &bounds, count);
+        let rows = run_ends(Axis::Z, &speakers, &layers, count);
         Hall {
-            places,
-            channels,
+            speakers,
             layers,
             rows,
             count,

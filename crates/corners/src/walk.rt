@@ -5,7 +5,7 @@ ghost use Rattle.std.specs.Prelude.{◌≡◌, List, map, ℕ, ◌+◌, ◌<◌,
 ghost use Rattle.vectors.specs.declared.Vec3.{Vec3};
 ghost use Rattle.panning.specs.Choice.{corner, corners};
 ghost use Rattle.corners.specs.declared.Axis.TheVariants.{X, Z};
-ghost use Rattle.corners.specs.Axes.{along, index_at, run_after};
+ghost use Rattle.corners.specs.Axes.{along, channel_at, index_at, run_after};
 ghost use Rattle.corners.specs.EqualRuns.{StopsAt, EndsAt, SidesAt};
 ghost use Rattle.corners.specs.Walkable.{RowRuns, LayerRuns, RowAt, LayerAt};
 ghost use Rattle.corners.specs.Sorted.{RunsIn, CanWalk, StandIn};
@@ -30,11 +30,11 @@ impl Hall {
     // The walk over the runs from `a` up to `b`: where the last that is not beyond `v` begins, and where the walk stops.
     fn walk(&self, axis: Axis, a: usize, b: usize, v: f32) -> Ends
         requires { RunsIn axis self.now a b }
-        ensures { StopsAt (along axis self.now.places) (run_after axis self.now) a b v result }
+        ensures { StopsAt (along axis self.now.speakers) (run_after axis self.now) a b v result }
     {
         let mut low = a;
         let mut i = a;
-        while i < b && axis.of(self.places[i]) <= v {
+        while i < b && axis.of(self.speakers[i].place) <= v {
             low = i;
             i = self.run_after(axis, i);
         }
@@ -44,7 +44,7 @@ impl Hall {
     // Where the low and the high end about `v` of the runs from `a` up to `b` begin, each filled by the other.
     fn ends(&self, axis: Axis, a: usize, b: usize, v: f32) -> Ends
         requires { RunsIn axis self.now a b }
-        ensures { EndsAt (along axis self.now.places) (run_after axis self.now) a b v result }
+        ensures { EndsAt (along axis self.now.speakers) (run_after axis self.now) a b v result }
     {
         let stop = self.walk(axis, a, b, v);
         if stop.high < b {
@@ -60,10 +60,10 @@ impl Hall {
     // The two sides about `v` of the row from `a` up to `b`; a speaker at `v` itself is both.
     fn sides(&self, a: usize, b: usize, v: f32) -> Ends
         requires { RunsIn X self.now a b }
-        ensures { SidesAt (along X self.now.places) a b v result }
+        ensures { SidesAt (along X self.now.speakers) a b v result }
     {
         let stop = self.walk(Axis::X, a, b, v);
-        if stop.high < b && self.places[stop.low].x != v {
+        if stop.high < b && self.speakers[stop.low].place.x != v {
             stop
         } else {
             Ends {
@@ -75,20 +75,20 @@ impl Hall {
 
     // The channels on the two sides of the row that begins at `a`.
     fn row(&self, a: usize, v: f32) -> Ends
-        requires { RowRuns (along X self.now.places) (index_at self.now.rows) a }
-        ensures { RowAt (along X self.now.places) (index_at self.now.channels) a (index_at self.now.rows a) v result }
+        requires { RowRuns (along X self.now.speakers) (index_at self.now.rows) a }
+        ensures { RowAt (along X self.now.speakers) (channel_at self.now.speakers) a (index_at self.now.rows a) v result }
     {
         let sides = self.sides(a, self.rows[a], v);
         Ends {
-            low: self.channels[sides.low],
-            high: self.channels[sides.high],
+            low: self.speakers[sides.low].channel,
+            high: self.speakers[sides.high].channel,
         }
     }
 
     // The corners in the layer that begins at `a`.
     fn layer(&self, a: usize, place: Vec3) -> Layer
-        requires { LayerRuns (along X self.now.places) (along Z self.now.places) (index_at self.now.layers) (index_at self.now.rows) a }
-        ensures { LayerAt (along X self.now.places) (along Z self.now.places) (index_at self.now.channels) a (index_at self.now.layers a) place result }
+        requires { LayerRuns (along X self.now.speakers) (along Z self.now.speakers) (index_at self.now.layers) (index_at self.now.rows) a }
+        ensures { LayerAt (along X self.now.speakers) (along Z self.now.speakers) (channel_at self.now.speakers) a (index_at self.now.layers a) place result }
     {
         let rows = self.ends(Axis::Z, a, self.layers[a], place.z);
         Layer {

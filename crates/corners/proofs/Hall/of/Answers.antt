@@ -7,7 +7,7 @@ run_ends-rows-requires c =
     let a = c.args in
     let l = c.of-line in (
       l.ensures.few,
-      layer_below a.places.now a.present.now c.requires l.result.count l.result.channels l.ensures c.places-places.result c.places-places.ensures
+      layer_below a.places.now a.present.now c.requires l.result.count l.result.channels l.ensures c.speakers-speakers.result c.speakers-speakers.ensures
           c.run_ends-layers.result c.run_ends-layers.ensures,
     )
 
@@ -15,5 +15,5 @@ pub returns : goal.returns
 returns c =
     let a = c.args in
     let l = c.of-line in
-    made a.places.now a.present.now c.requires l.result.count l.result.channels l.ensures c.places-places.result c.places-places.ensures c.run_ends-layers.result
+    made a.places.now a.present.now c.requires l.result.count l.result.channels l.ensures c.speakers-speakers.result c.speakers-speakers.ensures c.run_ends-layers.result
     c.run_ends-layers.ensures c.run_ends-rows.result c.run_ends-rows.ensures

@@ -16,5 +16,5 @@ loop-i-preserved c =
     let h = a.self.now in
     let fits_v : T (fits binary32 a.v) = search (rules, c.well_formed) in
     let near = subst (λ (x : Float). T (le x a.v)) c.of.ensures (passed c.if-of-v.true) in
-    subst (λ (x : ℕ). Walked (along a.axis h.places) (run_after a.axis h) a.a a.b a.v c.loop-i.i x) (sym c.run_after-i.ensures)
+    subst (λ (x : ℕ). Walked (along a.axis h.speakers) (run_after a.axis h) a.a a.b a.v c.loop-i.i x) (sym c.run_after-i.ensures)
     (walk_step fits_v c.requires.0 c.loop-i.invariant c.loop-i-test.true near)

@@ -5,7 +5,7 @@ use Rattle.corners.specs.EqualRuns.{Walked}
 use Rattle.corners.proofs.Hall.walk.Given as goal
 
 abbrev pub invariant-loop-i : goal.invariant-loop-i
-invariant-loop-i l = Walked (along l.axis l.self.places) (run_after l.axis l.self) l.a l.b l.v l.low l.i
+invariant-loop-i l = Walked (along l.axis l.self.speakers) (run_after l.axis l.self) l.a l.b l.v l.low l.i
 
 abbrev pub decreases-loop-i : goal.decreases-loop-i
 decreases-loop-i l = l.b - l.i

@@ -6,4 +6,4 @@ use Rattle.corners.proofs.sort.run_ends.Given as goal
 
 abbrev pub invariant-loop-j : goal.invariant-loop-j
 invariant-loop-j l = (length l.ends ≡ 12)
-    × ((i : ℕ) → l.j ≤ i → i < l.n → index_at l.ends i ≡ run_end (along l.axis l.places) (index_at l.bound) (index_at l.ends) i)
+    × ((i : ℕ) → l.j ≤ i → i < l.n → index_at l.ends i ≡ run_end (along l.axis l.speakers) (index_at l.bound) (index_at l.ends) i)
