@@ -53,8 +53,8 @@ impl Line {
             channels: [0; 12],
             count: 0,
         };
-        for k in 0..12 {
-            if !present[k] {
+        for (k, marked) in present.iter().enumerate() {
+            if !*marked {
                 continue;
             }
             line.insert(places, k);
