@@ -3,27 +3,36 @@
 
 ghost use Rattle.std.specs.Prelude.{◌≡◌};
 ghost use Rattle.rules.specs.Calls.{push};
+ghost use Rattle.hall.specs.Answers.{coded};
 ghost use Rattle.calls.specs.Asked.{frame_args, alone};
 ghost use Rattle.calls.specs.CallResults.{text_of_code, Called};
 
 use framing::header::Header;
 use framing::request::Plain;
-use hall::answer::Answer;
+use hall::answer::Outcome;
 use listing::text::Text;
+use refusals::{Refusal, Stop};
 
 // Samples of a channel in the output, and from one channel to the next.
 const STRIDE: u32 = 256;
 
 // The text of an answer.
 #[tactic(auto, unfolding(crate::specs::CallResults::text_of_code))]
-fn tell(answer: Answer, out: &[u8; 12288]) -> Text
-    ensures { result ≡ text_of_code answer out.now }
+fn tell(answer: Result<Outcome, Refusal>, out: &[u8; 12288]) -> Text
+    ensures { result ≡ text_of_code (coded answer) out.now }
 {
-    match answer.kind {
-        0 => listing::ready(answer.ready, out),
-        1 => listing::refused(answer.number, answer.first, answer.second),
-        2 => listing::none(),
-        _ => listing::reset(),
+    match answer {
+        Ok(Outcome::Ready(given)) => listing::ready(given.samples, out),
+        Ok(Outcome::Nothing) => listing::none(),
+        Ok(Outcome::Fresh) => listing::reset(),
+        Err(refusal) => {
+            let Stop {
+                number,
+                first,
+                second,
+            } = refusal.stop();
+            listing::refused(number, first, second)
+        }
     }
 }
 
@@ -44,7 +53,7 @@ pub fn push(
     let rate = words::u32_at(rec, 4);
     let samples = u32::from(words::u16_at(rec, 8));
     let objects = u32::from(rec[11]);
-    let answer = hall::hall_push(state, pcm, meta, out, codes, rate, samples, objects, STRIDE);
+    let answer = hall::push(state, pcm, meta, out, codes, rate, samples, objects, STRIDE);
     tell(answer, out)
 }
 
@@ -54,8 +63,8 @@ pub fn plain(state: &mut [u8], out: &mut [u8; 12288], call: Plain) -> Text
     ensures { Called (alone call out.old) state.old out.old state.new out.new result }
 {
     let answer = match call {
-        Plain::Flush => hall::hall_flush(state, out, STRIDE),
-        Plain::Reset => hall::hall_reset(state),
+        Plain::Flush => hall::flush(state, out, STRIDE),
+        Plain::Reset => hall::reset(state),
     };
     tell(answer, out)
 }

@@ -132,7 +132,7 @@ fn main(rt: HostRuntime) {
         state: [0; hall::STATE_BYTES],
         out: [0; 12288],
     };
-    hall::hall_reset(&mut program.state);
+    let _ = hall::reset(&mut program.state);
     if let Err(End::BadRecord) = program.run(&rt) {
         let _ = say(&rt, b"bad record\n");
     }

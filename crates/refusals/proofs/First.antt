@@ -14,11 +14,9 @@ use Rattle.std.specs.Prelude.{EachIndex, IsTrue}
 use Rattle.fields.proofs.All.{and_left, and_right}
 use Rattle.beds.specs.Matching.{counted}
 use Rattle.rules.specs.Refusals.{Found, clear, stop, ◌then◌, unless, every, bed_found, beds_found}
-use Rattle.refusals.specs.RefusalNumbers.{stop_of}
+use Rattle.refusals.specs.RefusalNumbers.{stop_of, numbers_of}
 use Rattle.refusals.specs.declared.Refusal.{Refusal}
-use Rattle.refusals.specs.declared.Refusal.TheVariants.{Lent, Sizes, Rate, StreamEnd, Records, Ranges, Samples}
-use Rattle.refusals.specs.declared.Refusal.TheVariants.{SampleRateChanged, MissingOamd, ObjectCountMismatch}
-use Rattle.refusals.specs.declared.Refusal.TheVariants.{UnsupportedSampleCount, BedChannelCountMismatch, UnsupportedBedChannel}
+use Rattle.refusals.specs.declared.Stop.{Stop}
 
 -- a test that the code makes and that fails, or does not
 pub failed : {b r : Bool} → r ≡ b → r ≡ false → b ≡ false
@@ -27,31 +25,15 @@ failed e t = sym e ∙ t
 pub passed : {b r : Bool} → r ≡ b → r ≡ true → b ≡ true
 passed e t = sym e ∙ t
 
--- a refusal stops whatever is after it
-pub stops : (r : Refusal) (x : Found) → (stop_of r then x) ≡ stop_of r
-stops Lent x = refl
-stops Sizes x = refl
-stops Rate x = refl
-stops StreamEnd x = refl
-stops Records x = refl
-stops Ranges x = refl
-stops Samples x = refl
-stops (SampleRateChanged a b) x = refl
-stops MissingOamd x = refl
-stops (ObjectCountMismatch a b) x = refl
-stops UnsupportedSampleCount x = refl
-stops (BedChannelCountMismatch a) x = refl
-stops (UnsupportedBedChannel a) x = refl
-
 -- a refusal is no `clear`
 pub not_clear : (r : Refusal) → stop_of r ≡ clear → ⊥
-not_clear r e = let z : stop 0 0 0 ≡ clear = sym (ap (λ (f : Found). f then stop 0 0 0) e) ∙ stops r (stop 0 0 0) ∙ e in absurd cc
+not_clear r e = absurd cc
 
 -- ---- a part f of a chain, and the rest x of it
 
 module _ (f x all : Found) (rest : (f then x) ≡ all) where
   pub chain_stops : (r : Refusal) → stop_of r ≡ f → stop_of r ≡ all
-  chain_stops r is = sym (stops r x) ∙ ap (λ (g : Found). g then x) is ∙ rest
+  chain_stops r is = ap (λ (g : Found). g then x) is ∙ rest
 
   pub chain_passes : clear ≡ f → x ≡ all
   chain_passes is = ap (λ (g : Found). g then x) is ∙ rest
@@ -103,3 +85,7 @@ all_listed s r h = same r (every (λ c. leb c 17) s) (λ e. each_listed s (h.0 e
     same true b f g = sym (f refl)
     same false true f g = g refl
     same false false f g = refl
+
+-- ---- the numbers of a refusal that is y
+pub by_case : {x y : Refusal} {s : Stop} → x ≡ y → s ≡ numbers_of y → s ≡ numbers_of x
+by_case e h = h ∙ ap numbers_of (sym e)

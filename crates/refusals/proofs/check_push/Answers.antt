@@ -16,7 +16,6 @@ use Rattle.store.specs.Fields.{small_of}
 use Rattle.store.specs.Layout.{small_width, assembled, decode}
 use Rattle.updates.proofs.Passed.{passes_all}
 use Rattle.theorem.specs.Instance.{hall}
-use Rattle.refusals.proofs.First.{stops}
 use Rattle.refusals.proofs.Loaded.{loaded}
 use Rattle.refusals.proofs.check_push.Goals as goal
 
@@ -35,7 +34,7 @@ returns-in_err-check c b out e l =
     let r = c.in_err-check.field-0.0 in
     let p = err_from_is_err_and c.from_residual.result c.from_residual.ensures.1 in
     rw (p.1, p.2)
-    (sym (stops r (rest args (decode b))) ∙ ap (λ (f : Found). f then rest args (decode b)) (c.in_err-check.ensures out l (decode b) (at b a.s e)))
+    (ap (λ (f : Found). f then rest args (decode b)) (c.in_err-check.ensures out l (decode b) (at b a.s e)))
 
 pub check-requires-2 : goal.check-requires-2
 check-requires-2 c =
