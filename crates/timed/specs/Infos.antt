@@ -1,7 +1,7 @@
 -- The object infos: what an object in a block says, by the format of formats/specs/Info; then the same from the bytes in which they stay, as the code reads them, which a reader
 -- may skip. proofs/InfoFields: both are the same. Assumes nothing.
 use Rattle.std.specs.Prelude.{ℕ, ◌+◌, cond, List, Float, Option, Some, None}
-use Rattle.words.specs.Words.{word, words_at, float_at, with_float}
+use Rattle.words.specs.Words.{word, words_at, float_at, with_word, with_float}
 use Rattle.formats.specs.Info.{ObjectInfo, info_format}
 pub use Rattle.roots.specs.Root.{depth_of}
 use Rattle.vectors.specs.Head.{head_in, anchor_of, has}
@@ -50,6 +50,9 @@ maybe_at is k bit at = cond (has (head_at is k) bit) (Some (float_at is (info_at
 
 unfoldable pub vec_at : List ℕ → ℕ → Vec3
 vec_at is at = record { x = float_at is at; y = float_at is (at + 4); z = float_at is (at + 8) }
+
+unfoldable pub with_three : List ℕ → ℕ → ℕ → ℕ → ℕ → List ℕ
+with_three is at x y z = with_word (with_word (with_word is at x) (at + 4) y) (at + 8) z
 
 unfoldable pub with_vec : List ℕ → ℕ → Vec3 → List ℕ
 with_vec is at v = with_float (with_float (with_float is at v.x) (at + 4) v.y) (at + 8) v.z

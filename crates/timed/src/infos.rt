@@ -5,7 +5,7 @@
 ghost use Rattle.std.specs.Prelude.{◌≡◌, ◌+◌, ◌*◌, ◌<◌, ◌≤◌, length};
 ghost use Rattle.vectors.specs.Head.{has};
 ghost use Rattle.timed.specs.InfoSizes.{all_infos, info_bytes, info_at};
-ghost use Rattle.timed.specs.Infos.{maybe_at, vec_at, send_at, with_vec, block_position};
+ghost use Rattle.timed.specs.Infos.{maybe_at, vec_at, send_at, with_three, with_vec, block_position};
 
 use formats::{areas, info};
 use roots::Depth;
@@ -37,7 +37,7 @@ pub const LAST: usize = info::LAST;
 pub const SEND: usize = info::SEND;
 
 // Whether a head has the flag that stands for `bit`.
-fn has(head: u32, bit: u32) -> bool
+pub fn has(head: u32, bit: u32) -> bool
     requires { 0 < bit }
     ensures { result ≡ has head bit }
 {
@@ -71,14 +71,29 @@ fn vec_at(infos: &Bytes, at: usize) -> Vec3
 }
 
 // Stores a position at a place.
-#[tactic(auto, unfolding(crate::specs::Infos::with_vec))]
+#[tactic(auto, unfolding(crate::specs::Infos::with_vec, crate::specs::Infos::with_three, words::specs::Words::with_float))]
 pub(crate) fn put_vec(infos: &mut Bytes, at: usize, v: Vec3)
     requires { at + 12 ≤ length infos.old }
     ensures { infos.new ≡ with_vec infos.old at v }
 {
-    words::put_f32(infos, at, v.x);
-    words::put_f32(infos, at + 4, v.y);
-    words::put_f32(infos, at + 8, v.z);
+    put_three(
+        infos,
+        at,
+        words::bits_of(v.x),
+        words::bits_of(v.y),
+        words::bits_of(v.z),
+    );
+}
+
+// Stores three words at a place.
+#[tactic(auto, unfolding(crate::specs::Infos::with_three))]
+pub fn put_three(infos: &mut [u8], at: usize, x: u32, y: u32, z: u32)
+    requires { at + 12 ≤ length infos.old }
+    ensures { infos.new ≡ with_three infos.old at x y z }
+{
+    words::put_u32(infos, at, x);
+    words::put_u32(infos, at + 4, y);
+    words::put_u32(infos, at + 8, z);
 }
 
 // Its send, which is always there.
