@@ -58,13 +58,6 @@ impl From<u32> for Anchor {
     }
 }
 
-// The origin.
-pub fn zero_vec3() -> Vec3
-    ensures { result ≡ zero_vec3 }
-{
-    ORIGIN
-}
-
 impl Add for Vec3 {
     type Output = Vec3;
 
