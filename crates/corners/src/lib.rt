@@ -40,8 +40,8 @@ pub struct Speaker {
     pub place: Vec3,
 }
 
-// The first `count` speakers stand in the order of (y, z, x), and `layers` and `rows` have the ends of the runs of equal y, and of equal y and z: arrays of their own, since each
-// end is worked out from those after it, and the ends of the layers bound those of the rows.
+// The first `count` speakers (there is no heap) stand in the order of (y, z, x), and `layers` and `rows` have the ends of the runs of equal y, and of equal y and z: arrays of
+// their own, since each end is worked out from those after it, and the ends of the layers bound those of the rows.
 #[derive(Clone, Copy)]
 pub struct Hall {
     pub speakers: [Speaker; 12],

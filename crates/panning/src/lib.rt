@@ -306,7 +306,7 @@ fn coefficients(c: Cube, place: Vec3, g: f32) -> [f32; 8]
     [bfl, bfr, brl, brr, tfl, tfr, trl, trr]
 }
 
-// What is mixed of an object: `extra` on every speaker but the bass, then the corners in their order.
+// What is mixed of an object: `extra` on every speaker but the bass, then the corners in their order. Two arrays, since C code reads it as such (`probe_pan`).
 #[repr(C)]
 #[derive(Clone, Copy)]
 pub struct Panned {
