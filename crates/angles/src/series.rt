@@ -37,6 +37,7 @@ fn closest(n: u64, d: u64) -> u64
 }
 
 // TAU * 120 / rate.
+#[tactic(auto, unfolding(rates::specs::Series::angle_of))]
 pub fn angle_of(rate: u64) -> u64
     requires { Listed rate }
     ensures { result ≡ angle_of rate }
@@ -62,6 +63,7 @@ fn next_term(y: u64, t: u64, n: u64) -> u64
 }
 
 // Five terms from t on, the signs taking turns. The four divisors are told one by one, as the definition has them: in an array each would be named by a place.
+#[tactic(auto, using(crate::proofs::Terms::five_is))]
 pub fn five_terms(y: u64, t: u64, n1: u64, n2: u64, n3: u64, n4: u64) -> u64
     requires { (y < 2 ^ 58) × (t ≤ 2 ^ 60) × (0 < n1) × (0 < n2) × (0 < n3) × (0 < n4) }
     ensures { result ≡ five y t n1 n2 n3 n4 }

@@ -3,6 +3,7 @@ ghost use Rattle.std.specs.Prelude.{◌≡◌, ◌*◌, ◌/◌, ◌^◌, ◌<�
 ghost use Rattle.roots.specs.Whole.{top_of, Spanned, NearWhole};
 
 // What r - 1/2 makes: r - 1/2 is below the root of n where this is below n.
+#[tactic(auto, unfolding(crate::specs::Whole::top_of))]
 fn top(r: u64) -> u64
     requires { (0 < r) × (r ≤ 2 ^ 26) }
     ensures { result ≡ top_of r }

@@ -11,6 +11,7 @@ ghost use Rattle.words.specs.Words.{with_words};
 use std::num;
 
 // A width each: a trait over them would have one impl a width, of these same lines.
+#[tactic(auto, using(crate::proofs::Numbers::half_read))]
 pub fn u16_at(s: &[u8], at: usize) -> u16
     requires { at + 2 ≤ length s.now }
     ensures { result ≡ half s.now at }
@@ -19,6 +20,7 @@ pub fn u16_at(s: &[u8], at: usize) -> u16
 }
 
 // By its bytes, which compiles to one load also where a loop over it is vectorised: a copy of them into an array keeps a test and a stack slot a read.
+#[tactic(auto, using(crate::proofs::Numbers::word_read))]
 pub fn u32_at(s: &[u8], at: usize) -> u32
     requires { at + 4 ≤ length s.now }
     ensures { result ≡ word s.now at }
@@ -33,6 +35,7 @@ pub fn u64_at(s: &[u8], at: usize) -> u64
     u64::from(u32_at(s, at)) + u64::from(u32_at(s, at + 4)) * 4294967296
 }
 
+#[tactic(auto, using(crate::proofs::Written::number_put))]
 pub fn put_u16(s: &mut [u8], at: usize, n: u16)
     requires { at + 2 ≤ length s.old }
     ensures { s.new ≡ with_half s.old at n }
@@ -40,6 +43,7 @@ pub fn put_u16(s: &mut [u8], at: usize, n: u16)
     s[at..at + 2].copy_from_slice(&n.to_le_bytes());
 }
 
+#[tactic(auto, using(crate::proofs::Written::number_put))]
 pub fn put_u32(s: &mut [u8], at: usize, n: u32)
     requires { at + 4 ≤ length s.old }
     ensures { s.new ≡ with_word s.old at n }
@@ -47,6 +51,7 @@ pub fn put_u32(s: &mut [u8], at: usize, n: u32)
     s[at..at + 4].copy_from_slice(&n.to_le_bytes());
 }
 
+#[tactic(auto, using(crate::proofs::Written::number_put))]
 pub fn put_u64(s: &mut [u8], at: usize, n: u64)
     requires { at + 8 ≤ length s.old }
     ensures { s.new ≡ with_long s.old at n }
