@@ -35,7 +35,8 @@ fn put_head(infos: &mut [u8], at: usize, head: u32, i: Info)
     words::put_u32(infos, at + SCREEN, i.screen);
 }
 
-// The info at byte `at`: what the record says, and what is kept from update to update.
+// The info at byte `at`: what the record says, and what is kept from update to update. `fresh` and `bed` are facts of the update and independent: a function for each pair of them
+// would be four.
 #[tactic(auto, unfolding(crate::specs::Written::with_info, crate::specs::Written::cleared, crate::specs::Written::with_place))]
 pub fn put_info(infos: &mut [u8], at: usize, i: Info, fresh: bool, bed: bool)
     requires { at + info_bytes ≤ length infos.old }

@@ -36,7 +36,7 @@ pub const LAST: usize = info::LAST;
 
 pub const SEND: usize = info::SEND;
 
-// Whether a head has the flag that stands for `bit`.
+// Whether a head has the flag that stands for `bit`. A head is a word: `fields` asks the same of a byte, and would have to widen it first.
 pub fn has(head: u32, bit: u32) -> bool
     requires { 0 < bit }
     ensures { result ≡ has head bit }

@@ -28,7 +28,7 @@ pub struct Moved {
     pub track: Track,
 }
 
-// `update_source_state` of info k; where no ramp remains (`arrived`), the object is put at its target.
+// `update_source_state` of info k; where no ramp remains (`arrived`, a fact of the block and no choice of a step), the object is put at its target.
 fn update_source_state(
     infos: &mut Bytes,
     k: usize,
@@ -84,9 +84,9 @@ impl Moving {
     }
 
     // The ramp's share t for `count` objects; `before` has their flags at the element's previous slot.
-    pub fn ramp(&mut self, before: [Track; 16], count: usize, t: f32)
+    pub fn ramp(&mut self, before: &[Track; 16], count: usize, t: f32)
         requires { count ≤ 16 }
-        ensures { self.new ≡ ramped_all t before count self.old }
+        ensures { self.new ≡ ramped_all t before.now count self.old }
     {
         for d in 0..count {
             self.sources[d] = ramp_one(self.sources[d], self.tracks[d], before[d].now, t);

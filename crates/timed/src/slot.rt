@@ -57,13 +57,16 @@ impl Model for Reach {
     ghost invariant = { λ r. Reaches (record { beds = r.beds; channels = r.channels; first = r.first; count = r.count }) };
 }
 
+// An offset or ramp 0, as it is kept: 2^20.
+const RAISED: u32 = 1048576;
+
 impl BlockState {
     // Whether the block is applied in this slot.
     #[tactic(auto, using(crate::proofs::Shifted::due_shifted_is))]
     fn due(self, when: Timing) -> bool
         ensures { result ≡ due when self }
     {
-        !self.used && when.payload.plus(self.offset) < when.start.plus(1048576)
+        !self.used && when.payload.plus(self.offset) < when.start.plus(RAISED)
     }
 
     // The ramp that remains after the block, plus 2^47.
@@ -71,7 +74,7 @@ impl BlockState {
         ensures { result ≡ kept_as (left_after when self) }
     {
         let end = when.payload.plus(self.offset).plus(self.ramp);
-        end.past(when.start.plus(2097152))
+        end.past(when.start.plus(2 * RAISED))
     }
 }
 
@@ -126,9 +129,9 @@ impl Slot {
     }
 
     // The ramp, where one remains; `before` has the flags of the element's previous slot.
-    fn ramp(&mut self, before: [Track; 16], count: usize)
+    fn ramp(&mut self, before: &[Track; 16], count: usize)
         requires { (count ≤ 16) × (self.old.remaining ≤ 140737489403904) }
-        ensures { self.new ≡ ramp_applied before count self.old }
+        ensures { self.new ≡ ramp_applied before.now count self.old }
     {
         if self.remaining > RAMP_OVER {
             self.moving.ramp(before, count, share(self.remaining));
@@ -150,7 +153,7 @@ impl ElementRendererState {
     pub fn begins(self, when: Timing) -> bool
         ensures { result ≡ begins when self }
     {
-        self.active() && when.payload.plus(self.schedule[0].offset) <= when.start.plus(1048576)
+        self.active() && when.payload.plus(self.schedule[0].offset) <= when.start.plus(RAISED)
     }
 
     // Whether the element has blocks and a first offset of 0 or more: else it does nothing.
@@ -158,7 +161,7 @@ impl ElementRendererState {
     pub fn active(self) -> bool
         ensures { result ≡ active self }
     {
-        self.blocks != 0 && 1048576 <= self.schedule[0].offset
+        self.blocks != 0 && RAISED <= self.schedule[0].offset
     }
 
     // Whether a slot of this element changes nothing: no ramp remains, and no block is due.
@@ -197,7 +200,7 @@ impl ElementRendererState {
             moving,
         };
         slot.apply_blocks(infos, self.blocks, when, reach);
-        slot.ramp(before, reach.count);
+        slot.ramp(&before, reach.count);
         let Slot {
             schedule,
             remaining,
