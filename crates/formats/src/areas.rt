@@ -45,6 +45,7 @@ fn each_valid(infos: &[u8]) -> bool
 }
 
 // The heads of the infos. No field of a head is above that of the OR of all: where that is a head in range, each is.
+// Its loop is not that of `each_valid`, which takes the anchors too: they are needed only where anchors 1 and 2 are both in use.
 pub fn heads_valid(infos: &[u8]) -> bool
     requires { length infos.now ≡ infos_bytes }
     ensures { result ≡ heads_valid infos.now 0 info_count }
