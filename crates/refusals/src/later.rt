@@ -32,7 +32,7 @@ fn check_start(rate_before: u32, rate: u32, started: bool, updates: usize) -> Re
     Ok(())
 }
 
-// 11, 13 and 14 as they arise in time. Between two offsets with updates nothing new can stop.
+// 11, 13 and 14 as they arise in time. Between two offsets with updates nothing new can stop, so that t goes on by `while` to the next of these, and not by one.
 fn check_walk(
     start: Present,
     meta: &[u8],

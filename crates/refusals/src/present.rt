@@ -11,7 +11,7 @@ use records::layout::Layout;
 use timed::state::MetadataRendererState;
 use updates::update::next_codes;
 
-// The shape as a value: the codes past `beds` count for nothing.
+// The shape as a value: the codes past `beds` count for nothing. `started` is no Option: the rules' `Shape` has it beside the counts, and a state not begun has counts too.
 #[derive(Clone, Copy)]
 pub struct Present {
     pub started: bool,
