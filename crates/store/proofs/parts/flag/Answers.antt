@@ -2,7 +2,7 @@
 use mathlib.Core.Path.{ap}
 use Prim.Native.Nat.{ℕ}
 use lib.Dec.{eqb}
-use Rattle.store.proofs.read.flag.Goals as goal
+use Rattle.store.proofs.parts.flag.Goals as goal
 
 pub returns : goal.returns
 returns c = ap (λ (n : ℕ). eqb n 1) c.word_of.ensures
