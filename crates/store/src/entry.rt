@@ -7,7 +7,7 @@ ghost use Rattle.formats.specs.Lawful.{Lawful};
 
 use std::array;
 
-pub trait Entry {
+pub(crate) trait Entry {
     // How many words it has.
     const WORDS: usize;
 
@@ -31,7 +31,7 @@ pub trait Entry {
 }
 
 // N entries, one after the other.
-pub fn table<T: Entry, const N: usize>(s: &[u8], at: usize) -> [T; N]
+pub(crate) fn table<T: Entry, const N: usize>(s: &[u8], at: usize) -> [T; N]
     requires { 4 * (at + N * T.WORDS) ≤ length s.now }
     ensures { result ≡ (array N T.format).get (in_words s.now) at }
 {
@@ -43,7 +43,7 @@ pub fn table<T: Entry, const N: usize>(s: &[u8], at: usize) -> [T; N]
     )
 }
 
-pub fn put_table<T: Entry, const N: usize>(s: &mut [u8], at: usize, xs: &[T; N])
+pub(crate) fn put_table<T: Entry, const N: usize>(s: &mut [u8], at: usize, xs: &[T; N])
     requires { at + 4 * (N * T.WORDS) ≤ length s.old }
     ensures { s.new ≡ with_words s.old at ((array N T.format).put xs.now) }
 {

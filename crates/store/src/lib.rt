@@ -9,8 +9,8 @@ ghost use Rattle.store.specs.Layout.{small_width, size, encode, fresh_renderer};
 use formats::areas;
 use renderer::Renderer714;
 
-pub mod entry;
-pub mod parts;
+mod entry;
+mod parts;
 pub mod places;
 pub mod ranges;
 pub mod read;

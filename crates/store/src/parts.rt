@@ -13,14 +13,14 @@ use timed::state::{BlockState, DynamicSourceState, ElementRendererState, Track};
 use vectors::Vec3;
 
 // The count at a word, and the flag.
-pub fn count(s: &[u8], at: usize) -> usize
+pub(crate) fn count(s: &[u8], at: usize) -> usize
     requires { 4 * at + 4 ≤ length s.now }
     ensures { result ≡ get_or (in_words s.now) at 0 }
 {
     word_of(s, at) as usize
 }
 
-pub fn flag(s: &[u8], at: usize) -> bool
+pub(crate) fn flag(s: &[u8], at: usize) -> bool
     requires { 4 * at + 4 ≤ length s.now }
     ensures { result ≡ eqb (get_or (in_words s.now) at 0) 1 }
 {
