@@ -24,81 +24,67 @@ use updates::update::TimedState;
 fn starts_slot(started: bool, t: FrameOffset) -> bool
     ensures { result ≡ (not started || eqb t.0 0) }
 {
-    if !started {
-        return true;
-    }
-    t.is(START)
+    !started || t == START
 }
 
 impl Rendering {
     // With another timed state, and in a new slot where `new`.
-    fn restate(mut self, state: MetadataRendererState, new: bool) -> Rendering
-        ensures { result ≡ record { renderer = restated new self.renderer state; ready = self.ready; meters = self.meters } }
+    fn restate(&mut self, state: MetadataRendererState, new: bool)
+        ensures { self.new ≡ record { renderer = restated new self.old.renderer state; ready = self.old.ready; meters = self.old.meters } }
     {
-        let next = self.renderer.with_state(state);
-        self.renderer = next;
+        self.renderer.state = state;
         if new {
-            let slot = self.renderer.begin_slot();
-            self.renderer = slot;
+            self.renderer.begin_slot();
         }
-        self
     }
 
     // The update at record u, whose sample offset is t.
     fn apply_one(
-        self,
+        &mut self,
         state: &mut [u8],
         meta: &[u8],
         u: usize,
         t: FrameOffset,
         at: StreamSample,
-    ) -> Rendering
-        requires { (length state.old ≡ size) × (at.0 ≡ self.renderer.clock.position.0) × WholeUpdate meta.now u }
-        ensures { Leads (applied_at hall t.0 (record { offset = t.0; said = update_of meta.now u }) (held self.renderer state.old)) self
-            state.old result state.new }
+    )
+        requires { (length state.old ≡ size) × (at.0 ≡ self.old.renderer.clock.position.0) × WholeUpdate meta.now u }
+        ensures { Leads (applied_at hall t.0 (record { offset = t.0; said = update_of meta.now u }) (held self.old.renderer state.old)) self.old
+            state.old self.new state.new }
     {
         let before = self.renderer.state;
         let new = starts_slot(before.initialized, t);
-        let first = store::INFOS;
-        let end = store::PLACES;
-        let timed = TimedState(before);
-        let after = timed.apply_update(&mut state[first..end], Record { meta, place: u }, at);
-        self.restate(after.0, new)
+        let infos = &mut state[store::INFOS..store::PLACES];
+        let after = TimedState(before).apply_update(infos, Record { meta, place: u }, at);
+        self.restate(after.0, new);
     }
 
     // The updates at sample offset t, in the order sent.
     pub fn apply_sent(
-        self,
+        &mut self,
         state: &mut [u8],
         meta: &[u8],
         l: Layout,
         t: FrameOffset,
         at: StreamSample,
-    ) -> Rendering
-        requires { (length state.old ≡ size) × (at.0 ≡ self.renderer.clock.position.0) × IsLayout meta.now l × WholeUpdates meta.now l.first l.count }
-        ensures { Leads (updated hall t.0 (sent_of meta.now) (held self.renderer state.old)) self state.old result state.new }
+    )
+        requires { (length state.old ≡ size) × (at.0 ≡ self.old.renderer.clock.position.0) × IsLayout meta.now l × WholeUpdates meta.now l.first l.count }
+        ensures { Leads (updated hall t.0 (sent_of meta.now) (held self.old.renderer state.old)) self.old state.old self.new state.new }
     {
-        let first = l.first;
-        let count = l.count;
-        let mut next = self;
         let mut i = sent_at(l, t, 0);
-        while i < count {
-            next = next.apply_one(state, meta, first[i], t, at);
+        while i < l.count {
+            self.apply_one(state, meta, l.first[i], t, at);
             i = sent_at(l, t, i + 1);
         }
-        next
     }
 
     // The slot that starts.
-    pub fn start_slot(self, state: &mut [u8]) -> Rendering
-        requires { (length state.old ≡ size) × CanStart (held self.renderer state.old) × Starts self.renderer }
-        ensures { Leads (slotted hall (held self.renderer state.old)) self state.old result state.new }
+    pub fn start_slot(&mut self, state: &mut [u8])
+        requires { (length state.old ≡ size) × CanStart (held self.old.renderer state.old) × Starts self.old.renderer }
+        ensures { Leads (slotted hall (held self.old.renderer state.old)) self.old state.old self.new state.new }
     {
-        let before = self.renderer.state;
         let start = self.renderer.clock.start;
-        let first = store::INFOS;
-        let end = store::PLACES;
-        let after = before.update_timeslot(&mut state[first..end], start);
-        self.restate(after, false)
+        let infos = &mut state[store::INFOS..store::PLACES];
+        let after = self.renderer.state.update_timeslot(infos, start);
+        self.restate(after, false);
     }
 }

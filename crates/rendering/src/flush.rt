@@ -14,32 +14,29 @@ use limiter::places::store_block;
 
 impl Rendering {
     // The pending samples as one block, behind those that are ready.
-    pub fn give(mut self, state: &[u8], out: &mut [u8], stride: usize) -> Rendering
-        requires { CanGive self state.now out.old stride }
-        ensures { Gave self state.now stride out.old result out.new }
+    pub fn give(&mut self, state: &[u8], out: &mut [u8], stride: usize)
+        requires { CanGive self.old state.now out.old stride }
+        ensures { Gave self.old state.now stride out.old self.new out.new }
     {
         let mut limiter = self.renderer.limiter;
         let pending = self.renderer.pending as usize;
-        let start = store::PLACES;
         let block = limiter.apply_output_limiter_block(
-            &state[start..],
+            &state[store::PLACES..],
             pending,
             self.renderer.rate,
             out,
             4 * stride,
             4 * self.ready,
         );
-        let next = self.renderer.empty(limiter);
-        self.renderer = next;
-        self.ready = self.ready + pending;
+        self.renderer.empty(limiter);
+        self.ready += pending;
         self.meters.meet(block);
-        self
     }
 
     // A whole block that is still in rows: the one peak is that of all channels.
-    pub fn give_rows(mut self, rows: &[f32], out: &mut [u8], stride: usize) -> Rendering
-        requires { CanGiveRows self rows.now out.old stride }
-        ensures { GaveRows self rows.now stride out.old result out.new }
+    pub fn give_rows(&mut self, rows: &[f32], out: &mut [u8], stride: usize)
+        requires { CanGiveRows self.old rows.now out.old stride }
+        ensures { GaveRows self.old rows.now stride out.old self.new out.new }
     {
         let mut limiter = self.renderer.limiter;
         let peak = limiter::max_abs_slice(rows);
@@ -47,19 +44,17 @@ impl Rendering {
         let met = limiter.meters(peak);
         store_block(rows, 64, limiter.gain, out, 4 * stride, 4 * self.ready);
         limiter.grow(64, self.renderer.rate);
-        let next = self.renderer.empty(limiter);
-        self.renderer = next;
-        self.ready = self.ready + 64;
+        self.renderer.empty(limiter);
+        self.ready += 64;
         self.meters.meet(met);
-        self
     }
 
     // Flush: the remainder as one shorter block.
-    pub fn drain(self, state: &[u8], out: &mut [u8], stride: usize) -> Rendering
-        requires { CanGive self state.now out.old stride × (self.ready ≡ 0) × (self.meters ≡ unmet) }
-        ensures { IsDrained (flushed hall (held self.renderer state.now)) self.renderer.pending stride state.now out.old result
-            out.new }
+    pub fn drain(&mut self, state: &[u8], out: &mut [u8], stride: usize)
+        requires { CanGive self.old state.now out.old stride × (self.old.ready ≡ 0) × (self.old.meters ≡ unmet) }
+        ensures { IsDrained (flushed hall (held self.old.renderer state.now)) self.old.renderer.pending stride state.now out.old
+            self.new out.new }
     {
-        self.give(state, out, stride)
+        self.give(state, out, stride);
     }
 }

@@ -13,7 +13,8 @@ use clock::FrameOffset;
 use render::{Input, Span};
 
 impl Rendering {
-    // The k samples from t on of a frame of n samples, mixed into the rows; they wait then.
+    // The k samples from t on of a frame of n samples, mixed into the rows; they wait then. By value: behind a `&mut` the proof doesn't
+    // have the lengths of the state's tables.
     pub fn pass(
         mut self,
         rows: &mut [f32],
@@ -34,11 +35,8 @@ impl Rendering {
             first,
             count: k,
         };
-        let input = Input { pcm, codes, span };
-        let mut filter = self.renderer.filter;
         mix(&self.renderer.state, &mut filter, rows, input, objects);
-        let next = self.renderer.settle(filter, k as u32);
-        self.renderer = next;
+        self.renderer.settle(filter, k as u32);
         self
     }
 }

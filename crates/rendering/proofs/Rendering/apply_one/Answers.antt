@@ -13,8 +13,8 @@ returns c =
     let u = c.apply_update-after in
     let r = c.restate in
     record {
-      next = one_applied s.t.0 (update_of s.meta.now s.u) s.self.renderer s.state.now c.starts_slot-new.result
-          s.at.0 u.result.0 u.new.infos r.result.renderer p.0 (search rules)
+      next = one_applied s.t.0 (update_of s.meta.now s.u) s.self.now.renderer s.state.now c.starts_slot-new.result
+          s.at.0 u.result.0 u.new.infos r.new.self.renderer p.0 (search rules)
           (sym c.starts_slot-new.ensures) p.1 u.ensures (ap (λ (w : Rendering). w.renderer) r.ensures);
       ready = ap (λ (w : Rendering). w.ready) r.ensures;
       meters = ap (λ (w : Rendering). w.meters) r.ensures;

@@ -14,18 +14,18 @@ pub loop-i-init : goal.loop-i-init
 loop-i-init c =
     let s = c.args in
     let p = c.requires in (
-      standing s.meta.now s.l s.t.0 s.at.0 (updated hall s.t.0 (sent_of s.meta.now) (held s.self.renderer s.state.now)) s.state.now p.2 0
-          c.sent_at-i.result s.self.renderer s.state.now c.sent_at-i.ensures p.0 refl p.1
-          (from_first s.meta.now s.l p.2 s.t.0 (held s.self.renderer s.state.now)),
+      standing s.meta.now s.l s.t.0 s.at.0 (updated hall s.t.0 (sent_of s.meta.now) (held s.self.now.renderer s.state.now)) s.state.now p.2 0
+          c.sent_at-i.result s.self.now.renderer s.state.now c.sent_at-i.ensures p.0 refl p.1
+          (from_first s.meta.now s.l p.2 s.t.0 (held s.self.now.renderer s.state.now)),
       refl,
       refl,
     )
 
-pub bounds-first-i : goal.bounds-first-i
-bounds-first-i c = omega (arith, c.requires.3.few, c.loop-i-test)
+pub bounds-l-i : goal.bounds-l-i
+bounds-l-i c = omega (arith, c.requires.3.few, c.loop-i-test)
 
-pub apply_one-next-requires : goal.apply_one-next-requires
-apply_one-next-requires c = (
+pub apply_one-requires : goal.apply_one-requires
+apply_one-requires c = (
   c.loop-i.invariant.0.long,
   c.loop-i.invariant.0.here,
   c.requires.3.all c.loop-i.i (omega (arith, c.loop-i-test)),
@@ -47,9 +47,9 @@ pub loop-i-preserved : goal.loop-i-preserved
 loop-i-preserved c =
     let s = c.args in
     let l = c.loop-i in
-    let u = c.apply_one-next in (
-      goes_on s.meta.now s.l s.t.0 s.at.0 (updated hall s.t.0 (sent_of s.meta.now) (held s.self.renderer s.state.now)) s.state.now
-          c.requires.2 l.i c.sent_at-i-in-loop-i.result l.next.renderer u.result.renderer
+    let u = c.apply_one in (
+      goes_on s.meta.now s.l s.t.0 s.at.0 (updated hall s.t.0 (sent_of s.meta.now) (held s.self.now.renderer s.state.now)) s.state.now
+          c.requires.2 l.i c.sent_at-i-in-loop-i.result l.self.renderer u.new.self.renderer
           l.state u.new.state
           (omega (arith, c.loop-i-test)) l.invariant.0 u.ensures.next c.sent_at-i-in-loop-i.ensures,
       u.ensures.ready ∙ l.invariant.1,
@@ -64,8 +64,8 @@ returns c =
     let s = c.args in
     let l = c.loop-i in
     record {
-      next = ends s.meta.now s.l s.t.0 s.at.0 (updated hall s.t.0 (sent_of s.meta.now) (held s.self.renderer s.state.now)) s.state.now
-          c.requires.2 l.i l.next.renderer l.state (omega (arith, c.loop-i-test)) l.invariant.0;
+      next = ends s.meta.now s.l s.t.0 s.at.0 (updated hall s.t.0 (sent_of s.meta.now) (held s.self.now.renderer s.state.now)) s.state.now
+          c.requires.2 l.i l.self.renderer l.state (omega (arith, c.loop-i-test)) l.invariant.0;
       ready = l.invariant.1;
       meters = l.invariant.2;
     }

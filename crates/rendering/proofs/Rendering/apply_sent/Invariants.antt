@@ -8,8 +8,8 @@ use Rattle.rendering.proofs.Begins.{Standing}
 use Rattle.rendering.proofs.Rendering.apply_sent.Given as goal
 
 abbrev pub invariant-loop-i : goal.invariant-loop-i
-invariant-loop-i l = Standing l.meta l.l l.t.0 l.at.0 (updated hall l.t.0 (sent_of l.meta) (held l.initial.next.renderer l.initial.state)) l.initial.state l.i
-    l.next.renderer l.state × (l.next.ready ≡ l.initial.next.ready) × (l.next.meters ≡ l.initial.next.meters)
+invariant-loop-i l = Standing l.meta l.l l.t.0 l.at.0 (updated hall l.t.0 (sent_of l.meta) (held l.initial.self.renderer l.initial.state)) l.initial.state l.i
+    l.self.renderer l.state × (l.self.ready ≡ l.initial.self.ready) × (l.self.meters ≡ l.initial.self.meters)
 
 abbrev pub decreases-loop-i : goal.decreases-loop-i
-decreases-loop-i l = l.count - l.i
+decreases-loop-i l = l.l.count - l.i

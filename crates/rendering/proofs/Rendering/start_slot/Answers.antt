@@ -14,7 +14,7 @@ returns c =
     let u = c.update_timeslot-after in
     let r = c.restate in
     record {
-      next = slot_starts s.self.renderer s.state.now u.result u.new.infos r.result.renderer c.requires.0
+      next = slot_starts s.self.now.renderer s.state.now u.result u.new.infos r.new.self.renderer c.requires.0
           (search (rules, u.auto)) c.requires.2 u.ensures
           (ap (λ (w : Rendering). w.renderer) r.ensures);
       ready = ap (λ (w : Rendering). w.ready) r.ensures;
