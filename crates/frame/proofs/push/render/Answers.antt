@@ -1,5 +1,5 @@
 -- `render` meets its contract: the loop keeps `Running`, and what is left of the frame falls at each turn. Assumes nothing.
-use Prim.Native.Nat.{ℕ, ◌+◌}
+use Prim.Native.Nat.{ℕ, ◌+◌, ◌<◌}
 use mathlib.Core.Path.{◌≡◌, refl, sym, ap, ◌∙◌, subst}
 use mathlib.Core.List.{List}
 use mathlib.Core.Bool.{Bool, true, false, ◌||◌}
@@ -76,12 +76,12 @@ may_begin c k =
     let s = c.args in
     let x = c.loop-l in
     let a = args_with s.pcm.now s.meta.now s.out.now s.codes.now s.n in
-    can_begin s.state.now a s.l k x.t.0 x.work x.state x.out x.invariant.0 (ltb-true x.t.0 a.samples (sym c.is_before.ensures ∙ c.loop-l-test.true))
+    can_begin s.state.now a s.l k x.t.0 x.work x.state x.out x.invariant.0 (search rules)
     c.at-at.result.0 (c.at-at.ensures ∙ ap (λ (p : ℕ). p + x.t.0) (starts_at s.idle s.state.now a s.l c.requires))
 
-pub apply_sent-work-requires : goal.apply_sent-work-requires
-apply_sent-work-requires c =
-    let p = goal.at.apply_sent-work-requires c in
+pub apply_sent-requires : goal.apply_sent-requires
+apply_sent-requires c =
+    let p = goal.at.apply_sent-requires c in
     let b = may_begin p.After-at-at (taken p.After-start-1) in
     (b.long, b.here, b.layout, b.whole)
 
@@ -92,7 +92,7 @@ updates_done c k =
     let s = c.args in
     let x = c.loop-l in
     elim c.if-is_sent.branch [
-      | then-is_sent w ↦ rw (w.work-is, w.state-is) w.apply_sent-work.ensures
+      | then-is_sent w ↦ rw (w.work-is, w.state-is) w.apply_sent.ensures
       | else-is_sent w ↦ rw (w.work-is, w.state-is)
           (record {
             next = none_applied s.meta.now s.l k.layout x.t.0 x.work.renderer x.state x.invariant.0.long (rw w.if-is_sent.false at c.is_sent.ensures);
@@ -115,9 +115,9 @@ rests-requires c =
     let s = slot_at p.Joined-is_sent (may_begin p.After-at-at k) (updates_done p.Joined-is_sent k) in
     (s.start, s.within)
 
-pub start_slot-work-requires : goal.start_slot-work-requires
-start_slot-work-requires c =
-    let p = goal.at.start_slot-work-requires c in
+pub start_slot-requires : goal.start_slot-requires
+start_slot-requires c =
+    let p = goal.at.start_slot-requires c in
     let k = taken p.After-start-1 in
     let a = updates_done p.Joined-is_sent k in
     (a.next.holds.long, slot_at p.Joined-is_sent (may_begin p.After-at-at k) a, sym c.slot_starts.ensures ∙ c.if-slot_starts.true)
@@ -134,7 +134,7 @@ begun c a =
     let slot = sym c.slot_starts.ensures in
     elim c.if-slot_starts.branch [
       | then-slot_starts+then-not-rests w ↦
-          let b = w.start_slot-work.ensures in
+          let b = w.start_slot.ensures in
           rw (w.work-is, w.state-is) (record { next = slotted_after a.next b.next; ready = b.ready ∙ a.ready; meters = b.meters ∙ a.meters })
       | then-slot_starts+else-not-rests w ↦
           rw (w.work-is, w.state-is) (leads_on a (slot_changes_nothing _ _ a.next.holds.long (slot ∙ w.if-slot_starts.true) (sym w.rests.ensures ∙ w.if-not-rests.false)))
@@ -152,7 +152,7 @@ run_length-k-requires c =
     let a = args_with s.pcm.now s.meta.now s.out.now s.codes.now s.n in
     let k = taken p.After-start-1 in
     let e = c.next_offset-next.result.0 in
-    let l = ltb-true x.t.0 a.samples (sym c.is_before.ensures ∙ c.loop-l-test.true) in
+    let l : c.loop-l.t.0 < c.args.n.samples = search rules in
     let n = rw x.invariant.1 at c.next_offset-next.ensures in
     let f = few s.state.now a s.l k x.t.0 x.work x.state x.out x.invariant.0 l e n c.if-slot_starts.work c.if-slot_starts.state
     (begun p.Joined-slot_starts (updates_done p.Joined-is_sent k)) in
@@ -167,7 +167,7 @@ turning c k b =
     record {
       taken = k;
       running = c.loop-l.invariant.0;
-      more = ltb-true c.loop-l.t.0 c.args.n.samples (sym c.is_before.ensures ∙ c.loop-l-test.true);
+      more = search rules;
       ends = rw c.loop-l.invariant.1 at c.next_offset-next.ensures;
       begun = b;
       count = c.run_length-k.ensures;
@@ -182,7 +182,7 @@ pass-work-requires c =
 
 pub up_to-requires : goal.up_to-requires
 up_to-requires c =
-    let l = ltb-true c.loop-l.t.0 c.args.n.samples (sym c.is_before.ensures ∙ c.loop-l-test.true) in
+    let l : c.loop-l.t.0 < c.args.n.samples = search rules in
     omega (arith, l, c.loop-l.invariant.1)
 
 pub lay-requires : goal.lay-requires
@@ -212,9 +212,9 @@ laid_part c q h =
           absurd (h (omega arith))
     ]
 
-pub give_rows-work-requires : goal.give_rows-work-requires
-give_rows-work-requires c =
-    let p = goal.at.give_rows-work-requires c in
+pub give_rows-requires : goal.give_rows-requires
+give_rows-requires c =
+    let p = goal.at.give_rows-requires c in
     let s = c.args in
     let k = taken p.After-start-1 in
     can_give_rows (frame_of hall (args_with s.pcm.now s.meta.now s.out.now s.codes.now s.n))
@@ -222,9 +222,9 @@ give_rows-work-requires c =
     (c.pass-work.ensures s.n.rate (sent_of s.meta.now) c.if-slot_starts.state)
     c.if-k-eq64.true
 
-pub give-work-requires : goal.give-work-requires
-give-work-requires c =
-    let p = goal.at.give-work-requires c in
+pub give-requires : goal.give-requires
+give-requires c =
+    let p = goal.at.give-requires c in
     let s = c.args in
     let k = taken p.After-start-1 in
     let q = turning p.After-run_length-k k (begun p.Joined-slot_starts (updates_done p.Joined-is_sent k)) in
@@ -298,9 +298,9 @@ loop-l-preserved c =
     let y = c.pass-work.ensures s.n.rate (sent_of s.meta.now) c.if-slot_starts.state in (
       subst (λ (t : ℕ). Running s.state.now a t z.work c.if-is_kept.state z.out) (sym c.plus-t.ensures)
           (elim z.branch [
-            | then-k-eq64 w ↦ rw (w.work-is, w.out-is) (whole_runs at.Joined-is_kept _ _ q w.if-k-eq64.true w.give_rows-work.ensures)
+            | then-k-eq64 w ↦ rw (w.work-is, w.out-is) (whole_runs at.Joined-is_kept _ _ q w.if-k-eq64.true w.give_rows.ensures)
             | else-k-eq64+then-work-eq64 w ↦ rw (w.work-is, w.out-is)
-                (turn_runs q _ _ _ (passes_given f p y (laid_part at.Joined-is_kept q w.if-k-eq64.false) w.if-work-eq64.true w.give-work.ensures))
+                (turn_runs q _ _ _ (passes_given f p y (laid_part at.Joined-is_kept q w.if-k-eq64.false) w.if-work-eq64.true w.give.ensures))
             | else-k-eq64+else-work-eq64 w ↦ rw (w.work-is, w.out-is)
                 (turn_runs q _ _ _ (passes_on f p y (laid_part at.Joined-is_kept q w.if-k-eq64.false) w.if-work-eq64.false))
           ]),
@@ -314,4 +314,4 @@ returns c =
     let s = c.args in
     let x = c.loop-l in
     rendered s.state.now (args_with s.pcm.now s.meta.now s.out.now s.codes.now s.n) x.t.0 x.work x.state x.out x.invariant.0
-    (ltb-false x.t.0 s.n.samples (sym c.is_before.ensures ∙ c.loop-l-test.false))
+    (c.lt.ensures)
