@@ -8,7 +8,7 @@ use lib.Ieee.{of_bits}
 use native.Mathlib.Omega.{arith}
 use native.Mathlib.Nat.{le_of_lt}
 use borrow.Author.Rules.{rules}
-use borrow.Author.Tests.{ltb-true, ltb-false}
+use borrow.Author.Tests.{ltb-false}
 use Rattle.limiter.specs.Meters.{unmet}
 use Rattle.rules.specs.Calls.{frame_of}
 use Rattle.rules.specs.Samples.{Renderer, updated, slotted}
@@ -25,6 +25,7 @@ use Rattle.chunk.specs.ChunkRows.{Laid}
 use Rattle.frame.specs.Turn.{CanBegin}
 use Rattle.rendering.proofs.Theorems.{can_start, slotted_after, none_applied, slot_rests, slot_changes_nothing}
 use Rattle.frame.proofs.Running.{Taken, takes, starts_at, is_rate, Running, opens, can_begin, end_above, few, Turning, turn_some, turn_within, turn_passes}
+use Rattle.frame.proofs.Opening.{more_left, none_left}
 use Rattle.frame.proofs.Running.{turn_runs, turn_skips, rendered}
 use Rattle.frame.proofs.ChunkOnBlock.{can_give_rows, can_give, passes_on, passes_given, passes_whole}
 use Rattle.chunk.proofs.Theorems.{fit_all, as_laid}
@@ -76,7 +77,7 @@ may_begin c k =
     let s = c.args in
     let x = c.loop-l in
     let a = args_with s.pcm.now s.meta.now s.out.now s.codes.now s.n in
-    can_begin s.state.now a s.l k x.t.0 x.work x.state x.out x.invariant.0 (search rules)
+    can_begin s.state.now a s.l k x.t.0 x.work x.state x.out x.invariant.0 (more_left _ _ _ c.lt.ensures c.loop-l-test.true)
     c.at-at.result.0 (c.at-at.ensures ∙ ap (λ (p : ℕ). p + x.t.0) (starts_at s.idle s.state.now a s.l c.requires))
 
 pub apply_sent-requires : goal.apply_sent-requires
@@ -152,7 +153,7 @@ run_length-k-requires c =
     let a = args_with s.pcm.now s.meta.now s.out.now s.codes.now s.n in
     let k = taken p.After-start-1 in
     let e = c.next_offset-next.result.0 in
-    let l : c.loop-l.t.0 < c.args.n.samples = search rules in
+    let l : c.loop-l.t.0 < c.args.n.samples = more_left _ _ _ c.lt.ensures c.loop-l-test.true in
     let n = rw x.invariant.1 at c.next_offset-next.ensures in
     let f = few s.state.now a s.l k x.t.0 x.work x.state x.out x.invariant.0 l e n c.if-slot_starts.work c.if-slot_starts.state
     (begun p.Joined-slot_starts (updates_done p.Joined-is_sent k)) in
@@ -167,7 +168,7 @@ turning c k b =
     record {
       taken = k;
       running = c.loop-l.invariant.0;
-      more = search rules;
+      more = more_left _ _ _ c.lt.ensures c.loop-l-test.true;
       ends = rw c.loop-l.invariant.1 at c.next_offset-next.ensures;
       begun = b;
       count = c.run_length-k.ensures;
@@ -182,7 +183,7 @@ pass-work-requires c =
 
 pub up_to-requires : goal.up_to-requires
 up_to-requires c =
-    let l : c.loop-l.t.0 < c.args.n.samples = search rules in
+    let l : c.loop-l.t.0 < c.args.n.samples = more_left _ _ _ c.lt.ensures c.loop-l-test.true in
     omega (arith, l, c.loop-l.invariant.1)
 
 pub lay-requires : goal.lay-requires
@@ -314,4 +315,4 @@ returns c =
     let s = c.args in
     let x = c.loop-l in
     rendered s.state.now (args_with s.pcm.now s.meta.now s.out.now s.codes.now s.n) x.t.0 x.work x.state x.out x.invariant.0
-    (c.lt.ensures)
+    (none_left _ _ _ c.lt.ensures c.loop-l-test.false)
