@@ -35,6 +35,8 @@ impl Rendering {
             first,
             count: k,
         };
+        let input = Input { pcm, codes, span };
+        let mut filter = self.renderer.filter;
         mix(&self.renderer.state, &mut filter, rows, input, objects);
         self.renderer.settle(filter, k as u32);
         self
