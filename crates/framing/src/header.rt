@@ -3,7 +3,6 @@ ghost use Rattle.std.specs.Prelude.{◌≡◌, true, false, ◌≤◌, MatchResu
 ghost use Rattle.framing.specs.Framing.{is_frame, bed_count, metadata_bytes, pcm_bytes};
 
 use crate::BadRecord;
-use fields::bytes::byte_at;
 
 // A record that is a frame's header within the program's limits.
 #[derive(Clone, Copy)]
@@ -31,7 +30,7 @@ impl Header {
     pub fn beds(&self) -> usize
         ensures { (result ≡ bed_count self.now.rec) × (result ≤ 18) }
     {
-        byte_at(&self.rec, 10)
+        usize::from(self.rec[10])
     }
 
     // The bytes of the frame's metadata.
@@ -47,7 +46,7 @@ impl Header {
     pub fn pcm_bytes(&self) -> usize
         ensures { (result ≡ pcm_bytes self.now.rec) × (result ≤ 34816) }
     {
-        let channels = byte_at(&self.rec, 10) + byte_at(&self.rec, 11);
+        let channels = usize::from(self.rec[10]) + usize::from(self.rec[11]);
         4 * (channels * usize::from(words::u16_at(&self.rec, 8)))
     }
 }

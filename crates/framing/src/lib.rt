@@ -5,7 +5,7 @@ ghost use Rattle.std.specs.Prelude.{◌≡◌, true, ◌≤◌, length};
 ghost use Rattle.framing.specs.Framing.{in_limits, is_frame, is_plain, is_pcm, record_bytes};
 ghost use Rattle.framing.specs.PcmTaken.{Taken, Unpacked};
 
-use fields::bytes::{byte_at, zeros};
+use fields::bytes::zeros;
 
 pub mod header;
 pub mod request;
@@ -27,7 +27,7 @@ fn in_limits(rec: &[u8; 40]) -> bool
 pub fn is_frame(rec: &[u8; 40]) -> bool
     ensures { result ≡ is_frame rec.now }
 {
-    let used = byte_at(rec, 10);
+    let used = usize::from(rec[10]);
     rec[0] == 5 && in_limits(rec) && zeros(rec, 1, 3) && zeros(rec, 14 + used, 26 - used)
 }
 

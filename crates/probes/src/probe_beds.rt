@@ -11,8 +11,7 @@ use vectors::Vec3;
 pub extern "C" fn probe_route_of(code: u8) -> u64
     ensures { result ≡ route_number (route_of code) }
 {
-    let route = beds::route_of(code);
-    match route {
+    match beds::route_of(code) {
         Route::Direct(k) => k as u64,
         Route::Bass => 100,
         Route::Folded => 101,
@@ -57,7 +56,8 @@ pub extern "C" fn probe_count_matching(requested: u8, codes: &[u8]) -> u32
     ensures { result ≡ cond (leb (length codes.now) 18) (counted requested codes.now) 0 }
 {
     if codes.len() <= 18 {
-        return beds::count_matching(requested, codes);
+        beds::count_matching(requested, codes)
+    } else {
+        0
     }
-    0
 }

@@ -32,8 +32,7 @@ pub extern "C" fn probe_refusal(meta: &[u8]) -> u32
 pub extern "C" fn probe_updates(meta: &[u8]) -> usize
     ensures { result ≡ count meta.now }
 {
-    let l = layout_of(meta);
-    l.count
+    layout_of(meta).count
 }
 
 // The record of update i.
@@ -42,11 +41,7 @@ pub extern "C" fn probe_update_place(meta: &[u8], i: usize) -> usize
     ensures { result ≡ cond (ltb i (count meta.now)) (update_at meta.now i) 0 }
 {
     let l = layout_of(meta);
-    let first = l.first;
-    if i >= l.count {
-        return 0;
-    }
-    first[i]
+    if i < l.count { l.first[i] } else { 0 }
 }
 
 #[unsafe(no_mangle)]
@@ -69,10 +64,11 @@ pub extern "C" fn probe_header(meta: &[u8], u: usize) -> Header
 pub extern "C" fn probe_blocks(meta: &[u8], e: usize) -> usize
     ensures { result ≡ cond (has_record meta.now e) (blocks meta.now e) 0 }
 {
-    if e >= meta.len() / 40 {
-        return 0;
+    if e < meta.len() / 40 {
+        Record { meta, place: e }.blocks()
+    } else {
+        0
     }
-    Record { meta, place: e }.blocks()
 }
 
 // The record after the element at e.
@@ -80,17 +76,11 @@ pub extern "C" fn probe_blocks(meta: &[u8], e: usize) -> usize
 pub extern "C" fn probe_element_after(meta: &[u8], objects: usize, e: usize) -> usize
     ensures { result ≡ cond (has_record meta.now e && leb objects 32 && leb (blocks meta.now e) 8) (element_end meta.now objects e) 0 }
 {
-    if e >= meta.len() / 40 {
-        return 0;
+    if e < meta.len() / 40 && objects <= 32 && Record { meta, place: e }.blocks() <= 8 {
+        element_after(Record { meta, place: e }, objects)
+    } else {
+        0
     }
-    if objects > 32 {
-        return 0;
-    }
-    let element = Record { meta, place: e };
-    if element.blocks() > 8 {
-        return 0;
-    }
-    element_after(element, objects)
 }
 
 #[unsafe(no_mangle)]
@@ -98,20 +88,11 @@ pub extern "C" fn probe_object_place(meta: &[u8], e: usize, o: usize, b: usize) 
     ensures { result ≡ cond (has_record meta.now e && ltb o 32 && ltb b 8 && leb (blocks meta.now e) 8)
         (object_at meta.now e (o * blocks meta.now e + b)) 0 }
 {
-    if e >= meta.len() / 40 {
-        return 0;
+    if e < meta.len() / 40 && o < 32 && b < 8 && Record { meta, place: e }.blocks() <= 8 {
+        object_place(Record { meta, place: e }, o, b)
+    } else {
+        0
     }
-    if o >= 32 {
-        return 0;
-    }
-    if b >= 8 {
-        return 0;
-    }
-    let element = Record { meta, place: e };
-    if element.blocks() > 8 {
-        return 0;
-    }
-    object_place(element, o, b)
 }
 
 // A block's numbers, as C sees them: no generic struct stands in the signature of an exported function.
@@ -166,8 +147,5 @@ pub extern "C" fn probe_sent_at(meta: &[u8], t: FrameOffset, from: usize) -> usi
         (FirstAt (λ i. offset meta.now (update_at meta.now i)) (count meta.now) t.0 from result) (result ≡ 0) }
 {
     let l = layout_of(meta);
-    if from > l.count {
-        return 0;
-    }
-    sent_at(l, t, from)
+    if from <= l.count { sent_at(l, t, from) } else { 0 }
 }
