@@ -76,7 +76,7 @@ pub extern "C" fn probe_blocks(meta: &[u8], e: usize) -> usize
 pub extern "C" fn probe_element_after(meta: &[u8], objects: usize, e: usize) -> usize
     ensures { result ≡ cond (has_record meta.now e && leb objects 32 && leb (blocks meta.now e) 8) (element_end meta.now objects e) 0 }
 {
-    if e < meta.len() / 40 && objects <= 32 && Record { meta, place: e }.blocks() <= 8 {
+    if e < meta.len() / 40 && objects <= 32 && (Record { meta, place: e }).blocks() <= 8 {
         element_after(Record { meta, place: e }, objects)
     } else {
         0
@@ -88,7 +88,7 @@ pub extern "C" fn probe_object_place(meta: &[u8], e: usize, o: usize, b: usize) 
     ensures { result ≡ cond (has_record meta.now e && ltb o 32 && ltb b 8 && leb (blocks meta.now e) 8)
         (object_at meta.now e (o * blocks meta.now e + b)) 0 }
 {
-    if e < meta.len() / 40 && o < 32 && b < 8 && Record { meta, place: e }.blocks() <= 8 {
+    if e < meta.len() / 40 && o < 32 && b < 8 && (Record { meta, place: e }).blocks() <= 8 {
         object_place(Record { meta, place: e }, o, b)
     } else {
         0
@@ -147,5 +147,9 @@ pub extern "C" fn probe_sent_at(meta: &[u8], t: FrameOffset, from: usize) -> usi
         (FirstAt (λ i. offset meta.now (update_at meta.now i)) (count meta.now) t.0 from result) (result ≡ 0) }
 {
     let l = layout_of(meta);
-    if from <= l.count { sent_at(l, t, from) } else { 0 }
+    if from <= l.count {
+        sent_at(l, t, from)
+    } else {
+        0
+    }
 }
