@@ -69,7 +69,7 @@ fn take_nine(rec: &[u8], rest: &mut [u8]) -> Result<(), BadRecord>
     Ok(())
 }
 
-// Fills `pcm` from its records.
+// Fills `pcm` from its records. By number, since of parts that `chunks_mut` lends a proof knows how long they are and not what they hold.
 pub fn unpack(records: &[u8], pcm: &mut [u8]) -> Result<(), BadRecord>
     requires { (length records.now ≡ record_bytes (length pcm.old)) × (length pcm.old ≤ 34816) }
     ensures { Unpacked records.now (length pcm.old) result pcm.new }

@@ -1,4 +1,5 @@
-// A text that grows at its end, with room for the longest answer.
+// A text that grows at its end, with room for the longest answer, since the program has no heap. Numbers are put by functions and not by `write!`, which promises its
+// text only where it succeeds, and never that it does.
 ghost use Rattle.std.specs.Prelude.{◌≡◌, [], ◌∷◌, ◌++◌, ◌+◌, ◌*◌, ◌<◌, ◌≤◌, length};
 ghost use Rattle.listing.specs.Line.{hex8, line_of};
 ghost use Rattle.listing.specs.Text.{decimal};
