@@ -3,7 +3,7 @@ ghost use Rattle.std.specs.Prelude.{◌≡◌, ◌+◌, ◌*◌, ◌/◌, ◌%�
 ghost use Rattle.fields.specs.Update.{objects};
 ghost use Rattle.fields.specs.Block.{blocks};
 ghost use Rattle.records.specs.Laid.{block_at, object_at, is_whole_element, is_whole_update, element_end, element_at, update_end};
-ghost use Rattle.records.specs.LayoutAnswers.{end_if, no_layout, IsLayout};
+ghost use Rattle.records.specs.LayoutAnswers.{end_if, IsLayout};
 
 use crate::run::all_pass;
 use clock::{FrameOffset, START};
@@ -68,55 +68,59 @@ fn update_end(meta: &[u8], u: usize) -> Option<usize>
     Some(next)
 }
 
-// Up to 16 updates: the record and the sample offset of each, in the order sent.
+// An update of a list: its record and its sample offset.
+#[derive(Clone, Copy)]
+pub struct Sent {
+    pub place: usize,
+    pub offset: FrameOffset,
+}
+
+const NOT_SENT: Sent = Sent {
+    place: 0,
+    offset: START,
+};
+
+// Up to 16 updates in the order sent.
 #[derive(Clone, Copy)]
 pub struct Layout {
     pub laid: bool,
     pub count: usize,
-    pub first: [usize; 16],
-    pub offset: [FrameOffset; 16],
+    pub sent: [Sent; 16],
 }
 
-fn broken() -> Layout
-    ensures { result ≡ no_layout }
-{
-    Layout {
-        laid: false,
-        count: 0,
-        first: [0usize; 16],
-        offset: [START; 16],
-    }
-}
+const BROKEN: Layout = Layout {
+    laid: false,
+    count: 0,
+    sent: [NOT_SENT; 16],
+};
 
-// The layout of a list of records; not laid out is refusal 5.
+// The layout of a list of records; not laid out is refusal 5. No range counts the records: `place` rises by what an update takes.
 pub fn layout_of(meta: &[u8]) -> Layout
     ensures { IsLayout meta.now result }
 {
     if meta.len() % 40 != 0 {
-        return broken();
+        return BROKEN;
     }
     let records = meta.len() / 40;
-    let mut first = [0usize; 16];
-    let mut offset = [START; 16];
-    let mut n = 0usize;
-    let mut r = 0usize;
-    while r < records {
-        if n == 16 {
-            return broken();
+    let mut sent = [NOT_SENT; 16];
+    let mut count = 0usize;
+    let mut place = 0usize;
+    while place < records {
+        if count == 16 {
+            return BROKEN;
         }
-        let Some(next) = update_end(meta, r) else {
-            return broken();
+        let Some(next) = update_end(meta, place) else {
+            return BROKEN;
         };
-        first[n] = r;
-        offset[n] = Record { meta, place: r }.offset();
-        r = next;
-        n += 1;
+        let offset = Record { meta, place }.offset();
+        sent[count] = Sent { place, offset };
+        place = next;
+        count += 1;
     }
     Layout {
         laid: true,
-        count: n,
-        first,
-        offset,
+        count,
+        sent,
     }
 }
 
