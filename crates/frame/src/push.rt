@@ -16,7 +16,6 @@ use chunk::lay;
 use clock::{FrameOffset, START};
 use formats::areas;
 use records::layout::Layout;
-use records::order::{next_offset, sent_at};
 use refusals::Numbers;
 use rendering::Rendering;
 
@@ -38,7 +37,7 @@ fn is_sent(l: Layout, t: FrameOffset) -> bool
     requires { l.count ≤ 16 }
     ensures { cond result (NoneSent l t.0 → ⊥) (NoneSent l t.0) }
 {
-    sent_at(l, t, 0) < l.count
+    l.sent_at(t, 0) < l.count
 }
 
 // Whether a slot starts: the clock runs from the first update on.
@@ -92,7 +91,7 @@ pub fn render(
                 work.start_slot(state);
             }
         }
-        let next = next_offset(l, t, end);
+        let next = l.next_offset(t, end);
         let k = run_length(
             work.renderer.state.initialized,
             work.renderer.clock.phase,

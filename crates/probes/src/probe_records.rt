@@ -14,7 +14,6 @@ use fields::object::Info;
 use fields::record::Record;
 use fields::update::Header;
 use records::layout::{element_after, layout_of, object_place};
-use records::order::{next_offset, sent_at};
 use records::ranges::{Fault, check};
 
 #[unsafe(no_mangle)]
@@ -41,7 +40,7 @@ pub extern "C" fn probe_update_place(meta: &[u8], i: usize) -> usize
     ensures { result ≡ cond (ltb i (count meta.now)) (update_at meta.now i) 0 }
 {
     let l = layout_of(meta);
-    if i < l.count { l.first[i] } else { 0 }
+    if i < l.count { l.sent[i].place } else { 0 }
 }
 
 #[unsafe(no_mangle)]
@@ -138,7 +137,7 @@ pub extern "C" fn probe_info(meta: &[u8], r: usize) -> Info
 pub extern "C" fn probe_next_offset(meta: &[u8], t: FrameOffset, end: FrameOffset) -> FrameOffset
     ensures { result.0 ≡ next_offset (λ i. offset meta.now (update_at meta.now i)) (count meta.now) t.0 end.0 }
 {
-    next_offset(layout_of(meta), t, end)
+    layout_of(meta).next_offset(t, end)
 }
 
 #[unsafe(no_mangle)]
@@ -148,7 +147,7 @@ pub extern "C" fn probe_sent_at(meta: &[u8], t: FrameOffset, from: usize) -> usi
 {
     let l = layout_of(meta);
     if from <= l.count {
-        sent_at(l, t, from)
+        l.sent_at(t, from)
     } else {
         0
     }

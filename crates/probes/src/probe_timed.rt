@@ -81,7 +81,7 @@ pub extern "C" fn probe_apply_update(
     if infos.len() == INFOS_BYTES && l.laid && records::ranges::in_range(meta) && i < l.count {
         let update = Record {
             meta,
-            place: l.first[i],
+            place: l.sent[i].place,
         };
         updates::update::TimedState(s)
             .apply_update(infos, update, StreamSample(at))

@@ -29,14 +29,14 @@ fn check_match(expected: u32, provided: u32) -> Result<(), Refusal>
 
 // 11 for each update at sample offset t, in the order sent.
 pub fn check_counts(meta: &[u8], l: Layout, t: FrameOffset, objects: u32) -> Result<(), Refusal>
-    requires { IsLayout meta.now l × WholeUpdates meta.now l.first l.count }
+    requires { IsLayout meta.now l × WholeUpdates meta.now l }
     ensures { IsEleven meta.now objects t.0 result }
 {
     for i in 0..l.count {
-        if l.offset[i].is(t) {
+        if l.sent[i].offset == t {
             let update = Record {
                 meta,
-                place: l.first[i],
+                place: l.sent[i].place,
             };
             check_match(update.header().dynamic() as u32, objects)?;
         }

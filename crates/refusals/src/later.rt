@@ -16,7 +16,6 @@ use crate::present::{Present, present_after, present_of};
 use crate::{Numbers, Refusal};
 use clock::{FrameOffset, START};
 use records::layout::Layout;
-use records::order::next_offset;
 use timed::state::MetadataRendererState;
 
 // 9 and 10.
@@ -41,7 +40,7 @@ fn check_walk(
     end: FrameOffset,
     objects: u32,
 ) -> Result<(), Refusal>
-    requires { IsLayout meta.now l × WholeUpdates meta.now l.first l.count × (length codes.now ≤ 18) × (start.beds ≤ 18) }
+    requires { IsLayout meta.now l × WholeUpdates meta.now l × (length codes.now ≤ 18) × (start.beds ≤ 18) }
     ensures { found_of result ≡ walk (told_of meta.now) objects codes.now end.0 0 (present_shape start) }
 {
     let mut present = start;
@@ -50,7 +49,7 @@ fn check_walk(
         check_counts(meta, l, t, objects)?;
         present = present_after(present, meta, l, t);
         check_beds(present, codes)?;
-        t = next_offset(l, t, end);
+        t = l.next_offset(t, end);
     }
     Ok(())
 }
@@ -64,7 +63,7 @@ pub fn check(
     codes: &[u8],
     n: Numbers,
 ) -> Result<(), Refusal>
-    requires { IsLayout meta.now l × WholeUpdates meta.now l.first l.count × (length codes.now ≤ 18) × (state.beds ≤ 18) × (state.objects ≤ 32) }
+    requires { IsLayout meta.now l × WholeUpdates meta.now l × (length codes.now ≤ 18) × (state.beds ≤ 18) × (state.objects ≤ 32) }
     ensures { found_of result ≡ later (told_of meta.now) n.objects codes.now n.samples n.rate rate_before (shape_of state) }
 {
     check_start(rate_before, n.rate, state.initialized, l.count)?;

@@ -50,15 +50,15 @@ fn present_said(said: Record<'_>) -> Present
 
 // The shape after the updates at sample offset t.
 pub fn present_after(p: Present, meta: &[u8], l: Layout, t: FrameOffset) -> Present
-    requires { IsLayout meta.now l × WholeUpdates meta.now l.first l.count × (p.beds ≤ 18) }
+    requires { IsLayout meta.now l × WholeUpdates meta.now l × (p.beds ≤ 18) }
     ensures { IsAfter meta.now t.0 p result }
 {
     let mut present = p;
     for i in 0..l.count {
-        if l.offset[i].is(t) {
+        if l.sent[i].offset == t {
             present = present_said(Record {
                 meta,
-                place: l.first[i],
+                place: l.sent[i].place,
             });
         }
     }

@@ -16,7 +16,7 @@ use Rattle.timed.proofs.Theorems as timed
 use Rattle.records.specs.Runs.{each}
 use Rattle.records.specs.Laid.{update_at, count}
 use Rattle.records.specs.UpdateWalk.{FirstAt}
-use Rattle.records.specs.LayoutAnswers.{IsLayout, offset_at}
+use Rattle.records.specs.LayoutAnswers.{IsLayout, place_at, offset_at}
 use Rattle.records.specs.declared.layout.Layout as records
 use Rattle.updates.specs.Said.{Update, update_of}
 use Rattle.updates.specs.Applied as updates
@@ -154,12 +154,12 @@ module _ (m : List ℕ) (l : records.Layout) (t at : ℕ) (all : Renderer Timed)
 
     -- an update more
     pub goes_on :
-        (i j : ℕ) (s r : Renderer714) (b c : List ℕ) → i < l.count → Standing i s b → IsNext (applied_at hall t (sent t (update_of m (get_or l.first i 0))) (held s b)) b r c →
+        (i j : ℕ) (s r : Renderer714) (b c : List ℕ) → i < l.count → Standing i s b → IsNext (applied_at hall t (sent t (update_of m (place_at l i))) (held s b)) b r c →
         FirstAt (offset_at l) l.count t (i + 1) j → Standing j r c
     goes_on i j s r b c low h next first =
         let k : i < count m = omega (arith, g.counted) in
         let o : (sent_at m i).offset ≡ t = sym (g.offsets i k) ∙ h.time low in
-        let u : update_of m (get_or l.first i 0) ≡ update_of m (update_at m i) = ap (update_of m) (g.firsts i k) in
+        let u : update_of m (place_at l i) ≡ update_of m (update_at m i) = ap (update_of m) (g.places i k) in
         let one : held r c ≡ applied_at hall t (sent_at m i) (held s b) = next.holds.is ∙ rw u in
         standing (i + 1) j r c first next.holds.long (next.small ∙ h.small) (h.here ∙ sym (ap (λ (x : Renderer Timed). x.clock.position) next.holds.is))
         (rw (add-one, one) (sym (rest_here t (sent_at m) l.count i (held s b) low o) ∙ h.left))

@@ -16,7 +16,6 @@ use crate::Rendering;
 use clock::{FrameOffset, START, StreamSample};
 use fields::record::Record;
 use records::layout::Layout;
-use records::order::sent_at;
 use timed::state::MetadataRendererState;
 use updates::update::TimedState;
 
@@ -67,13 +66,13 @@ impl Rendering {
         t: FrameOffset,
         at: StreamSample,
     )
-        requires { (length state.old ≡ size) × (at.0 ≡ self.old.renderer.clock.position.0) × IsLayout meta.now l × WholeUpdates meta.now l.first l.count }
+        requires { (length state.old ≡ size) × (at.0 ≡ self.old.renderer.clock.position.0) × IsLayout meta.now l × WholeUpdates meta.now l }
         ensures { Leads (updated hall t.0 (sent_of meta.now) (held self.old.renderer state.old)) self.old state.old self.new state.new }
     {
-        let mut i = sent_at(l, t, 0);
+        let mut i = l.sent_at(t, 0);
         while i < l.count {
-            self.apply_one(state, meta, l.first[i], t, at);
-            i = sent_at(l, t, i + 1);
+            self.apply_one(state, meta, l.sent[i].place, t, at);
+            i = l.sent_at(t, i + 1);
         }
     }
 

@@ -14,7 +14,7 @@ invariant_of-update c =
     let laid = sym g.fits ∙ c.if-l.true in
     let fit = sym c.in_range.ensures ∙ c.if-in_range.true in
     let w = passes a.meta.now laid fit (λ k. omega (arith, c.type_inv.meta k)) a.i one in
-    record { there = rw (g.firsts a.i one) w.within }
+    record { there = rw (g.places a.i one) w.within }
 
 pub apply_update-requires : goal.apply_update-requires
 apply_update-requires c =
@@ -25,5 +25,5 @@ apply_update-requires c =
     let laid = sym g.fits ∙ c.if-l.true in
     let fit = sym c.in_range.ensures ∙ c.if-in_range.true in (
       omega arith,
-      rw (g.firsts a.i one) (passes m laid fit (λ k. omega (arith, c.type_inv.meta k)) a.i one),
+      rw (g.places a.i one) (passes m laid fit (λ k. omega (arith, c.type_inv.meta k)) a.i one),
     )

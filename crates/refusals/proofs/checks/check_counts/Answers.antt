@@ -8,7 +8,7 @@ use Rattle.records.specs.Laid.{count}
 use Rattle.refusals.specs.FirstFound.{matched}
 use Rattle.refusals.proofs.Sent.{counts_stop, counts_go, counts_end}
 use Rattle.refusals.proofs.checks.check_counts.Goals as goal
-use Rattle.refusals.proofs.checks.check_counts.Goals.{then-is+in_ok-check_match, else-is}
+use Rattle.refusals.proofs.checks.check_counts.Goals.{then-eq+in_ok-check_match, else-eq}
 
 pub returns-in_err-check_match : goal.returns-in_err-check_match
 returns-in_err-check_match c =
@@ -19,7 +19,7 @@ returns-in_err-check_match c =
     let p = err_from_is_err_and c.from_residual.result c.from_residual.ensures.1 in
     let h = ap (λ (x : Header). x.objects - x.bed_or_isf) c.header.ensures in
     rw (p.1, p.2) (counts_stop s.meta.now s.objects s.t.0 i b c.loop-i.invariant c.in_err-check_match.field-0.0
-    (rw (← g.offsets i b, ← g.firsts i b, ← c.is.ensures, c.if-is.true)
+    (rw (← g.offsets i b, ← g.places i b, ← c.eq.ensures, c.if-eq.true)
     (c.in_err-check_match.ensures ∙ ap (λ (n : ℕ). matched n s.objects) (c.dynamic.ensures ∙ h))))
 
 pub loop-i-preserved : goal.loop-i-preserved
@@ -29,12 +29,12 @@ loop-i-preserved c =
     let g = c.requires.0 in
     let b : i < count s.meta.now = omega (arith, c.loop-i-test.true, g.counted) in
     counts_go s.meta.now s.objects s.t.0 i b c.loop-i.invariant
-    (elim c.if-is.branch [
-      | then-is+in_ok-check_match w ↦
+    (elim c.if-eq.branch [
+      | then-eq+in_ok-check_match w ↦
           let h = ap (λ (x : Header). x.objects - x.bed_or_isf) w.header.ensures in
-          rw (← g.offsets i b, ← g.firsts i b, ← c.is.ensures, w.if-is.true)
+          rw (← g.offsets i b, ← g.places i b, ← c.eq.ensures, w.if-eq.true)
           (w.in_ok-check_match.ensures ∙ ap (λ (n : ℕ). matched n s.objects) (w.dynamic.ensures ∙ h))
-      | else-is w ↦ rw (← g.offsets i b, ← c.is.ensures, w.if-is.false) refl
+      | else-eq w ↦ rw (← g.offsets i b, ← c.eq.ensures, w.if-eq.false) refl
     ])
 
 pub returns : goal.returns

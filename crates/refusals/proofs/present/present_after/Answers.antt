@@ -5,7 +5,7 @@ use native.Mathlib.Omega.{arith}
 use Rattle.records.specs.Laid.{count}
 use Rattle.refusals.proofs.Sent.{shape_go, shape_end}
 use Rattle.refusals.proofs.present.present_after.Goals as goal
-use Rattle.refusals.proofs.present.present_after.Goals.{then-is, else-is}
+use Rattle.refusals.proofs.present.present_after.Goals.{then-eq, else-eq}
 
 pub loop-i-preserved : goal.loop-i-preserved
 loop-i-preserved c =
@@ -14,13 +14,13 @@ loop-i-preserved c =
     let g = c.requires.0 in
     let q = c.loop-i.present in
     let b : i < count s.meta.now = omega (arith, c.loop-i-test.true, g.counted) in
-    let go = shape_go s.meta.now s.t.0 s.p i q c.if-is.present b c.loop-i.invariant.0 in
-    elim c.if-is.branch [
-      | then-is w ↦ (
-        go (rw (w.present-is, ← g.offsets i b, ← g.firsts i b, ← c.is.ensures, w.if-is.true) w.present_said-present.ensures.0),
+    let go = shape_go s.meta.now s.t.0 s.p i q c.if-eq.present b c.loop-i.invariant.0 in
+    elim c.if-eq.branch [
+      | then-eq w ↦ (
+        go (rw (w.present-is, ← g.offsets i b, ← g.places i b, ← c.eq.ensures, w.if-eq.true) w.present_said-present.ensures.0),
         rw w.present-is w.present_said-present.ensures.1,
       )
-      | else-is w ↦ (go (rw (w.present-is, ← g.offsets i b, ← c.is.ensures, w.if-is.false) refl), rw w.present-is c.loop-i.invariant.1)
+      | else-eq w ↦ (go (rw (w.present-is, ← g.offsets i b, ← c.eq.ensures, w.if-eq.false) refl), rw w.present-is c.loop-i.invariant.1)
     ]
 
 pub returns : goal.returns
