@@ -1,7 +1,7 @@
 // Samples counted from the stream's start and from a frame's start: two types that only the frame's own start joins (`at`). `==`, `<` and `<=` compare two of one type as their numbers.
 #![tactic(auto)]
 
-ghost use Rattle.std.specs.Prelude.{◌≡◌, ◌+◌, ◌-◌, ◌≤◌, eqb, leb, ltb};
+ghost use Rattle.std.specs.Prelude.{◌≡◌, ◌+◌, ◌-◌, ◌≤◌, leb};
 
 // A sample counted from the stream's start.
 #[repr(C)]
@@ -33,19 +33,6 @@ impl StreamSample {
         StreamSample(self.0 + samples as u64)
     }
 
-    pub fn is_before(self, other: StreamSample) -> bool
-        ensures { result ≡ ltb self.0 other.0 }
-    {
-        self.0 < other.0
-    }
-
-    // Whether it is the other or before it.
-    pub fn is_up_to(self, other: StreamSample) -> bool
-        ensures { result ≡ leb self.0 other.0 }
-    {
-        self.0 <= other.0
-    }
-
     // The samples from the other on, plus 2^47: a difference that may be negative, as ramps are kept.
     pub fn past(self, other: StreamSample) -> u64
         requires { (self.0 ≤ 2199023255552) × (other.0 ≤ 2199023255552) }
@@ -69,18 +56,6 @@ impl FrameOffset {
         ensures { result.0 ≡ self.0 + samples }
     {
         FrameOffset(self.0 + samples)
-    }
-
-    pub fn is(self, other: FrameOffset) -> bool
-        ensures { result ≡ eqb self.0 other.0 }
-    {
-        self.0 == other.0
-    }
-
-    pub fn is_before(self, other: FrameOffset) -> bool
-        ensures { result ≡ ltb self.0 other.0 }
-    {
-        self.0 < other.0
     }
 
     // The samples from here up to an end.

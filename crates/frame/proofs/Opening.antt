@@ -1,4 +1,4 @@
--- Whether samples are left, and the length of a turn. Assumes nothing.
+-- The length of a turn. Assumes nothing.
 use borrow.Author.Rules.{rules}
 use Rattle.std.specs.Ordering.{is_lt, nat_cmp}
 use Prim.Native.Nat.{ℕ, ◌+◌, ◌-◌, ◌≤◌, ◌<◌}
@@ -9,14 +9,6 @@ use lib.Dec.{ltb}
 use borrow.Author.Tests.{ltb-true, ltb-false}
 use Rattle.frame.specs.Loop.{run_length}
 use Rattle.std.specs.Prelude.{min}
-
--- ---- whether samples are left
-
-pub more_left : (t end : ℕ) (b : Bool) → b ≡ is_lt (nat_cmp t end) → b ≡ true → t < end
-more_left t end b e f = search rules
-
-pub none_left : (t end : ℕ) (b : Bool) → b ≡ is_lt (nat_cmp t end) → b ≡ false → end ≤ t
-none_left t end b e f = search rules
 
 -- ---- the length of a turn
 

@@ -45,7 +45,7 @@ fn check_walk(
 {
     let mut present = start;
     let mut t = START;
-    while t.is_before(end) {
+    while t < end {
         check_counts(meta, l, t, objects)?;
         present = present_after(present, meta, l, t);
         check_beds(present, codes)?;

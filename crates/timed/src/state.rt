@@ -79,13 +79,3 @@ pub struct MetadataRendererState {
     pub states: [ElementRendererState; 2],
     pub sources: [DynamicSourceState; 16],
 }
-
-// How many objects are dynamic.
-pub fn dynamic(objects: usize, isf: usize) -> usize
-    ensures { result ≡ objects - isf }
-{
-    if isf < objects {
-        return objects - isf;
-    }
-    0
-}

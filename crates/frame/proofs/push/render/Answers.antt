@@ -25,7 +25,7 @@ use Rattle.chunk.specs.ChunkRows.{Laid}
 use Rattle.frame.specs.Turn.{CanBegin}
 use Rattle.rendering.proofs.Theorems.{can_start, slotted_after, none_applied, slot_rests, slot_changes_nothing}
 use Rattle.frame.proofs.Running.{Taken, takes, starts_at, is_rate, Running, opens, can_begin, end_above, few, Turning, turn_some, turn_within, turn_passes}
-use Rattle.frame.proofs.Opening.{more_left, none_left}
+use Rattle.clock.proofs.Before.{more_left, none_left}
 use Rattle.frame.proofs.Running.{turn_runs, turn_skips, rendered}
 use Rattle.frame.proofs.ChunkOnBlock.{can_give_rows, can_give, passes_on, passes_given, passes_whole}
 use Rattle.chunk.proofs.Theorems.{fit_all, as_laid}

@@ -6,7 +6,7 @@ use Rattle.std.proofs.lemmas.Result.{err_from_is_err_and}
 use mathlib.Core.List.{List}
 use native.Mathlib.Omega.{arith}
 use native.Mathlib.Numerals.{unary_clauses}
-use borrow.Author.Tests.{ltb-true}
+use Rattle.clock.proofs.Before.{more_left}
 use Rattle.records.specs.LayoutAnswers.{offset_at}
 use Rattle.records.specs.declared.layout.Layout.{Layout}
 use Rattle.records.proofs.Theorems.{next_within, next_above}
@@ -45,7 +45,7 @@ returns-in_err-check_counts c =
     let a = c.args in
     let l = c.loop-l in
     let w = walking a.meta.now a.l a.objects a.codes.now a.end.0 in
-    let below = ltb-true _ _ (sym c.is_before.ensures ∙ c.loop-l-test.true) in
+    let below = more_left _ _ _ c.lt.ensures c.loop-l-test.true in
     let p = err_from_is_err_and c.from_residual.result c.from_residual.ensures.1 in
     rw (p.1, p.2) (chain_stops (counted_at w l.t.0) _ _ (turn w l.t.0 l.present _ below l.invariant.2) c.in_err-check_counts.field-0.0 (c.in_err-check_counts.ensures.is w.codes))
 
@@ -55,7 +55,7 @@ returns-in_err-check_beds c =
     let l = c.loop-l in
     let w = walking a.meta.now a.l a.objects a.codes.now a.end.0 in
     let q = c.present_after-present in
-    let below = ltb-true _ _ (sym c.is_before.ensures ∙ c.loop-l-test.true) in
+    let below = more_left _ _ _ c.lt.ensures c.loop-l-test.true in
     let now = no_counts w l.t.0 l.present _ below l.invariant.2 c.in_ok-check_counts.ensures q.result q.ensures in
     let p = err_from_is_err_and c.from_residual-in_err-check_beds.result c.from_residual-in_err-check_beds.ensures.1 in
     rw (p.1, p.2) (chain_stops (mixed w (present_shape q.result)) _ _ now c.in_err-check_beds.field-0.0 c.in_err-check_beds.ensures)
@@ -64,7 +64,7 @@ pub loop-l-smaller : goal.loop-l-smaller
 loop-l-smaller c =
     let a = c.args in
     let t = c.loop-l.t.0 in
-    let b = ltb-true _ _ (sym c.is_before.ensures ∙ c.loop-l-test.true) in
+    let b = more_left _ _ _ c.lt.ensures c.loop-l-test.true in
     let n : t < c.next_offset-t.result.0 = rw c.next_offset-t.ensures (next_above (offset_at a.l) t a.end.0 a.l.count b) in
     omega arith
 
@@ -76,7 +76,7 @@ loop-l-preserved c =
     let w = walking a.meta.now a.l a.objects a.codes.now a.end.0 in
     let q = c.present_after-present in
     let s = present_shape q.result in
-    let below = ltb-true _ _ (sym c.is_before.ensures ∙ c.loop-l-test.true) in
+    let below = more_left _ _ _ c.lt.ensures c.loop-l-test.true in
     let now = no_counts w t l.present _ below l.invariant.2 c.in_ok-check_counts.ensures q.result q.ensures in
     let clear = c.in_ok-check_beds.ensures in (
       rw c.next_offset-t.ensures (next_within (offset_at w.layout) t w.end w.layout.count),
