@@ -4,8 +4,8 @@ use Rattle.std.specs.Prelude.{ℕ, zero, suc, ◌+◌, ◌-◌, ◌*◌, ◌≤�
 use Rattle.formats.specs.Areas.{row_count, row_places, row_bytes, places_bytes}
 pub use Rattle.words.specs.Words.{floats_at, with_floats}
 use Rattle.limiter.specs.Limiter.{block_gain, scaled_block, grown}
-use Rattle.limiter.specs.Meters.{Meters, block_meters}
-use Rattle.limiter.specs.declared.Limiter.{Limiter}
+use Rattle.limiter.specs.Meters.{block_meters}
+use Rattle.limiter.specs.declared.Limited.{Limited}
 
 -- ---- as floats: a row of places for each channel, of which the first n are used
 
@@ -41,7 +41,7 @@ pub record Room (places : List ℕ) (n rate : ℕ) (out : List ℕ) (step to : �
   pub output : row_count * step ≤ length out
 
 -- what it gives, for a block of n samples at a rate: from the gain g, the places and the output to the limiter after the block, the block's meters and the output
-pub record Given (g : Float) (n rate : ℕ) (places : List ℕ) (step at : ℕ) (out : List ℕ) (l : Limiter) (m : Meters) (out' : List ℕ) : Type 0 where
-  pub gain : l.gain ≡ grown n rate (block_gain g (channels_at row_count n places 0))
-  pub meters : m ≡ block_meters g (channels_at row_count n places 0)
+pub record Given (g : Float) (n rate : ℕ) (places : List ℕ) (step at : ℕ) (out : List ℕ) (r : Limited) (out' : List ℕ) : Type 0 where
+  pub gain : r.limiter.gain ≡ grown n rate (block_gain g (channels_at row_count n places 0))
+  pub meters : r.meters ≡ block_meters g (channels_at row_count n places 0)
   pub samples : out' ≡ with_channels (scaled_block (block_gain g (channels_at row_count n places 0)) (channels_at row_count n places 0)) step at out

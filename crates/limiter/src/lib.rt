@@ -23,7 +23,15 @@ pub struct Limiter {
     pub gain: f32,
 }
 
+// The limiter after a block, and what it met there.
+#[derive(Clone, Copy)]
+pub struct Limited {
+    pub limiter: Limiter,
+    pub meters: Meters,
+}
+
 // The maximum of a level and the size of a sample: a maximum instruction, since a level is no NaN. `ieee::max` tests for one.
+// The level is said in the contract: a type of levels would wrap and unwrap each of the four lanes at each comparison.
 fn raise(max: f32, sample: f32) -> f32
     requires { Level max }
     ensures { (result ≡ larger max (absolute sample)) × Level result }
@@ -77,14 +85,15 @@ impl Limiter {
         Limiter { gain: 1.0 }
     }
 
-    // Lowered for a block of this peak.
+    // The limiter that scales a block of this peak.
     #[tactic(auto, using(crate::proofs::Lowering::lowered_above, crate::proofs::Lowering::lowered_below))]
-    pub fn lower(&mut self, peak: f32)
-        ensures { self.new.gain ≡ lowered peak self.old.gain }
+    pub fn lower(self, peak: f32) -> Self
+        ensures { result.gain ≡ lowered peak self.gain }
     {
         if peak * self.gain > 1.0 {
-            self.gain = 0.9 / peak;
+            return Limiter { gain: 0.9 / peak };
         }
+        self
     }
 
     // What is shown of a block of this peak that this limiter scales.
@@ -97,37 +106,40 @@ impl Limiter {
         }
     }
 
-    // Grown after a block of this length.
-    pub fn grow(&mut self, samples: u32, rate: u32)
+    // The limiter after a block of this length.
+    pub fn grow(self, samples: u32, rate: u32) -> Self
         requires { (samples ≤ 16777216) × (rate ≤ 16777216) }
-        ensures { self.new.gain ≡ grown samples rate self.old.gain }
+        ensures { result.gain ≡ grown samples rate self.gain }
     {
-        self.gain += samples as f32 / rate as f32;
-        if self.gain > 1.0 {
-            self.gain = 1.0;
+        let gain = self.gain + samples as f32 / rate as f32;
+        if gain > 1.0 {
+            return Limiter { gain: 1.0 };
         }
+        Limiter { gain }
     }
 
-    // One block from the places of a state block to the output, channel c at `to` + c x `step`; and what was met there.
+    // One block from the places of a state block to the output, channel c at `to` + c x `step`.
     pub fn apply_output_limiter_block(
-        &mut self,
+        self,
         places: &[u8],
         samples: usize,
         rate: u32,
         out: &mut [u8],
         step: usize,
         to: usize,
-    ) -> Meters
+    ) -> Limited
         requires { Room places.now samples rate out.old step to }
-        ensures { Given self.old.gain samples rate places.now step to out.old self.new result out.new }
+        ensures { Given self.gain samples rate places.now step to out.old result out.new }
     {
         let mut block = [0.0f32; areas::PLACE_COUNT];
         places::load_block(places, samples, &mut block);
         let peak = block_peak(&block, samples);
-        self.lower(peak);
-        let meters = self.meters(peak);
-        places::store_block(&block, samples, self.gain, out, step, to);
-        self.grow(samples as u32, rate);
-        meters
+        let scaling = self.lower(peak);
+        places::store_block(&block, samples, scaling.gain, out, step, to);
+        let next = scaling.grow(samples as u32, rate);
+        Limited {
+            limiter: next,
+            meters: scaling.meters(peak),
+        }
     }
 }

@@ -12,30 +12,31 @@ pub struct Meters {
 }
 
 impl Meters {
-    // Before any block: a NaN is no gain yet.
+    // Before any block. A NaN and no Option is no gain yet: `ieee::min` passes over it, as document 02 passes over NaNs of a handed-in block.
     pub fn unmet() -> Self
         ensures { result ≡ unmet }
     {
-        let zero: f32 = 0.0;
         Meters {
-            peak: zero,
-            gain: zero / zero,
+            peak: 0.0,
+            gain: f32::NAN,
         }
     }
 
     // With a block more. Of equal ones, as the two zeros are, the earlier stays.
-    pub fn meet(&mut self, block: Meters)
-        ensures { self.new ≡ meets self.old block }
+    pub fn meet(self, block: Meters) -> Self
+        ensures { result ≡ meets self block }
     {
-        self.peak = ieee::max(self.peak, block.peak);
-        self.gain = ieee::min(self.gain, block.gain);
+        Meters {
+            peak: ieee::max(self.peak, block.peak),
+            gain: ieee::min(self.gain, block.gain),
+        }
     }
 
     // As a call answers them: with no gain but NaNs, 1.
     pub fn shown(self) -> Self
         ensures { result ≡ shown self }
     {
-        if self.gain != self.gain {
+        if self.gain.is_nan() {
             return Meters { gain: 1.0, ..self };
         }
         self

@@ -25,6 +25,13 @@ pub struct BiquadLowpassState {
     pub y2: f32,
 }
 
+// A sample filtered, and the filter for the sample after it.
+#[derive(Clone, Copy)]
+pub struct Filtered {
+    pub sample: f32,
+    pub filter: BiquadLowpassState,
+}
+
 impl BiquadLowpassState {
     // The filter of a listed rate, with nothing in its memory.
     pub fn new(rate: u32) -> Self
@@ -46,28 +53,33 @@ impl BiquadLowpassState {
     }
 
     // One sample.
-    pub fn process(&mut self, current: f32) -> f32
-        ensures { (result ≡ output self.old current) × (self.new ≡ next self.old current) }
+    pub fn process(self, current: f32) -> Filtered
+        ensures { (result.sample ≡ output self current) × (result.filter ≡ next self current) }
     {
         let sample = self.b2 * self.x2 + self.b1 * self.x1 + self.b0 * current
             - self.a1 * self.y1
             - self.a2 * self.y2;
-        *self = BiquadLowpassState {
-            x1: current,
-            x2: self.x1,
-            y1: sample,
-            y2: self.y1,
-            ..*self
-        };
-        sample
+        Filtered {
+            sample,
+            filter: BiquadLowpassState {
+                x1: current,
+                x2: self.x1,
+                y1: sample,
+                y2: self.y1,
+                ..self
+            },
+        }
     }
 
     // All samples, each replaced by its filtered value.
-    pub fn process_in_place(&mut self, samples: &mut [f32])
-        ensures { (self.new ≡ after_all self.old samples.old) × (samples.new ≡ filtered self.old samples.old) }
+    pub fn process_in_place(mut self, samples: &mut [f32]) -> BiquadLowpassState
+        ensures { (result ≡ after_all self samples.old) × (samples.new ≡ filtered self samples.old) }
     {
         for i in 0..samples.len() {
-            samples[i] = self.process(samples[i]);
+            let done = self.process(samples[i]);
+            samples[i] = done.sample;
+            self = done.filter;
         }
+        self
     }
 }

@@ -6,9 +6,8 @@ use Rattle.angles.specs.declared.Turn.{Turn}
 use Rattle.angles.specs.declared.filter.Coefficients.{Coefficients}
 use Rattle.clock.specs.Start.{frame_start}
 use Rattle.limiter.specs.Meters.{block_meters}
-use Rattle.limiter.specs.declared.meters.Meters.{Meters}
 use Rattle.limiter.specs.ChannelPlaces.{channels_at}
-use Rattle.limiter.specs.declared.Limiter.{Limiter}
+use Rattle.limiter.specs.declared.Limited.{Limited}
 use Rattle.fields.specs.Block.{block_of}
 use Rattle.probes.specs.declared.probe_records.BlockTimes.{BlockTimes}
 use Rattle.fields.specs.declared.object.Info.{Info}
@@ -27,13 +26,9 @@ abbrev pub has_room : List ℕ → ℕ → ℕ → List ℕ → ℕ → ℕ → 
 has_room places n rate out step to =
     eqb (length places) 3072 && leb n 64 && leb rate 16777216 && leb (12 * step) (length out) && leb (to + 4 * n) step
 
--- the limiter with the next gain h
-abbrev pub with_gain : Float → Limiter
-with_gain h = record { gain = h }
-
--- the meters of the block of n samples that met g, which the probe does not answer
-abbrev pub met_by : Float → ℕ → List ℕ → Meters
-met_by g n places = block_meters g (channels_at 12 n places 0)
+-- the limiter with the next gain h, and the meters of the block of n samples that met g, which the probe does not answer
+abbrev pub with_gain : Float → Float → ℕ → List ℕ → Limited
+with_gain h g n places = record { limiter = record { gain = h }; meters = block_meters g (channels_at 12 n places 0) }
 
 -- ---- zeros
 

@@ -1,7 +1,7 @@
 ghost use Rattle.std.specs.Prelude.{◌≡◌, cond, ◌*◌, eqb, length};
 ghost use Rattle.limiter.specs.Limiter.{peak, scaled};
 ghost use Rattle.limiter.specs.ChannelPlaces.{with_floats, Given};
-ghost use Rattle.probes.specs.Taken.{has_room, met_by, with_gain};
+ghost use Rattle.probes.specs.Taken.{has_room, with_gain};
 
 use limiter::Limiter;
 
@@ -35,14 +35,13 @@ pub extern "C" fn probe_apply_output_limiter_block(
     to: usize,
 ) -> f32
     ensures { cond (has_room places.now samples rate out.old step to)
-        (Given gain samples rate places.now step to out.old (with_gain result) (met_by gain samples places.now) out.new)
+        (Given gain samples rate places.now step to out.old (with_gain result gain samples places.now) out.new)
         ((result ≡ gain) × (out.new ≡ out.old)) }
 {
     let known = places.len() == 3072 && samples <= 64 && rate <= 16777216;
     if !(known && step <= out.len() / 12 && to <= step && 4 * samples <= step - to) {
         return gain;
     }
-    let mut limiter = Limiter { gain };
-    limiter.apply_output_limiter_block(places, samples, rate, out, step, to);
-    limiter.gain
+    let done = Limiter { gain }.apply_output_limiter_block(places, samples, rate, out, step, to);
+    done.limiter.gain
 }

@@ -33,7 +33,5 @@ pub extern "C" fn probe_lowpass_process_in_place(
 ) -> BiquadLowpassState
     ensures { (result ≡ after_all filter samples.old) × (samples.new ≡ filtered filter samples.old) }
 {
-    let mut filter = filter;
-    filter.process_in_place(samples);
-    filter
+    filter.process_in_place(samples)
 }

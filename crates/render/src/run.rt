@@ -30,7 +30,7 @@ fn filter_bass(rows: &mut [f32], filter: &mut BiquadLowpassState, k: usize)
     ensures { (filter.new ≡ after_all filter.old (take k (drop 192 rows.old))) × (rows.new ≡ on_part (filtered filter.old) 192 k rows.old) }
 {
     let end = BASS + k;
-    filter.process_in_place(&mut rows[BASS..end]);
+    *filter = filter.process_in_place(&mut rows[BASS..end]);
 }
 
 // `mix_run`, and then the low-pass.

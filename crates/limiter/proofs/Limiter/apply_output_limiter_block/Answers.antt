@@ -11,7 +11,7 @@ use Rattle.limiter.proofs.Limiter.apply_output_limiter_block.Goals as goal
 pub returns : goal.returns
 returns c =
     let a = c.args in
-    let low = c.lower in
+    let low = c.lower-scaling in
     let top = c.block_peak-peak in
     let load = c.load_block in
     let n = a.samples in
@@ -19,10 +19,10 @@ returns c =
     let cs = channels_at 12 n s 0 in
     let ls = channels_at_lengths 12 n s 0 in
     let e : channels 12 n load.new.block ≡ cs = ap (channels 12 n) load.ensures ∙ channels_laid 12 n cs _ ls.0 ls.1 c.requires.samples (lit≤ tt) in
-    let f : low.new.self.gain ≡ block_gain a.self.now.gain cs = low.ensures ∙ ap (λ (p : Float). lowered p a.self.now.gain) (top.ensures ∙ ap (block_peak 0·0) e) in
+    let f : low.result.gain ≡ block_gain a.self.gain cs = low.ensures ∙ ap (λ (p : Float). lowered p a.self.gain) (top.ensures ∙ ap (block_peak 0·0) e) in
     record {
-      gain = c.grow.ensures ∙ ap (grown n a.rate) f;
-      meters = λ i. record { peak = (c.meters-meters.ensures.0 ∙ top.ensures ∙ ap (block_peak 0·0) e) i; gain = (c.meters-meters.ensures.1 ∙ f) i };
-      samples = c.store_block.ensures ∙ ap (λ (ds : List (List Float)). with_channels (scaled_block low.new.self.gain ds) a.step a.to a.out.now) e
+      gain = c.grow-next.ensures ∙ ap (grown n a.rate) f;
+      meters = λ i. record { peak = (c.meters.ensures.0 ∙ top.ensures ∙ ap (block_peak 0·0) e) i; gain = (c.meters.ensures.1 ∙ f) i };
+      samples = c.store_block.ensures ∙ ap (λ (ds : List (List Float)). with_channels (scaled_block low.result.gain ds) a.step a.to a.out.now) e
           ∙ ap (λ (g : Float). with_channels (scaled_block g cs) a.step a.to a.out.now) f;
     }

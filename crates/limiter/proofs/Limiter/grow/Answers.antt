@@ -7,22 +7,22 @@ use Rattle.ieee.proofs.Constants.{in_float_is}
 use Rattle.limiter.specs.Limiter.{1·0, grown}
 use Rattle.limiter.proofs.Limiter.grow.Goals as goal
 
-pub int_to_float-self : goal.int_to_float-self
-int_to_float-self c = in_float_is _ c.requires.0
+pub int_to_float-gain : goal.int_to_float-gain
+int_to_float-gain c = in_float_is _ c.requires.0
 
-pub int_to_float-self-2 : goal.int_to_float-self-2
-int_to_float-self-2 c = in_float_is _ c.requires.1
+pub int_to_float-gain-2 : goal.int_to_float-gain-2
+int_to_float-gain-2 c = in_float_is _ c.requires.1
 
-pub returns-then-self : goal.returns-then-self
+pub returns-then-gain : goal.returns-then-gain
 unfolding of_bits grown
-returns-then-self c =
+returns-then-gain c =
     let a = c.args in
-    let h = add binary32 a.self.now.gain (div binary32 (of_int binary32 (pos a.samples)) (of_int binary32 (pos a.rate))) in
-    sym (ap (λ (b : Bool). cond b 1·0 h) c.if-self.true)
+    let h = add binary32 a.self.gain (div binary32 (of_int binary32 (pos a.samples)) (of_int binary32 (pos a.rate))) in
+    sym (ap (λ (b : Bool). cond b 1·0 h) c.if-gain.true)
 
-pub returns-else-self : goal.returns-else-self
+pub returns : goal.returns
 unfolding of_bits grown
-returns-else-self c =
+returns c =
     let a = c.args in
-    let h = add binary32 a.self.now.gain (div binary32 (of_int binary32 (pos a.samples)) (of_int binary32 (pos a.rate))) in
-    sym (ap (λ (b : Bool). cond b 1·0 h) c.if-self.false)
+    let h = add binary32 a.self.gain (div binary32 (of_int binary32 (pos a.samples)) (of_int binary32 (pos a.rate))) in
+    sym (ap (λ (b : Bool). cond b 1·0 h) c.if-gain.false)

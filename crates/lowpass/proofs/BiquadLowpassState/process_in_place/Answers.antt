@@ -11,7 +11,7 @@ use Rattle.lowpass.proofs.BiquadLowpassState.process_in_place.Goals as goal
 pub loop-i-preserved : goal.loop-i-preserved
 loop-i-preserved c =
     let l = c.loop-i in
-    let e = c.process.ensures in
+    let e = c.process-done.ensures in
     let h : l.i < length l.samples = omega arith in
     (rw e.1 (state_more l.self l.samples l.i h _ ∙ l.invariant.0), rw (e.0, e.1) (list_more l.self l.samples l.i h ∙ l.invariant.1))
 

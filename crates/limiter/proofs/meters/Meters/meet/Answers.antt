@@ -2,4 +2,4 @@
 use Rattle.limiter.proofs.meters.Meters.meet.Goals as goal
 
 pub returns : goal.returns
-returns c = λ i. record { peak = c.max-self.ensures i; gain = c.min-self.ensures i }
+returns c = λ i. record { peak = c.max.ensures i; gain = c.min.ensures i }
