@@ -7,9 +7,9 @@
 pub mod meters;
 pub mod places;
 
-ghost use Rattle.std.specs.Prelude.{◌≡◌, ◌+◌, ◌*◌, ◌≤◌, length};
+ghost use Rattle.std.specs.Prelude.{◌≡◌, ◌≤◌};
 ghost use Rattle.ieee.specs.Small.{absolute, larger};
-ghost use Rattle.formats.specs.Areas.{row_count, row_places, place_count};
+ghost use Rattle.formats.specs.Areas.{row_count, row_places};
 ghost use Rattle.limiter.specs.Level.{Level};
 ghost use Rattle.limiter.specs.Limiter.{0·0, 1·0, peak_from, peak, lowered, grown};
 ghost use Rattle.limiter.specs.Limiter.{block_peak};
@@ -31,7 +31,7 @@ pub struct Limited {
 }
 
 // The maximum of a level and the size of a sample: a maximum instruction, since a level is no NaN. `ieee::max` tests for one.
-// The level is said in the contract: a type of levels would wrap and unwrap each of the four lanes at each comparison.
+// That `max` is one stands in the contract: a type of levels would wrap and unwrap each of the four lanes at each comparison.
 fn raise(max: f32, sample: f32) -> f32
     requires { Level max }
     ensures { (result ≡ larger max (absolute sample)) × Level result }
@@ -66,8 +66,8 @@ pub fn max_abs_slice(samples: &[f32]) -> f32
 }
 
 // The peak of a block: twelve channels of 64 places, `samples` of each in use.
-fn block_peak(block: &[f32], samples: usize) -> f32
-    requires { (length block.now ≡ place_count) × (samples ≤ row_places) }
+fn block_peak(block: &[f32; areas::PLACE_COUNT], samples: usize) -> f32
+    requires { samples ≤ row_places }
     ensures { result ≡ block_peak 0·0 (channels row_count samples block.now) }
 {
     let mut max: f32 = 0.0;
@@ -119,6 +119,7 @@ impl Limiter {
     }
 
     // One block from the places of a state block to the output, channel c at `to` + c x `step`.
+    // `out`, `step` and `to` go together here and in `store_block` alone: a type of them would be made and taken apart in one line.
     pub fn apply_output_limiter_block(
         self,
         places: &[u8],

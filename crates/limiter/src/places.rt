@@ -30,8 +30,8 @@ pub fn scale_slice_into(samples: &[f32], gain: f32, out: &mut [u8])
 }
 
 // The places of a state block, `samples` of each channel, in a block of floats.
-pub fn load_block(places: &[u8], samples: usize, block: &mut [f32])
-    requires { (length places.now ≡ places_bytes) × (length block.old ≡ place_count) × (samples ≤ row_places) }
+pub fn load_block(places: &[u8], samples: usize, block: &mut [f32; areas::PLACE_COUNT])
+    requires { (length places.now ≡ places_bytes) × (samples ≤ row_places) }
     ensures { block.new ≡ overlaid (channels_at row_count samples places.now 0) block.old }
 {
     for row in 0..areas::ROW_COUNT {
@@ -40,7 +40,7 @@ pub fn load_block(places: &[u8], samples: usize, block: &mut [f32])
     }
 }
 
-// The block times the gain, channel c at `to` + c x `step`.
+// The block times the gain, channel c at `to` + c x `step`. The block is a slice: `rendering` has its rows as one, and would have to test their number.
 pub fn store_block(block: &[f32], samples: usize, gain: f32, out: &mut [u8], step: usize, to: usize)
     requires { (length block.now ≡ place_count) × (samples ≤ row_places) × (to + 4 * samples ≤ step) × (row_count * step ≤ length out.old) }
     ensures { out.new ≡ with_channels (scaled_block gain (channels row_count samples block.now)) step to out.old }

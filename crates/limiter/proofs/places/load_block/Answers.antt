@@ -8,7 +8,7 @@ use Rattle.limiter.proofs.Blocks.{part_length, load_next, load_end}
 use Rattle.limiter.proofs.places.load_block.Goals as goal
 
 pub loop-row-init : goal.loop-row-init
-loop-row-init c = refl
+loop-row-init c = (c.told-block, refl)
 
 pub loop-row-preserved : goal.loop-row-preserved
 loop-row-preserved c =
@@ -20,9 +20,10 @@ loop-row-preserved c =
     let e : z.new.samples ≡ floats_at a.places.now (4 * at) a.samples = z.ensures ∙ ap (floats_at a.places.now (4 * at)) (part_length a.samples at l.block h) in
     let k : 12 - (l.row + 1) ≡ 12 - l.row - 1 = omega arith in
     let j : 64 * (l.row + 1) ≡ at + 64 = omega arith in
-    rw (k, j) ((load_next a.places.now (12 - l.row) a.samples at l.block z.new.samples (omega arith) (omega arith) (omega arith) e).1 ∙ l.invariant)
+    let n = load_next a.places.now (12 - l.row) a.samples at l.block z.new.samples (omega arith) (omega arith) (omega arith) e in
+    (n.0 ∙ l.invariant.0, rw (k, j) (n.1 ∙ l.invariant.1))
 
 pub returns : goal.returns
 returns c =
     let l = c.loop-row in
-    load_end c.args.places.now (12 - l.row) c.args.samples (64 * l.row) l.block (omega arith) ∙ l.invariant
+    load_end c.args.places.now (12 - l.row) c.args.samples (64 * l.row) l.block (omega arith) ∙ l.invariant.1
