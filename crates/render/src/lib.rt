@@ -24,7 +24,7 @@ pub struct Input<'a> {
     pub span: Span,
 }
 
-// What sounds in a run: the beds' codes and gains, and the objects. Tables with counts beside them, as in the state: specs can make no scene of lent slices.
+// What sounds in a run: the beds' codes and gains, and the objects. Tables with counts beside them, codes and gains apart, as in the state's block: specs can make no scene of lent slices.
 #[derive(Clone, Copy)]
 pub struct Scene {
     pub codes: [u8; 18],

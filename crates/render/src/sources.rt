@@ -78,7 +78,7 @@ impl Input<'_> {
     }
 
     // The beds in order.
-    pub fn mix_beds(self, rows: &mut [f32], scene: &Scene)
+    pub(crate) fn mix_beds(self, rows: &mut [f32], scene: &Scene)
         requires { Framed self.pcm.now (length self.codes.now) self.span × (length rows.old ≡ place_count) × (scene.now.beds ≤ 18) }
         ensures { rows.new ≡ mixed_beds self.entry.pcm.now self.entry.span self.entry.codes.now (beds_of scene.now.beds scene.now.codes scene.now.gains) rows.old }
     {
@@ -88,7 +88,7 @@ impl Input<'_> {
     }
 
     // The objects in order, fed by the channels behind those of the beds.
-    pub fn mix_sources(self, rows: &mut [f32], scene: &Scene)
+    pub(crate) fn mix_sources(self, rows: &mut [f32], scene: &Scene)
         requires { Framed self.pcm.now (length self.codes.now + scene.now.objects) self.span × (length rows.old ≡ place_count)
             × (length self.codes.now ≤ 18) × (scene.now.objects ≤ 16) }
         ensures { rows.new ≡ mixed_objects self.entry.pcm.now self.entry.span (length self.entry.codes.now) (sources_of scene.now.objects scene.now.sources) rows.old }
