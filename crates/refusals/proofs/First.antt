@@ -25,10 +25,6 @@ failed e t = sym e ∙ t
 pub passed : {b r : Bool} → r ≡ b → r ≡ true → b ≡ true
 passed e t = sym e ∙ t
 
--- a refusal is no `clear`
-pub not_clear : (r : Refusal) → stop_of r ≡ clear → ⊥
-not_clear r e = absurd cc
-
 -- ---- a part f of a chain, and the rest x of it
 
 module _ (f x all : Found) (rest : (f then x) ≡ all) where

@@ -1,4 +1,5 @@
 pub mod First
+pub mod Cleared
 pub mod LowestFirst
 pub mod Sent
 pub mod Walks

@@ -1,8 +1,8 @@
 -- A reader may skip this file: that what a function answers is the first refusal that the rules find (`found`, `early`, `later` of rules/specs). Assumes nothing.
-use Rattle.std.specs.Prelude.{ℕ, ◌≤◌, ◌≡◌, List, eqb, length}
+use Rattle.std.specs.Prelude.{ℕ, ◌≤◌, ◌≡◌, Bool, true, false, List, eqb, length}
 use Rattle.words.specs.Words.{words_at}
 use Rattle.rules.specs.Samples.{State}
-use Rattle.rules.specs.Refusals.{Args, Found, unless, args_of, early, counts_at, shape_at}
+use Rattle.rules.specs.Refusals.{Args, Found, clear, stop, unless, args_of, early, counts_at, shape_at}
 use Rattle.rules.specs.Calls.{found}
 use Rattle.store.specs.declared.renderer.Renderer714.{Renderer714}
 use Rattle.store.specs.Fields.{small_of}
@@ -12,6 +12,13 @@ use Rattle.refusals.specs.RefusalNumbers.{Checked, found_of}
 use Rattle.refusals.specs.PresentShape.{told_of, present_shape}
 use Rattle.refusals.specs.declared.Numbers.{Numbers}
 use Rattle.refusals.specs.declared.present.Present.{Present}
+
+abbrev pub is_none : Found → Bool
+is_none clear = true
+is_none (stop n a b) = false
+
+abbrev pub is_clear : Checked → Bool
+is_clear r = is_none (found_of r)
 
 abbrev pub args_with : List ℕ → List ℕ → List ℕ → List ℕ → Numbers → Args
 args_with pcm meta out codes n = args_of pcm meta out codes n.rate n.samples n.objects n.stride

@@ -18,7 +18,7 @@ use clock::{FrameOffset, START};
 use records::layout::Layout;
 use timed::state::MetadataRendererState;
 
-// 9 and 10.
+// 9 and 10. (d) 0 before the first frame, as in `Renderer714`.
 fn check_start(rate_before: u32, rate: u32, started: bool, updates: usize) -> Result<(), Refusal>
     ensures { found_of result ≡ (unless (eqb rate_before 0 || eqb rate_before rate) 9 rate_before rate then unless (started || not (eqb updates 0)) 10 0 0) }
 {

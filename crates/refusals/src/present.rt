@@ -11,7 +11,7 @@ use records::layout::Layout;
 use timed::state::MetadataRendererState;
 use updates::update::next_codes;
 
-// The shape as a value: the codes past `beds` count for nothing. `started` is no Option: the rules' `Shape` has it beside the counts, and a state not begun has counts too.
+// The shape as a value: the codes past `beds` count for nothing. `started` is no Option: the rules' `Shape` has it beside the counts, and a state not begun has counts too. (d) `beds` beside `codes`, as in the state and in an update: a list would be copied out of these and read once.
 #[derive(Clone, Copy)]
 pub struct Present {
     pub started: bool,
