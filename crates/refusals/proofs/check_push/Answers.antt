@@ -4,7 +4,6 @@ use native.Mathlib.Omega.{arith}
 use mathlib.Core.Path.{◌≡◌, refl, sym, ap, ◌∙◌}
 use mathlib.Core.List.{List, []}
 use lib.ListN.{replicate, length-replicate}
-use Rattle.std.proofs.lemmas.Result.{err_from_is_err_and}
 use Rattle.words.specs.Words.{words_at}
 use Rattle.rules.specs.Refusals.{Args, later, ◌then◌, Found}
 use Rattle.rules.specs.Samples.{State}
@@ -17,6 +16,7 @@ use Rattle.store.specs.Layout.{small_width, assembled, decode}
 use Rattle.updates.proofs.Passed.{passes_all}
 use Rattle.theorem.specs.Instance.{hall}
 use Rattle.refusals.proofs.Loaded.{loaded}
+use Rattle.refusals.proofs.First.{handed_on}
 use Rattle.refusals.proofs.check_push.Goals as goal
 
 -- what comes after 1 to 8, in a state
@@ -31,9 +31,7 @@ pub returns-in_err-check : goal.returns-in_err-check
 returns-in_err-check c b out e l =
     let a = c.args in
     let args = args_with a.pcm.now a.meta.now out a.codes.now a.n in
-    let r = c.in_err-check.field-0.0 in
-    let p = err_from_is_err_and c.from_residual.result c.from_residual.ensures.1 in
-    rw (p.1, p.2)
+    handed_on _ _ c.from_residual.ensures.1
     (ap (λ (f : Found). f then rest args (decode b)) (c.in_err-check.ensures out l (decode b) (at b a.s e)))
 
 pub check-requires-2 : goal.check-requires-2

@@ -2,7 +2,6 @@
 use Prim.Native.Nat.{ℕ}
 use mathlib.Core.Path.{◌≡◌, ap, ◌∙◌}
 use Rattle.std.specs.Prelude.{Ok, Err}
-use Rattle.std.proofs.lemmas.Result.{err_from_is_err_and}
 use mathlib.Core.Bool.{not}
 use mathlib.Core.List.{List}
 use lib.Dec.{eqb}
@@ -15,7 +14,7 @@ use Rattle.theorem.specs.Instance.{shape_of}
 use Rattle.refusals.specs.FirstFound.{IsEleven}
 use Rattle.refusals.specs.PresentShape.{present_shape}
 use Rattle.refusals.specs.declared.Numbers.{Numbers}
-use Rattle.refusals.proofs.First.{chain_stops, chain_passes, unless_stops, unless_passes}
+use Rattle.refusals.proofs.First.{handed_on, chain_stops, chain_passes, unless_stops, unless_passes}
 use Rattle.refusals.proofs.LaterInOrder.{Looked, all, start, counts, present, walked, twelve, later_is, present_is}
 use Rattle.refusals.proofs.later.check.Goals as goal
 
@@ -40,16 +39,14 @@ pub returns-in_err-check_start : goal.returns-in_err-check_start
 returns-in_err-check_start c =
     let a = c.args in
     let x = looked a.meta.now a.l a.codes.now a.n a.rate_before a.state in
-    let p = err_from_is_err_and c.from_residual.result c.from_residual.ensures.1 in
-    rw (p.1, p.2) (chain_stops (start x) _ _ (later_is x c.requires.0) c.in_err-check_start.field-0.0 c.in_err-check_start.ensures)
+    handed_on _ _ c.from_residual.ensures.1 (chain_stops (start x) _ _ (later_is x c.requires.0) c.in_err-check_start.field-0.0 c.in_err-check_start.ensures)
 
 pub returns-in_err-check_counts : goal.returns-in_err-check_counts
 returns-in_err-check_counts c =
     let a = c.args in
     let x = looked a.meta.now a.l a.codes.now a.n a.rate_before a.state in
     let h = begun x c.requires.0 c.in_ok-check_start.ensures in
-    let p = err_from_is_err_and c.from_residual-in_err-check_counts.result c.from_residual-in_err-check_counts.ensures.1 in
-    rw (p.1, p.2) (chain_stops (counts x) _ _ h c.in_err-check_counts.field-0.0 (c.in_err-check_counts.ensures.is x.codes))
+    handed_on _ _ c.from_residual-in_err-check_counts.ensures.1 (chain_stops (counts x) _ _ h c.in_err-check_counts.field-0.0 (c.in_err-check_counts.ensures.is x.codes))
 
 pub returns-then-n-eq0 : goal.returns-then-n-eq0
 returns-then-n-eq0 c =
@@ -65,8 +62,7 @@ returns-in_err-check_objects c =
     let h = some x c.if-n-eq0.false (counted x c.in_ok-check_counts.ensures (begun x c.requires.0 c.in_ok-check_start.ensures)) in
     let r = c.in_err-check_objects.field-0.0 in
     let now = present_is x (Err r) (ap present_shape c.present_of-start.ensures) c.present_after-first.ensures c.in_err-check_objects.ensures in
-    let p = err_from_is_err_and c.from_residual-in_err-check_objects.result c.from_residual-in_err-check_objects.ensures.1 in
-    rw (p.1, p.2) (chain_stops (present x) _ _ h r now)
+    handed_on _ _ c.from_residual-in_err-check_objects.ensures.1 (chain_stops (present x) _ _ h r now)
 
 pub returns : goal.returns
 returns c =

@@ -2,7 +2,6 @@
 use Prim.Native.Nat.{ℕ, suc, ◌<◌}
 use mathlib.Core.Path.{◌≡◌, sym, ap, ◌∙◌}
 use Rattle.std.specs.Prelude.{Ok}
-use Rattle.std.proofs.lemmas.Result.{err_from_is_err_and}
 use mathlib.Core.List.{List}
 use native.Mathlib.Omega.{arith}
 use native.Mathlib.Numerals.{unary_clauses}
@@ -15,7 +14,7 @@ use Rattle.rules.specs.Refusals.{Found, ◌then◌}
 use Rattle.refusals.specs.FirstFound.{IsAfter, IsEleven}
 use Rattle.refusals.specs.PresentShape.{present_shape}
 use Rattle.refusals.specs.declared.present.Present.{Present}
-use Rattle.refusals.proofs.First.{chain_stops, chain_passes}
+use Rattle.refusals.proofs.First.{handed_on, chain_stops, chain_passes}
 use Rattle.refusals.proofs.Walks.{Walking, counted_at, after, mixed, from, walk_step, walk_skips}
 use Rattle.refusals.proofs.later.check_walk.Goals as goal
 
@@ -46,8 +45,7 @@ returns-in_err-check_counts c =
     let l = c.loop-l in
     let w = walking a.meta.now a.l a.objects a.codes.now a.end.0 in
     let below = more_left _ _ _ c.lt.ensures c.loop-l-test.true in
-    let p = err_from_is_err_and c.from_residual.result c.from_residual.ensures.1 in
-    rw (p.1, p.2) (chain_stops (counted_at w l.t.0) _ _ (turn w l.t.0 l.present _ below l.invariant.2) c.in_err-check_counts.field-0.0 (c.in_err-check_counts.ensures.is w.codes))
+    handed_on _ _ c.from_residual.ensures.1 (chain_stops (counted_at w l.t.0) _ _ (turn w l.t.0 l.present _ below l.invariant.2) c.in_err-check_counts.field-0.0 (c.in_err-check_counts.ensures.is w.codes))
 
 pub returns-in_err-check_beds : goal.returns-in_err-check_beds
 returns-in_err-check_beds c =
@@ -57,8 +55,7 @@ returns-in_err-check_beds c =
     let q = c.present_after-present in
     let below = more_left _ _ _ c.lt.ensures c.loop-l-test.true in
     let now = no_counts w l.t.0 l.present _ below l.invariant.2 c.in_ok-check_counts.ensures q.result q.ensures in
-    let p = err_from_is_err_and c.from_residual-in_err-check_beds.result c.from_residual-in_err-check_beds.ensures.1 in
-    rw (p.1, p.2) (chain_stops (mixed w (present_shape q.result)) _ _ now c.in_err-check_beds.field-0.0 c.in_err-check_beds.ensures)
+    handed_on _ _ c.from_residual-in_err-check_beds.ensures.1 (chain_stops (mixed w (present_shape q.result)) _ _ now c.in_err-check_beds.field-0.0 c.in_err-check_beds.ensures)
 
 pub loop-l-smaller : goal.loop-l-smaller
 loop-l-smaller c =
