@@ -77,19 +77,18 @@ pub fn render(
     let stride = n.stride as usize;
     let end = FrameOffset(n.samples);
     let start = idle.renderer.clock.position;
-    let mut renderer = idle.renderer;
-    renderer.open(rate);
-    let mut work = Rendering::of(renderer);
+    let mut work = Rendering::of(idle.renderer.open(rate));
     let mut t = START;
+    // By `while`: how many samples a turn takes is found as it goes.
     while t < end {
         let at = start.at(t);
         if is_sent(l, t) {
-            work.apply_sent(state, meta, l, t, at);
+            work = work.apply_sent(state, meta, l, t, at);
         }
-        if slot_starts(work.renderer.state.initialized, work.renderer.clock.phase) {
-            if !work.renderer.state.rests(work.renderer.clock.start) {
-                work.start_slot(state);
-            }
+        if slot_starts(work.renderer.state.initialized, work.renderer.clock.phase)
+            && !work.renderer.state.rests(work.renderer.clock.start)
+        {
+            work = work.start_slot(state);
         }
         let next = l.next_offset(t, end);
         let k = run_length(
@@ -106,9 +105,9 @@ pub fn render(
             lay(state, &rows, pending, k);
         }
         if k == 64 {
-            work.give_rows(&rows, out, stride);
+            work = work.give_rows(&rows, out, stride);
         } else if work.renderer.pending == 64 {
-            work.give(state, out, stride);
+            work = work.give(state, out, stride);
         }
         t = t.plus(k as u32);
     }

@@ -40,11 +40,11 @@ pub fn drain(s: Renderer714, state: &mut [u8], out: &mut [u8], stride: u32) -> G
     requires { Waiting s state.old out.old stride }
     ensures { Left (made hall block (flush out.old stride) state.old) (given_as result) state.new out.new }
 {
-    let mut work = Rendering::of(s);
-    work.drain(state, out, stride as usize);
-    store::write::save(state, work.renderer);
+    let work = Rendering::of(s);
+    let last = work.drain(state, out, stride as usize);
+    store::write::save(state, last.renderer);
     Given {
-        samples: work.ready,
-        meters: work.meters.shown(),
+        samples: last.ready,
+        meters: last.meters.shown(),
     }
 }

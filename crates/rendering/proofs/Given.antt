@@ -11,7 +11,7 @@ use Rattle.words.specs.Words.{word, float_at, with_float, words_at, with_words}
 use Rattle.limiter.specs.Limiter.{block_gain, scaled, scaled_block, grown}
 use Rattle.limiter.specs.Meters.{block_meters, meets, meets_all}
 use Rattle.limiter.specs.declared.meters.Meters.{Meters}
-use Rattle.limiter.specs.declared.Limiter.{Limiter}
+use Rattle.limiter.specs.declared.Limited.{Limited}
 use Rattle.limiter.specs.ChannelPlaces.{floats_at, with_floats, channels, channels_at, with_channels, Given}
 use Rattle.rules.specs.Parts.{Channels, none, twelve, floats}
 use Rattle.rules.specs.Samples.{limited, metered, gain_after, flushed}
@@ -88,11 +88,11 @@ module _ (f : Channels) (s : List ℕ) (n : ℕ) (e : (c : ℕ) → c < 12 → f
   channels_twelve : channels_at 12 n s 0 ≡ twelve f
   channels_twelve = channels_listed f s n e 12 0 (omega arith) ∙ listed_twelve f
 
-  module _ (stride ready : ℕ) {g : Float} {rate : ℕ} {out : List ℕ} {l : Limiter} {m : Meters} {out' : List ℕ} (given : Given g n rate s (4 * stride) (4 * ready) out l m out') where
-    pub gain_after_is : l.gain ≡ gain_after n rate g f
+  module _ (stride ready : ℕ) {g : Float} {rate : ℕ} {out : List ℕ} {l : Limited} {out' : List ℕ} (given : Given g n rate s (4 * stride) (4 * ready) out l out') where
+    pub gain_after_is : l.limiter.gain ≡ gain_after n rate g f
     gain_after_is = given.gain ∙ ap (λ (cs : List (List Float)). grown n rate (block_gain g cs)) channels_twelve
 
-    pub meters_of : m ∷ [] ≡ metered g f
+    pub meters_of : l.meters ∷ [] ≡ metered g f
     meters_of = ap (λ (m : Meters). m ∷ []) (given.meters ∙ ap (block_meters g) channels_twelve)
 
     pub given_behind : out' ≡ behind ready (limited g f) stride out
@@ -131,9 +131,9 @@ waiting_at n b h l c m =
     ∙ ap (λ (ws : List ℕ). take n (map (of_bits binary32) ws)) (sym (places_row b c m))
 
 -- what `give` leaves
-pub gave : (w : Rendering) (b out : List ℕ) (stride : ℕ) {l : Limiter} {m : Meters} {r : Rendering} {out' : List ℕ} → length b ≡ size → w.renderer.pending ≤ 64
-    → r.renderer ≡ emptied_by w.renderer l → r.ready ≡ w.ready + w.renderer.pending → r.meters ≡ meets w.meters m
-    → Given w.renderer.limiter.gain w.renderer.pending w.renderer.rate (take (length b - places_at) (drop places_at b)) (4 * stride) (4 * w.ready) out l m out'
+pub gave : (w : Rendering) (b out : List ℕ) (stride : ℕ) {l : Limited} {r : Rendering} {out' : List ℕ} → length b ≡ size → w.renderer.pending ≤ 64
+    → r.renderer ≡ emptied_by w.renderer l.limiter → r.ready ≡ w.ready + w.renderer.pending → r.meters ≡ meets w.meters l.meters
+    → Given w.renderer.limiter.gain w.renderer.pending w.renderer.rate (take (length b - places_at) (drop places_at b)) (4 * stride) (4 * w.ready) out l out'
     → Gave w b stride out r out'
 unfolding flushed waiting
 gave w b out stride l m p n o given =

@@ -10,13 +10,12 @@ ghost use Rattle.rules.specs.Samples.{applied_at, updated, slotted};
 ghost use Rattle.store.specs.Layout.{size};
 ghost use Rattle.theorem.specs.Instance.{hall, sent_of};
 ghost use Rattle.rendering.specs.Held.{held, Leads};
-ghost use Rattle.rendering.specs.Begin.{restated, CanStart, Starts};
+ghost use Rattle.rendering.specs.Begin.{CanStart, Starts};
 
 use crate::Rendering;
 use clock::{FrameOffset, START, StreamSample};
 use fields::record::Record;
 use records::layout::Layout;
-use timed::state::MetadataRendererState;
 use updates::update::TimedState;
 
 // Whether an update at offset t starts a new slot.
@@ -27,63 +26,59 @@ fn starts_slot(started: bool, t: FrameOffset) -> bool
 }
 
 impl Rendering {
-    // With another timed state, and in a new slot where `new`.
-    fn restate(&mut self, state: MetadataRendererState, new: bool)
-        ensures { self.new ≡ record { renderer = restated new self.old.renderer state; ready = self.old.ready; meters = self.old.meters } }
-    {
-        self.renderer.state = state;
-        if new {
-            self.renderer.begin_slot();
-        }
-    }
-
     // The update at record u, whose sample offset is t.
     fn apply_one(
-        &mut self,
+        mut self,
         state: &mut [u8],
         meta: &[u8],
         u: usize,
         t: FrameOffset,
         at: StreamSample,
-    )
-        requires { (length state.old ≡ size) × (at.0 ≡ self.old.renderer.clock.position.0) × WholeUpdate meta.now u }
-        ensures { Leads (applied_at hall t.0 (record { offset = t.0; said = update_of meta.now u }) (held self.old.renderer state.old)) self.old
-            state.old self.new state.new }
+    ) -> Rendering
+        requires { (length state.old ≡ size) × (at.0 ≡ self.renderer.clock.position.0) × WholeUpdate meta.now u }
+        ensures { Leads (applied_at hall t.0 (record { offset = t.0; said = update_of meta.now u }) (held self.renderer state.old)) self
+            state.old result state.new }
     {
         let before = self.renderer.state;
         let new = starts_slot(before.initialized, t);
         let infos = &mut state[store::INFOS..store::PLACES];
         let after = TimedState(before).apply_update(infos, Record { meta, place: u }, at);
-        self.restate(after.0, new);
+        self.renderer = self.renderer.with_state(after.0);
+        if new {
+            self.renderer = self.renderer.begin_slot();
+        }
+        self
     }
 
     // The updates at sample offset t, in the order sent.
     pub fn apply_sent(
-        &mut self,
+        mut self,
         state: &mut [u8],
         meta: &[u8],
         l: Layout,
         t: FrameOffset,
         at: StreamSample,
-    )
-        requires { (length state.old ≡ size) × (at.0 ≡ self.old.renderer.clock.position.0) × IsLayout meta.now l × WholeUpdates meta.now l }
-        ensures { Leads (updated hall t.0 (sent_of meta.now) (held self.old.renderer state.old)) self.old state.old self.new state.new }
+    ) -> Rendering
+        requires { (length state.old ≡ size) × (at.0 ≡ self.renderer.clock.position.0) × IsLayout meta.now l × WholeUpdates meta.now l }
+        ensures { Leads (updated hall t.0 (sent_of meta.now) (held self.renderer state.old)) self state.old result state.new }
     {
-        let mut i = l.sent_at(t, 0);
-        while i < l.count {
-            self.apply_one(state, meta, l.sent[i].place, t, at);
-            i = l.sent_at(t, i + 1);
+        for i in 0..l.count {
+            if l.sent[i].offset == t {
+                self = self.apply_one(state, meta, l.sent[i].place, t, at);
+            }
         }
+        self
     }
 
     // The slot that starts.
-    pub fn start_slot(&mut self, state: &mut [u8])
-        requires { (length state.old ≡ size) × CanStart (held self.old.renderer state.old) × Starts self.old.renderer }
-        ensures { Leads (slotted hall (held self.old.renderer state.old)) self.old state.old self.new state.new }
+    pub fn start_slot(mut self, state: &mut [u8]) -> Rendering
+        requires { (length state.old ≡ size) × CanStart (held self.renderer state.old) × Starts self.renderer }
+        ensures { Leads (slotted hall (held self.renderer state.old)) self state.old result state.new }
     {
         let start = self.renderer.clock.start;
         let infos = &mut state[store::INFOS..store::PLACES];
         let after = self.renderer.state.update_timeslot(infos, start);
-        self.restate(after, false);
+        self.renderer = self.renderer.with_state(after);
+        self
     }
 }

@@ -14,13 +14,13 @@ use limiter::places::store_block;
 
 impl Rendering {
     // The pending samples as one block, behind those that are ready.
-    pub fn give(&mut self, state: &[u8], out: &mut [u8], stride: usize)
-        requires { CanGive self.old state.now out.old stride }
-        ensures { Gave self.old state.now stride out.old self.new out.new }
+    pub fn give(mut self, state: &[u8], out: &mut [u8], stride: usize) -> Rendering
+        requires { CanGive self state.now out.old stride }
+        ensures { Gave self state.now stride out.old result out.new }
     {
-        let mut limiter = self.renderer.limiter;
+        let limiter = self.renderer.limiter;
         let pending = self.renderer.pending as usize;
-        let block = limiter.apply_output_limiter_block(
+        let after = limiter.apply_output_limiter_block(
             &state[store::PLACES..],
             pending,
             self.renderer.rate,
@@ -28,33 +28,34 @@ impl Rendering {
             4 * stride,
             4 * self.ready,
         );
-        self.renderer.empty(limiter);
+        self.renderer = self.renderer.empty(after.limiter);
         self.ready += pending;
-        self.meters.meet(block);
+        self.meters = self.meters.meet(after.meters);
+        self
     }
 
     // A whole block that is still in rows: the one peak is that of all channels.
-    pub fn give_rows(&mut self, rows: &[f32], out: &mut [u8], stride: usize)
-        requires { CanGiveRows self.old rows.now out.old stride }
-        ensures { GaveRows self.old rows.now stride out.old self.new out.new }
+    pub fn give_rows(mut self, rows: &[f32], out: &mut [u8], stride: usize) -> Rendering
+        requires { CanGiveRows self rows.now out.old stride }
+        ensures { GaveRows self rows.now stride out.old result out.new }
     {
-        let mut limiter = self.renderer.limiter;
         let peak = limiter::max_abs_slice(rows);
-        limiter.lower(peak);
-        let met = limiter.meters(peak);
-        store_block(rows, 64, limiter.gain, out, 4 * stride, 4 * self.ready);
-        limiter.grow(64, self.renderer.rate);
-        self.renderer.empty(limiter);
+        let lowered = self.renderer.limiter.lower(peak);
+        let met = lowered.meters(peak);
+        store_block(rows, 64, lowered.gain, out, 4 * stride, 4 * self.ready);
+        let grown = lowered.grow(64, self.renderer.rate);
+        self.renderer = self.renderer.empty(grown);
         self.ready += 64;
-        self.meters.meet(met);
+        self.meters = self.meters.meet(met);
+        self
     }
 
     // Flush: the remainder as one shorter block.
-    pub fn drain(&mut self, state: &[u8], out: &mut [u8], stride: usize)
-        requires { CanGive self.old state.now out.old stride × (self.old.ready ≡ 0) × (self.old.meters ≡ unmet) }
-        ensures { IsDrained (flushed hall (held self.old.renderer state.now)) self.old.renderer.pending stride state.now out.old
-            self.new out.new }
+    pub fn drain(self, state: &[u8], out: &mut [u8], stride: usize) -> Rendering
+        requires { CanGive self state.now out.old stride × (self.ready ≡ 0) × (self.meters ≡ unmet) }
+        ensures { IsDrained (flushed hall (held self.renderer state.now)) self.renderer.pending stride state.now out.old result
+            out.new }
     {
-        self.give(state, out, stride);
+        self.give(state, out, stride)
     }
 }

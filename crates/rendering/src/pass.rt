@@ -13,8 +13,7 @@ use clock::FrameOffset;
 use render::{Input, Span};
 
 impl Rendering {
-    // The k samples from t on of a frame of n samples, mixed into the rows; they wait then. By value: behind a `&mut` the proof doesn't
-    // have the lengths of the state's tables.
+    // The k samples from t on of a frame of n samples, mixed into the rows; they wait then.
     pub fn pass(
         mut self,
         rows: &mut [f32],
@@ -38,7 +37,7 @@ impl Rendering {
         let input = Input { pcm, codes, span };
         let mut filter = self.renderer.filter;
         mix(&self.renderer.state, &mut filter, rows, input, objects);
-        self.renderer.settle(filter, k as u32);
+        self.renderer = self.renderer.settle(filter, k as u32);
         self
     }
 }

@@ -79,38 +79,42 @@ impl Renderer714 {
     }
 
     // A new slot at the present sample.
-    pub fn begin_slot(&mut self)
-        ensures { self.new ≡ in_new_slot self.old }
+    pub fn begin_slot(mut self) -> Renderer714
+        ensures { result ≡ in_new_slot self }
     {
         self.clock = self.clock.at_slot();
+        self
     }
 
     // The first accepted frame sets the rate and the low-pass.
-    pub fn open(&mut self, rate: u32)
+    pub fn open(mut self, rate: u32) -> Renderer714
         requires { Listed rate }
-        ensures { self.new ≡ opened_by self.old rate }
+        ensures { result ≡ opened_by self rate }
     {
         if self.rate == 0 {
             self.rate = rate;
             self.filter = BiquadLowpassState::new(rate);
         }
+        self
     }
 
     // k samples more wait, and the low-pass after them is `filter`.
-    pub fn settle(&mut self, filter: BiquadLowpassState, k: u32)
-        requires { (self.old.clock.phase + k ≤ 128) × (self.old.clock.start.0 ≤ 1099511627776) × (self.old.clock.position.0 ≤ 1099511627776) × (self.old.pending + k ≤ 64) }
-        ensures { self.new ≡ settled_by self.old filter k }
+    pub fn settle(mut self, filter: BiquadLowpassState, k: u32) -> Renderer714
+        requires { (self.clock.phase + k ≤ 128) × (self.clock.start.0 ≤ 1099511627776) × (self.clock.position.0 ≤ 1099511627776) × (self.pending + k ≤ 64) }
+        ensures { result ≡ settled_by self filter k }
     {
         self.clock = self.clock.tick(self.state.initialized, k);
         self.filter = filter;
         self.pending += k;
+        self
     }
 
     // None waits any more, and the limiter after them is `limiter`.
-    pub fn empty(&mut self, limiter: Limiter)
-        ensures { self.new ≡ emptied_by self.old limiter }
+    pub fn empty(mut self, limiter: Limiter) -> Renderer714
+        ensures { result ≡ emptied_by self limiter }
     {
         self.limiter = limiter;
         self.pending = 0;
+        self
     }
 }

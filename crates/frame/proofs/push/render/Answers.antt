@@ -30,7 +30,7 @@ use Rattle.frame.proofs.Running.{turn_runs, turn_skips, rendered}
 use Rattle.frame.proofs.ChunkOnBlock.{can_give_rows, can_give, passes_on, passes_given, passes_whole}
 use Rattle.chunk.proofs.Theorems.{fit_all, as_laid}
 use Rattle.frame.proofs.push.render.Goals as goal
-use Rattle.frame.proofs.push.render.Goals.{After-at-at, After-run_length-k, After-start-1, Joined-is_kept, Joined-is_sent, Joined-slot_starts, then-is_sent, else-is_sent, then-slot_starts+then-not-rests, then-slot_starts+else-not-rests, else-slot_starts, then-is_kept, else-is_kept, then-k-eq64, else-k-eq64+then-work-eq64, else-k-eq64+else-work-eq64}
+use Rattle.frame.proofs.push.render.Goals.{After-at-at, After-run_length-k, After-start-1, Joined-is_kept, Joined-is_sent, Joined-slot_starts, then-is_sent, else-is_sent, then-slot_starts+then-not-rests, else-slot_starts, else-slot_starts-via-then-slot_starts+else-not-rests, else-slot_starts-via-else-slot_starts, then-is_kept, else-is_kept, then-k-eq64, else-k-eq64+then-work-eq64, else-k-eq64+else-work-eq64}
 
 -- ---- at the start
 
@@ -80,9 +80,9 @@ may_begin c k =
     can_begin s.state.now a s.l k x.t.0 x.work x.state x.out x.invariant.0 (more_left _ _ _ c.lt.ensures c.loop-l-test.true)
     c.at-at.result.0 (c.at-at.ensures ∙ ap (λ (p : ℕ). p + x.t.0) (starts_at s.idle s.state.now a s.l c.requires))
 
-pub apply_sent-requires : goal.apply_sent-requires
-apply_sent-requires c =
-    let p = goal.at.apply_sent-requires c in
+pub apply_sent-work-requires : goal.apply_sent-work-requires
+apply_sent-work-requires c =
+    let p = goal.at.apply_sent-work-requires c in
     let b = may_begin p.After-at-at (taken p.After-start-1) in
     (b.long, b.here, b.layout, b.whole)
 
@@ -93,7 +93,7 @@ updates_done c k =
     let s = c.args in
     let x = c.loop-l in
     elim c.if-is_sent.branch [
-      | then-is_sent w ↦ rw (w.work-is, w.state-is) w.apply_sent.ensures
+      | then-is_sent w ↦ rw (w.work-is, w.state-is) w.apply_sent-work.ensures
       | else-is_sent w ↦ rw (w.work-is, w.state-is)
           (record {
             next = none_applied s.meta.now s.l k.layout x.t.0 x.work.renderer x.state x.invariant.0.long (rw w.if-is_sent.false at c.is_sent.ensures);
@@ -116,9 +116,9 @@ rests-requires c =
     let s = slot_at p.Joined-is_sent (may_begin p.After-at-at k) (updates_done p.Joined-is_sent k) in
     (s.start, s.within)
 
-pub start_slot-requires : goal.start_slot-requires
-start_slot-requires c =
-    let p = goal.at.start_slot-requires c in
+pub start_slot-work-requires : goal.start_slot-work-requires
+start_slot-work-requires c =
+    let p = goal.at.start_slot-work-requires c in
     let k = taken p.After-start-1 in
     let a = updates_done p.Joined-is_sent k in
     (a.next.holds.long, slot_at p.Joined-is_sent (may_begin p.After-at-at k) a, sym c.slot_starts.ensures ∙ c.if-slot_starts.true)
@@ -135,11 +135,14 @@ begun c a =
     let slot = sym c.slot_starts.ensures in
     elim c.if-slot_starts.branch [
       | then-slot_starts+then-not-rests w ↦
-          let b = w.start_slot.ensures in
+          let b = w.start_slot-work.ensures in
           rw (w.work-is, w.state-is) (record { next = slotted_after a.next b.next; ready = b.ready ∙ a.ready; meters = b.meters ∙ a.meters })
-      | then-slot_starts+else-not-rests w ↦
-          rw (w.work-is, w.state-is) (leads_on a (slot_changes_nothing _ _ a.next.holds.long (slot ∙ w.if-slot_starts.true) (sym w.rests.ensures ∙ w.if-not-rests.false)))
-      | else-slot_starts w ↦ rw (w.work-is, w.state-is) (leads_on a (slot_rests _ _ a.next.holds.long (slot ∙ w.if-slot_starts.false)))
+      | else-slot_starts w ↦ rw (w.work-is, w.state-is)
+          (leads_on a (elim w.else-slot_starts.branch [
+            | else-slot_starts-via-then-slot_starts+else-not-rests v ↦
+                slot_changes_nothing _ _ a.next.holds.long (slot ∙ v.if-slot_starts.true) (sym v.rests.ensures ∙ v.if-not-rests.false)
+            | else-slot_starts-via-else-slot_starts v ↦ slot_rests _ _ a.next.holds.long (slot ∙ v.if-slot_starts.false)
+          ]))
     ]
 
 pub next_offset-next-requires : goal.next_offset-next-requires
@@ -213,9 +216,9 @@ laid_part c q h =
           absurd (h (omega arith))
     ]
 
-pub give_rows-requires : goal.give_rows-requires
-give_rows-requires c =
-    let p = goal.at.give_rows-requires c in
+pub give_rows-work-requires : goal.give_rows-work-requires
+give_rows-work-requires c =
+    let p = goal.at.give_rows-work-requires c in
     let s = c.args in
     let k = taken p.After-start-1 in
     can_give_rows (frame_of hall (args_with s.pcm.now s.meta.now s.out.now s.codes.now s.n))
@@ -223,9 +226,9 @@ give_rows-requires c =
     (c.pass-work.ensures s.n.rate (sent_of s.meta.now) c.if-slot_starts.state)
     c.if-k-eq64.true
 
-pub give-requires : goal.give-requires
-give-requires c =
-    let p = goal.at.give-requires c in
+pub give-work-requires : goal.give-work-requires
+give-work-requires c =
+    let p = goal.at.give-work-requires c in
     let s = c.args in
     let k = taken p.After-start-1 in
     let q = turning p.After-run_length-k k (begun p.Joined-slot_starts (updates_done p.Joined-is_sent k)) in
@@ -299,9 +302,9 @@ loop-l-preserved c =
     let y = c.pass-work.ensures s.n.rate (sent_of s.meta.now) c.if-slot_starts.state in (
       subst (λ (t : ℕ). Running s.state.now a t z.work c.if-is_kept.state z.out) (sym c.plus-t.ensures)
           (elim z.branch [
-            | then-k-eq64 w ↦ rw (w.work-is, w.out-is) (whole_runs at.Joined-is_kept _ _ q w.if-k-eq64.true w.give_rows.ensures)
+            | then-k-eq64 w ↦ rw (w.work-is, w.out-is) (whole_runs at.Joined-is_kept _ _ q w.if-k-eq64.true w.give_rows-work.ensures)
             | else-k-eq64+then-work-eq64 w ↦ rw (w.work-is, w.out-is)
-                (turn_runs q _ _ _ (passes_given f p y (laid_part at.Joined-is_kept q w.if-k-eq64.false) w.if-work-eq64.true w.give.ensures))
+                (turn_runs q _ _ _ (passes_given f p y (laid_part at.Joined-is_kept q w.if-k-eq64.false) w.if-work-eq64.true w.give-work.ensures))
             | else-k-eq64+else-work-eq64 w ↦ rw (w.work-is, w.out-is)
                 (turn_runs q _ _ _ (passes_on f p y (laid_part at.Joined-is_kept q w.if-k-eq64.false) w.if-work-eq64.false))
           ]),

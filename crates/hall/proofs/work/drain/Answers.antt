@@ -6,8 +6,8 @@ use Rattle.limiter.specs.Meters.{shown}
 use Rattle.hall.proofs.Done.{can_give, flushed_left}
 use Rattle.hall.proofs.work.drain.Goals as goal
 
-pub drain-requires : goal.drain-requires
-drain-requires c =
+pub drain-last-requires : goal.drain-last-requires
+drain-last-requires c =
     let a = c.args in
     let w = c.requires in
     rw c.of-work.ensures (
@@ -24,10 +24,10 @@ pub returns : goal.returns
 returns c =
     let a = c.args in
     let w = c.requires in
-    let d = rw c.of-work.ensures at c.drain.ensures in
+    let d = rw c.of-work.ensures at c.drain-last.ensures in
     flushed_left a.state.now a.s w.loaded.small
     (λ k. omega (arith, c.slice_known-1.given k))
     w.loaded.valid a.out.now a.stride w.room
-    w.some c.drain.new.self.renderer c.shown.result d.next (c.shown.ensures ∙ ap shown d.meters) c.drain.new.self.ready
-    c.save.new.state c.drain.new.out d.ready
+    w.some c.drain-last.result.renderer c.shown.result d.next (c.shown.ensures ∙ ap shown d.meters) c.drain-last.result.ready
+    c.save.new.state c.drain-last.new.out d.ready
     c.save.ensures d.given

@@ -1,5 +1,4 @@
 -- `apply_sent`: the updates from i on lead from the renderer now to that at the end. Assumes nothing.
-use Prim.Native.Nat.{◌-◌}
 use mathlib.Core.Path.{◌≡◌}
 use Rattle.rules.specs.Samples.{updated}
 use Rattle.theorem.specs.Instance.{hall, sent_of}
@@ -10,6 +9,3 @@ use Rattle.rendering.proofs.Rendering.apply_sent.Given as goal
 abbrev pub invariant-loop-i : goal.invariant-loop-i
 invariant-loop-i l = Standing l.meta l.l l.t.0 l.at.0 (updated hall l.t.0 (sent_of l.meta) (held l.initial.self.renderer l.initial.state)) l.initial.state l.i
     l.self.renderer l.state × (l.self.ready ≡ l.initial.self.ready) × (l.self.meters ≡ l.initial.self.meters)
-
-abbrev pub decreases-loop-i : goal.decreases-loop-i
-decreases-loop-i l = l.l.count - l.i

@@ -16,11 +16,11 @@ returns c =
     let g = c.give.ensures in
     let a = c.args in
     let z = c.requires.1 in
-    let all = (flushed hall (held a.self.now.renderer a.state.now)).given in
+    let all = (flushed hall (held a.self.renderer a.state.now)).given in
     record {
       next = g.next;
       given = g.given ∙ ap (λ (k : ℕ). behind k all a.stride a.out.now) z ∙ behind_written all a.stride a.out.now;
       ready = g.ready ∙ (omega (arith, z));
-      meters = g.meters ∙ ap (λ (m : Meters). meets_all m (flushed hall (held a.self.now.renderer a.state.now)).meters)
+      meters = g.meters ∙ ap (λ (m : Meters). meets_all m (flushed hall (held a.self.renderer a.state.now)).meters)
           c.requires.2;
     }

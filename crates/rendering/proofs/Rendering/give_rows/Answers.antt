@@ -20,20 +20,20 @@ overflow_add-self c = let p = c.requires in omega (arith, p.room, p.short)
 pub returns : goal.returns
 returns c =
     let a = c.args in
-    let g = a.self.now.renderer.limiter.gain in
+    let g = a.self.renderer.limiter.gain in
     let cs = row_channels a.rows.now in
     let fit = c.type_inv.rows in
     let top = c.max_abs_slice-peak in
-    let low = c.lower in
+    let low = c.lower-lowered in
     let met = c.meters-met in
     let e : top.result ≡ block_peak 0·0 cs = top.ensures.0 ∙ rows_peak a.rows.now c.requires.whole fit in
-    let f : low.new.self.gain ≡ block_gain g cs = low.ensures ∙ ap (λ (p : Float). lowered p g) e in
+    let f : low.result.gain ≡ block_gain g cs = low.ensures ∙ ap (λ (p : Float). lowered p g) e in
     record {
       fit = fit;
-      renderer = c.empty.ensures
-          ∙ ap (λ (x : Float). emptied_by a.self.now.renderer (record { gain = x })) (c.grow.ensures ∙ ap (grown 64 a.self.now.renderer.rate) f);
+      renderer = c.empty-self.ensures
+          ∙ ap (λ (x : Float). emptied_by a.self.renderer (record { gain = x })) (c.grow-grown.ensures ∙ ap (grown 64 a.self.renderer.rate) f);
       given = c.store_block.ensures
-          ∙ ap (λ (x : Float). with_channels (scaled_block x cs) (4 * a.stride) (4 * a.self.now.ready) a.out.now) f;
+          ∙ ap (λ (x : Float). with_channels (scaled_block x cs) (4 * a.stride) (4 * a.self.ready) a.out.now) f;
       ready = refl;
-      meters = c.meet.ensures ∙ ap (meets a.self.now.meters) (λ i. record { peak = (met.ensures.0 ∙ e) i; gain = (met.ensures.1 ∙ f) i });
+      meters = c.meet-self.ensures ∙ ap (meets a.self.meters) (λ i. record { peak = (met.ensures.0 ∙ e) i; gain = (met.ensures.1 ∙ f) i });
     }

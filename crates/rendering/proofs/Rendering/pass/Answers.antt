@@ -22,7 +22,7 @@ returns c =
     λ rate us b. waits (frame_with rate us a.codes.now a.objects a.pcm.now a.n) a.t.0 a.k a.self b
     (mixed a.self.renderer.state a.codes.now a.objects a.pcm.now a.n)
     (same_heard rate us a.codes.now a.pcm.now a.objects a.n a.self.renderer b full p.dynamic) mx.new.rows mx.new.filter
-    (rw c.index-first.ensures at mx.ensures) c.settle.ensures
+    (rw c.index-first.ensures at mx.ensures) c.settle-self.ensures
 
 pub mix-requires : goal.mix-requires
 mix-requires c =
@@ -32,8 +32,8 @@ mix-requires c =
 pub overflow_cast-k : goal.overflow_cast-k
 overflow_cast-k c = let p = c.requires.0 in omega (arith, p.pending)
 
-pub settle-requires : goal.settle-requires
-settle-requires c =
+pub settle-self-requires : goal.settle-self-requires
+settle-self-requires c =
     let p = c.requires.0 in
     (omega (arith, p.phase, p.pending), p.start, p.position, p.pending)
 
