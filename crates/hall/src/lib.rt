@@ -24,6 +24,7 @@ const VERSION: u32 = 3;
 pub const STATE_BYTES: usize = store::SIZE;
 
 // Renders a frame: beds (one code each), then objects, `samples` of each channel in `pcm`. What is ready goes to `out`, channel c from place c x `stride` on.
+// Its parameters are document 01's: "calls push, flush and reset over numbers and byte slices".
 pub fn push(
     state: &mut [u8],
     pcm: &[u8],

@@ -7,7 +7,7 @@ use native.Mathlib.Omega.{arith}
 use native.Mathlib.Numerals.{add-one}
 use borrow.Author.Tests.{eq-eqb, ne_eqb}
 use lib.Dec.{eqb}
-use lib.ListN.{length, get_or}
+use lib.ListN.{length}
 use Rattle.timed.specs.State.{Timed, slot_at}
 use Rattle.timed.specs.Resting.{rests_at}
 use Rattle.timed.specs.TimedResults.{IsTimed}

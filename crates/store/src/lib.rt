@@ -31,7 +31,8 @@ const FIRST_RAMP: usize = 4 * places::FIRST_RAMP;
 
 const SECOND_RAMP: usize = 4 * places::SECOND_RAMP;
 
-// The renderer of a block, but for what stays in it.
+// The renderer of a block, but for what stays in it. Here, in `reset` and in `save` the block is the slice that C lends, of any length: an array would ask more of who
+// has the slice.
 pub fn load(state: &[u8]) -> Renderer714
     requires { length state.now ≡ size }
     ensures { result ≡ small_of (words_at state.now 0 small_width) }

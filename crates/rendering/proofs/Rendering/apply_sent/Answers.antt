@@ -1,5 +1,5 @@
 -- `apply_sent`: the updates from i on lead from the renderer now to that at the end. Assumes nothing.
-use mathlib.Core.Path.{refl, sym, ap, ◌∙◌}
+use mathlib.Core.Path.{refl, sym, ◌∙◌}
 use native.Mathlib.Omega.{arith}
 use borrow.Author.Tests.{eqb-true, eqb-false}
 use Rattle.rules.specs.Samples.{updated}
@@ -33,11 +33,11 @@ loop-i-preserved c =
             u.meters ∙ l.invariant.2,
           )
       | else-eq w ↦ rw (w.self-is, w.state-is) (
-          passes s.meta.now s.l s.t.0 s.at.0 all s.state.now c.requires.2 l.i l.self.renderer l.state (omega (arith, c.loop-i-test.true))
-              (eqb-false _ _ (sym c.eq.ensures ∙ w.if-eq.false)) l.invariant.0,
-          l.invariant.1,
-          l.invariant.2,
-        )
+        passes s.meta.now s.l s.t.0 s.at.0 all s.state.now c.requires.2 l.i l.self.renderer l.state (omega (arith, c.loop-i-test.true))
+            (eqb-false _ _ (sym c.eq.ensures ∙ w.if-eq.false)) l.invariant.0,
+        l.invariant.1,
+        l.invariant.2,
+      )
     ]
 
 pub apply_one-self-requires : goal.apply_one-self-requires
