@@ -21,37 +21,21 @@ pub enum Route {
     Unsupported,
 }
 
-// `map_bed_channel_to_714`, with the beds that the source takes apart before it, by code.
-static ROUTES: [Route; 18] = [
-    Route::Direct(0),
-    Route::Direct(1),
-    Route::Direct(2),
-    Route::Bass,
-    Route::Direct(6),
-    Route::Direct(7),
-    Route::Unsupported,
-    Route::Direct(4),
-    Route::Direct(5),
-    Route::Direct(8),
-    Route::Direct(9),
-    Route::Folded,
-    Route::Folded,
-    Route::Direct(10),
-    Route::Direct(11),
-    Route::Folded,
-    Route::Folded,
-    Route::Bass,
-];
-
-// How a bed is put out; not at all for a code above 17.
-#[tactic(auto, unfolding(crate::specs::Routes::route_of))]
+// `map_bed_channel_to_714`, with the beds that the source takes apart before it; not at all for a code above 17.
+// (01: a match over the codes with ranges.)
 pub fn route_of(code: u8) -> Route
     ensures { result ≡ route_of code }
 {
-    ROUTES
-        .get(code as usize)
-        .copied()
-        .unwrap_or(Route::Unsupported)
+    match code {
+        3 | 17 => Route::Bass,
+        11 | 12 | 15 | 16 => Route::Folded,
+        0..=2 => Route::Direct(usize::from(code)),
+        4..=5 => Route::Direct(usize::from(code) + 2),
+        7..=8 => Route::Direct(usize::from(code) - 3),
+        9..=10 => Route::Direct(usize::from(code) - 1),
+        13..=14 => Route::Direct(usize::from(code) - 3),
+        _ => Route::Unsupported,
+    }
 }
 
 // The gain at which a bass bed enters channel 3.

@@ -7,7 +7,7 @@ ghost use Rattle.vectors.specs.Head.{has};
 ghost use Rattle.timed.specs.InfoSizes.{all_infos, info_bytes, info_at};
 ghost use Rattle.timed.specs.Infos.{maybe_at, vec_at, send_at, with_three, with_vec, block_position};
 
-use formats::{areas, info};
+use formats::areas;
 use roots::Depth;
 use vectors::{Anchor, BlockPosition, Vec3};
 
@@ -20,21 +20,7 @@ pub const ELEMENT_INFOS: usize = 256;
 pub type Bytes = [u8; areas::INFOS_BYTES];
 
 // An info's bytes, and where its words stand after the head.
-pub const INFO_BYTES: usize = info::BYTES;
-
-pub const GAIN: usize = info::GAIN;
-
-pub const SIZE: usize = info::SIZE;
-
-pub const DISTANCE: usize = info::DISTANCE;
-
-pub const SCREEN: usize = info::SCREEN;
-
-pub const POSITION: usize = info::POSITION;
-
-pub const LAST: usize = info::LAST;
-
-pub const SEND: usize = info::SEND;
+pub use formats::info::{BYTES as INFO_BYTES, DISTANCE, GAIN, LAST, POSITION, SCREEN, SEND, SIZE};
 
 // Whether a head has the flag that stands for `bit`. A head is a word: `fields` asks the same of a byte, and would have to widen it first.
 pub fn has(head: u32, bit: u32) -> bool
@@ -43,6 +29,8 @@ pub fn has(head: u32, bit: u32) -> bool
 {
     head / bit % 2 == 1
 }
+
+// All infos and the number of one (`infos`, k) are two arguments and no view of both: `update_source_state` writes an info between what it reads of it, and would make the view twice.
 
 // The value at a place of an info that is present with `bit`.
 #[tactic(auto, unfolding(crate::specs::Infos::maybe_at))]

@@ -14,19 +14,25 @@ use crate::slot::{Reach, Timing, Updated};
 use crate::state::MetadataRendererState;
 use clock::StreamSample;
 
+// `Within` is asked where a slot is worked out, and is no invariant: C may hold any state, also where it is only kept.
 impl MetadataRendererState {
-    // The last element whose first block offset is from 0 up to the timecode, else element 0.
+    // The last element whose first block offset is from 0 up to the timecode, else element 0. (01: a downward search whose loop yields the index by `break`.)
     fn element_at(self, when: Timing) -> usize
         requires { self.elements ≤ most_elements }
         ensures taken { result ≡ element_taken when self.states self.elements }
         ensures low { result < most_elements }
     {
-        for i in (0..self.elements).rev() {
-            if self.states[i].begins(when) {
-                return i;
+        let mut i = self.elements;
+        let index = loop {
+            if i == 0 {
+                break 0;
             }
-        }
-        0
+            i -= 1;
+            if self.states[i].begins(when) {
+                break i;
+            }
+        };
+        index
     }
 
     // Where element `index` finds its infos.
@@ -78,7 +84,7 @@ impl MetadataRendererState {
         !element.active() || element.rests(when)
     }
 
-    // The slot that starts at a sample of the stream.
+    // The slot that starts at a sample of the stream. The infos come as the range of a block that C lends: an array would ask more of who has a slice.
     pub fn update_timeslot(self, infos: &mut [u8], start: StreamSample) -> MetadataRendererState
         requires { (length infos.old ≡ all_bytes) × (start.0 ≤ 1099511627776) × Within 1099511627776 self }
         ensures { IsTimed (slot_at start.0 (record { state = self; infos = infos.old })) result infos.new }
