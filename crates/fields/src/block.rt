@@ -3,7 +3,7 @@ ghost use Rattle.std.specs.Prelude.{◌≡◌, ◌+◌, ◌*◌, ◌<◌, ◌≤
 ghost use Rattle.fields.specs.Block.{blocks, is_element, is_block, block_of, within, block_in_range};
 ghost use Rattle.fields.specs.Raised.{raised, raised_of};
 
-use crate::record::Record;
+use crate::record::{BLOCK, ELEMENT, Record};
 
 // The offset and the ramp of a block.
 #[repr(C)]
@@ -35,7 +35,7 @@ impl Record<'_> {
     pub fn is_element(self) -> bool
         ensures { result ≡ is_element self.entry.meta.now self.entry.place }
     {
-        (self.kind() == 2) & (self.byte(1) <= 8) & self.is_zero(2, 38)
+        (self.kind() == ELEMENT) & (self.byte(1) <= 8) & self.is_zero(2, 38)
     }
 
     // Whether it is a block as laid out.
@@ -43,7 +43,7 @@ impl Record<'_> {
     pub fn is_block(self) -> bool
         ensures { result ≡ is_block self.entry.meta.now self.entry.place }
     {
-        (self.kind() == 3) & self.is_zero(1, 7) & self.is_zero(24, 16)
+        (self.kind() == BLOCK) & self.is_zero(1, 7) & self.is_zero(24, 16)
     }
 
     // What the block says.

@@ -7,7 +7,10 @@ ghost use Rattle.fields.specs.RecordBytes.{byte, has};
 ghost use Rattle.fields.specs.Object.{value_fits, values_fit, is_object, depth_code, object_of, from_zero_to, object_in_range};
 ghost use Rattle.fields.specs.ObjectInfos.{stored_info};
 
-use crate::record::Record;
+use crate::record::{OBJECT, Record};
+
+// The kind, as the low byte of a word.
+const KIND: u32 = OBJECT as u32;
 
 // The flags that a value is present.
 const GAIN: u8 = 4;
@@ -29,7 +32,7 @@ fn is_object_head(meta: &[u8], at: usize) -> bool
     ensures { result ≡ (slice_index meta.now at == 4 && nat_le (slice_index meta.now (at + 1)) 2 && nat_le (slice_index meta.now (at + 2)) 63 && slice_index meta.now (at + 3) == 0) }
 {
     let head = words::u32_at(meta, at);
-    (head % 256 == 4) & (head / 256 % 256 <= 2) & (head / 65536 <= 63)
+    (head % 256 == KIND) & (head / 256 % 256 <= 2) & (head / 65536 <= 63)
 }
 
 // Whether the float of the bits w is from 0 to the one of the bits `most`: from 0 on floats are in the order of their bits, and -0.0 is no less than 0.

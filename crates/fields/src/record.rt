@@ -5,6 +5,15 @@ ghost use Rattle.fields.specs.RecordBytes.{byte, kind, zero_bytes};
 
 use crate::bytes::zeros;
 
+// The kinds, byte 0 of a record: no enum, since any byte may stand there, and each test is of one kind, with no branch.
+pub const UPDATE: u8 = 1;
+
+pub const ELEMENT: u8 = 2;
+
+pub const BLOCK: u8 = 3;
+
+pub const OBJECT: u8 = 4;
+
 // Record `place` of a list of records: it is there.
 #[derive(Clone, Copy)]
 pub struct Record<'a> {

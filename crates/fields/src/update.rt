@@ -2,7 +2,7 @@
 ghost use Rattle.std.specs.Prelude.{◌≡◌, ◌+◌, ◌-◌, ◌*◌, ◌<◌, ◌≤◌, length};
 ghost use Rattle.fields.specs.Update.{offset, header_of, counts_fit, most_at, codes_fit, is_update};
 
-use crate::record::Record;
+use crate::record::{Record, UPDATE};
 use clock::FrameOffset;
 
 #[repr(C)]
@@ -42,7 +42,7 @@ fn most_at(k: usize, beds: usize) -> u8
     if k < beds { 17 } else { 0 }
 }
 
-// Whether the 18 places from `at` on hold a listed code for each bed and zero past them.
+// Whether the 18 places from `at` on hold a listed code for each bed and zero past them, with no branch.
 fn codes_fit(meta: &[u8], at: usize, beds: usize) -> bool
     requires { at + 18 ≤ length meta.now }
     ensures { result ≡ codes_fit meta.now at beds }
@@ -80,7 +80,7 @@ impl Record<'_> {
         ensures { result ≡ is_update self.entry.meta.now self.entry.place }
     {
         let header = self.header();
-        (self.kind() == 1)
+        (self.kind() == UPDATE)
             & (self.byte(1) == 0)
             & header.counts_fit()
             & codes_fit(self.meta, 40 * self.place + 8, header.beds)

@@ -1,4 +1,4 @@
--- `fields::block::block_at`: field by field. Assumes nothing.
+-- `fields::record::Record::block`: field by field. Assumes nothing.
 use Rattle.std.proofs.Common.{◌≡◌, ℤ, ◌∙◌, ap₂, w64, to_z, of_z, rules}
 use Rattle.fields.proofs.record.Record.block.Goals as goal
 
