@@ -7,7 +7,7 @@ use native.Mathlib.Omega.{arith}
 use lib.Dec.{lit≤}
 use lib.Pow.{pow-add}
 use lib.ListN.{length, get_or, set, length-set}
-use Rattle.words.specs.Words.{number, with_number, half, word}
+use Rattle.words.specs.Words.{number, with_number, half, word, long}
 
 -- two bytes
 pub half_read : (s : List ℕ) (at : ℕ) → get_or s at 0 + get_or s (at + 1) 0 * 256 ≡ half s at
@@ -18,6 +18,12 @@ half_read s at = rw (add-zero at) (omega arith)
 pub word_read : (s : List ℕ) (at : ℕ) → get_or s at 0 + get_or s (at + 1) 0 * 256 + get_or s (at + 2) 0 * 65536 + get_or s (at + 3) 0 * 16777216 ≡ word s at
 unfolding number
 word_read s at = rw (add-zero at) (omega arith)
+
+-- eight bytes
+pub long_read : (s : List ℕ) (at : ℕ) → get_or s at 0 + get_or s (at + 1) 0 * 256 + get_or s (at + 2) 0 * 65536 + get_or s (at + 3) 0 * 16777216
+    + get_or s (at + 4) 0 * 4294967296 + get_or s (at + 5) 0 * 1099511627776 + get_or s (at + 6) 0 * 281474976710656 + get_or s (at + 7) 0 * 72057594037927936 ≡ long s at
+unfolding number
+long_read s at = rw (add-zero at) (omega arith)
 
 joined : (a b x P Q : ℕ) → a + b * P + x * (P * Q) ≡ a + (b + x * Q) * P
 joined a b x P Q = omega arith
