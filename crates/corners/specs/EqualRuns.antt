@@ -1,5 +1,5 @@
 -- Speakers in order along one axis. Document 01, item 4: "lower and upper layer, front and rear row in each, left and right in each row; a missing side is filled". Sorted by
--- (y, z, x), a layer, a row and a side are runs of side_ofing places of the arrays, from a first index up to an end, and what a walk over the runs finds is the end that
+-- (y, z, x), a layer, a row and a side are runs of neighbouring places of the arrays, from a first index up to an end, and what a walk over the runs finds is the end that
 -- panning/specs/Choice chooses. Assumes nothing.
 use Rattle.std.specs.Prelude.{ℕ, ◌≤◌, ◌<◌, ◌≡◌, ◌⊎◌, Bool, T, Float}
 use mathlib.Core.List.{List, Memᴰ}

@@ -40,7 +40,8 @@ pub struct Speaker {
     pub place: Vec3,
 }
 
-// The first `count` speakers (there is no heap) stand in the order of (y, z, x), and `layers` and `rows` have the ends of the runs of equal y, and of equal y and z: arrays of
+// The first `count` speakers stand in the order of (y, z, x), a count beside an array and no `ArrayVec`: what is proved of a hall is of its indexes, and the laws of
+// `ArrayVec` are of lists. And `layers` and `rows` have the ends of the runs of equal y, and of equal y and z: arrays of
 // their own, since each end is worked out from those after it, and the ends of the layers bound those of the rows.
 #[derive(Clone, Copy)]
 pub struct Hall {

@@ -17,7 +17,7 @@ fn precedes(v: Vec3, w: Vec3) -> bool
     (v.y, v.z, v.x) < (w.y, w.z, w.x)
 }
 
-// The channels that were tried so far, in order: a count beside an array, since there is no heap.
+// The channels that were tried so far, in order: a count beside an array, as in `Hall`.
 #[derive(Clone, Copy)]
 struct Line {
     channels: [usize; 12],

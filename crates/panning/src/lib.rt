@@ -121,7 +121,7 @@ impl Cube {
     }
 }
 
-// A function and no `if`: a proof loses what an `if` chose where two of them join.
+// A function and no `if`: a proof loses what an `if` chose where two of them join (tried: where two stand in one literal the proof does not close).
 fn choose<T: Copy>(test: bool, yes: T, no: T) -> T
     ensures { result ≡ cond test yes no }
 {

@@ -26,7 +26,7 @@ pub struct Counts {
 }
 
 impl Counts {
-    // How many objects are dynamic.
+    // How many objects are dynamic, as of a header: the state's last counts, which no header has, are asked it too.
     pub fn dynamic(self) -> usize
         ensures { result ≡ self.objects - self.isf }
     {
@@ -34,7 +34,7 @@ impl Counts {
     }
 }
 
-// Object o in each block; the infos are those from `first` on.
+// Object o in each block; the infos are those from `first` on. `fresh` and `bed` are facts of the infos, and choose no step.
 fn put_object(infos: &mut [u8], said: Record<'_>, fresh: bool, first: usize, o: usize, bed: bool)
     requires { (length infos.old ≡ all_bytes)
         × (blocks said.meta.now said.place ≤ most_blocks)
@@ -97,14 +97,14 @@ const NEW_TRACK: Track = Track {
 // 2^47, which stands for no ramp.
 const NO_RAMP: u64 = 1 << 47;
 
-// Whether an element is kept; `same` is of all counts but the blocks.
+// Whether an element is kept, with no branch; `same` is a fact, of all counts but the blocks.
 fn is_kept(same: bool, blocks: usize, next: usize) -> bool
     ensures { result ≡ is_kept same blocks next }
 {
     same & (blocks == next)
 }
 
-// The element with the blocks of an update: kept, or new.
+// The element with the blocks of an update: kept, or new. `kept` comes with the update and is no step of the caller's: the infos are worked out from it too.
 fn next_element(
     element: ElementRendererState,
     said: Record<'_>,

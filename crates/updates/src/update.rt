@@ -26,14 +26,14 @@ const NEW_SOURCE: DynamicSourceState = DynamicSourceState {
     send: 0.0,
 };
 
-// A table as it is where there are as many of its entries as before, else with each entry new.
+// A table as it is where there are as many of its entries as before (`kept`, a fact of the counts), else with each entry new.
 fn kept_or<T: Copy, const N: usize>(table: [T; N], kept: bool, new: T) -> [T; N]
     ensures { result ≡ cond kept table (replicate N new) }
 {
     if kept { table } else { [new; N] }
 }
 
-// The bed codes.
+// The bed codes, written over one by one, as the definition has it.
 pub fn next_codes(codes: [u8; 18], said: Record<'_>) -> [u8; 18]
     ensures { result ≡ codes_given (update_of said.entry.meta.now said.entry.place) codes }
 {
@@ -89,6 +89,7 @@ impl TimedState {
             isf: s.isf,
         };
         let as_many = last.dynamic() == counts.dynamic();
+        // With `&`: plain comparisons, and no branch between them.
         let same = (s.elements == header.elements) & (last.objects == counts.objects) & as_many;
         TimedState(MetadataRendererState {
             initialized: true,
