@@ -38,6 +38,7 @@ pub fn refused(number: u32, first: u32, second: u32) -> Text
     text
 }
 
+// (d) `none` and `reset` are two functions: a parameter would be the word that each puts.
 pub fn none() -> Text
     ensures { result ≡ none_text }
 {

@@ -80,7 +80,8 @@ const NOT_SENT: Sent = Sent {
     offset: START,
 };
 
-// Up to 16 updates in the order sent.
+// Up to 16 updates in the order sent. (d) `laid` and no Option: refusal 5 has its turn between 4 and 6, and the layout is read from 9 on; an Option would be opened again there, with a case that cannot be.
+// (d) `count` beside `sent`: an ArrayVec is no Copy, and `IsLayout` speaks of each of the 16 entries.
 #[derive(Clone, Copy)]
 pub struct Layout {
     pub laid: bool,
