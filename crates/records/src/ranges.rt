@@ -5,15 +5,15 @@ ghost use Rattle.records.specs.FaultNumbers.{number_of};
 
 use crate::layout::layout_of;
 use crate::run::all_pass;
-use fields::record::Record;
+use fields::record::{BLOCK, OBJECT, Record};
 
 // Whether each value of a record is within its range.
 fn record_in_range(r: Record<'_>) -> bool
     ensures { result ≡ record_in_range r.entry.meta.now r.entry.place }
 {
     match r.kind() {
-        3 => r.block_in_range(),
-        4 => r.object_in_range(),
+        BLOCK => r.block_in_range(),
+        OBJECT => r.object_in_range(),
         _ => true,
     }
 }
