@@ -7,23 +7,19 @@ ghost use Rattle.std.specs.Float.Ieee.Nearest as ieee;
 ghost use Rattle.rates.specs.Rates.{Listed};
 ghost use Rattle.rates.specs.Series.{step_of, angle_of, next_term, five};
 
+use std::cmp::Ordering;
+
 // The last digit of the angle's 24, in steps.
 fn step_of(rate: u64) -> u64
     ensures { result ≡ step_of rate }
 {
-    if rate < 24128 {
-        if rate < 12064 {
-            return 32;
-        }
-        return 16;
+    match rate {
+        0..12064 => 32,
+        12064..24128 => 16,
+        24128..48255 => 8,
+        48255..96510 => 4,
+        _ => 2,
     }
-    if rate < 48255 {
-        return 8;
-    }
-    if rate < 96510 {
-        return 4;
-    }
-    2
 }
 
 // The whole number nearest to n / d, of two such the even one.
@@ -33,16 +29,15 @@ fn closest(n: u64, d: u64) -> u64
 {
     let q = n / d;
     let rest = n % d * 2;
-    if rest < d {
-        return q;
+    match rest.cmp(&d) {
+        Ordering::Less => q,
+        Ordering::Equal => q + q % 2,
+        Ordering::Greater => q + 1,
     }
-    if rest > d {
-        return q + 1;
-    }
-    q + q % 2
 }
 
 // TAU * 120 / rate.
+#[tactic(auto, unfolding(rates::specs::Series::angle_of))]
 pub fn angle_of(rate: u64) -> u64
     requires { Listed rate }
     ensures { result ≡ angle_of rate }
@@ -56,11 +51,7 @@ fn high_product(a: u64, b: u64) -> u64
     requires { (a < 2 ^ 58) × (b ≤ 2 ^ 60) }
     ensures { result ≡ a * b / 2 ^ 64 }
 {
-    let p = a / 4294967296;
-    let q = a % 4294967296;
-    let r = b / 4294967296;
-    let s = b % 4294967296;
-    p * r + (p * s + q * r + q * s / 4294967296) / 4294967296
+    (u128::from(a) * u128::from(b) >> 64) as u64
 }
 
 // The term after t: times the angle's square y, by n.
@@ -71,7 +62,8 @@ fn next_term(y: u64, t: u64, n: u64) -> u64
     high_product(y, t) / n
 }
 
-// Five terms from t on, the signs taking turns.
+// Five terms from t on, the signs taking turns. The four divisors are told one by one, as the definition has them: in an array each would be named by a place.
+#[tactic(auto, using(crate::proofs::Terms::five_is))]
 pub fn five_terms(y: u64, t: u64, n1: u64, n2: u64, n3: u64, n4: u64) -> u64
     requires { (y < 2 ^ 58) × (t ≤ 2 ^ 60) × (0 < n1) × (0 < n2) × (0 < n3) × (0 < n4) }
     ensures { result ≡ five y t n1 n2 n3 n4 }

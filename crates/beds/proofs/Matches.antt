@@ -2,15 +2,18 @@
 use mathlib.Core.Path.{◌≡◌, refl, sym, ap, ◌∙◌}
 use mathlib.Core.Bool.{Bool, true, false, cond, ◌&&◌, ◌||◌}
 use mathlib.Core.List.{List, [], ◌∷◌}
-use Prim.Native.Nat.{ℕ, zero, suc, ◌+◌, ◌<◌}
+use Prim.Native.Nat.{ℕ, suc, ◌<◌, ◌≤◌}
 use native.Mathlib.Omega.{arith}
-use native.Mathlib.Nat.{not-suc-le-zero, le_of_suc-le-suc}
-use borrow.Author.Tests.{eqb-false, eqb-true, ne_eqb, eq-eqb}
-use lib.Dec.{eqb}
+use borrow.Author.Tests.{eqb-false, eqb-true, ltb-false, ne_eqb, eq-eqb}
+use lib.Dec.{eqb, ltb}
 use lib.ListN.{length, get_or}
-use Rattle.beds.specs.declared.Found.{Found}
-use Rattle.beds.specs.declared.Found.TheVariants.{At, Nothing}
-use Rattle.beds.specs.Matching.{low_frequency, matches, first_from, first_of, or_found, matching, counted}
+use Rattle.std.specs.Prelude.{Option, Some, None}
+use Rattle.std.specs.Option.{option_or}
+use Rattle.std.specs.List.{position, position_or_len}
+use Rattle.std.proofs.lemmas.Option.{none-some}
+use Rattle.std.proofs.lemmas.List.Quantifiers.{position-Some}
+use Rattle.std.proofs.lemmas.List.Sums.{sum_by-cons, get_or-le-sum_by, fails_before_first}
+use Rattle.beds.specs.Matching.{low_frequency, matches, first_of, matching, counted}
 
 -- ---- the count
 
@@ -20,45 +23,30 @@ none_counted code [] h = refl
 none_counted code (c ∷ cs) h =
     let e : matches code c ≡ false = h 0 (omega arith) in
     let r : counted code cs ≡ 0 = none_counted code cs (λ k l. h (suc k) (omega arith)) in
-    rw (e, r)
+    sum_by-cons (λ x. cond (matches code x) 1 0) c cs ∙ rw (e, r)
 
 -- a code that matches is counted
 one_counted : (code : ℕ) (cs : List ℕ) (k : ℕ) → k < length cs → matches code (get_or cs k 0) ≡ true → 0 < counted code cs
-one_counted code [] k h e = absurd (not-suc-le-zero h)
-one_counted code (c ∷ cs) zero h e = rw e (omega arith)
-one_counted code (c ∷ cs) (suc k) h e = let r = one_counted code cs k (le_of_suc-le-suc h) e in omega arith
+one_counted code cs k h e = rw e at (get_or-le-sum_by (λ x. cond (matches code x) 1 0) cs k 0 h)
 
 -- ---- the search
 
--- what the search for a or b finds: a place that holds one of them, or that none does
-abbrev Finds : ℕ → ℕ → List ℕ → ℕ → Found → Type 0
-Finds a b cs j (At i) = (k : ℕ) × (i ≡ j + k) × (k < length cs) × ((eqb (get_or cs k 0) a || eqb (get_or cs k 0) b) ≡ true)
-Finds a b cs j Nothing = (k : ℕ) → k < length cs → (eqb (get_or cs k 0) a || eqb (get_or cs k 0) b) ≡ false
-
-finds : (a b : ℕ) (cs : List ℕ) (j : ℕ) → Finds a b cs j (first_from j a b cs)
-finds a b [] j = λ k h. absurd (not-suc-le-zero h)
-finds a b (c ∷ cs) j = go (eqb c a || eqb c b) refl (finds a b cs (suc j))
+-- where no place is found, each fails the test
+none_passes : (p : ℕ → Bool) (cs : List ℕ) → position p cs ≡ None → (k : ℕ) → k < length cs → p (get_or cs k 0) ≡ false
+none_passes p cs e k h = go (ltb (position_or_len p cs) (length cs)) refl e
   where
-    past : (eqb c a || eqb c b) ≡ false → Finds a b cs (suc j) Nothing → Finds a b (c ∷ cs) j Nothing
-    past e w zero h = e
-    past e w (suc k) h = w k (le_of_suc-le-suc h)
-
-    later : (f : Found) → (eqb c a || eqb c b) ≡ false → Finds a b cs (suc j) f → Finds a b (c ∷ cs) j f
-    later (At i) e w = (suc w.0, omega (arith, w.1), omega (arith, w.2), w.3)
-    later Nothing e w = past e w
-
-    go : (t : Bool) → (eqb c a || eqb c b) ≡ t → Finds a b cs (suc j) (first_from (suc j) a b cs) → Finds a b (c ∷ cs) j (cond t (At j) (first_from (suc j) a b cs))
-    go true e w = (0, omega arith, omega arith, e)
-    go false e w = later (first_from (suc j) a b cs) e w
-
--- ---- matching
+    go : (t : Bool) → ltb (position_or_len p cs) (length cs) ≡ t → cond t (Some (position_or_len p cs)) None ≡ None → p (get_or cs k 0) ≡ false
+    go true q n = absurd (none-some _ (sym n))
+    go false q n =
+        let b : length cs ≤ position_or_len p cs = ltb-false _ _ q in
+        fails_before_first p cs k 0 (omega arith)
 
 -- what holds of the answer: a place among the inputs whose code matches, or that none is counted
-abbrev pub Judged : ℕ → List ℕ → Found → Type 0
-Judged code cs (At i) = (i < length cs) × (matches code (get_or cs i 0) ≡ true)
-Judged code cs Nothing = counted code cs ≡ 0
+abbrev pub Judged : ℕ → List ℕ → Option ℕ → Type 0
+Judged code cs (Some i) = (i < length cs) × (matches code (get_or cs i 0) ≡ true)
+Judged code cs None = counted code cs ≡ 0
 
--- the test of the exact search, as `matches` writes it
+-- the test of the search for the code itself, as `matches` writes it
 exact : (code c : ℕ) → (eqb c code || eqb c code) ≡ eqb code c
 exact code c = go (eqb c code) refl
   where
@@ -75,32 +63,31 @@ and_none true p = p
 and_none false p = refl
 
 module _ (code : ℕ) (cs : List ℕ) where
-  hit : {i k : ℕ} → i ≡ 0 + k → k < length cs → matches code (get_or cs k 0) ≡ true → Judged code cs (At i)
-  hit {i} {k} p h e = let q : i ≡ k = omega arith in rw q (h, e)
+  -- where the code itself is not found, and not an LFE code where that is wanted
+  unlike : (k : ℕ) → first_of code code cs ≡ None → k < length cs → (low_frequency code && low_frequency (get_or cs k 0)) ≡ false → matches code (get_or cs k 0) ≡ false
+  unfolding first_of
+  unlike k w h f = rw (sym (exact code (get_or cs k 0)) ∙ none_passes _ cs w k h) f
 
-  -- a code that is not the wanted one, and not an LFE code where that is wanted
-  unlike : (k : ℕ) → Finds code code cs 0 Nothing → k < length cs → (low_frequency code && low_frequency (get_or cs k 0)) ≡ false → matches code (get_or cs k 0) ≡ false
-  unlike k w h f = rw (sym (exact code (get_or cs k 0)) ∙ w k h) f
-
-  low : (t : Bool) → low_frequency code ≡ t → Finds code code cs 0 Nothing → (f : Found) → Finds 3 17 cs 0 f → Judged code cs (cond t f Nothing)
-  low true e w (At i) v = hit v.1 v.2 (or_both (eqb code (get_or cs v.0 0)) e v.3)
-  low true e w Nothing v = none_counted code cs (λ k h. unlike k w h (and_none (low_frequency code) (v k h)))
+  low : (t : Bool) → low_frequency code ≡ t → first_of code code cs ≡ None → (f : Option ℕ) → first_of 3 17 cs ≡ f → Judged code cs (cond t f None)
+  unfolding first_of
+  low true e w (Some i) v = let p = position-Some _ cs i 0 v in (p.0, or_both (eqb code (get_or cs i 0)) e p.1)
+  low true e w None v = none_counted code cs (λ k h. unlike k w h (and_none (low_frequency code) (none_passes _ cs v k h)))
   low false e w f v = none_counted code cs (λ k h. unlike k w h (ap (λ (b : Bool). b && low_frequency (get_or cs k 0)) e))
 
-  first : (f : Found) → Finds code code cs 0 f → Judged code cs (or_found f (cond (low_frequency code) (first_of 3 17 cs) Nothing))
+  first : (f : Option ℕ) → first_of code code cs ≡ f → Judged code cs (option_or f (cond (low_frequency code) (first_of 3 17 cs) None))
   unfolding first_of
-  first (At i) w = hit w.1 w.2 (rw (sym (exact code (get_or cs w.0 0)) ∙ w.3))
-  first Nothing w = low (low_frequency code) refl w (first_from 0 3 17 cs) (finds 3 17 cs 0)
+  first (Some i) w = let p = position-Some _ cs i 0 w in (p.0, rw (sym (exact code (get_or cs i 0)) ∙ p.1))
+  first None w = low (low_frequency code) refl w (first_of 3 17 cs) refl
 
   -- Refusal 13's second count is 0.
   pub judged : Judged code cs (matching code cs)
-  unfolding matching first_of
-  judged = first (first_of code code cs) (finds code code cs 0)
+  unfolding matching
+  judged = first (first_of code code cs) refl
 
   -- and nothing is found only there
-  pub counted_none : counted code cs ≡ 0 → matching code cs ≡ Nothing
+  pub counted_none : counted code cs ≡ 0 → matching code cs ≡ None
   counted_none e = go (matching code cs) judged
     where
-      go : (f : Found) → Judged code cs f → f ≡ Nothing
-      go (At i) w = let p = one_counted code cs i w.0 w.1 in absurd (omega arith)
-      go Nothing w = refl
+      go : (f : Option ℕ) → Judged code cs f → f ≡ None
+      go (Some i) w = let p = one_counted code cs i w.0 w.1 in absurd (omega arith)
+      go None w = refl

@@ -1,7 +1,6 @@
 -- Which input feeds a bed. Document 01, item 3: "The two LFE codes match each other when no exact match exists". Assumes nothing.
-use Rattle.std.specs.Prelude.{ℕ, suc, ◌+◌, Bool, cond, ◌&&◌, ◌||◌, List, [], ◌∷◌, eqb}
-use Rattle.beds.specs.declared.Found.{Found}
-use Rattle.beds.specs.declared.Found.TheVariants.{At, Nothing}
+use Rattle.std.specs.Prelude.{ℕ, Bool, cond, ◌&&◌, ◌||◌, List, eqb, Option, None, position, count_by}
+use Rattle.std.specs.Option.{option_or}
 
 abbrev pub low_frequency : ℕ → Bool
 low_frequency code = eqb code 3 || eqb code 17
@@ -10,23 +9,14 @@ low_frequency code = eqb code 3 || eqb code 17
 abbrev pub matches : ℕ → ℕ → Bool
 matches requested provided = eqb requested provided || (low_frequency requested && low_frequency provided)
 
--- the first place, counted from i, of a or b
-abbrev pub first_from : ℕ → ℕ → ℕ → List ℕ → Found
-first_from i a b [] = Nothing
-first_from i a b (c ∷ cs) = cond (eqb c a || eqb c b) (At i) (first_from (suc i) a b cs)
-
-unfoldable pub first_of : ℕ → ℕ → List ℕ → Found
-first_of a b cs = first_from 0 a b cs
-
-abbrev pub or_found : Found → Found → Found
-or_found (At i) other = At i
-or_found Nothing other = other
+-- the first place of a or b
+unfoldable pub first_of : ℕ → ℕ → List ℕ → Option ℕ
+first_of a b cs = position (λ c. eqb c a || eqb c b) cs
 
 -- the first input of the bed's own code; where there is none, for an LFE bed the first LFE input
-unfoldable pub matching : ℕ → List ℕ → Found
-matching code inputs = or_found (first_of code code inputs) (cond (low_frequency code) (first_of 3 17 inputs) Nothing)
+unfoldable pub matching : ℕ → List ℕ → Option ℕ
+matching code inputs = option_or (first_of code code inputs) (cond (low_frequency code) (first_of 3 17 inputs) None)
 
 -- how many of the codes match a bed: the counts of refusal 13, "`BedChannelCountMismatch` (expected, 0)"
 abbrev pub counted : ℕ → List ℕ → ℕ
-counted code [] = 0
-counted code (c ∷ cs) = cond (matches code c) 1 0 + counted code cs
+counted code cs = count_by (matches code) cs

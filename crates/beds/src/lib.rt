@@ -1,11 +1,11 @@
 // SPDX-License-Identifier: Apache-2.0
 // Translated from libstarmine_ad render.rs; changed.
 
-// Bed channels: how each is put out, where it stands, and which input feeds it. A bed is named by its code, 0 to 17 in the order of `BedChannel`.
+// Bed channels: how each is put out, where it stands, and which input feeds it. A bed is named by its code, 0 to 17 in the order of `BedChannel`: no enum, since document 01's
+// functions answer every byte, and compare unknown codes too.
 #![tactic(auto)]
 
 ghost use Rattle.std.specs.Prelude.{◌≡◌, ◌≤◌, length};
-ghost use Rattle.vectors.specs.Vectors.{vec3};
 ghost use Rattle.beds.specs.Routes.{route_of, bass_gain};
 ghost use Rattle.beds.specs.Positions.{bed_position};
 ghost use Rattle.beds.specs.Matching.{low_frequency, matches, first_of, matching, counted};
@@ -21,25 +21,19 @@ pub enum Route {
     Unsupported,
 }
 
-// Where a code stands among the inputs.
-#[derive(Clone, Copy)]
-pub enum Found {
-    At(usize),
-    Nothing,
-}
-
-// `map_bed_channel_to_714`, with the beds that the source takes apart before it.
+// `map_bed_channel_to_714`, with the beds that the source takes apart before it; not at all for a code above 17.
+// (01: a match over the codes with ranges.)
 pub fn route_of(code: u8) -> Route
     ensures { result ≡ route_of code }
 {
     match code {
         3 | 17 => Route::Bass,
         11 | 12 | 15 | 16 => Route::Folded,
-        0..=2 => Route::Direct(code as usize),
-        4..=5 => Route::Direct(code as usize + 2),
-        7..=8 => Route::Direct(code as usize - 3),
-        9..=10 => Route::Direct(code as usize - 1),
-        13..=14 => Route::Direct(code as usize - 3),
+        0..=2 => Route::Direct(usize::from(code)),
+        4..=5 => Route::Direct(usize::from(code) + 2),
+        7..=8 => Route::Direct(usize::from(code) - 3),
+        9..=10 => Route::Direct(usize::from(code) - 1),
+        13..=14 => Route::Direct(usize::from(code) - 3),
         _ => Route::Unsupported,
     }
 }
@@ -51,43 +45,40 @@ pub fn bass_gain(gain: f32) -> f32
     gain * 0.316_227_76
 }
 
-fn point(x: f32, y: f32, z: f32) -> Vec3
-    ensures { result ≡ vec3 x y z }
-{
-    Vec3 { x: x, y: y, z: z }
-}
+// Where the beds stand, by code.
+static POSITIONS: [[f32; 3]; 18] = [
+    [-1.0, 0.0, 1.0],
+    [1.0, 0.0, 1.0],
+    [0.0, 0.0, 1.0],
+    [-1.0, -1.0, 1.0],
+    [-1.0, 0.0, 0.0],
+    [1.0, 0.0, 0.0],
+    [0.0, 0.0, -1.0],
+    [-1.0, 0.0, -1.0],
+    [1.0, 0.0, -1.0],
+    [-1.0, 1.0, 1.0],
+    [1.0, 1.0, 1.0],
+    [-1.0, 1.0, 0.0],
+    [1.0, 1.0, 0.0],
+    [-1.0, 1.0, -1.0],
+    [1.0, 1.0, -1.0],
+    [-1.0, 0.0, 0.677_419],
+    [1.0, 0.0, 0.677_419],
+    [-1.0, -1.0, 1.0],
+];
 
 // Where a bed stands; the origin for a code above 17.
 pub fn bed_channel_position(code: u8) -> Vec3
     ensures { result ≡ bed_position code }
 {
-    match code {
-        0 => point(-1.0, 0.0, 1.0),
-        1 => point(1.0, 0.0, 1.0),
-        2 => point(0.0, 0.0, 1.0),
-        3 => point(-1.0, -1.0, 1.0),
-        4 => point(-1.0, 0.0, 0.0),
-        5 => point(1.0, 0.0, 0.0),
-        6 => point(0.0, 0.0, -1.0),
-        7 => point(-1.0, 0.0, -1.0),
-        8 => point(1.0, 0.0, -1.0),
-        9 => point(-1.0, 1.0, 1.0),
-        10 => point(1.0, 1.0, 1.0),
-        11 => point(-1.0, 1.0, 0.0),
-        12 => point(1.0, 1.0, 0.0),
-        13 => point(-1.0, 1.0, -1.0),
-        14 => point(1.0, 1.0, -1.0),
-        15 => point(-1.0, 0.0, 0.677_419),
-        16 => point(1.0, 0.0, 0.677_419),
-        17 => point(-1.0, -1.0, 1.0),
-        _ => point(0.0, 0.0, 0.0),
-    }
+    let [x, y, z] = POSITIONS.get(code as usize).copied().unwrap_or([0.0; 3]);
+    Vec3 { x, y, z }
 }
 
 pub fn is_low_frequency_bed(code: u8) -> bool
     ensures { result ≡ low_frequency code }
 {
-    code == 3 || code == 17
+    matches!(code, 3 | 17)
 }
 
 // Whether an input feeds a bed: the same code, or both LFE.
@@ -98,34 +89,25 @@ pub fn bed_channel_matches_input(requested: u8, provided: u8) -> bool
 }
 
 // The first of the codes that is `a` or `b`.
-fn first_of(codes: &[u8], a: u8, b: u8) -> Found
+#[tactic(auto, unfolding(crate::specs::Matching::first_of))]
+fn first_of(codes: &[u8], a: u8, b: u8) -> Option<usize>
     ensures { result ≡ first_of a b codes.now }
 {
-    let mut i = 0usize;
-    while i < codes.len() {
-        if codes[i] == a || codes[i] == b {
-            return Found::At(i);
-        }
-        i += 1;
-    }
-    Found::Nothing
+    codes.iter().position(|c| *c == a || *c == b)
 }
 
 // The input that feeds a bed: the first of the same code; where there is none, for an LFE bed the first LFE input.
-pub fn find_matching_input_bed_channel(requested: u8, inputs: &[u8]) -> Found
+#[tactic(auto, unfolding(crate::specs::Matching::matching))]
+pub fn find_matching_input_bed_channel(requested: u8, inputs: &[u8]) -> Option<usize>
     ensures { result ≡ matching requested inputs.now }
 {
-    let exact = first_of(inputs, requested, requested);
-    match exact {
-        Found::At(i) => Found::At(i),
-        Found::Nothing => {
-            if is_low_frequency_bed(requested) {
-                first_of(inputs, 3, 17)
-            } else {
-                Found::Nothing
-            }
+    first_of(inputs, requested, requested).or_else(|| {
+        if is_low_frequency_bed(requested) {
+            first_of(inputs, 3, 17)
+        } else {
+            None
         }
-    }
+    })
 }
 
 // How many of the codes match a bed: the counts of `BedChannelCountMismatch`.
@@ -133,13 +115,8 @@ pub fn count_matching(requested: u8, codes: &[u8]) -> u32
     requires { length codes.now ≤ 18 }
     ensures { result ≡ counted requested codes.now }
 {
-    let mut n = 0u32;
-    let mut i = 0usize;
-    while i < codes.len() {
-        if bed_channel_matches_input(requested, codes[i]) {
-            n += 1;
-        }
-        i += 1;
-    }
-    n
+    codes
+        .iter()
+        .filter(|provided| bed_channel_matches_input(requested, **provided))
+        .count() as u32
 }

@@ -5,6 +5,8 @@ use Rattle.rules.specs.Refusals.{Args, args_of}
 use Rattle.rules.specs.Calls.{Call, push, flush, reset}
 use Rattle.rules.specs.BlockCalls.{made}
 use Rattle.theorem.specs.Instance.{hall, block}
+use Rattle.framing.specs.declared.request.Plain.{Plain}
+use Rattle.framing.specs.declared.request.Plain.TheVariants.{Flush, Reset}
 use Rattle.framing.specs.Framing.{bed_count, is_frame, is_plain, is_body, metadata_bytes, pcm_of}
 
 -- "frame (4-7 rate, 8-9 samples, 10 beds, 11 objects, .., 14-31 codes)"; "Its stride is 256"
@@ -20,6 +22,11 @@ out_after reset b out = out
 -- the push of a frame with the header r: of the metadata in its body, and of the PCM that the body's records hold
 abbrev pub push_of : List ℕ → List ℕ → List ℕ → Call
 push_of r body out = push (frame_args r (take (metadata_bytes r) body) (pcm_of r body) out)
+
+-- the call that a flush or a reset is
+abbrev pub alone : Plain → List ℕ → Call
+alone Flush out = flush out 256
+alone Reset out = reset
 
 -- "7, flush; 8, reset."
 unfoldable pub plain_call : List ℕ → List ℕ → Call

@@ -5,7 +5,6 @@ use Rattle.rules.specs.BlockCalls.{made}
 use Rattle.theorem.specs.Instance.{hall, block}
 use Rattle.hall.specs.declared.answer.Answer.{Answer}
 use Rattle.listing.specs.Text.{ready_text, refused_text, none_text, reset_text}
-use Rattle.listing.specs.GrownText.{Told}
 use Rattle.calls.specs.AnswerText.{text_of}
 use Rattle.calls.specs.Asked.{out_after}
 
@@ -20,8 +19,8 @@ text_of_code a out =
 abbrev pub text_after : Call → List ℕ → List ℕ → List ℕ
 text_after c b out = text_of (made hall block c b).answer out
 
--- the block b and the output o became these by one call, and the n bytes at the front of `text` are the text of its answer
-pub record Called (c : Call) (b o state out : List ℕ) (n : ℕ) (text : List ℕ) : Type 0 where
+-- the block b and the output o became these by one call, and `text` is the text of its answer
+pub record Called (c : Call) (b o state out text : List ℕ) : Type 0 where
   pub block : state ≡ (made hall block c b).state
   pub output : out ≡ out_after c b o
-  pub said : Told n text (text_after c b out)
+  pub said : text ≡ text_after c b out

@@ -11,10 +11,10 @@ ghost use Rattle.store.specs.Layout.{size};
 ghost use Rattle.chunk.specs.ChunkRows.{scene_of, Laid};
 
 use lowpass::BiquadLowpassState;
-use render::{Scene, Span};
+use render::{Input, Scene};
 use timed::state::MetadataRendererState;
 
-// A count, or none before the first update.
+// A count, or none before the first update: the flag chooses a number and no step.
 fn audible(started: bool, count: usize) -> usize
     ensures { result ≡ cond started count 0 }
 {
@@ -23,30 +23,24 @@ fn audible(started: bool, count: usize) -> usize
 
 // The rows of the chunk, in which nothing sounds yet, and the filter after it. Before the first update nothing is heard.
 pub fn mix(
-    m: MetadataRendererState,
-    filter: BiquadLowpassState,
+    m: &MetadataRendererState,
+    filter: &mut BiquadLowpassState,
     rows: &mut [f32],
-    pcm: &[u8],
-    codes: &[u8],
+    input: Input,
     objects: usize,
-    span: Span,
-) -> BiquadLowpassState
-    requires { Framed pcm.now (length codes.now + objects) span × (rows.old ≡ silent_rows) × (length codes.now ≤ 18) × (m.beds ≤ 18) × (objects ≤ 16) }
-    ensures { Passed (scene_at (scene_of m objects) codes.now pcm.now span.frame) filter span.first span.count rows.new result }
+)
+    requires { Framed input.pcm.now (length input.codes.now + objects) input.span × (rows.old ≡ silent_rows) × (length input.codes.now ≤ 18) × (m.now.beds ≤ 18) × (objects ≤ 16) }
+    ensures { Passed (scene_at (scene_of m.now objects) input.entry.codes.now input.entry.pcm.now input.entry.span.frame) filter.old
+        input.entry.span.first input.entry.span.count rows.new filter.new }
 {
-    let wanted = m.codes;
-    let gains = m.gains;
-    let sources = m.sources;
-    let beds = audible(m.initialized, m.beds);
-    let dynamic = audible(m.initialized, objects);
     let scene = Scene {
-        codes: wanted,
-        gains,
-        beds,
-        sources,
-        objects: dynamic,
+        codes: m.codes,
+        gains: m.gains,
+        beds: audible(m.initialized, m.beds),
+        sources: m.sources,
+        objects: audible(m.initialized, objects),
     };
-    render::run::pass_run(rows, pcm, codes, scene, span, filter)
+    render::run::pass_run(rows, input, &scene, filter);
 }
 
 // The rows' first k places behind the pending samples of the block.
@@ -54,6 +48,5 @@ pub fn lay(state: &mut [u8], rows: &[f32], pending: usize, k: usize)
     requires { (length state.old ≡ size) × (length rows.now ≡ place_count) × (pending + k ≤ row_places) }
     ensures { Laid rows.now pending k state.old state.new }
 {
-    let start = store::PLACES;
-    render::places::append_rows(rows, &mut state[start..], pending, k);
+    render::places::append_rows(rows, &mut state[store::PLACES..], pending, k);
 }

@@ -1,16 +1,16 @@
-// Samples counted from the stream's start and from a frame's start: two types that only the frame's own start joins (`at`). What is asked of a count is asked here.
+// Samples counted from the stream's start and from a frame's start: two types, and no generic one, that only the frame's own start joins (`at`). `==`, `<` and `<=` compare two of one type as their numbers.
 #![tactic(auto)]
 
-ghost use Rattle.std.specs.Prelude.{◌≡◌, ◌+◌, ◌-◌, ◌≤◌, eqb, leb, ltb};
+ghost use Rattle.std.specs.Prelude.{◌≡◌, ◌+◌, ◌-◌, ◌≤◌, leb};
 
-// A sample counted from the stream's start.
+// A sample counted from the stream's start. Its bound is asked where it is counted on, and is no invariant: that would ask it of comparisons too, and of what C holds.
 #[repr(C)]
-#[derive(Clone, Copy)]
+#[derive(Clone, Copy, PartialEq, Eq, PartialOrd, Ord)]
 pub struct StreamSample(pub u64);
 
 // A sample counted from the frame's start.
 #[repr(C)]
-#[derive(Clone, Copy)]
+#[derive(Clone, Copy, PartialEq, Eq, PartialOrd, Ord)]
 pub struct FrameOffset(pub u32);
 
 // The frame's first sample.
@@ -22,7 +22,7 @@ impl StreamSample {
         requires { self.0 ≤ 2199023255552 }
         ensures { result.0 ≡ self.0 + offset.0 }
     {
-        StreamSample(self.0 + offset.0 as u64)
+        StreamSample(self.0 + u64::from(offset.0))
     }
 
     // So many samples later.
@@ -30,20 +30,7 @@ impl StreamSample {
         requires { self.0 ≤ 2199023255552 }
         ensures { result.0 ≡ self.0 + samples }
     {
-        StreamSample(self.0 + samples as u64)
-    }
-
-    pub fn is_before(self, other: StreamSample) -> bool
-        ensures { result ≡ ltb self.0 other.0 }
-    {
-        self.0 < other.0
-    }
-
-    // Whether it is the other or before it.
-    pub fn is_up_to(self, other: StreamSample) -> bool
-        ensures { result ≡ leb self.0 other.0 }
-    {
-        self.0 <= other.0
+        StreamSample(self.0 + u64::from(samples))
     }
 
     // The samples from the other on, plus 2^47: a difference that may be negative, as ramps are kept.
@@ -58,7 +45,7 @@ impl StreamSample {
     pub fn has_room(self, samples: u32) -> bool
         ensures { result ≡ leb (self.0 + samples) 1099511627776 }
     {
-        self.0 <= 1099511627776 - samples as u64
+        self.0 <= 1099511627776 - u64::from(samples)
     }
 }
 
@@ -69,18 +56,6 @@ impl FrameOffset {
         ensures { result.0 ≡ self.0 + samples }
     {
         FrameOffset(self.0 + samples)
-    }
-
-    pub fn is(self, other: FrameOffset) -> bool
-        ensures { result ≡ eqb self.0 other.0 }
-    {
-        self.0 == other.0
-    }
-
-    pub fn is_before(self, other: FrameOffset) -> bool
-        ensures { result ≡ ltb self.0 other.0 }
-    {
-        self.0 < other.0
     }
 
     // The samples from here up to an end.

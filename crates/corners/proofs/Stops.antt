@@ -11,23 +11,10 @@ use lib.Ieee.{Float, binary32, fits, le, eq}
 use Rattle.ieee.specs.Units.{F32}
 use Rattle.panning.specs.Choice.{keep, first, or_list, below, above, level, end, flank}
 use Rattle.panning.proofs.Lists.{In, keep→, →keep}
-use Rattle.corners.specs.EqualRuns.{Members, Runs, Along, neighbour, EndsAt, SidesAt}
+use Rattle.panning.specs.Found.{side_of}
+use Rattle.corners.specs.EqualRuns.{Members, Runs, Along, LastRun, Walked, EndsAt, SidesAt}
 use Rattle.corners.proofs.Rising.{less_or_not, through, eq_le, eq_both, squeezed}
 use Rattle.corners.proofs.Segments.{each_member, part, or_some, or_none, only_first, none_below, none_above, below_run, above_run}
-
--- ---- what is known at index i: all before it are up to v, a run starts there, and the run before it starts at low
-pub record LastRun (c : ℕ → Float) (e : ℕ → ℕ) (a low i : ℕ) : Type 0 where
-  pub from : a ≤ low
-  pub less : low < i
-  pub next : e low ≡ i
-  pub start : (j : ℕ) → a ≤ j → j < low → T (le (c low) (c j)) → ⊥
-
-pub record Walked (c : ℕ → Float) (e : ℕ → ℕ) (a b : ℕ) (v : Float) (low i : ℕ) : Type 0 where
-  pub from : a ≤ i
-  pub to : i ≤ b
-  pub up : (j : ℕ) → a ≤ j → j < i → T (le (c j) v)
-  pub start : (j : ℕ) → a ≤ j → j < i → i < b → T (le (c i) (c j)) → ⊥
-  pub last : ((i ≡ a) × (low ≡ a)) ⊎ LastRun c e a low i
 
 -- the other end, where the walk stopped at i
 abbrev pub HighAt : ℕ → ℕ → ℕ → ℕ → Type 0
@@ -227,9 +214,9 @@ module _ {c : ℕ → Float} {e : ℕ → ℕ} {a b : ℕ} {v : Float} {low i hi
 
   pub ends_at : EndsAt c e a b v (record { low = low; high = high })
   ends_at = record {
-    from = λ top. elim top as (λ q. a ≤ neighbour q (record { low = low; high = high })) [ false ↦ (low_inside ab q.to q.last).0 | true ↦ high_in.0 ];
-    to = λ top. elim top as (λ q. neighbour q (record { low = low; high = high }) < b) [ false ↦ (low_inside ab q.to q.last).1 | true ↦ high_in.1 ];
-    is = λ ch C l s h top. elim top as (λ q. Members ch (neighbour q (record { low = low; high = high })) (e (neighbour q (record { low = low; high = high }))) (end q C v l)) [
+    from = λ top. elim top as (λ q. a ≤ side_of q (record { low = low; high = high })) [ false ↦ (low_inside ab q.to q.last).0 | true ↦ high_in.0 ];
+    to = λ top. elim top as (λ q. side_of q (record { low = low; high = high }) < b) [ false ↦ (low_inside ab q.to q.last).1 | true ↦ high_in.1 ];
+    is = λ ch C l s h top. elim top as (λ q. Members ch (side_of q (record { low = low; high = high })) (e (side_of q (record { low = low; high = high }))) (end q C v l)) [
       | false ↦ low_end ch C w (runs_of ch C s r) ab (walk_of ch C s q) (stop_of ch C s) hh l h
       | true ↦ high_end ch C w (runs_of ch C s r) ab (walk_of ch C s q) (stop_of ch C s) hh l h
     ];
@@ -239,9 +226,9 @@ module _ {c : ℕ → Float} {e : ℕ → ℕ} {a b : ℕ} {v : Float} {low i hi
     -- a speaker at v itself
     pub level_at : T (eq (c low) v) → SidesAt c a b v (record { low = low; high = low })
     level_at t = record {
-      from = λ right. elim right as (λ q. a ≤ neighbour q (record { low = low; high = low })) [ false ↦ (low_inside ab q.to q.last).0 | true ↦ (low_inside ab q.to q.last).0 ];
-      to = λ right. elim right as (λ q. neighbour q (record { low = low; high = low }) < b) [ false ↦ (low_inside ab q.to q.last).1 | true ↦ (low_inside ab q.to q.last).1 ];
-      is = λ ch C l s h right. elim right as (λ q. first (flank q C v l) ≡ ch (neighbour q (record { low = low; high = low }))) [
+      from = λ right. elim right as (λ q. a ≤ side_of q (record { low = low; high = low })) [ false ↦ (low_inside ab q.to q.last).0 | true ↦ (low_inside ab q.to q.last).0 ];
+      to = λ right. elim right as (λ q. side_of q (record { low = low; high = low }) < b) [ false ↦ (low_inside ab q.to q.last).1 | true ↦ (low_inside ab q.to q.last).1 ];
+      is = λ ch C l s h right. elim right as (λ q. first (flank q C v l) ≡ ch (side_of q (record { low = low; high = low }))) [
         | false ↦ low_side ch C w (runs_of ch C s r) ab (walk_of ch C s q) (stop_of ch C s) hh l h one
         | true ↦ at_side ch C w (runs_of ch C s r) ab (walk_of ch C s q) (stop_of ch C s) hh l h one
             (let n = low_inside ab q.to q.last in subst (λ (x : Float). T (eq x v)) (s low n.0 n.1) t)
@@ -251,9 +238,9 @@ module _ {c : ℕ → Float} {e : ℕ → ℕ} {a b : ℕ} {v : Float} {low i hi
     -- none there
     pub sides_at : T (not (eq (c low) v)) → SidesAt c a b v (record { low = low; high = high })
     sides_at t = record {
-      from = λ right. elim right as (λ q. a ≤ neighbour q (record { low = low; high = high })) [ false ↦ (low_inside ab q.to q.last).0 | true ↦ high_in.0 ];
-      to = λ right. elim right as (λ q. neighbour q (record { low = low; high = high }) < b) [ false ↦ (low_inside ab q.to q.last).1 | true ↦ high_in.1 ];
-      is = λ ch C l s h right. elim right as (λ q. first (flank q C v l) ≡ ch (neighbour q (record { low = low; high = high }))) [
+      from = λ right. elim right as (λ q. a ≤ side_of q (record { low = low; high = high })) [ false ↦ (low_inside ab q.to q.last).0 | true ↦ high_in.0 ];
+      to = λ right. elim right as (λ q. side_of q (record { low = low; high = high }) < b) [ false ↦ (low_inside ab q.to q.last).1 | true ↦ high_in.1 ];
+      is = λ ch C l s h right. elim right as (λ q. first (flank q C v l) ≡ ch (side_of q (record { low = low; high = high }))) [
         | false ↦ low_side ch C w (runs_of ch C s r) ab (walk_of ch C s q) (stop_of ch C s) hh l h one
         | true ↦ high_side ch C w (runs_of ch C s r) ab (walk_of ch C s q) (stop_of ch C s) hh l h one
             (let n = low_inside ab q.to q.last in subst (λ (x : Float). T (not (eq x v))) (s low n.0 n.1) t)

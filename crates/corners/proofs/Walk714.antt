@@ -1,11 +1,10 @@
 -- In the 7.1.4 hall the walk finds the corners that the code of `panning` chooses by the hall's coordinates: both are those of the choice. Assumes nothing.
-use mathlib.Core.Path.{◌≡◌, refl, sym, ap, subst, ◌∙◌, fun_ext}
+use mathlib.Core.Path.{◌≡◌, refl, sym, ap, subst, ◌∙◌}
 use mathlib.Core.Bool.{Bool, true, false}
 use mathlib.Core.List.{List, [], ◌∷◌, map}
 use Prim.Native.Nat.{ℕ}
 use lib.Dec.{T}
-use lib.ListN.{get_or-map}
-use lib.Ieee.{Float, nan, binary32, fits}
+use lib.Ieee.{binary32, fits}
 use Rattle.vectors.specs.declared.Vec3.{Vec3}
 use Rattle.panning.specs.Choice.{Corner, keep, corner, corners}
 use Rattle.panning.specs.Table.{Table}
@@ -13,53 +12,32 @@ use Rattle.panning.specs.Speakers.{positions714, hall714, full_range}
 use Rattle.panning.specs.Found.{chosen}
 use Rattle.panning.specs.Corners714.{cube714}
 use Rattle.panning.proofs.Theorems.{chosen_is, hall714_table}
-use Rattle.corners.specs.declared.sort.Hall.{Hall}
-use Rattle.corners.specs.EqualRuns.{coordinate_at, index_at}
-use Rattle.corners.specs.Walkable.{StandAt}
-use Rattle.corners.specs.SpeakerOrder.{place_among, speakers_of}
-use Rattle.corners.specs.Sorted.{Sorted}
+use Rattle.corners.specs.declared.Hall.{Hall}
+use Rattle.corners.specs.Axes.{place_among}
+use Rattle.corners.specs.SpeakerOrder.{speakers_of}
+use Rattle.corners.specs.Sorted.{StandIn, Sorted}
 
 -- what `cube` answers of a hall at a place
 abbrev pub CubeOf : Hall → Vec3 → List ℕ → Type 0
-CubeOf h p r = (sp : ℕ → Vec3) (l : List ℕ) → StandAt sp l (coordinate_at h.x) (coordinate_at h.y) (coordinate_at h.z) (index_at h.channel) h.count →
-    r ≡ map (corner sp l p) corners
+CubeOf h p r = (sp : ℕ → Vec3) (l : List ℕ) → StandIn sp l h → r ≡ map (corner sp l p) corners
 
 pub same_as_714 : (h : Hall) → Sorted hall714 full_range h → (p : Vec3) → T (fits binary32 p.x) → (r : List ℕ) → CubeOf h p r → r ≡ map (chosen (cube714 p)) corners
 same_as_714 h s p w r c = c hall714 full_range s.stand ∙ ap (λ (f : Corner → ℕ). map f corners) (sym (chosen_is p w))
 
--- the hall by its three coordinates, and all channels but 3
-unfoldable pub xs : List Float
-unfolding positions714
-xs = map (λ v. v.x) positions714
-
-unfoldable pub ys : List Float
-unfolding positions714
-ys = map (λ v. v.y) positions714
-
-unfoldable pub zs : List Float
-unfolding positions714
-zs = map (λ v. v.z) positions714
-
+-- all channels but 3
 abbrev pub eleven : List Bool
 eleven = true ∷ true ∷ true ∷ false ∷ true ∷ true ∷ true ∷ true ∷ true ∷ true ∷ true ∷ true ∷ []
 
-same_place : {a b c d e f : Float} → a ≡ d → b ≡ e → c ≡ f → ◌≡◌ {A = Vec3} (record { x = a; y = b; z = c }) (record { x = d; y = e; z = f })
-same_place p q r = cc
-
-pub places : place_among xs ys zs ≡ hall714
-unfolding xs ys zs hall714
-places = fun_ext (λ k. same_place (get_or-map (λ (v : Vec3). v.x) positions714 k out) (get_or-map (λ (v : Vec3). v.y) positions714 k out)
-    (get_or-map (λ (v : Vec3). v.z) positions714 k out))
-  where
-    out : Vec3
-    out = record { x = nan; y = nan; z = nan }
+pub places : place_among positions714 ≡ hall714
+unfolding hall714
+places = refl
 
 pub speakers : speakers_of eleven ≡ full_range
 unfolding speakers_of keep
 speakers = refl
 
-pub table_714 : Table (place_among xs ys zs) (speakers_of eleven)
-table_714 = subst (λ (l : List ℕ). Table (place_among xs ys zs) l) (sym speakers) (subst (λ (sp : ℕ → Vec3). Table sp full_range) (sym places) hall714_table)
+pub table_714 : Table (place_among positions714) (speakers_of eleven)
+table_714 = subst (λ (l : List ℕ). Table (place_among positions714) l) (sym speakers) (subst (λ (sp : ℕ → Vec3). Table sp full_range) (sym places) hall714_table)
 
-pub sorted_714 : (h : Hall) → Sorted (place_among xs ys zs) (speakers_of eleven) h → Sorted hall714 full_range h
-sorted_714 h s = subst (λ (sp : ℕ → Vec3). Sorted sp full_range h) places (subst (λ (l : List ℕ). Sorted (place_among xs ys zs) l h) speakers s)
+pub sorted_714 : (h : Hall) → Sorted (place_among positions714) (speakers_of eleven) h → Sorted hall714 full_range h
+sorted_714 h s = subst (λ (sp : ℕ → Vec3). Sorted sp full_range h) places (subst (λ (l : List ℕ). Sorted (place_among positions714) l h) speakers s)

@@ -3,15 +3,12 @@ use Rattle.std.specs.Prelude.{ℕ, ◌+◌, ◌≤◌, ◌<◌, ◌≡◌, Bool,
 use Rattle.std.specs.Float.Ieee.{lt, eq}
 use Rattle.vectors.specs.declared.Vec3.{Vec3}
 use Rattle.panning.specs.Choice.{keep}
-use Rattle.corners.specs.EqualRuns.{coordinate_at}
+use Rattle.corners.specs.declared.Speaker.{Speaker}
+use Rattle.corners.specs.Axes.{speaker_at}
 
 -- lower before higher; in a layer rear before front; in a row left before right
 unfoldable pub precedes : Vec3 → Vec3 → Bool
 precedes v w = cond (eq v.y w.y) (cond (eq v.z w.z) (lt v.x w.x) (lt v.z w.z)) (lt v.y w.y)
-
--- where the channels stand, by their three coordinates
-abbrev pub place_among : List Float → List Float → List Float → ℕ → Vec3
-place_among x y z k = record { x = coordinate_at x k; y = coordinate_at y k; z = coordinate_at z k }
 
 -- the channels that are marked
 abbrev pub is_marked : List Bool → ℕ → Bool
@@ -40,9 +37,9 @@ pub record InLine (sp : ℕ → Vec3) (here : ℕ → Bool) (k n : ℕ) (channel
   pub out : (j : ℕ) → j < k → T (here j) → (i : ℕ) × (i < n) × (j ≡ channel i)
   pub rising : (i j : ℕ) → i < j → j < n → T (precedes (sp (channel i)) (sp (channel j)))
 
--- the coordinates of the first n channels
-abbrev pub Gathered : (ℕ → Float) → (ℕ → ℕ) → ℕ → (ℕ → Float) → Type 0
-Gathered c channel n r = (i : ℕ) → i < n → r i ≡ c (channel i)
+-- the first n channels with their places
+abbrev pub Gathered : (ℕ → Vec3) → (ℕ → ℕ) → ℕ → List Speaker → Type 0
+Gathered sp channel n speakers = (i : ℕ) → i < n → speaker_at speakers i ≡ record { channel = channel i; place = sp (channel i) }
 
 -- the end of the run at j, from that at j + 1: where the next is in bounds and at an equal coordinate, the run goes on
 abbrev pub run_end : (ℕ → Float) → (ℕ → ℕ) → (ℕ → ℕ) → ℕ → ℕ

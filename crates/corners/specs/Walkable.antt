@@ -1,11 +1,12 @@
 -- The speakers of a hall in the order of (y, z, x): what the arrays must be for a walk over them (`Walkable`), and who stands in them (`StandAt`). A reader may skip the rest:
 -- the contracts of `row` and `layer`. Assumes nothing.
-use Rattle.std.specs.Prelude.{ℕ, ◌+◌, ◌≤◌, ◌<◌, ◌≡◌, Bool, true, false, List, Float}
+use Rattle.std.specs.Prelude.{ℕ, ◌+◌, ◌≤◌, ◌<◌, ◌≡◌, Bool, List, Float}
 use Rattle.vectors.specs.declared.Vec3.{Vec3}
 use Rattle.panning.specs.Choice.{first, flank, row_among, side}
-use Rattle.corners.specs.declared.walk.Neighbours.{Neighbours}
-use Rattle.corners.specs.declared.walk.Quad.{Quad}
-use Rattle.corners.specs.EqualRuns.{Members, Runs, Along, neighbour}
+use Rattle.panning.specs.declared.Ends.{Ends}
+use Rattle.panning.specs.declared.Layer.{Layer}
+use Rattle.panning.specs.Found.{side_of, row_of}
+use Rattle.corners.specs.EqualRuns.{Members, Runs, Along}
 
 -- the row at a
 pub record RowRuns (x : ℕ → Float) (rowEnd : ℕ → ℕ) (a : ℕ) : Type 0 where
@@ -37,13 +38,9 @@ pub record StandAt (sp : ℕ → Vec3) (l : List ℕ) (x y z : ℕ → Float) (c
 
 -- ---- what is found: for any channels that stand there, those of the choice
 
-pub record RowAt (x : ℕ → Float) (channel : ℕ → ℕ) (a b : ℕ) (v : Float) (r : Neighbours) : Type 0 where
-  pub is : (C : ℕ → Float) (l : List ℕ) → Along x a b channel C → Members channel a b l → (right : Bool) → neighbour right r ≡ first (flank right C v l)
+pub record RowAt (x : ℕ → Float) (channel : ℕ → ℕ) (a b : ℕ) (v : Float) (r : Ends) : Type 0 where
+  pub is : (C : ℕ → Float) (l : List ℕ) → Along x a b channel C → Members channel a b l → (right : Bool) → side_of right r ≡ first (flank right C v l)
 
-abbrev pub quad_row : Bool → Quad → Neighbours
-quad_row false q = q.rear
-quad_row true q = q.front
-
-pub record LayerAt (x z : ℕ → Float) (channel : ℕ → ℕ) (a b : ℕ) (p : Vec3) (q : Quad) : Type 0 where
+pub record LayerAt (x z : ℕ → Float) (channel : ℕ → ℕ) (a b : ℕ) (p : Vec3) (q : Layer) : Type 0 where
   pub is : (sp : ℕ → Vec3) (l : List ℕ) → Along x a b channel (λ k. (sp k).x) → Along z a b channel (λ k. (sp k).z) → Members channel a b l → (front right : Bool) →
-      neighbour right (quad_row front q) ≡ first (side right sp p (row_among front sp p l))
+      side_of right (row_of front q) ≡ first (side right sp p (row_among front sp p l))

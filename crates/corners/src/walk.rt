@@ -1,127 +1,112 @@
 // SPDX-License-Identifier: Apache-2.0
 
-// The corners about a place, found in sorted arrays: the runs of equal coordinates are walked along each axis.
+// The corners about a place: the runs of equal coordinates of a sorted hall are walked along each axis.
 ghost use Rattle.std.specs.Prelude.{◌≡◌, List, map, ℕ, ◌+◌, ◌<◌, ◌≤◌};
 ghost use Rattle.vectors.specs.declared.Vec3.{Vec3};
 ghost use Rattle.panning.specs.Choice.{corner, corners};
-ghost use Rattle.corners.specs.EqualRuns.{coordinate_at, index_at, Runs, EndsAt, SidesAt};
-ghost use Rattle.corners.specs.Walkable.{RowRuns, LayerRuns, Walkable, StandAt, RowAt, LayerAt};
+ghost use Rattle.corners.specs.declared.Axis.TheVariants.{X, Z};
+ghost use Rattle.corners.specs.Axes.{along, channel_at, index_at, run_after};
+ghost use Rattle.corners.specs.EqualRuns.{StopsAt, EndsAt, SidesAt};
+ghost use Rattle.corners.specs.Walkable.{RowRuns, LayerRuns, RowAt, LayerAt};
+ghost use Rattle.corners.specs.Sorted.{RunsIn, CanWalk, StandIn};
 
+use crate::{Axis, Hall};
+use panning::{Cube, Ends, Layer};
 use vectors::Vec3;
 
-// Two indexes, or two channels, on the two sides of a coordinate.
-#[derive(Clone, Copy)]
-struct Neighbours {
-    low: usize,
-    high: usize,
-}
-
-// Where the low and the high end of the runs from `a` up to `b` about `v` begin, each filled by the other.
-fn ends(c: &[f32; 12], next: &[usize; 12], a: usize, b: usize, v: f32) -> Neighbours
-    requires { Runs (coordinate_at c.now) (index_at next.now) a b × (a < b) × (b ≤ 12) }
-    ensures { EndsAt (coordinate_at c.now) (index_at next.now) a b v result }
-{
-    let mut low = a;
-    let mut i = a;
-    while i < b {
-        if !(c[i] <= v) {
-            return Neighbours { low, high: i };
+impl Hall {
+    // Where the run that begins at `i` ends. Along a row each speaker is a run.
+    fn run_after(&self, axis: Axis, i: usize) -> usize
+        requires { i < 12 }
+        ensures { result ≡ run_after axis self.now i }
+    {
+        match axis {
+            Axis::X => i + 1,
+            Axis::Y => self.layers[i],
+            Axis::Z => self.rows[i],
         }
-        low = i;
-        i = next[i];
     }
-    Neighbours { low, high: low }
-}
 
-// The two sides of the row from `a` up to `b`; a speaker at `v` itself is both.
-fn sides(x: &[f32; 12], a: usize, b: usize, v: f32) -> Neighbours
-    requires { Runs (coordinate_at x.now) (λ i. i + 1) a b × (a < b) × (b ≤ 12) }
-    ensures { SidesAt (coordinate_at x.now) a b v result }
-{
-    let mut low = a;
-    let mut i = a;
-    while i < b {
-        if !(x[i] <= v) {
-            if x[low] == v {
-                return Neighbours { low, high: low };
+    // The walk over the runs from `a` up to `b` (two numbers, as the tables have the ends: a pair of them would be made for each walk, and taken apart in it): where the last that is not beyond `v` begins, and where the walk stops. A `while`, since each step is as long as its run.
+    fn walk(&self, axis: Axis, a: usize, b: usize, v: f32) -> Ends
+        requires { RunsIn axis self.now a b }
+        ensures { StopsAt (along axis self.now.speakers) (run_after axis self.now) a b v result }
+    {
+        let mut low = a;
+        let mut i = a;
+        while i < b && axis.of(self.speakers[i].place) <= v {
+            low = i;
+            i = self.run_after(axis, i);
+        }
+        Ends { low, high: i }
+    }
+
+    // Where the low and the high end about `v` of the runs from `a` up to `b` begin, each filled by the other.
+    fn ends(&self, axis: Axis, a: usize, b: usize, v: f32) -> Ends
+        requires { RunsIn axis self.now a b }
+        ensures { EndsAt (along axis self.now.speakers) (run_after axis self.now) a b v result }
+    {
+        let stop = self.walk(axis, a, b, v);
+        if stop.high < b {
+            stop
+        } else {
+            Ends {
+                high: stop.low,
+                ..stop
             }
-            return Neighbours { low, high: i };
         }
-        low = i;
-        i += 1;
     }
-    Neighbours { low, high: low }
-}
 
-// The channels on the two sides of the row that begins at `a`.
-fn row(x: &[f32; 12], channel: &[usize; 12], rows: &[usize; 12], a: usize, v: f32) -> Neighbours
-    requires { RowRuns (coordinate_at x.now) (index_at rows.now) a }
-    ensures { RowAt (coordinate_at x.now) (index_at channel.now) a (index_at rows.now a) v result }
-{
-    let s = sides(x, a, rows[a], v);
-    let low = s.low;
-    let high = s.high;
-    Neighbours {
-        low: channel[low],
-        high: channel[high],
+    // The two sides about `v` of the row from `a` up to `b`; a speaker at `v` itself is both.
+    fn sides(&self, a: usize, b: usize, v: f32) -> Ends
+        requires { RunsIn X self.now a b }
+        ensures { SidesAt (along X self.now.speakers) a b v result }
+    {
+        let stop = self.walk(Axis::X, a, b, v);
+        if stop.high < b && self.speakers[stop.low].place.x != v {
+            stop
+        } else {
+            Ends {
+                high: stop.low,
+                ..stop
+            }
+        }
     }
-}
 
-// The corners in one layer.
-#[derive(Clone, Copy)]
-struct Quad {
-    front: Neighbours,
-    rear: Neighbours,
-}
-
-// Those of the layer that begins at `a`.
-fn layer(
-    x: &[f32; 12],
-    z: &[f32; 12],
-    channel: &[usize; 12],
-    layers: &[usize; 12],
-    rows: &[usize; 12],
-    a: usize,
-    place: Vec3,
-) -> Quad
-    requires { LayerRuns (coordinate_at x.now) (coordinate_at z.now) (index_at layers.now) (index_at rows.now) a }
-    ensures { LayerAt (coordinate_at x.now) (coordinate_at z.now) (index_at channel.now) a (index_at layers.now a) place result }
-{
-    let found = ends(z, rows, a, layers[a], place.z);
-    Quad {
-        front: row(x, channel, rows, found.high, place.x),
-        rear: row(x, channel, rows, found.low, place.x),
+    // The channels on the two sides of the row that begins at `a`.
+    fn row(&self, a: usize, v: f32) -> Ends
+        requires { RowRuns (along X self.now.speakers) (index_at self.now.rows) a }
+        ensures { RowAt (along X self.now.speakers) (channel_at self.now.speakers) a (index_at self.now.rows a) v result }
+    {
+        let sides = self.sides(a, self.rows[a], v);
+        Ends {
+            low: self.speakers[sides.low].channel,
+            high: self.speakers[sides.high].channel,
+        }
     }
-}
 
-// The eight corners about a place, in the order in which they are mixed: the `count` speakers stand in the order of (y, z, x), and `layers` and `rows` have the ends of the
-// runs of equal y, and of equal y and z.
-pub fn cube<'a>(
-    x: &'a [f32; 12],
-    y: &'a [f32; 12],
-    z: &'a [f32; 12],
-    channel: &'a [usize; 12],
-    layers: &'a [usize; 12],
-    rows: &'a [usize; 12],
-    count: usize,
-    place: Vec3,
-) -> [usize; 8]
-    requires { Walkable (coordinate_at x.now) (coordinate_at y.now) (coordinate_at z.now) (index_at layers.now) (index_at rows.now) count }
-    ensures { (sp : ℕ → Vec3) (l : List ℕ) →
-        StandAt sp l (coordinate_at x.now) (coordinate_at y.now) (coordinate_at z.now) (index_at channel.now) count →
-        result ≡ map (corner sp l place) corners }
-{
-    let found = ends(y, layers, 0, count, place.y);
-    let bottom = layer(x, z, channel, layers, rows, found.low, place);
-    let top = layer(x, z, channel, layers, rows, found.high, place);
-    [
-        bottom.front.low,
-        bottom.front.high,
-        bottom.rear.low,
-        bottom.rear.high,
-        top.front.low,
-        top.front.high,
-        top.rear.low,
-        top.rear.high,
-    ]
+    // The corners in the layer that begins at `a`.
+    fn layer(&self, a: usize, place: Vec3) -> Layer
+        requires { LayerRuns (along X self.now.speakers) (along Z self.now.speakers) (index_at self.now.layers) (index_at self.now.rows) a }
+        ensures { LayerAt (along X self.now.speakers) (along Z self.now.speakers) (channel_at self.now.speakers) a (index_at self.now.layers a) place result }
+    {
+        let rows = self.ends(Axis::Z, a, self.layers[a], place.z);
+        Layer {
+            front: self.row(rows.high, place.x),
+            rear: self.row(rows.low, place.x),
+        }
+    }
+
+    // The eight corners about a place, in the order in which they are mixed.
+    pub fn cube(&self, place: Vec3) -> [usize; 8]
+        requires { CanWalk self.now }
+        ensures { (sp : ℕ → Vec3) (l : List ℕ) → StandIn sp l self.now → result ≡ map (corner sp l place) corners }
+    {
+        let layers = self.ends(Axis::Y, 0, self.count, place.y);
+        Cube {
+            bottom: self.layer(layers.low, place),
+            top: self.layer(layers.high, place),
+        }
+        .channels()
+    }
 }

@@ -1,5 +1,5 @@
 -- Laws of `all`. Assumes nothing.
-use Rattle.std.proofs.Common.{◌≡◌, ℕ, zero, suc, ◌+◌, ◌<◌, ◌≤◌, Bool, true, false, ◌&&◌, sym, refl, ap, ◌∙◌, ⊎_elim, eq-or-lt_of_le, add-one, arith}
+use Rattle.std.proofs.Common.{◌≡◌, ℕ, zero, suc, ◌+◌, ◌<◌, ◌≤◌, Bool, true, false, ◌&&◌, sym, refl, ap, ◌∙◌, ⊎_elim, eq-or-lt_of_le, add-one, arith, ap₂}
 use Rattle.fields.specs.RecordBytes.{all}
 
 pub and_false : (a : Bool) {b : Bool} → b ≡ false → (a && b) ≡ false
@@ -57,3 +57,8 @@ module _ (p : ℕ → Bool) where
   unfolding all
   all_true zero f = refl
   all_true (suc n) f = rw (all_true n (λ i h. f i (omega arith))) (f n (omega arith))
+
+pub all_same : (p q : ℕ → Bool) (n : ℕ) → ((i : ℕ) → i < n → p i ≡ q i) → all p n ≡ all q n
+unfolding all
+all_same p q zero f = refl
+all_same p q (suc n) f = ap₂ (λ (a b : Bool). a && b) (all_same p q n (λ i h. f i (omega arith))) (f n (omega arith))

@@ -1,11 +1,11 @@
 -- Ranges and depth factors by bits. Assumes nothing.
-use Rattle.std.proofs.Common.{◌≡◌, ℕ, ◌^◌, ◌<◌, Bool, true, false, cond, not, ◌||◌, eqb, List, pos, negsuc, refl, ap, ◌∙◌, lit<}
+use Rattle.std.proofs.Common.{◌≡◌, ℕ, ◌^◌, ◌<◌, Bool, true, false, cond, not, ◌||◌, eqb, List, pos, negsuc, sym, refl, ap, ◌∙◌, lit<}
 use lib.Ieee.{Float, fin, binary32, fits, eq, of_bits, to_bits}
+use Rattle.std.specs.Prelude.{Some, None}
 use Rattle.words.specs.Words.{word, float_at}
 use Rattle.ieee.specs.Units.{One, mag}
 use Rattle.ieee.specs.Numbers.{8·0}
 use Rattle.ieee.proofs.Theorems.{bits_same}
-use Rattle.vectors.specs.declared.Maybe.TheVariants.{Absent, Value}
 use Rattle.vectors.specs.Head.{has}
 use Rattle.fields.specs.Object.{depth_code, maybe_of, from_zero_to, absent_or}
 
@@ -25,7 +25,7 @@ range_by_bits most y e m flags bit at =
     let x = of_bits binary32 (word m at) in
     ap (λ (z : Float). not (has flags bit) || from_zero_to z x) e ∙ present (has flags bit) y x
   where
-    present : (h : Bool) (most x : Float) → (not h || from_zero_to most x) ≡ absent_or most (cond h (Value x) Absent)
+    present : (h : Bool) (most x : Float) → (not h || from_zero_to most x) ≡ absent_or most (cond h (Some x) None)
     present true most x = refl
     present false most x = refl
 
@@ -50,3 +50,12 @@ module _ (w : ℕ) (less : w < 2 ^ 32) where
   pub depth_by_bits : cond (eqb w 0x3e800000) 0 (cond (eqb w 0x3f000000) 1 (cond (eqb w 0x3f800000) 2 (cond (eqb w 0x40000000) 3 4))) ≡ depth_code (of_bits binary32 w)
   unfolding depth_code
   depth_by_bits = rw (quarter, half, one, two)
+
+  -- the factor of the bits `listed`
+  pub depth_listed : (listed code : ℕ) → w ≡ listed
+      → cond (eqb listed 0x3e800000) 0 (cond (eqb listed 0x3f000000) 1 (cond (eqb listed 0x3f800000) 2 (cond (eqb listed 0x40000000) 3 4))) ≡ code
+      → code ≡ depth_code (of_bits binary32 w)
+  depth_listed listed code e f =
+      sym f
+      ∙ ap (λ (n : ℕ). cond (eqb n 0x3e800000) 0 (cond (eqb n 0x3f000000) 1 (cond (eqb n 0x3f800000) 2 (cond (eqb n 0x40000000) 3 4)))) (sym e)
+      ∙ depth_by_bits

@@ -15,7 +15,7 @@ is_element m r = kind m r == 2 && nat_le (blocks m r) 8 && zero_bytes m (40 * r 
 unfoldable pub is_block : List ℕ → ℕ → Bool
 is_block m r = kind m r == 3 && zero_bytes m (40 * r + 1) 7 && zero_bytes m (40 * r + 24) 16
 
-abbrev pub block_of : List ℕ → ℕ → Block
+abbrev pub block_of : List ℕ → ℕ → Block ℤ
 block_of m r = record { offset = signed_at m (40 * r + 8); ramp = signed_at m (40 * r + 16) }
 
 -- not "outside ±1,048,576"
@@ -23,5 +23,5 @@ abbrev pub within : ℤ → Bool
 within z = int_le (negsuc 1048575) z && int_le z (pos 1048576)
 
 -- refusal 6 does not arise: "an offset or ramp outside ±1,048,576"
-abbrev pub block_in_range : Block → Bool
+abbrev pub block_in_range : Block ℤ → Bool
 block_in_range b = within b.offset && within b.ramp

@@ -1,14 +1,12 @@
 -- "4, object in a block: 1 anchor (0 room, 1 screen, 2 speaker); 2 flags (1 position valid, 2 differential, 4 gain, 8 position, 16 distance, 32 size
 -- present); f32 at 4 gain, 8, 12, 16 position, 20 distance, 24 size, 28 screen factor, 32 depth factor. An absent value is zero."
 -- Document 02, R-3: "Bytes 36 to 39 of an object record become its send, an f32 from 0 to 1." It is always there. Assumes nothing.
-use Rattle.std.specs.Prelude.{ℕ, ◌+◌, ◌*◌, Bool, true, false, cond, ◌&&◌, ◌||◌, List, pos, negsuc, ◌==◌, nat_le, nat_lt, Float}
+use Rattle.std.specs.Prelude.{ℕ, ◌+◌, ◌*◌, Bool, true, false, cond, ◌&&◌, ◌||◌, List, pos, negsuc, ◌==◌, nat_le, nat_lt, Float, Option, Some, None}
 use Rattle.std.specs.Float.{fin}
 use Rattle.std.specs.Float.Ieee.{eq, le}
 use Rattle.words.specs.Words.{float_at}
 use Rattle.vectors.specs.declared.Anchor.{Anchor}
 use Rattle.vectors.specs.declared.Vec3.{Vec3}
-use Rattle.vectors.specs.declared.Maybe.{Maybe}
-use Rattle.vectors.specs.declared.Maybe.TheVariants.{Absent, Value}
 use Rattle.vectors.specs.Head.{anchor_of}
 use Rattle.fields.specs.RecordBytes.{byte, kind, zero_bytes, has}
 
@@ -40,17 +38,17 @@ pub record Object : Type 0 where
   pub anchor : Anchor
   pub valid : Bool
   pub differential : Bool
-  pub gain : Maybe
+  pub gain : Option Float
   pub position : Placement
-  pub distance : Maybe
-  pub size : Maybe
+  pub distance : Option Float
+  pub size : Option Float
   pub screen : Float
   pub depth : ℕ
   pub send : Float
 
 -- the value at a place that is present with `bit`
-unfoldable pub maybe_of : List ℕ → ℕ → ℕ → ℕ → Maybe
-maybe_of m flags bit at = cond (has flags bit) (Value (float_at m at)) Absent
+unfoldable pub maybe_of : List ℕ → ℕ → ℕ → ℕ → Option Float
+maybe_of m flags bit at = cond (has flags bit) (Some (float_at m at)) None
 
 unfoldable pub position_of : List ℕ → ℕ → ℕ → Placement
 position_of m flags at = cond (has flags 8) (At (record { x = float_at m at; y = float_at m (at + 4); z = float_at m (at + 8) })) Same
@@ -85,9 +83,9 @@ abbrev pub from_zero_to : Float → Float → Bool
 from_zero_to most x = le (fin false 0 (pos 0)) x && le x most
 
 -- absent, or from 0 to `most`
-abbrev pub absent_or : Float → Maybe → Bool
-absent_or most Absent = true
-absent_or most (Value x) = from_zero_to most x
+abbrev pub absent_or : Float → Option Float → Bool
+absent_or most None = true
+absent_or most (Some x) = from_zero_to most x
 
 -- "a present gain outside 0 to 8, a size outside 0 to 1 (NaN is outside) .. a depth factor not one of the four"; R-3: "a send outside its range, NaN included, is refusal 6"
 abbrev pub object_in_range : Object → Bool

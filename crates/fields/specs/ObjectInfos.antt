@@ -1,10 +1,8 @@
 -- An object in a block as the state keeps it. `info_says_all` of proofs/InfoSaysAll: it says all that the record says. Assumes nothing.
-use Rattle.std.specs.Prelude.{ℕ, ◌+◌, ◌*◌, cond, List, from_bits}
+use Rattle.std.specs.Prelude.{ℕ, ◌+◌, ◌*◌, cond, List, from_bits, Float, Option, Some, None}
 use Rattle.std.specs.Float.{binary32}
 use Rattle.words.specs.Words.{word, float_at}
 use Rattle.vectors.specs.Head.{Head, head_word, head_in, anchor_of, has}
-use Rattle.vectors.specs.declared.Maybe.{Maybe}
-use Rattle.vectors.specs.declared.Maybe.TheVariants.{Absent, Value}
 use Rattle.fields.specs.RecordBytes.{byte}
 use Rattle.fields.specs.Object.{Same, At, Object, depth_code}
 use Rattle.fields.specs.declared.object.Info.{Info}
@@ -28,8 +26,8 @@ stored_info m r =
     }
 
 -- the object of an info, by its head
-abbrev pub value_of : ℕ → ℕ → ℕ → Maybe
-value_of flags bit n = cond (has flags bit) (Value (from_bits binary32 n)) Absent
+abbrev pub value_of : ℕ → ℕ → ℕ → Option Float
+value_of flags bit n = cond (has flags bit) (Some (from_bits binary32 n)) None
 
 abbrev pub object_from : Head → Info → Object
 object_from h i =

@@ -3,92 +3,83 @@ ghost use Rattle.std.specs.Prelude.{◌≡◌, ◌+◌, ◌*◌, ◌<◌, ◌≤
 ghost use Rattle.fields.specs.Block.{blocks, is_element, is_block, block_of, within, block_in_range};
 ghost use Rattle.fields.specs.Raised.{raised, raised_of};
 
-use crate::bytes::{byte_at, zeros};
+use crate::record::{BLOCK, ELEMENT, Record};
 
-// How many blocks the element at e has.
-pub fn blocks_at(meta: &[u8], e: usize) -> usize
-    requires { 40 * e + 40 ≤ length meta.now }
-    ensures { (result ≡ blocks meta.now e) × (result < 256) }
-{
-    byte_at(meta, 40 * e + 1)
-}
-
-// Whether record r is an element as laid out.
-pub fn is_element(meta: &[u8], r: usize) -> bool
-    requires { 40 * r + 40 ≤ length meta.now }
-    ensures { result ≡ is_element meta.now r }
-{
-    let at = 40 * r;
-    (meta[at] == 2) & (meta[at + 1] <= 8) & zeros(meta, at + 2, 38)
-}
-
-// Whether record r is a block as laid out.
-pub fn is_block(meta: &[u8], r: usize) -> bool
-    requires { 40 * r + 40 ≤ length meta.now }
-    ensures { result ≡ is_block meta.now r }
-{
-    let at = 40 * r;
-    (meta[at] == 3) & zeros(meta, at + 1, 7) & zeros(meta, at + 24, 16)
-}
-
-// A block's record.
+// The offset and the ramp of a block.
 #[repr(C)]
 #[derive(Clone, Copy)]
-pub struct Block {
-    pub offset: i64,
-    pub ramp: i64,
+pub struct Block<T> {
+    pub offset: T,
+    pub ramp: T,
 }
 
-pub fn block_at(meta: &[u8], r: usize) -> Block
-    requires { 40 * r + 40 ≤ length meta.now }
-    ensures { result ≡ block_of meta.now r }
-{
-    let at = 40 * r;
-    Block {
-        offset: words::i64_at(meta, at + 8),
-        ramp: words::i64_at(meta, at + 16),
-    }
-}
+// An offset and a ramp are at most so far from 0.
+const REACH: i64 = 1_048_576;
 
 fn within(z: i64) -> bool
     ensures { result ≡ within z }
 {
-    if -1048576 <= z {
-        return z <= 1048576;
+    (-REACH..=REACH).contains(&z)
+}
+
+impl Record<'_> {
+    // How many blocks the element has.
+    pub fn blocks(self) -> usize
+        ensures { (result ≡ blocks self.entry.meta.now self.entry.place) × (result < 256) }
+    {
+        usize::from(self.byte(1))
     }
-    false
-}
 
-// Whether offset and ramp of the block at r are within their range.
-pub fn block_in_range(meta: &[u8], r: usize) -> bool
-    requires { 40 * r + 40 ≤ length meta.now }
-    ensures { result ≡ block_in_range (block_of meta.now r) }
-{
-    let b = block_at(meta, r);
-    within(b.offset) & within(b.ramp)
-}
+    // Whether it is an element as laid out.
+    #[tactic(auto, unfolding(crate::specs::Block::is_element))]
+    pub fn is_element(self) -> bool
+        ensures { result ≡ is_element self.entry.meta.now self.entry.place }
+    {
+        (self.kind() == ELEMENT) & (self.byte(1) <= 8) & self.is_zero(2, 38)
+    }
 
-// The same numbers, each plus 2^20.
-#[derive(Clone, Copy)]
-pub struct Raised {
-    pub offset: u64,
-    pub ramp: u64,
-}
+    // Whether it is a block as laid out.
+    #[tactic(auto, unfolding(crate::specs::Block::is_block))]
+    pub fn is_block(self) -> bool
+        ensures { result ≡ is_block self.entry.meta.now self.entry.place }
+    {
+        (self.kind() == BLOCK) & self.is_zero(1, 7) & self.is_zero(24, 16)
+    }
 
-fn raised_at(meta: &[u8], at: usize) -> u64
-    requires { at + 8 ≤ length meta.now }
-    ensures { result ≡ raised meta.now at }
-{
-    std::num::wrapping_add_u64(words::u64_at(meta, at), 1048576)
-}
+    // What the block says.
+    pub fn block(self) -> Block<i64>
+        ensures { result ≡ block_of self.entry.meta.now self.entry.place }
+    {
+        let at = 40 * self.place;
+        Block {
+            offset: words::i64_at(self.meta, at + 8),
+            ramp: words::i64_at(self.meta, at + 16),
+        }
+    }
 
-pub fn raised_block_at(meta: &[u8], r: usize) -> Raised
-    requires { 40 * r + 40 ≤ length meta.now }
-    ensures { result ≡ raised_of meta.now r }
-{
-    let at = 40 * r;
-    Raised {
-        offset: raised_at(meta, at + 8),
-        ramp: raised_at(meta, at + 16),
+    // Whether offset and ramp of the block are within their range.
+    pub fn block_in_range(self) -> bool
+        ensures { result ≡ block_in_range (block_of self.entry.meta.now self.entry.place) }
+    {
+        let Block { offset, ramp } = self.block();
+        within(offset) & within(ramp)
+    }
+
+    // The number at byte k, plus 2^20.
+    fn raised(self, k: usize) -> u64
+        requires { k + 8 ≤ 40 }
+        ensures { result ≡ raised self.entry.meta.now (40 * self.entry.place + k) }
+    {
+        words::u64_at(self.meta, 40 * self.place + k).wrapping_add(1 << 20)
+    }
+
+    // The same numbers, each plus 2^20.
+    pub fn raised_block(self) -> Block<u64>
+        ensures { result ≡ raised_of self.entry.meta.now self.entry.place }
+    {
+        Block {
+            offset: self.raised(8),
+            ramp: self.raised(16),
+        }
     }
 }

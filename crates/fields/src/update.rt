@@ -2,7 +2,7 @@
 ghost use Rattle.std.specs.Prelude.{◌≡◌, ◌+◌, ◌-◌, ◌*◌, ◌<◌, ◌≤◌, length};
 ghost use Rattle.fields.specs.Update.{offset, header_of, counts_fit, most_at, codes_fit, is_update};
 
-use crate::bytes::{byte_at, zeros};
+use crate::record::{Record, UPDATE};
 use clock::FrameOffset;
 
 #[repr(C)]
@@ -15,84 +15,75 @@ pub struct Header {
     pub elements: usize,
 }
 
-// The sample offset.
-pub fn offset_at(meta: &[u8], u: usize) -> FrameOffset
-    requires { 40 * u + 40 ≤ length meta.now }
-    ensures { result.0 ≡ offset meta.now u }
-{
-    FrameOffset(words::u16_at(meta, 40 * u + 2) as u32)
-}
-
-// What the record says, but for the codes.
-pub fn header_at(meta: &[u8], u: usize) -> Header
-    requires { 40 * u + 40 ≤ length meta.now }
-    ensures { result ≡ header_of meta.now u }
-{
-    let at = 40 * u;
-    Header {
-        offset: offset_at(meta, u),
-        objects: byte_at(meta, at + 4),
-        bed_or_isf: byte_at(meta, at + 5),
-        beds: byte_at(meta, at + 6),
-        elements: byte_at(meta, at + 7),
+impl Header {
+    // How many objects are dynamic.
+    pub fn dynamic(self) -> usize
+        ensures { result ≡ self.objects - self.bed_or_isf }
+    {
+        self.objects.saturating_sub(self.bed_or_isf)
     }
-}
 
-// How many objects are dynamic.
-pub fn dynamic(objects: usize, bed_or_isf: usize) -> usize
-    ensures { result ≡ objects - bed_or_isf }
-{
-    if bed_or_isf < objects {
-        return objects - bed_or_isf;
+    // Whether the counts are within their limits.
+    fn counts_fit(self) -> bool
+        ensures { result ≡ counts_fit self.objects self.bed_or_isf self.beds self.elements }
+    {
+        (self.objects <= 32)
+            & (self.dynamic() <= 16)
+            & (self.beds <= 18)
+            & (self.beds <= self.objects)
+            & (self.elements <= 2)
     }
-    0
-}
-
-// Whether the counts are within their limits.
-fn counts_fit(objects: usize, bed_or_isf: usize, beds: usize, elements: usize) -> bool
-    ensures { result ≡ counts_fit objects bed_or_isf beds elements }
-{
-    (objects <= 32)
-        & (dynamic(objects, bed_or_isf) <= 16)
-        & (beds <= 18)
-        & (beds <= objects)
-        & (elements <= 2)
 }
 
 // The largest byte that may stand at place k of the codes.
 fn most_at(k: usize, beds: usize) -> u8
     ensures { result ≡ most_at k beds }
 {
-    if k < beds {
-        return 17;
-    }
-    0
+    if k < beds { 17 } else { 0 }
 }
 
-// Whether the 18 places from `at` on hold a listed code for each bed and zero past them.
+// Whether the 18 places from `at` on hold a listed code for each bed and zero past them, with no branch.
 fn codes_fit(meta: &[u8], at: usize, beds: usize) -> bool
     requires { at + 18 ≤ length meta.now }
     ensures { result ≡ codes_fit meta.now at beds }
 {
     let mut fit = true;
-    let mut k = 0usize;
-    while k < 18 {
-        fit = fit & (meta[at + k] <= most_at(k, beds));
-        k += 1;
+    for k in 0..18 {
+        fit &= meta[at + k] <= most_at(k, beds);
     }
     fit
 }
 
-// Whether record r is an update as laid out.
-pub fn is_update(meta: &[u8], r: usize) -> bool
-    requires { 40 * r + 40 ≤ length meta.now }
-    ensures { result ≡ is_update meta.now r }
-{
-    let at = 40 * r;
-    let h = header_at(meta, r);
-    (meta[at] == 1)
-        & (meta[at + 1] == 0)
-        & counts_fit(h.objects, h.bed_or_isf, h.beds, h.elements)
-        & codes_fit(meta, at + 8, h.beds)
-        & zeros(meta, at + 26, 14)
+impl Record<'_> {
+    // The sample offset.
+    pub fn offset(self) -> FrameOffset
+        ensures { result.0 ≡ offset self.entry.meta.now self.entry.place }
+    {
+        FrameOffset(u32::from(words::u16_at(self.meta, 40 * self.place + 2)))
+    }
+
+    // What the update says, but for the codes.
+    pub fn header(self) -> Header
+        ensures { result ≡ header_of self.entry.meta.now self.entry.place }
+    {
+        Header {
+            offset: self.offset(),
+            objects: usize::from(self.byte(4)),
+            bed_or_isf: usize::from(self.byte(5)),
+            beds: usize::from(self.byte(6)),
+            elements: usize::from(self.byte(7)),
+        }
+    }
+
+    // Whether it is an update as laid out.
+    pub fn is_update(self) -> bool
+        ensures { result ≡ is_update self.entry.meta.now self.entry.place }
+    {
+        let header = self.header();
+        (self.kind() == UPDATE)
+            & (self.byte(1) == 0)
+            & header.counts_fit()
+            & codes_fit(self.meta, 40 * self.place + 8, header.beds)
+            & self.is_zero(26, 14)
+    }
 }

@@ -2,13 +2,14 @@
 use mathlib.Core.Path.{◌≡◌, refl, sym, ap, ap₂, ◌∙◌}
 use mathlib.Core.Bool.{Bool, true, false, ◌&&◌}
 use mathlib.Core.List.{List, [], ◌∷◌, ◌++◌, append_assoc, append-nil}
-use Prim.Native.Nat.{ℕ, zero, suc, ◌+◌, ◌-◌, ◌*◌, ◌<◌, ◌≤◌}
+use Prim.Native.Nat.{ℕ, zero, suc, ◌+◌, ◌*◌, ◌<◌, ◌≤◌}
 use native.Mathlib.Nat.{mul-le-mul_left, mul-suc, mul_comm}
 use native.Mathlib.Numerals.{add-one}
 use native.Mathlib.Omega.{arith}
 use lib.Dec.{leb}
 use lib.ListN.{length, get_or, set, take}
 use lib.Seq.{take-suc-set, take_all}
+use Rattle.std.specs.List.{list_all, range_with_len}
 use Rattle.words.proofs.Runs.{run_length_kept}
 use Rattle.words.specs.Words.{with_word, with_words}
 use Rattle.formats.specs.Format.{Format, ◌⊗◌, puts, gets, all_at, array}
@@ -64,23 +65,12 @@ module _ (k : ℕ) where
       turn true false true d = refl
       turn true false false d = refl
 
-  module _ (p : ℕ → Bool) (at : ℕ) where
-    all_next : (i n : ℕ) → i < n → all_at p k (n - i) (at + k * i) ≡ (p (at + k * i) && all_at p k (n - (i + 1)) (at + k * (i + 1)))
-    unfolding all_at
-    all_next i n h =
-        let e : n - i ≡ suc (n - (i + 1)) = omega arith in
-        let b : at + k * i + k ≡ at + k * (i + 1) = omega arith in
-        rw e (ap (λ (q : ℕ). p (at + k * i) && all_at p k (n - (i + 1)) q) b)
-
-    pub all_step : (i n : ℕ) → i < n → p (at + k * i) ≡ true → all_at p k (n - i) (at + k * i) ≡ all_at p k (n - (i + 1)) (at + k * (i + 1))
-    all_step i n h e = all_next i n h ∙ rw e
-
-    pub all_stop : (i n : ℕ) → i < n → p (at + k * i) ≡ false → all_at p k (n - i) (at + k * i) ≡ false
-    all_stop i n h e = all_next i n h ∙ rw e
-
-    pub all_done : (i n : ℕ) → n ≤ i → all_at p k (n - i) (at + k * i) ≡ true
-    unfolding all_at
-    all_done i n h = let e : n - i ≡ 0 = omega arith in ap (λ (m : ℕ). all_at p k m (at + k * i)) e
+  -- the entries in order, from entry i on
+  pub all_entries : (p : ℕ → Bool) (at i n : ℕ) → list_all (λ j. p (at + k * j)) (range_with_len i n) ≡ all_at p k n (at + k * i)
+  unfolding all_at
+  all_entries p at i zero = refl
+  all_entries p at i (suc n) =
+      ap (λ (b : Bool). p (at + k * i) && b) (all_entries p at (i + 1) n ∙ ap (all_at p k n) (let e : at + k * (i + 1) ≡ at + k * i + k = omega arith in e))
 
 -- ---- an array that is read from the front
 

@@ -36,35 +36,23 @@ fn each_valid(infos: &[u8]) -> bool
 {
     let mut heads = 0u32;
     let mut anchors = 0u32;
-    let mut k = 0usize;
-    while k < INFO_COUNT {
+    for k in 0..INFO_COUNT {
         let h = words::u32_at(infos, INFO_BYTES * k);
         heads |= h;
         anchors |= h % 65536 + 256;
-        k += 1;
     }
-    if heads >= 262144 {
-        return false;
-    }
-    if heads % 256 >= 64 {
-        return false;
-    }
-    anchors < 1024
+    (heads < 262144) & (heads % 256 < 64) & (anchors < 1024)
 }
 
 // The heads of the infos. No field of a head is above that of the OR of all: where that is a head in range, each is.
+// Its loop is not that of `each_valid`, which takes the anchors too: they are needed only where anchors 1 and 2 are both in use.
 pub fn heads_valid(infos: &[u8]) -> bool
     requires { length infos.now ≡ infos_bytes }
     ensures { result ≡ heads_valid infos.now 0 info_count }
 {
     let mut heads = 0u32;
-    let mut k = 0usize;
-    while k < INFO_COUNT {
+    for k in 0..INFO_COUNT {
         heads |= words::u32_at(infos, INFO_BYTES * k);
-        k += 1;
     }
-    if head_valid(heads) {
-        return true;
-    }
-    each_valid(infos)
+    head_valid(heads) || each_valid(infos)
 }

@@ -71,7 +71,7 @@ pub record Taken (b : List ℕ) (a : Args) (l : Layout) : Type 0 where
   pub ranged : R hall block facts (decode b)
   pub checked : All facts.Checked (sent_of a.meta)
   pub layout : IsLayout a.meta l
-  pub whole : WholeUpdates a.meta l.first l.count
+  pub whole : WholeUpdates a.meta l
   pub samples : a.samples ≤ 1536
   pub long : length b ≡ size
 

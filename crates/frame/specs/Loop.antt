@@ -1,5 +1,5 @@
 -- A reader may skip this file: the frame's loop: the samples of a turn, what a push that no refusal turned away hands to it, and what it leaves. Assumes nothing.
-use Rattle.std.specs.Prelude.{ℕ, ◌-◌, ◌≡◌, Bool, true, cond, List, ltb, length}
+use Rattle.std.specs.Prelude.{ℕ, ◌-◌, ◌≡◌, Bool, true, cond, List, min, length}
 use Rattle.words.specs.Words.{words_at}
 use Rattle.records.specs.LayoutAnswers.{IsLayout}
 use Rattle.records.specs.declared.layout.Layout.{Layout}
@@ -17,12 +17,9 @@ use Rattle.rendering.specs.Held.{IsNext}
 
 -- ---- the samples of a turn
 
-abbrev pub lesser : ℕ → ℕ → ℕ
-lesser a b = cond (ltb a b) a b
-
 -- up to the end of the block, of the slot where the clock runs, and of the `left` samples before the next update or the frame's end
 abbrev pub run_length : Bool → ℕ → ℕ → ℕ → ℕ
-run_length started phase pending left = cond started (lesser (64 - phase) (lesser (64 - pending) left)) (lesser (64 - pending) left)
+run_length started phase pending left = cond started (min (64 - phase) (min (64 - pending) left)) (min (64 - pending) left)
 
 -- ---- a push
 

@@ -22,7 +22,7 @@ pub record CanBegin (s : Renderer714) (b m : List ℕ) (l : records.Layout) (t a
   pub long : length b ≡ size
   pub here : at ≡ s.clock.position.0
   pub layout : IsLayout m l
-  pub whole : WholeUpdates m l.first l.count
+  pub whole : WholeUpdates m l
   pub slot : CanStart (updated hall t (sent_of m) (held s b))
 
 -- where nothing is pending a block was given out

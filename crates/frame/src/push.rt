@@ -10,35 +10,26 @@ ghost use Rattle.store.specs.Layout.{decode};
 ghost use Rattle.theorem.specs.Instance.{hall};
 ghost use Rattle.rendering.specs.Begin.{NoneSent};
 ghost use Rattle.refusals.specs.FirstFound.{args_with};
-ghost use Rattle.frame.specs.Loop.{lesser, run_length, Accepted, IsRendered};
+ghost use Rattle.frame.specs.Loop.{run_length, Accepted, IsRendered};
 
 use chunk::lay;
 use clock::{FrameOffset, START};
 use formats::areas;
 use records::layout::Layout;
-use records::order::{next_offset, sent_at};
 use refusals::Numbers;
 use rendering::Rendering;
-
-fn least(a: usize, b: usize) -> usize
-    ensures { result ≡ lesser a b }
-{
-    if a < b {
-        return a;
-    }
-    b
-}
 
 // How many samples a turn takes, of those from t up to `end`, the next update or the frame's end.
 fn run_length(started: bool, phase: u32, pending: u32, t: FrameOffset, end: FrameOffset) -> usize
     requires { (phase < 64) × (pending < 64) × (t.0 ≤ end.0) }
     ensures { result ≡ run_length started phase pending (end.0 - t.0) }
 {
-    let room = least(64 - pending as usize, t.up_to(end));
+    let room = (64 - pending as usize).min(t.up_to(end));
     if started {
-        return least(64 - phase as usize, room);
+        room.min(64 - phase as usize)
+    } else {
+        room
     }
-    room
 }
 
 // Whether an update is sent for sample offset t.
@@ -46,17 +37,14 @@ fn is_sent(l: Layout, t: FrameOffset) -> bool
     requires { l.count ≤ 16 }
     ensures { cond result (NoneSent l t.0 → ⊥) (NoneSent l t.0) }
 {
-    sent_at(l, t, 0) < l.count
+    l.sent_at(t, 0) < l.count
 }
 
 // Whether a slot starts: the clock runs from the first update on.
 fn slot_starts(started: bool, phase: u32) -> bool
     ensures { result ≡ (started && eqb phase 0) }
 {
-    if started {
-        return phase == 0;
-    }
-    false
+    started && phase == 0
 }
 
 // Whether a chunk of k samples is laid into the block, with `left` samples of the frame from its first on: unless it is a whole limiter block, and as much follows, which
@@ -64,10 +52,7 @@ fn slot_starts(started: bool, phase: u32) -> bool
 fn is_kept(k: usize, left: usize) -> bool
     ensures { result ≡ (ltb k 64 || ltb left 128) }
 {
-    if k < 64 {
-        return true;
-    }
-    left < 128
+    k < 64 || left < 128
 }
 
 // Infos and places are left in `state`, the rest is answered: its bytes in `state` stay.
@@ -94,17 +79,18 @@ pub fn render(
     let start = idle.renderer.clock.position;
     let mut work = Rendering::of(idle.renderer.open(rate));
     let mut t = START;
-    while t.is_before(end) {
+    // By `while`: how many samples a turn takes is found as it goes.
+    while t < end {
         let at = start.at(t);
         if is_sent(l, t) {
             work = work.apply_sent(state, meta, l, t, at);
         }
-        if slot_starts(work.renderer.state.initialized, work.renderer.clock.phase) {
-            if !work.renderer.state.rests(work.renderer.clock.start) {
-                work = work.start_slot(state);
-            }
+        if slot_starts(work.renderer.state.initialized, work.renderer.clock.phase)
+            && !work.renderer.state.rests(work.renderer.clock.start)
+        {
+            work = work.start_slot(state);
         }
-        let next = next_offset(l, t, end);
+        let next = l.next_offset(t, end);
         let k = run_length(
             work.renderer.state.initialized,
             work.renderer.clock.phase,
@@ -120,10 +106,8 @@ pub fn render(
         }
         if k == 64 {
             work = work.give_rows(&rows, out, stride);
-        } else {
-            if work.renderer.pending == 64 {
-                work = work.give(state, out, stride);
-            }
+        } else if work.renderer.pending == 64 {
+            work = work.give(state, out, stride);
         }
         t = t.plus(k as u32);
     }

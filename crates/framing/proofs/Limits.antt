@@ -11,7 +11,7 @@ use lib.ListN.{get_or}
 use Rattle.words.specs.Words.{half}
 use Rattle.fields.proofs.Theorems.{and_left, and_right}
 use Rattle.fields.specs.RecordBytes.{zero_bytes}
-use Rattle.framing.specs.Framing.{bed_count, in_limits, is_frame}
+use Rattle.framing.specs.Framing.{bed_count, in_limits, is_frame, metadata_bytes, pcm_bytes}
 
 -- the counts of a frame
 pub record Limits (r : List ℕ) : Type 0 where
@@ -47,7 +47,18 @@ frame_kind r e =
     let k = eqb (get_or r 0 0) 5 in
     eqb-true _ _ (and_left k _ (and_left (k && in_limits r) _ (and_left (k && in_limits r && zero_bytes r 1 3) _ e)))
 
+pub few_beds : (r : List ℕ) → in_limits r ≡ true → bed_count r ≤ 18
+few_beds r e = (in_limits_is r e).beds
+
+pub frame_beds : (r : List ℕ) → is_frame r ≡ true → bed_count r ≤ 18
+frame_beds r e = (frame_limits r e).beds
+
+pub frame_metadata : (r : List ℕ) → is_frame r ≡ true → metadata_bytes r ≤ 48000
+frame_metadata r e = let l = frame_limits r e in omega (arith, l.records)
+
 -- 34 channels of 256 samples
-pub pcm_fits : (r : List ℕ) {a b s : ℕ} → Limits r → a ≡ bed_count r → b ≡ get_or r 11 0 → s ≡ half r 8 → (a + b) * s ≤ 8704
-pcm_fits r {a} {b} {s} l p q e =
-    let m : (a + b) * s ≤ 34 * 256 = mul-le-mul {n₂ = 34} {m₂ = 256} (omega (arith, l.beds, l.objects)) (omega (arith, l.samples)) in m
+pub frame_pcm : (r : List ℕ) → is_frame r ≡ true → pcm_bytes r ≤ 34816
+frame_pcm r e =
+    let l = frame_limits r e in
+    let m : (bed_count r + get_or r 11 0) * half r 8 ≤ 34 * 256 = mul-le-mul {n₂ = 34} {m₂ = 256} (omega (arith, l.beds, l.objects)) l.samples in
+    omega (arith, m)

@@ -1,9 +1,10 @@
 -- PCM that is taken out of its records, one after the other. Assumes nothing.
 use Prim.Native.Nat.{ℕ, zero, suc, ◌+◌, ◌-◌, ◌*◌, ◌≤◌, ◌<◌, min}
 use mathlib.Core.Path.{◌≡◌, refl, sym, ap, subst, ◌∙◌}
-use mathlib.Core.Bool.{Bool, true, false}
+use mathlib.Core.Bool.{true, false}
 use mathlib.Core.List.{List, [], ◌++◌, append-nil}
 use mathlib.Core.Logic.{⊎_elim}
+use Rattle.std.specs.Prelude.{Result, Ok, Err}
 use native.Mathlib.Nat.{eq-or-lt_of_le}
 use native.Mathlib.Numerals.{add-one}
 use native.Mathlib.Omega.{arith}
@@ -11,19 +12,7 @@ use lib.ListN.{length, take, drop, length-drop, drop_of_length-le}
 use lib.Seq.{take_at, take_all, length-take-le, drop-length, take-append-add}
 use borrow.Rule.Slice.PartMut.{put_mid, mid_of, post_of, mid_len, Post-is}
 use Rattle.framing.specs.Framing.{is_pcm, record_count, record_bytes, record_at, in_use, are_pcm, held_in}
-use Rattle.framing.specs.PcmTaken.{Taken, Unpacked}
-
--- ---- one record
-
-pub none_taken : (rec rest : List ℕ) {n : ℕ} → n ≡ min (length rest) 36 → is_pcm n rec ≡ false → Taken rec rest false rest
-none_taken rec rest e p = (ap (λ (i : ℕ). is_pcm i rec) (sym e) ∙ p, refl)
-
-pub nine_taken : (rec rest : List ℕ) {n : ℕ} {now : List ℕ} → n ≡ min (length rest) 36 → length rec ≡ 40 → is_pcm n rec ≡ true
-    → now ≡ take (4 + n - 4) (drop 4 rec) ++ drop (length (take (4 + n - 4) (drop 4 rec))) rest → Taken rec rest true now
-nine_taken rec rest {n} {now} e h p q =
-    let m : 4 + n - 4 ≡ n = omega arith in
-    let l : length (take n (drop 4 rec)) ≡ n = length-take-le n (drop 4 rec) (omega (arith, length-drop 4 rec)) in
-    subst (λ (i : ℕ). (is_pcm i rec ≡ true) × (now ≡ take i (drop 4 rec) ++ drop i rest)) e (p, q ∙ rw (m, l))
+use Rattle.framing.specs.PcmTaken.{Taken}
 
 -- ---- the records in a row
 
@@ -85,14 +74,14 @@ module _ (n : ℕ) (s : List ℕ) where
     long = length-take-le 40 (drop (40 * k) s) (omega (arith, length-drop (40 * k) s))
 
     -- the record's part of the list, as the code cuts it
-    cut : (got : Bool) (now : List ℕ) → Taken (take (40 * k + 40 - 40 * k) (drop (40 * k) s)) rest got now → Taken (record_at s k) rest got now
+    cut : {A E : Type 0} (got : Result A E) (now : List ℕ) → Taken (take (40 * k + 40 - 40 * k) (drop (40 * k) s)) rest got now → Taken (record_at s k) rest got now
     cut got now t = let e : 40 * k + 40 - 40 * k ≡ 40 = omega arith in subst (λ (i : ℕ). Taken (take i (drop (40 * k) s)) rest got now) e t
 
-    pub record_more : (got : Bool) (now : List ℕ) → got ≡ true → Taken (take (40 * k + 40 - 40 * k) (drop (40 * k) s)) rest got now
+    pub record_more : {A E : Type 0} (got : Result A E) (now : List ℕ) {v : A} → got ≡ Ok v → Taken (take (40 * k + 40 - 40 * k) (drop (40 * k) s)) rest got now
         → are_pcm n s k ≡ true → take (36 * k) pcm ≡ held_in n s k
         → (are_pcm n s (k + 1) ≡ true) × (take (36 * (k + 1)) (put_mid (36 * k) (length pcm - 36 * k) pcm now) ≡ held_in n s (k + 1))
     record_more got now g t are held =
-        let w = subst (λ (b : Bool). Taken (record_at s k) rest b now) g (cut got now t) in
+        let w = subst (λ b. Taken (record_at s k) rest b now) g (cut got now t) in
         let v = subst (λ (i : ℕ). (is_pcm i (record_at s k) ≡ true) × (now ≡ take i (drop 4 (record_at s k)) ++ drop i rest)) used w in
         let y = take (in_use n k) (drop 4 (record_at s k)) in
         let h : length y ≡ in_use n k = length-take-le (in_use n k) (drop 4 (record_at s k)) (omega (arith, long, length-drop 4 (record_at s k))) in (
@@ -101,17 +90,11 @@ module _ (n : ℕ) (s : List ℕ) where
               ∙ placed y h ∙ ap (λ (z : List ℕ). z ++ y) held ∙ more_held k ∙ ap (held_in n s) (sym (add-one k)),
         )
 
-    pub record_bad : (got : Bool) (now : List ℕ) → got ≡ false → Taken (take (40 * k + 40 - 40 * k) (drop (40 * k) s)) rest got now
+    pub record_bad : {A E : Type 0} (got : Result A E) (now : List ℕ) {e : E} → got ≡ Err e → Taken (take (40 * k + 40 - 40 * k) (drop (40 * k) s)) rest got now
         → are_pcm n s k ≡ true → are_pcm n s (record_count n) ≡ false
     record_bad got now g t are =
-        let w = subst (λ (b : Bool). Taken (record_at s k) rest b now) g (cut got now t) in
+        let w = subst (λ b. Taken (record_at s k) rest b now) g (cut got now t) in
         let q : is_pcm (in_use n k) (record_at s k) ≡ false = ap (λ (i : ℕ). is_pcm i (record_at s k)) (sym used) ∙ w.0 in
         let d = record_count n - suc k in
         let e : suc k + d ≡ record_count n = omega arith in
         ap (are_pcm n s) (sym e) ∙ stays (suc k) d (ends_are k q are)
-
-  pub records_done : (pcm : List ℕ) (k : ℕ) → length pcm ≡ n → n ≤ 36 * k → 36 * k ≤ n + 35 → are_pcm n s k ≡ true → take (36 * k) pcm ≡ held_in n s k → Unpacked s n true pcm
-  records_done pcm k whole past few are held =
-      let e : k ≡ record_count n = omega arith in
-      let v : (are_pcm n s k ≡ true) × (pcm ≡ held_in n s k) = (are, sym (take_all (36 * k) pcm (omega arith)) ∙ held) in
-      subst (λ (i : ℕ). (are_pcm n s i ≡ true) × (pcm ≡ held_in n s i)) e v

@@ -1,100 +1,51 @@
 // The records that `hallrender` reads, kinds 5 to 8, as laid out. Document 01, "`hallrender` reads 40-byte records".
 #![tactic(auto)]
 
-ghost use Rattle.std.specs.Prelude.{◌≡◌, true, ◌≤◌, min, length};
-ghost use Rattle.framing.specs.Framing.{in_limits, is_frame, is_plain, is_pcm, bed_count, metadata_bytes, pcm_bytes, record_bytes};
+ghost use Rattle.std.specs.Prelude.{◌≡◌, true, ◌≤◌, length};
+ghost use Rattle.framing.specs.Framing.{in_limits, is_frame, is_plain, is_pcm, record_bytes};
 ghost use Rattle.framing.specs.PcmTaken.{Taken, Unpacked};
 
-use fields::bytes::{byte_at, zeros};
+use fields::bytes::zeros;
 
-fn least(a: usize, b: usize) -> usize
-    ensures { result ≡ min a b }
-{
-    if a < b { a } else { b }
-}
+pub mod header;
+pub mod request;
+
+// A record that is not as laid out.
+#[derive(Clone, Copy, Debug, PartialEq, Eq)]
+pub struct BadRecord;
 
 // Whether a header's counts are within the program's limits.
 #[tactic(auto, unfolding(crate::specs::Framing::in_limits))]
 fn in_limits(rec: &[u8; 40]) -> bool
     ensures { result ≡ in_limits rec.now }
 {
-    if words::u16_at(rec, 8) > 256 {
-        return false;
-    }
-    if rec[10] > 18 {
-        return false;
-    }
-    if rec[11] > 16 {
-        return false;
-    }
-    words::u16_at(rec, 12) <= 1200
+    words::u16_at(rec, 8) <= 256 && rec[10] <= 18 && rec[11] <= 16 && words::u16_at(rec, 12) <= 1200
 }
 
 // Whether a record is a frame's header within those limits.
+#[tactic(auto, using(crate::proofs::Limits::few_beds), unfolding(crate::specs::Framing::is_frame))]
 pub fn is_frame(rec: &[u8; 40]) -> bool
     ensures { result ≡ is_frame rec.now }
 {
-    if rec[0] != 5 {
-        return false;
-    }
-    if !in_limits(rec) {
-        return false;
-    }
-    if !zeros(rec, 1, 3) {
-        return false;
-    }
-    let used = byte_at(rec, 10);
-    zeros(rec, 14 + used, 26 - used)
+    let used = usize::from(rec[10]);
+    rec[0] == 5 && in_limits(rec) && zeros(rec, 1, 3) && zeros(rec, 14 + used, 26 - used)
 }
 
 // Whether a record is a flush or a reset.
+#[tactic(auto, unfolding(crate::specs::Framing::is_plain))]
 pub fn is_plain(rec: &[u8; 40]) -> bool
     ensures { result ≡ is_plain rec.now }
 {
-    if rec[0] < 7 {
-        return false;
-    }
-    if rec[0] > 8 {
-        return false;
-    }
-    zeros(rec, 1, 39)
+    7 <= rec[0] && rec[0] <= 8 && zeros(rec, 1, 39)
 }
 
 // Whether a record is one of PCM with n bytes in use.
+#[tactic(auto, unfolding(crate::specs::Framing::is_pcm))]
 fn is_pcm(rec: &[u8], n: usize) -> bool
     requires { (length rec.now ≡ 40) × (n ≤ 36) }
     ensures { result ≡ is_pcm n rec.now }
 {
-    if rec[0] != 6 {
-        return false;
-    }
-    if !zeros(rec, 1, 3) {
-        return false;
-    }
-    zeros(rec, 4 + n, 36 - n)
-}
-
-// A frame's beds, and the bytes of its metadata and of its PCM.
-pub fn beds(rec: &[u8; 40]) -> usize
-    requires { is_frame rec.now ≡ true }
-    ensures { (result ≡ bed_count rec.now) × (result ≤ 18) }
-{
-    byte_at(rec, 10)
-}
-
-pub fn metadata_bytes(rec: &[u8; 40]) -> usize
-    requires { is_frame rec.now ≡ true }
-    ensures { (result ≡ metadata_bytes rec.now) × (result ≤ 48000) }
-{
-    40 * (words::u16_at(rec, 12) as usize)
-}
-
-pub fn pcm_bytes(rec: &[u8; 40]) -> usize
-    requires { is_frame rec.now ≡ true }
-    ensures { (result ≡ pcm_bytes rec.now) × (result ≤ 34816) }
-{
-    let channels = byte_at(rec, 10) + byte_at(rec, 11);
-    4 * (channels * (words::u16_at(rec, 8) as usize))
+    rec[0] == 6 && zeros(rec, 1, 3) && zeros(rec, 4 + n, 36 - n)
 }
 
 // The bytes of the records that hold n bytes of PCM.
@@ -102,33 +53,29 @@ pub fn record_bytes(n: usize) -> usize
     requires { n ≤ 34816 }
     ensures { (result ≡ record_bytes n) × (result ≤ 38720) }
 {
-    40 * ((n + 35) / 36)
+    40 * n.div_ceil(36)
 }
 
-// The samples of one record of PCM to the front of `rest`: nine, or as many as are left. False where the record is not as laid out.
-fn take_nine(rec: &[u8], rest: &mut [u8]) -> bool
+// The samples of one record of PCM to the front of `rest`: nine, or as many as are left.
+fn take_nine(rec: &[u8], rest: &mut [u8]) -> Result<(), BadRecord>
     requires { length rec.now ≡ 40 }
     ensures { Taken rec.now rest.old result rest.new }
 {
-    let n = least(rest.len(), 36);
+    let n = rest.len().min(36);
     if !is_pcm(rec, n) {
-        return false;
+        return Err(BadRecord);
     }
-    words::copy_bytes(&rec[4..4 + n], rest);
-    true
+    rest[..n].copy_from_slice(&rec[4..4 + n]);
+    Ok(())
 }
 
-// Fills `pcm` from its records. False where one is not as laid out.
-pub fn unpack(records: &[u8], pcm: &mut [u8]) -> bool
+// Fills `pcm` from its records. By number, since of parts that `chunks_mut` lends a proof knows how long they are and not what they hold.
+pub fn unpack(records: &[u8], pcm: &mut [u8]) -> Result<(), BadRecord>
     requires { (length records.now ≡ record_bytes (length pcm.old)) × (length pcm.old ≤ 34816) }
     ensures { Unpacked records.now (length pcm.old) result pcm.new }
 {
-    let mut k = 0usize;
-    while 36 * k < pcm.len() {
-        if !take_nine(&records[40 * k..40 * k + 40], &mut pcm[36 * k..]) {
-            return false;
-        }
-        k += 1;
+    for k in 0..pcm.len().div_ceil(36) {
+        take_nine(&records[40 * k..40 * k + 40], &mut pcm[36 * k..])?;
     }
-    true
+    Ok(())
 }

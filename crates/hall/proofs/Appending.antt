@@ -1,6 +1,6 @@
 -- A push that left what the rules say keeps R-4. Assumes nothing.
 use Prim.Native.Nat.{ℕ}
-use mathlib.Core.Path.{◌≡◌, refl, sym, ap, ◌∙◌, subst}
+use mathlib.Core.Path.{◌≡◌, refl, sym, ap, subst}
 use mathlib.Core.Bool.{false}
 use mathlib.Core.List.{List}
 use native.Mathlib.Omega.{arith}
@@ -12,8 +12,9 @@ use Rattle.rules.specs.BlockCalls.{made}
 use Rattle.theorem.specs.Instance.{hall, block}
 use Rattle.theorem.specs.Appends.{AppendsIfOpen}
 use Rattle.theorem.proofs.Theorems.{appends}
-use Rattle.hall.specs.Answers.{code_of, Left}
+use Rattle.hall.specs.Answers.{code_of, given_as, Left}
 use Rattle.hall.specs.declared.answer.Answer.{Answer}
+use Rattle.hall.specs.declared.answer.Given.{Given}
 
 -- kind 0 is no refusal
 not_refused : (a : rules.Answer) → (code_of a).kind ≡ 0 → is_refused a ≡ false
@@ -22,11 +23,8 @@ not_refused (rendered g m) e = refl
 not_refused nothing e = refl
 not_refused cleared e = refl
 
--- with it, R-4
-module _ (a : Args) (b : List ℕ) {state out : List ℕ} {r : Answer} (h : Bytes b × Bytes a.meta) where
-  pub with_appends : Left (made hall block (push a) b) r state out → Left (made hall block (push a) b) r state out × (r.kind ≡ 0 → AppendsIfOpen a b state)
-  with_appends l = (
-    l,
-    λ k. subst (AppendsIfOpen a b) (sym l.block)
-        (appends b h.0 a h.1 (not_refused (made hall block (push a) b).answer (ap (λ (x : Answer). x.kind) (sym l.answer) ∙ k))),
-  )
+-- where something is given out, R-4
+module _ (a : Args) (b : List ℕ) (h : Bytes b × Bytes a.meta) {state out : List ℕ} where
+  pub appended : (g : Given) → Left (made hall block (push a) b) (given_as g) state out → AppendsIfOpen a b state
+  appended g l =
+      subst (AppendsIfOpen a b) (sym l.block) (appends b h.0 a h.1 (not_refused (made hall block (push a) b).answer (ap (λ (x : Answer). x.kind) (sym l.answer))))

@@ -29,7 +29,6 @@ use Rattle.store.specs.ValidBlocks.{valid}
 use Rattle.theorem.specs.Instance.{hall, block}
 use Rattle.theorem.proofs.Theorems.{Within, decoded_of, pushed_within, flushed_within}
 use Rattle.rendering.specs.Held.{held, IsHeld}
-use Rattle.hall.specs.declared.answer.Answer.{Answer}
 use Rattle.hall.specs.Answers.{Left, ready_of}
 use Rattle.rendering.specs.Give.{CanGive}
 use Rattle.hall.proofs.WaysOut.{leaves_as, accepted, flushes}
@@ -41,12 +40,12 @@ use Rattle.hall.proofs.Known.{valid_long, loaded_pending, loaded_ranged, saved}
 module _ (a : Args) (b : List ℕ) (bytes : Bytes b) (meta : Bytes a.meta) (v : valid b ≡ true) (e : found hall (decode b) a ≡ clear) where
   pub rendered_left : (s : Renderer714) (ready : ℕ) (m : Meters) (c : List ℕ) → Bytes c → IsHeld (pushed hall (frame_of hall a) (decode b)).next s c
       → ready ≡ length ((pushed hall (frame_of hall a) (decode b)).given 0) → m ≡ call_meters (pushed hall (frame_of hall a) (decode b)).meters
-      → (r : Answer) (state out : List ℕ) → r ≡ ready_of ready m → state ≡ with_words c 0 (small_words s)
+      → (state out : List ℕ) → state ≡ with_words c 0 (small_words s)
       → out ≡ written (pushed hall (frame_of hall a) (decode b)).given a.stride a.out
-      → Left (made hall block (push a) b) r state out
-  rendered_left s ready m c k h n l r state out i j o =
+      → Left (made hall block (push a) b) (ready_of ready m) state out
+  rendered_left s ready m c k h n l state out j o =
       let g = pushed_within (decode b) a meta (is_passed hall (decode b) a e) (decoded_of b bytes v) in
-      leaves_as (accepted a b v e) (record { answer = i ∙ ap₂ ready_of n l; block = j ∙ saved c (pushed hall (frame_of hall a) (decode b)).next s k h g; output = o })
+      leaves_as (accepted a b v e) (record { answer = ap₂ ready_of n l; block = j ∙ saved c (pushed hall (frame_of hall a) (decode b)).next s k h g; output = o })
 
 -- ---- flush
 
@@ -80,9 +79,9 @@ module _ (b : List ℕ) (s : Renderer714) (e : s ≡ small_of (words_at b 0 smal
       }
 
   pub flushed_left : 0 < s.pending → (t : Renderer714) (m : Meters) → held t b ≡ (flushed hall (held s b)).next → m ≡ call_meters (flushed hall (held s b)).meters
-      → (r : Answer) (state to : List ℕ) → r ≡ ready_of s.pending m → state ≡ with_words b 0 (small_words t)
-      → to ≡ written (flushed hall (held s b)).given stride out → Left (made hall block (flush out stride) b) r state to
-  flushed_left p t m h q r state to i j o =
+      → (ready : ℕ) (state to : List ℕ) → ready ≡ s.pending → state ≡ with_words b 0 (small_words t)
+      → to ≡ written (flushed hall (held s b)).given stride out → Left (made hall block (flush out stride) b) (ready_of ready m) state to
+  flushed_left p t m h q ready state to i j o =
       let l = loaded b s e in
       let g = loaded_ranged b s e bytes v in
       let n : (decode b).pending.count ≡ s.pending = loaded_pending b s e in
@@ -91,8 +90,7 @@ module _ (b : List ℕ) (s : Renderer714) (e : s ≡ small_of (words_at b 0 smal
       let d = flushed_within (decode b) (subst (Ranged hall Within) l g) in
       leaves_as (flushes out stride b v k some)
       (record {
-        answer = i
-            ∙ ap₂ ready_of (sym (flushed_long (held s b) g) ∙ ap (λ (x : Renderer Timed). length ((flushed hall x).given 0)) l)
+        answer = ap₂ ready_of (i ∙ sym (flushed_long (held s b) g) ∙ ap (λ (x : Renderer Timed). length ((flushed hall x).given 0)) l)
             (q ∙ ap (λ (x : Renderer Timed). call_meters (flushed hall x).meters) l);
         block = j ∙ saved b (flushed hall (decode b)).next t bytes (record { is = next; long = valid_long b v }) d;
         output = o ∙ ap (λ (x : Renderer Timed). written (flushed hall x).given stride out) l;

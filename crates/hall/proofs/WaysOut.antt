@@ -6,6 +6,9 @@ use mathlib.Core.List.{List, []}
 use lib.Dec.{eqb}
 use lib.ListN.{length}
 use Rattle.rules.specs.Refusals.{Args, Found, clear, stop, room}
+use Rattle.refusals.specs.RefusalNumbers.{numbers_of, stop_of}
+use Rattle.refusals.specs.declared.Refusal.{Refusal}
+use Rattle.std.specs.Prelude.{Err}
 use Rattle.rules.specs.Samples.{pushed, flushed}
 use Rattle.rules.specs.Calls as rules
 use Rattle.rules.specs.Calls.{Call, push, flush, reset, refused, rendered, nothing, cleared, Result, frame_of, found, answered, asked, drained, step}
@@ -15,7 +18,7 @@ use Rattle.store.specs.Layout.{size, decode, encode, fresh_renderer}
 use Rattle.store.specs.ValidBlocks.{valid}
 use Rattle.theorem.specs.Instance.{hall, block}
 use Rattle.hall.specs.declared.answer.Answer.{Answer}
-use Rattle.hall.specs.Answers.{code_of, code_of_found, Left}
+use Rattle.hall.specs.Answers.{code_of, coded, Left}
 
 -- ---- a block that is not taken, and one that is
 
@@ -40,10 +43,10 @@ pub stopped : (a : Args) (b : List ℕ) (n x y : ℕ) → valid b ≡ true → f
 stopped a b n x y v e = taken (push a) b _ v (ap (λ (f : Found). asked hall f a (decode b)) e)
 
 -- whatever stopped it
-pub refused_push : (a : Args) (b : List ℕ) (r : Answer) (f : Found) → valid b ≡ true → f ≡ found hall (decode b) a → (f ≡ clear → ⊥) → r ≡ code_of_found f
-    → Left (made hall block (push a) b) r b a.out
-refused_push a b r clear v e n h = absurd (n refl)
-refused_push a b r (stop k x y) v e n h = leaves_as (stopped a b k x y v (sym e)) (record { answer = h; block = refl; output = refl })
+pub refused_push : (a : Args) (b : List ℕ) (r : Refusal) → valid b ≡ true → stop_of r ≡ found hall (decode b) a → Left (made hall block (push a) b) (coded (Err r)) b a.out
+refused_push a b r v e =
+    let n = numbers_of r in
+    leaves_as (stopped a b n.number n.first n.second v (sym e)) (record { answer = refl; block = refl; output = refl })
 
 pub accepted : (a : Args) (b : List ℕ) → valid b ≡ true → found hall (decode b) a ≡ clear → made hall block (push a) b ≡
     record {

@@ -1,11 +1,13 @@
 -- What the host passes and gets, in the words of the rules. Assumes nothing.
-use Rattle.std.specs.Prelude.{ℕ, ◌<◌, ◌≡◌, true, List, length}
+use Rattle.std.specs.Prelude.{ℕ, ◌<◌, ◌≡◌, true, List, length, Result, Ok, Err}
 use Rattle.limiter.specs.Limiter.{0·0, 1·0}
 use Rattle.limiter.specs.declared.meters.Meters.{Meters}
-use Rattle.rules.specs.Refusals.{Args, Found, clear, stop, room}
+use Rattle.rules.specs.Refusals.{Args, clear, room}
 use Rattle.rules.specs.Calls as rules
 use Rattle.rules.specs.Calls.{refused, rendered, nothing, cleared, found}
-use Rattle.rules.specs.BlockCalls.{Outcome}
+use Rattle.rules.specs.BlockCalls as block
+use Rattle.refusals.specs.RefusalNumbers.{numbers_of}
+use Rattle.refusals.specs.declared.Refusal.{Refusal}
 use Rattle.words.specs.Words.{words_at}
 use Rattle.records.specs.declared.layout.Layout.{Layout}
 use Rattle.records.specs.LayoutAnswers.{IsLayout}
@@ -15,6 +17,9 @@ use Rattle.store.specs.Layout.{small_width, decode}
 use Rattle.store.specs.ValidBlocks.{valid}
 use Rattle.theorem.specs.Instance.{hall}
 use Rattle.hall.specs.declared.answer.Answer.{Answer}
+use Rattle.hall.specs.declared.answer.Given.{Given}
+use Rattle.hall.specs.declared.answer.Outcome.{Outcome}
+use Rattle.hall.specs.declared.answer.Outcome.TheVariants.{Ready, Nothing, Fresh}
 
 -- "`ready N`": so many samples given out on each channel; R-2: "the greatest peak and the least gain of the call"
 abbrev pub ready_of : ℕ → Meters → Answer
@@ -35,13 +40,18 @@ code_of cleared = bare 3 0 0 0
 abbrev pub version : ℕ
 version = 3
 
--- what stopped a push, as an answer; nothing stops with 0
-abbrev pub code_of_found : Found → Answer
-code_of_found clear = code_of (refused 0 0 0)
-code_of_found (stop n a b) = code_of (refused n a b)
+abbrev pub given_as : Given → Answer
+given_as g = ready_of g.samples g.meters
+
+-- what an entry answers, as C reads it
+abbrev pub coded : Result Outcome Refusal → Answer
+coded (Ok (Ready g)) = given_as g
+coded (Ok Nothing) = bare 2 0 0 0
+coded (Ok Fresh) = bare 3 0 0 0
+coded (Err r) = let n = numbers_of r in bare 1 n.number n.first n.second
 
 -- an entry left what the rules say: the answer, the state block, the output
-pub record Left (o : Outcome) (r : Answer) (state out : List ℕ) : Type 0 where
+pub record Left (o : block.Outcome) (r : Answer) (state out : List ℕ) : Type 0 where
   pub answer : r ≡ code_of o.answer
   pub block : state ≡ o.state
   pub output : out ≡ o.out

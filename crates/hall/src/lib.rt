@@ -2,16 +2,16 @@
 // of a push that completes no block which bytes of the places stay (R-4).
 #![tactic(auto)]
 
-ghost use Rattle.std.specs.Prelude.{◌≡◌};
+ghost use Rattle.std.specs.Prelude.{◌≡◌, OnOk};
 ghost use Rattle.rules.specs.Calls.{push, flush, reset};
 ghost use Rattle.rules.specs.BlockCalls.{made};
 ghost use Rattle.theorem.specs.Instance.{hall, block};
 ghost use Rattle.theorem.specs.Appends.{AppendsIfOpen};
 ghost use Rattle.store.specs.Layout.{size};
-ghost use Rattle.hall.specs.Answers.{Left, code_of, version};
+ghost use Rattle.hall.specs.Answers.{Left, code_of, coded, version};
 ghost use Rattle.rules.specs.Refusals.{args_of};
 
-use answer::Answer;
+use answer::Outcome;
 use records::layout::layout_of;
 use refusals::{Numbers, Refusal};
 
@@ -24,7 +24,8 @@ const VERSION: u32 = 3;
 pub const STATE_BYTES: usize = store::SIZE;
 
 // Renders a frame: beds (one code each), then objects, `samples` of each channel in `pcm`. What is ready goes to `out`, channel c from place c x `stride` on.
-pub fn hall_push(
+// Its parameters are document 01's: "calls push, flush and reset over numbers and byte slices".
+pub fn push(
     state: &mut [u8],
     pcm: &[u8],
     meta: &[u8],
@@ -34,15 +35,15 @@ pub fn hall_push(
     samples: u32,
     objects: u32,
     stride: u32,
-) -> Answer
+) -> Result<Outcome, Refusal>
     ensures left { Left
-        (made hall block (push (args_of pcm.now meta.now out.old codes.now rate samples objects stride)) state.old) result
+        (made hall block (push (args_of pcm.now meta.now out.old codes.now rate samples objects stride)) state.old) (coded result)
         state.new out.new }
-    ensures appends { result.kind ≡ 0 → AppendsIfOpen
-        (args_of pcm.now meta.now out.old codes.now rate samples objects stride) state.old state.new }
+    ensures appends { OnOk result (AppendsIfOpen
+        (args_of pcm.now meta.now out.old codes.now rate samples objects stride) state.old state.new) }
 {
     if !store::ranges::is_valid(state) {
-        return answer::refusal(Refusal::Lent);
+        return Err(Refusal::Lent);
     }
     let s = store::load(state);
     let l = layout_of(meta);
@@ -52,50 +53,48 @@ pub fn hall_push(
         objects,
         stride,
     };
-    let found = refusals::push_refusal(s, pcm, meta, out.len(), codes, l, n);
-    if let Refusal::Clear = found {
-        return work::render(s, state, pcm, meta, out, codes, l, n);
-    }
-    answer::refusal(found)
+    refusals::check_push(s, pcm, meta, out.len(), codes, l, n)?;
+    let given = work::render(s, state, pcm, meta, out, codes, l, n);
+    Ok(Outcome::Ready(given))
 }
 
 // Gives out the samples that wait.
-pub fn hall_flush(state: &mut [u8], out: &mut [u8], stride: u32) -> Answer
-    ensures { Left (made hall block (flush out.old stride) state.old) result state.new out.new }
+pub fn flush(state: &mut [u8], out: &mut [u8], stride: u32) -> Result<Outcome, Refusal>
+    ensures { Left (made hall block (flush out.old stride) state.old) (coded result) state.new out.new }
 {
     if !store::ranges::is_valid(state) {
-        return answer::refusal(Refusal::Lent);
+        return Err(Refusal::Lent);
     }
     if !refusals::early::room(stride, out.len()) {
-        return answer::refusal(Refusal::Lent);
+        return Err(Refusal::Lent);
     }
     let s = store::load(state);
     if s.pending == 0 {
-        return answer::none();
+        return Ok(Outcome::Nothing);
     }
-    work::drain(s, state, out, stride)
+    Ok(Outcome::Ready(work::drain(s, state, out, stride)))
 }
 
 // Makes a block of the right length a new renderer.
-pub fn hall_reset(state: &mut [u8]) -> Answer
-    ensures { (result ≡ code_of (made hall block reset state.old).answer) × (state.new ≡ (made hall block reset state.old).state) }
+pub fn reset(state: &mut [u8]) -> Result<Outcome, Refusal>
+    ensures { (coded result ≡ code_of (made hall block reset state.old).answer) × (state.new ≡ (made hall block reset state.old).state) }
 {
     if state.len() != store::SIZE {
-        return answer::refusal(Refusal::Lent);
+        return Err(Refusal::Lent);
     }
     store::reset(state);
-    answer::fresh()
+    Ok(Outcome::Fresh)
 }
 
 // The bytes of a state block.
-pub fn hall_state_size() -> usize
+pub fn state_size() -> usize
     ensures { result ≡ size }
 {
     STATE_BYTES
 }
 
 // The version of this interface: it steps with every change of the block's layout or of a signature.
-pub fn hall_version() -> u32
+pub fn version() -> u32
     ensures { result ≡ version }
 {
     VERSION

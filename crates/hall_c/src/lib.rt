@@ -1,4 +1,4 @@
-// The entries of `hall` under their C names: rust/voqlisna-sys/include/voqlisna.h. Each calls the one of its name, and promises what that promises.
+// The entries of `hall` under their C names: rust/voqlisna-sys/include/voqlisna.h. Each hands on what the one of its name answers, in C's form, and promises what that promises.
 #![tactic(auto)]
 
 ghost use Rattle.std.specs.Prelude.{◌≡◌};
@@ -30,33 +30,33 @@ pub extern "C" fn hall_push(
     ensures appends { result.kind ≡ 0 → AppendsIfOpen
         (args_of pcm.now meta.now out.old codes.now rate samples objects stride) state.old state.new }
 {
-    hall::hall_push(state, pcm, meta, out, codes, rate, samples, objects, stride)
+    Answer::from(hall::push(state, pcm, meta, out, codes, rate, samples, objects, stride))
 }
 
 #[unsafe(no_mangle)]
 pub extern "C" fn hall_flush(state: &mut [u8], out: &mut [u8], stride: u32) -> Answer
     ensures { Left (made hall block (flush out.old stride) state.old) result state.new out.new }
 {
-    hall::hall_flush(state, out, stride)
+    Answer::from(hall::flush(state, out, stride))
 }
 
 #[unsafe(no_mangle)]
 pub extern "C" fn hall_reset(state: &mut [u8]) -> Answer
     ensures { (result ≡ code_of (made hall block reset state.old).answer) × (state.new ≡ (made hall block reset state.old).state) }
 {
-    hall::hall_reset(state)
+    Answer::from(hall::reset(state))
 }
 
 #[unsafe(no_mangle)]
 pub extern "C" fn hall_state_size() -> usize
     ensures { result ≡ size }
 {
-    hall::hall_state_size()
+    hall::state_size()
 }
 
 #[unsafe(no_mangle)]
 pub extern "C" fn hall_version() -> u32
     ensures { result ≡ version }
 {
-    hall::hall_version()
+    hall::version()
 }

@@ -1,55 +1,59 @@
 -- A record's call, or none; calls in a row. Assumes nothing.
-use Prim.Native.Nat.{ℕ, zero, suc, ◌+◌, ◌≤◌, ◌<◌}
+use Rattle.std.specs.Prelude.{Result, Ok, Err, replicate}
+use Rattle.std.proofs.lemmas.List.{length-replicate}
+use Prim.Native.Nat.{ℕ}
 use mathlib.Core.Path.{◌≡◌, refl, sym, ap, subst, ◌∙◌}
-use mathlib.Core.Bool.{Bool, true, false, ◌&&◌, ◌||◌}
+use mathlib.Core.Bool.{Bool, true, false, cond, ◌&&◌, ◌||◌}
 use mathlib.Core.List.{List, [], ◌∷◌, ◌++◌}
 use native.Mathlib.Omega.{arith}
 use lib.Dec.{eqb}
 use lib.ListN.{get_or, length, take, drop}
 use lib.Seq.{take_at}
-use Rattle.rules.specs.Calls.{push}
+use borrow.Author.Tests.{ne_eqb}
+use Rattle.rules.specs.Calls.{push, flush, reset}
 use Rattle.rules.specs.BlockCalls.{made, final_on}
 use Rattle.theorem.specs.Instance.{hall, block}
+use Rattle.framing.specs.declared.request.Plain.{Plain}
+use Rattle.framing.specs.declared.request.Plain.TheVariants.{Flush, Reset}
 use Rattle.framing.specs.Framing.{is_frame, is_plain, is_body, metadata_bytes, pcm_bytes, pcm_of, pcm_records, record_bytes, record_count, are_pcm}
 use Rattle.framing.specs.PcmTaken.{Unpacked}
-use Rattle.framing.proofs.Theorems.{none_are}
-use Rattle.calls.specs.Asked.{frame_args, push_of, plain_call, call_of}
+use Rattle.framing.specs.Requested.{plain_of}
+use Rattle.framing.proofs.Theorems.{none_are, frame_kind}
+use Rattle.calls.specs.Asked.{frame_args, push_of, alone, plain_call, call_of}
 use Rattle.calls.specs.CallResults.{Called}
+use Rattle.hallrender.specs.declared.End.{End}
+use Rattle.hallrender.specs.declared.Program.{Program}
 use Rattle.hallrender.specs.ProgramRun.{calls_of, out_on, Ran}
-use Rattle.hallrender.specs.RunResults.{FrameTaken, NotAlone, Handled, RecordTaken}
+use Rattle.hallrender.specs.RunResults.{Kept, NotAlone, Pushed, FrameTaken, Answered, Handled, Took}
 
 -- ---- a frame
 
-pub clash : {t : Bool} → t ≡ false → t ≡ true → ⊥
-clash e f = let z : ◌≡◌ {A = ℕ} 0 1 = cc in omega arith
-
--- a body that is all empty is not cut
-pub cut_alone : (r : List ℕ) {m n k got : ℕ} → m ≡ metadata_bytes r → n ≡ pcm_bytes r → k ≡ record_bytes n → got < m + k → NotAlone r
-cut_alone r p q e l f z = omega arith
-
--- and has no record that is not as laid out
-pub bad_alone : (r s pcm : List ℕ) (n : ℕ) (got : Bool) → n ≡ pcm_bytes r → got ≡ false → Unpacked s n got pcm → NotAlone r
+-- a body that is all empty has no record that is not as laid out
+pub bad_alone : (r s pcm : List ℕ) (n : ℕ) {A E : Type 0} (got : Result A E) {e : E} → n ≡ pcm_bytes r → got ≡ Err e → Unpacked s n got pcm → NotAlone r
 bad_alone r s pcm n got q g u f z =
-    let w = subst (λ (t : Bool). Unpacked s n t pcm) g u in
+    let w = subst (λ t. Unpacked s n t pcm) g u in
     let e : n ≡ 0 = omega arith in
-    clash (subst (λ (i : ℕ). are_pcm i s (record_count i) ≡ false) e w) (none_are 0 s)
+    let no : are_pcm 0 s (record_count 0) ≡ false = subst (λ (i : ℕ). are_pcm i s (record_count i) ≡ false) e w in
+    let yes = none_are 0 s in
+    cc
 
 -- a frame of which the body was read and unpacked
-pub framed : (r body pcm rest b o state out text : List ℕ) (m n k i x : ℕ) (got : Bool)
-    → m ≡ metadata_bytes r → n ≡ pcm_bytes r → is_frame r ≡ true → i ≡ record_bytes n → x ≡ n → length pcm ≡ n → got ≡ true
-    → Unpacked (take i (drop m body)) x got pcm → Called (push (frame_args r (take m body) (take n (pcm ++ rest)) o)) b o state out k text → FrameTaken r body b o state out k text
-framed r body pcm rest b o state out text m n k i x got p q f e h l g u c =
-    let w = subst (λ (t : Bool). Unpacked (take i (drop m body)) x t pcm) g u in
-    let same : take i (drop m body) ≡ pcm_records r body = rw (e, p, q) in
-    let count : x ≡ pcm_bytes r = h ∙ q in
+pub framed : (r body pcm rest : List ℕ) (p q : Program) (text : List ℕ) (m n i x : ℕ) {A E : Type 0} (got : Result A E) {v : A}
+    → m ≡ metadata_bytes r → n ≡ pcm_bytes r → is_frame r ≡ true → i ≡ record_bytes n → x ≡ n → length pcm ≡ n → length body ≡ 86720 → got ≡ Ok v
+    → Unpacked (take i (drop m body)) x got pcm → Called (push (frame_args r (take m body) (take n (pcm ++ rest)) p.out)) p.state p.out q.state q.out text → Pushed r p q text
+framed r body pcm rest p q text m n i x got pm pn f e h l room g u c =
+    let w = subst (λ t. Unpacked (take i (drop m body)) x t pcm) g u in
+    let same : take i (drop m body) ≡ pcm_records r body = rw (e, pm, pn) in
+    let count : x ≡ pcm_bytes r = h ∙ pn in
     let are : is_body r body ≡ true = rw (sym same, sym count) w.0 in
     let held : take n (pcm ++ rest) ≡ pcm_of r body = take_at pcm rest n l ∙ w.1 ∙ rw (same, count) in
-    let call : push (frame_args r (take m body) (take n (pcm ++ rest)) o) ≡ push_of r body o = rw (held, p) in
-    taken k (rw (f, are)) (subst (λ z. Called z b o state out k text) call c)
-  where
-    taken : (k : ℕ) → is_frame r && is_body r body ≡ true → Called (push_of r body o) b o state out k text → FrameTaken r body b o state out k text
-    taken zero l c = absurd (omega (arith, c.said.some))
-    taken (suc k) l c = (l, c)
+    let call : push (frame_args r (take m body) (take n (pcm ++ rest)) p.out) ≡ push_of r body p.out = rw (held, pm) in
+    record {
+      body = body;
+      room = room;
+      laid = rw (f, are);
+      called = subst (λ z. Called z p.state p.out q.state q.out text) call c;
+    }
 
 -- ---- a record's call
 
@@ -57,57 +61,62 @@ either : (a : Bool) {b : Bool} → b ≡ true → a || b ≡ true
 either true e = refl
 either false e = e
 
-module _ (r body b o : List ℕ) where
-  frame_call : get_or r 0 0 ≡ 5 → push_of r body o ≡ call_of r body o
+alone_is : (b : Bool) (o : List ℕ) → alone (cond b Flush Reset) o ≡ cond b (flush o 256) reset
+alone_is true o = refl
+alone_is false o = refl
+
+module _ (r : List ℕ) where
+  frame_call : (body o : List ℕ) → get_or r 0 0 ≡ 5 → push_of r body o ≡ call_of r body o
   unfolding call_of
-  frame_call k = rw k
+  frame_call body o k = rw k
 
   frame_not_plain : get_or r 0 0 ≡ 5 → is_plain r ≡ false
   unfolding is_plain
   frame_not_plain k = rw k
 
-  pub frame_handled : (n : ℕ) (state out text : List ℕ) → get_or r 0 0 ≡ 5 → FrameTaken r body b o state out n text → Handled r body b o state out n text
-  frame_handled zero state out text k (l, c) = (frame_not_plain k, l, c)
-  frame_handled (suc n) state out text k (f, c) = (rw f, subst (λ x. Called x b o state out (suc n) text) (frame_call k) c)
+  pub frame_handled : (p q : Program) (got : Result (List ℕ) End) → is_frame r ≡ true → FrameTaken r p q got → Handled r p q got
+  frame_handled p q (Err e) f (l, k) = (frame_not_plain (frame_kind r f), l, k)
+  frame_handled p q (Ok text) f t = record {
+    body = t.body;
+    room = t.room;
+    laid = rw (t.laid);
+    called = subst (λ x. Called x p.state p.out q.state q.out text) (frame_call t.body p.out (frame_kind r f)) t.called;
+  }
 
-  plain : (n : ℕ) (state out text : List ℕ) → is_plain r ≡ true → Called (call_of r body o) b o state out n text → Handled r body b o state out n text
-  plain zero state out text p c = absurd (omega (arith, c.said.some))
-  plain (suc n) state out text p c = (either (is_frame r && is_body r body) p, c)
+  not_five : is_plain r ≡ true → eqb (get_or r 0 0) 5 ≡ false
+  not_five e = ne_eqb (get_or r 0 0) 5 (λ k. let n = frame_not_plain k in cc)
 
-  plain_call_is : eqb (get_or r 0 0) 5 ≡ false → plain_call r o ≡ call_of r body o
-  unfolding call_of
-  plain_call_is k = simp k
+  plain_is : (body o : List ℕ) → is_plain r ≡ true → alone (plain_of r) o ≡ call_of r body o
+  unfolding plain_of plain_call call_of
+  plain_is body o e = alone_is (eqb (get_or r 0 0) 7) o ∙ simp (not_five e)
 
-  pub plain_handled : (n : ℕ) (state out text : List ℕ) → is_plain r ≡ true → eqb (get_or r 0 0) 5 ≡ false
-      → Called (plain_call r o) b o state out n text → Handled r body b o state out n text
-  plain_handled n state out text p k c = plain n state out text p (subst (λ x. Called x b o state out n text) (plain_call_is k) c)
+  pub plain_handled : (p q : Program) (call : Plain) (text : List ℕ) → is_plain r ≡ true → call ≡ plain_of r
+      → Called (alone call p.out) p.state p.out q.state q.out text → Answered r p q text
+  plain_handled p q call text e k c =
+      let none : List ℕ = replicate 86720 0 in
+      record {
+        body = none;
+        room = length-replicate {A = ℕ} 86720 0;
+        laid = either (is_frame r && is_body r none) e;
+        called = subst (λ x. Called x p.state p.out q.state q.out text) (ap (λ x. alone x p.out) k ∙ plain_is none p.out e) c;
+      }
 
-  pub handled_one : (n : ℕ) (state out text : List ℕ) → length r ≡ 40 → Handled r body b o state out n text → RecordTaken body b o state out n text
-  handled_one zero state out text w (l, i, k) = k
-  handled_one (suc n) state out text w (l, c) = record { rec = r; whole = w; laid = l; called = c }
+-- ---- calls in a row: what is run from q on was run from p on
 
-pub said_fits : (body b o state out text : List ℕ) (n : ℕ) → RecordTaken body b o state out n text → n ≤ length text
-said_fits body b o state out text zero k = omega arith
-said_fits body b o state out text (suc n) k = k.called.said.fits
+abbrev pub From : Program → Program → Type 0
+From p q = (u v : List ℕ) → Ran q.state q.out u v → Ran p.state p.out u v
 
--- ---- calls in a row: what is run from s and t on was run from b and o on
+pub stops : (p q s : Program) → From p q → Kept q s → Ran p.state p.out s.state s.out
+stops p q s f k = f s.state s.out (record { inputs = []; block = k.block; output = k.output })
 
-abbrev pub From : List ℕ → List ℕ → List ℕ → List ℕ → Type 0
-From b o s t = (u v : List ℕ) → Ran s t u v → Ran b o u v
-
-pub stops : (body b o s t u v text : List ℕ) (n : ℕ) → n ≡ 0 → From b o s t → RecordTaken body s t u v n text → Ran b o u v
-stops body b o s t u v text n e f k =
-    let w = subst (λ (i : ℕ). RecordTaken body s t u v i text) e k in
-    f u v (record { inputs = []; block = w.block; output = w.output })
-
-pub goes : (body b o s t u v text : List ℕ) (n : ℕ) → (n ≡ 0 → ⊥) → length body ≡ 86720 → From b o s t → RecordTaken body s t u v n text → From b o u v
-goes body b o s t u v text zero e room f w x y ran = absurd (e refl)
-goes body b o s t u v text (suc n) e room f w x y ran =
-    let c = call_of w.rec body t in
+pub goes : (p q s : Program) (text : List ℕ) → From p q → Took q s text → From p s
+goes p q s text f t u v ran =
+    let a = t.call in
+    let c = call_of t.rec a.body q.out in
     let xs = ran.inputs in
-    let now : List ℕ = (made hall block c s).state in
-    f x y (record {
-      inputs = record { rec = w.rec; body = body; whole = w.whole; laid = w.laid; room = room } ∷ xs;
-      block = ran.block ∙ ap (λ z. final_on hall block z (calls_of xs z v)) w.called.block ∙ ap (λ z. final_on hall block now (calls_of xs now z)) w.called.output;
-      output = ran.output ∙ ap (λ z. out_on xs z v) w.called.block ∙ ap (λ z. out_on xs now z) w.called.output;
+    let now : List ℕ = (made hall block c q.state).state in
+    f u v (record {
+      inputs = record { rec = t.rec; body = a.body; whole = t.whole; laid = a.laid; room = a.room } ∷ xs;
+      block = ran.block ∙ ap (λ z. final_on hall block z (calls_of xs z s.out)) a.called.block ∙ ap (λ z. final_on hall block now (calls_of xs now z)) a.called.output;
+      output = ran.output ∙ ap (λ z. out_on xs z s.out) a.called.block ∙ ap (λ z. out_on xs now z) a.called.output;
     })

@@ -3,150 +3,137 @@
 
 ghost use Rattle.std.specs.Prelude.{◌≡◌, ◌≤◌, length};
 ghost use Rattle.hallrender.specs.ProgramRun.{new_block, Ran};
-ghost use Rattle.hallrender.specs.RunResults.{Rooms, FrameTaken, Handled, RecordTaken};
+ghost use Rattle.hallrender.specs.RunResults.{FrameTaken, Handled, RecordTaken};
 
+use framing::BadRecord;
+use framing::header::Header;
+use framing::request::Request;
+use listing::text::Text;
+use std::io;
 use std::io::{Read, Write};
 
+// Why the program ends.
+#[derive(Clone, Copy)]
+enum End {
+    // No record is left.
+    Input,
+    BadRecord,
+    // An answer cannot be written.
+    Output,
+}
+
+impl From<BadRecord> for End {
+    fn from(_: BadRecord) -> End {
+        End::BadRecord
+    }
+}
+
+impl From<io::Error> for End {
+    fn from(_: io::Error) -> End {
+        End::Output
+    }
+}
+
+// The renderer's block, and the output that its calls are lent.
+#[derive(Drop)]
+struct Program {
+    state: [u8; hall::STATE_BYTES],
+    out: [u8; 12288],
+}
+
 // Fills `bytes` from standard input, as far as it goes; how many were read. Where a read fails, the input ends.
+// It stays beside `read_exact`, which says neither how many there were nor that no bytes are always read.
 fn read_full(rt: &HostRuntime, bytes: &mut [u8]) -> usize
     ensures { result ≤ length bytes.new }
 {
     let mut input = rt.stdin();
-    let mut done = 0usize;
+    let mut done = 0;
     while done < bytes.len() {
         match input.read(&mut bytes[done..]) {
-            Ok(0) => return done,
+            Ok(0) | Err(_) => break,
             Ok(n) => done += n,
-            Err(_) => return done,
         }
     }
     done
 }
 
-// Whether all of `bytes` was written; where not, standard error says so, and the program's status stays 0.
-fn say(rt: &HostRuntime, bytes: &[u8]) -> bool {
-    if rt.stdout().write_all(bytes).is_ok() {
-        return true;
-    }
-    let _ = rt
-        .stderr()
-        .write_all(b"hallrender: cannot write to standard output\n");
-    false
+// Writes all of `bytes`; where that fails, standard error says so, and the program's status stays 0.
+fn say(rt: &HostRuntime, bytes: &[u8]) -> io::Result<()> {
+    rt.stdout().write_all(bytes).inspect_err(|_| {
+        let _ = rt
+            .stderr()
+            .write_all(b"hallrender: cannot write to standard output\n");
+    })
 }
 
-// "prints `bad record` and ends": no answer.
-fn bad(rt: &HostRuntime) -> usize
-    ensures { result ≡ 0 }
-{
-    say(rt, b"bad record\n");
-    0
-}
-
-// A frame whose header is `rec`; how long the answer's text is, 0 where the program ends.
-// All that belongs to a frame is read at once, and nothing of a frame that is cut is pushed.
-fn frame(
-    rt: &HostRuntime,
-    state: &mut [u8],
-    body: &mut [u8],
-    pcm: &mut [u8],
-    out: &mut [u8],
-    text: &mut [u8],
-    rec: &[u8; 40],
-) -> usize
-    requires { Rooms body.old pcm.old out.old text.old }
-    ensures { FrameTaken rec.now body.new state.old out.old state.new out.new result text.new }
-{
-    if !framing::is_frame(rec) {
-        return bad(rt);
-    }
-    let m = framing::metadata_bytes(rec);
-    let n = framing::pcm_bytes(rec);
-    let size = m + framing::record_bytes(n);
-    if read_full(rt, &mut body[..size]) < size {
-        return bad(rt);
-    }
-    if !framing::unpack(&body[m..size], &mut pcm[..n]) {
-        return bad(rt);
-    }
-    calls::push(state, &body[..m], &pcm[..n], out, text, rec)
-}
-
-// What a record asks for; how long the answer's text is, 0 where the program ends.
-fn handle(
-    rt: &HostRuntime,
-    state: &mut [u8],
-    body: &mut [u8],
-    pcm: &mut [u8],
-    out: &mut [u8],
-    text: &mut [u8],
-    rec: &[u8; 40],
-) -> usize
-    requires { Rooms body.old pcm.old out.old text.old }
-    ensures { Handled rec.now body.new state.old out.old state.new out.new result text.new }
-{
-    if rec[0] == 5 {
-        return frame(rt, state, body, pcm, out, text, rec);
-    }
-    if !framing::is_plain(rec) {
-        return bad(rt);
-    }
-    calls::plain(state, out, text, rec)
-}
-
-// One record and what belongs to it; how long the answer's text is, 0 where the program ends.
-fn one(
-    rt: &HostRuntime,
-    state: &mut [u8],
-    body: &mut [u8],
-    pcm: &mut [u8],
-    out: &mut [u8],
-    text: &mut [u8],
-) -> usize
-    requires { Rooms body.old pcm.old out.old text.old }
-    ensures { RecordTaken body.new state.old out.old state.new out.new result text.new }
-{
-    let mut rec = [0u8; 40];
-    let n = read_full(rt, &mut rec);
-    if n == 0 {
-        return 0;
-    }
-    if n < 40 {
-        return bad(rt);
-    }
-    handle(rt, state, body, pcm, out, text, &rec)
-}
-
-// The loop ends with the input, or where an answer cannot be written; its budget of turns is more than any input has. An answer is one write.
-fn run(
-    rt: &HostRuntime,
-    state: &mut [u8],
-    body: &mut [u8],
-    pcm: &mut [u8],
-    out: &mut [u8],
-    text: &mut [u8],
-)
-    requires { Rooms body.old pcm.old out.old text.old × (state.old ≡ new_block) }
-    ensures { Ran state.old out.old state.new out.new }
-{
-    let mut turns = u64::MAX;
-    while turns > 0 {
-        let n = one(rt, state, body, pcm, out, text);
-        if n == 0 {
-            return;
+impl Program {
+    // The push of a frame, and its answer's text.
+    // All that belongs to a frame is read at once, and nothing of a frame that is cut is pushed.
+    fn frame(&mut self, rt: &HostRuntime, header: Header) -> Result<Text, End>
+        ensures { FrameTaken header.rec self.old self.new result }
+    {
+        let m = header.metadata_bytes();
+        let n = header.pcm_bytes();
+        let size = m + framing::record_bytes(n);
+        let mut body = [0; 86720];
+        let mut pcm = [0; 34816];
+        if read_full(rt, &mut body[..size]) < size {
+            return Err(End::BadRecord);
         }
-        if !say(rt, &text[..n]) {
-            return;
+        framing::unpack(&body[m..size], &mut pcm[..n])?;
+        let text = calls::push(
+            &mut self.state,
+            &body[..m],
+            &pcm[..n],
+            &mut self.out,
+            &header,
+        );
+        Ok(text)
+    }
+
+    // What a record asks for, and its answer's text.
+    fn handle(&mut self, rt: &HostRuntime, rec: [u8; 40]) -> Result<Text, End>
+        ensures { Handled rec self.old self.new result }
+    {
+        match Request::try_from(rec)? {
+            Request::Frame(header) => self.frame(rt, header),
+            Request::Plain(call) => Ok(calls::plain(&mut self.state, &mut self.out, call)),
         }
-        turns -= 1;
+    }
+
+    // One record and what belongs to it, and its answer's text.
+    fn one(&mut self, rt: &HostRuntime) -> Result<Text, End>
+        ensures { RecordTaken self.old self.new result }
+    {
+        let mut rec = [0u8; 40];
+        match read_full(rt, &mut rec) {
+            0 => Err(End::Input),
+            40 => self.handle(rt, rec),
+            _ => Err(End::BadRecord),
+        }
+    }
+
+    // Its budget of turns is more than any input has. An answer is one write.
+    fn run(&mut self, rt: &HostRuntime) -> Result<(), End>
+        requires { self.old.state ≡ new_block }
+        ensures { Ran self.old.state self.old.out self.new.state self.new.out }
+    {
+        for _ in 0..u64::MAX {
+            let text = self.one(rt)?;
+            say(rt, text.as_bytes())?;
+        }
+        Ok(())
     }
 }
 
+#[tactic(auto, unfolding(crate::specs::ProgramRun::new_block, store::specs::Layout::decode))]
 fn main(rt: HostRuntime) {
-    let mut state = [0u8; hall::STATE_BYTES];
-    let mut body = [0u8; 86720];
-    let mut pcm = [0u8; 34816];
-    let mut out = [0u8; 12288];
-    let mut text = [0u8; 27675];
-    hall::hall_reset(&mut state);
-    run(&rt, &mut state, &mut body, &mut pcm, &mut out, &mut text);
+    let mut program = Program {
+        state: [0; hall::STATE_BYTES],
+        out: [0; 12288],
+    };
+    let _ = hall::reset(&mut program.state);
+    if let Err(End::BadRecord) = program.run(&rt) {
+        let _ = say(&rt, b"bad record\n");
+    }
 }

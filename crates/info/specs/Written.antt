@@ -3,10 +3,8 @@ use Rattle.std.specs.Prelude.{ℕ, ◌+◌, Bool, cond, List}
 use Rattle.words.specs.Words.{with_word}
 use Rattle.vectors.specs.Head.{head_in, head_word, as_speaker, has}
 use Rattle.timed.specs.InfoSizes.{gain_byte, size_byte, distance_byte, screen_byte, position_byte, send_byte}
+unfoldable pub use Rattle.timed.specs.Infos.{with_three}
 use Rattle.fields.specs.declared.object.Info.{Info}
-
-unfoldable pub with_three : List ℕ → ℕ → ℕ → ℕ → ℕ → List ℕ
-with_three is at x y z = with_word (with_word (with_word is at x) (at + 4) y) (at + 8) z
 
 -- a new info has its position and the last absolute one at the origin; a kept one keeps both
 unfoldable pub cleared : Bool → ℕ → List ℕ → List ℕ

@@ -2,7 +2,8 @@
 use mathlib.Core.Path.{◌≡◌, refl, sym, ap, ◌∙◌, subst}
 use mathlib.Core.List.{List, [], ◌∷◌, ◌++◌, append_assoc}
 use Prim.Native.Nat.{ℕ, zero, suc, ◌+◌, ◌-◌, ◌*◌, ◌≤◌, ◌<◌}
-use native.Mathlib.Nat.{lt_irrefl}
+use native.Mathlib.Nat.{lt_irrefl, le_trans, le_of_eq, mul-le-mul_right}
+use native.Mathlib.Numerals.{add-one}
 use native.Mathlib.Omega.{arith}
 use borrow.Rule.Slice.PartMut.{put_mid, same_len_mid}
 use lib.ListN.{length, length-append, take, drop, length-drop, take-append-drop}
@@ -10,7 +11,7 @@ use lib.Seq.{drop-drop, take-append-add, drop-append-add, length-take-le, take_a
 use lib.Ieee.{Float}
 use Rattle.ieee.specs.Bounds.{All}
 use Rattle.ieee.specs.Small.{absolute, larger}
-use Rattle.limiter.specs.Limiter.{peak, scaled, block_peak, scaled_block}
+use Rattle.limiter.specs.Limiter.{0·0, peak, scaled, block_peak, scaled_block}
 use Rattle.limiter.proofs.Levels.{Level, level_abs}
 use Rattle.limiter.specs.ChannelPlaces.{floats_at, with_floats, channels, overlaid, channels_at, with_channels}
 use Rattle.words.proofs.Runs.{length_floats}
@@ -24,25 +25,6 @@ whole a n = omega arith
 pub part_length : {A : Type 0} (n at : ℕ) (xs : List A) → at + n ≤ length xs → length (take (at + n - at) (drop at xs)) ≡ n
 part_length n at xs h = ap (λ (j : ℕ). length (take j (drop at xs))) (whole at n) ∙ length-take-le n (drop at xs) (omega (arith, length-drop at xs))
 
--- the first of k channels, and the others
-channels_next : (k n at : ℕ) (xs : List Float) → 0 < k → channels k n (drop at xs) ≡ take n (drop at xs) ∷ channels (k - 1) n (drop (at + 64) xs)
-unfolding channels
-channels_next zero n at xs h = absurd (lt_irrefl 0 h)
-channels_next (suc k) n at xs h = ap (λ (l : List Float). take n (drop at xs) ∷ channels k n l) (drop-drop 64 at xs)
-    ∙ ap (λ (j : ℕ). take n (drop at xs) ∷ channels j n (drop (at + 64) xs)) (same k)
-  where
-    same : (k : ℕ) → k ≡ suc k - 1
-    same k = omega arith
-
-scaled_next_channel : (g : Float) (k n at : ℕ) (xs : List Float) → 0 < k
-    → scaled_block g (channels k n (drop at xs)) ≡ scaled g (take n (drop at xs)) ∷ scaled_block g (channels (k - 1) n (drop (at + 64) xs))
-unfolding scaled_block
-scaled_next_channel g k n at xs h = ap (scaled_block g) (channels_next k n at xs h)
-
-laid_cons : (z : List Float) (cs : List (List Float)) (t : List Float) → overlaid (z ∷ cs) t ≡ z ++ (take (64 - length z) (drop (length z) t) ++ overlaid cs (drop 64 t))
-unfolding overlaid
-laid_cons z cs t = refl
-
 channels_at_next : (s : List ℕ) (k n at : ℕ) → 0 < k → channels_at k n s (4 * at) ≡ floats_at s (4 * at) n ∷ channels_at (k - 1) n s (4 * (at + 64))
 unfolding channels_at
 channels_at_next s zero n at h = absurd (lt_irrefl 0 h)
@@ -55,18 +37,40 @@ channels_at_next s (suc k) n at h = ap (λ (j : ℕ). floats_at s (4 * at) n ∷
     same : (k : ℕ) → k ≡ suc k - 1
     same k = omega arith
 
--- ---- the peak
-pub peak_next : (k n at : ℕ) (xs : List Float) (m p r : Float) → 0 < k → Level p → p ≡ peak (take (at + n - at) (drop at xs)) → r ≡ larger m (absolute p)
-    → block_peak r (channels (k - 1) n (drop (at + 64) xs)) ≡ block_peak m (channels k n (drop at xs))
-unfolding block_peak
-peak_next k n at xs m p r h l e f =
-    ap (λ (v : Float). block_peak v (channels (k - 1) n (drop (at + 64) xs))) (f ∙ ap (larger m) (level_abs p l ∙ e ∙ ap (λ (j : ℕ). peak (take j (drop at xs))) (whole at n)))
-    ∙ sym (ap (block_peak m) (channels_next k n at xs h))
+laid_cons : (z : List Float) (cs : List (List Float)) (t : List Float) → overlaid (z ∷ cs) t ≡ z ++ (take (64 - length z) (drop (length z) t) ++ overlaid cs (drop 64 t))
+unfolding overlaid
+laid_cons z cs t = refl
 
-pub peak_end : (k n : ℕ) (xs : List Float) (m : Float) → k ≤ 0 → m ≡ block_peak m (channels k n xs)
-unfolding block_peak channels
-peak_end zero n xs m h = refl
-peak_end (suc k) n xs m h = absurd (native.Mathlib.Nat.not-suc-le-zero h)
+-- ---- one channel more
+pub length_channels : (c n : ℕ) (xs : List Float) → length (channels c n xs) ≡ c
+unfolding channels
+length_channels zero n xs = refl
+length_channels (suc c) n xs = ap suc (length_channels c n (drop 64 xs))
+
+pub channels_more : (c n : ℕ) (xs : List Float) → channels (c + 1) n xs ≡ channels c n xs ++ (take n (drop (64 * c) xs) ∷ [])
+unfolding channels
+channels_more zero n xs = refl
+channels_more (suc c) n xs =
+    ap (λ (j : ℕ). channels j n xs) (add-one (suc c))
+    ∙ ap (λ (cs : List (List Float)). take n xs ∷ cs) (ap (λ (j : ℕ). channels j n (drop 64 xs)) (sym (add-one c)) ∙ channels_more c n (drop 64 xs))
+    ∙ ap (λ (ys : List Float). take n xs ∷ (channels c n (drop 64 xs) ++ (take n ys ∷ []))) (drop-drop (64 * c) 64 xs ∙ ap (λ (j : ℕ). drop j xs) (on c))
+  where
+    on : (c : ℕ) → 64 + 64 * c ≡ 64 * suc c
+    on c = omega arith
+
+-- ---- the peak
+peak_more : (m : Float) (cs : List (List Float)) (c : List Float) → block_peak m (cs ++ (c ∷ [])) ≡ larger (block_peak m cs) (peak c)
+unfolding block_peak
+peak_more m [] c = refl
+peak_more m (d ∷ cs) c = peak_more (larger m (peak d)) cs c
+
+pub peak_next : (c n : ℕ) (xs : List Float) {m p r : Float} → m ≡ block_peak 0·0 (channels c n xs) → Level p → p ≡ peak (take (64 * c + n - 64 * c) (drop (64 * c) xs))
+    → r ≡ larger m (absolute p) → r ≡ block_peak 0·0 (channels (c + 1) n xs)
+peak_next c n xs {m} {p} d l e f =
+    f ∙ ap (larger m) (level_abs p l ∙ e ∙ ap (λ (j : ℕ). peak (take j (drop (64 * c) xs))) (whole (64 * c) n))
+    ∙ ap (λ (v : Float). larger v (peak (take n (drop (64 * c) xs)))) d
+    ∙ sym (peak_more 0·0 (channels c n xs) (take n (drop (64 * c) xs)))
+    ∙ sym (ap (block_peak 0·0) (channels_more c n xs))
 
 -- ---- z in the place of the first n of the 64 from the end of p on
 module _ (p z t : List Float) (n : ℕ) (e : length z ≡ n) (h : n ≤ 64) where
@@ -139,33 +143,47 @@ store_part g n at from xs s z h l e =
     let w = whole from (4 * n) in
     ap (λ (k : ℕ). put_mid from k s z) w ∙ floats_back s z from (4 * n) ys l (omega arith) (e ∙ ap (λ (k : ℕ). with_floats (take k (drop from s)) 0 ys) w)
 
-pub store_next : (g : Float) (k n at base step to : ℕ) (xs : List Float) (s t : List ℕ) → 0 < k → t ≡ with_floats s (base + to) (scaled g (take (at + n - at) (drop at xs)))
-    → with_channels (scaled_block g (channels (k - 1) n (drop (at + 64) xs))) step (base + step + to) t ≡ with_channels (scaled_block g (channels k n (drop at xs))) step (base + to) s
+scaled_more : (g : Float) (cs : List (List Float)) (c : List Float) → scaled_block g (cs ++ (c ∷ [])) ≡ scaled_block g cs ++ (scaled g c ∷ [])
+unfolding scaled_block
+scaled_more g [] c = refl
+scaled_more g (d ∷ cs) c = ap (λ (ds : List (List Float)). scaled g d ∷ ds) (scaled_more g cs c)
+
+length_scaled_block : (g : Float) (cs : List (List Float)) → length (scaled_block g cs) ≡ length cs
+unfolding scaled_block
+length_scaled_block g [] = refl
+length_scaled_block g (c ∷ cs) = ap suc (length_scaled_block g cs)
+
+pub written_more : (cs : List (List Float)) (c : List Float) (step to : ℕ) (s : List ℕ)
+    → with_channels (cs ++ (c ∷ [])) step to s ≡ with_floats (with_channels cs step to s) (step * length cs + to) c
 unfolding with_channels
-store_next g k n at base step to xs s t h e =
-    ap (λ (j : ℕ). with_channels (scaled_block g (channels (k - 1) n (drop (at + 64) xs))) step j t) (on base step to)
-    ∙ ap (with_channels (scaled_block g (channels (k - 1) n (drop (at + 64) xs))) step (base + to + step))
-    (e ∙ ap (λ (j : ℕ). with_floats s (base + to) (scaled g (take j (drop at xs)))) (whole at n))
-    ∙ sym (ap (λ (cs : List (List Float)). with_channels cs step (base + to) s) (scaled_next_channel g k n at xs h))
+written_more [] c step to s = ap (λ (j : ℕ). with_floats s j c) (on step to)
   where
-    on : (a b c : ℕ) → a + b + c ≡ a + c + b
-    on a b c = omega arith
-
-pub store_end : (g : Float) (k n step at : ℕ) (xs : List Float) (s : List ℕ) → k ≤ 0 → s ≡ with_channels (scaled_block g (channels k n xs)) step at s
-unfolding with_channels scaled_block channels
-store_end g zero n step at xs s h = refl
-store_end g (suc k) n step at xs s h = absurd (native.Mathlib.Nat.not-suc-le-zero h)
-
--- the room that k channels need
-pub room_next : (k step : ℕ) → 0 < k → step + (k - 1) * step ≡ k * step
-room_next zero step h = absurd (lt_irrefl 0 h)
-room_next (suc k) step h = ap (λ (j : ℕ). step + j * step) (less k) ∙ more k step
+    on : (step to : ℕ) → to ≡ step * 0 + to
+    on step to = omega arith
+written_more (d ∷ cs) c step to s =
+    written_more cs c step (to + step) (with_floats s to d)
+    ∙ ap (λ (j : ℕ). with_floats (with_channels cs step (to + step) (with_floats s to d)) j c) (on step (length cs) to)
   where
-    less : (k : ℕ) → suc k - 1 ≡ k
-    less k = omega arith
+    on : (step n to : ℕ) → step * n + (to + step) ≡ step * suc n + to
+    on step n to = omega arith
 
-    more : (k step : ℕ) → step + k * step ≡ suc k * step
-    more k step = omega arith
+pub store_next : (g : Float) (c n step to : ℕ) (xs : List Float) (s : List ℕ) {t u : List ℕ} → t ≡ with_channels (scaled_block g (channels c n xs)) step to s
+    → u ≡ with_floats t (step * c + to) (scaled g (take (64 * c + n - 64 * c) (drop (64 * c) xs))) → u ≡ with_channels (scaled_block g (channels (c + 1) n xs)) step to s
+store_next g c n step to xs s {t} d e =
+    let cs = channels c n xs in
+    let ys = take n (drop (64 * c) xs) in
+    e ∙ ap (λ (j : ℕ). with_floats t (step * c + to) (scaled g (take j (drop (64 * c) xs)))) (whole (64 * c) n)
+    ∙ ap (λ (v : List ℕ). with_floats v (step * c + to) (scaled g ys)) d
+    ∙ ap (λ (j : ℕ). with_floats (with_channels (scaled_block g cs) step to s) (step * j + to) (scaled g ys)) (sym (length_scaled_block g cs ∙ length_channels c n xs))
+    ∙ sym (written_more (scaled_block g cs) (scaled g ys) step to s)
+    ∙ sym (ap (λ (ds : List (List Float)). with_channels ds step to s) (ap (scaled_block g) (channels_more c n xs) ∙ scaled_more g cs ys))
+
+-- the room that a channel needs
+pub room_at : (c k step : ℕ) → c < k → step * c + step ≤ k * step
+room_at c k step h = le_trans (le_of_eq (more c step)) (mul-le-mul_right step h)
+  where
+    more : (c step : ℕ) → step * c + step ≡ suc c * step
+    more c step = omega arith
 
 -- ---- what was laid is read back
 pub channels_laid : (k n : ℕ) (cs : List (List Float)) (xs : List Float) → length cs ≡ k → All (λ (c : List Float). length c ≡ n) cs → n ≤ 64 → 64 * k ≤ length xs

@@ -1,12 +1,12 @@
 -- The peak of a list, by ranks: a bound on the peak is a bound on each sample. So lists with the same bounds have the same peak, in whatever order or number of running maxima
 -- it is taken. Assumes nothing.
 use mathlib.Core.Path.{◌≡◌, refl, sym, ap, ◌∙◌, subst}
-use mathlib.Core.List.{List, [], ◌∷◌}
-use Prim.Native.Nat.{ℕ, suc, ◌+◌, ◌-◌, ◌≤◌, ◌<◌, zero-le}
+use mathlib.Core.List.{List, [], ◌∷◌, ◌++◌}
+use Prim.Native.Nat.{ℕ, zero, suc, ◌+◌, ◌-◌, ◌≤◌, ◌<◌, zero-le}
 use native.Mathlib.Numerals.{add-one}
 use native.Mathlib.Omega.{arith}
-use native.Mathlib.Nat.{le_refl, le_trans, le_of_eq, le_antisymm}
-use lib.ListN.{length, get_or, take, drop, length-drop, drop_of_length-le}
+use native.Mathlib.Nat.{le_refl, le_trans, le_of_eq, le_antisymm, le_of_suc-le-suc, not-suc-le-zero}
+use lib.ListN.{length, length-set, get_or, set, take, drop, length-drop, drop_of_length-le}
 use lib.Seq.{drop-cons, take_all, get_or-drop}
 use lib.Ieee.{Float, nan, fits}
 use Rattle.ieee.specs.Units.{mag}
@@ -69,90 +69,99 @@ from_next m r xs i h e = ap (λ (v : Float). peak_from v (drop (i + 1) xs)) e �
 pub from_end : (m : Float) (xs : List Float) (i : ℕ) → length xs ≤ i → m ≡ peak_from m (drop i xs)
 from_end m xs i h = sym (ap (peak_from m) (drop_of_length-le xs h))
 
--- ---- four running maxima
-pub record Lanes (a b c d : Float) (rest whole : List Float) : Type 0 where
-  pub a_level : Level a
-  pub b_level : Level b
-  pub c_level : Level c
-  pub d_level : Level d
-  pub same : Same (a ∷ b ∷ c ∷ d ∷ rest) whole
+-- ---- several running maxima
+-- bounds of lists joined
+joined : (k : ℕ) (xs ys : List Float) → Under k xs → Under k ys → Under k (xs ++ ys)
+joined k [] ys u v = v
+joined k (x ∷ xs) ys u v = (u.0, joined k xs ys u.1 v)
 
-pub lanes_start : (xs : List Float) → Lanes 0·0 0·0 0·0 0·0 xs xs
+parted : (k : ℕ) (xs ys : List Float) → Under k (xs ++ ys) → Under k xs × Under k ys
+parted k [] ys u = (tt, u)
+parted k (x ∷ xs) ys u = let w = parted k xs ys u.1 in ((u.0, w.0), w.1)
+
+-- one of them, to which x was raised
+module _ {x r : Float} (j : ℕ) where
+  to_lane : (ms : List Float) (k : ℕ) → k < length ms → Raised (get_or ms k nan) x r → Under j (set ms k r) → (rank r ≤ j) × Under j ms
+  to_lane [] k h p u = absurd (not-suc-le-zero h)
+  to_lane (m ∷ ms) zero h p u = (u.0, (le_trans p.first u.0, u.1))
+  to_lane (m ∷ ms) (suc k) h p u = let w = to_lane ms k (le_of_suc-le-suc h) p u.1 in (w.0, (u.0, w.1))
+
+  from_lane : (ms : List Float) (k : ℕ) → k < length ms → Raised (get_or ms k nan) x r → rank x ≤ j → Under j ms → Under j (set ms k r)
+  from_lane [] k h p l u = absurd (not-suc-le-zero h)
+  from_lane (m ∷ ms) zero h p l u = (p.least j u.0 l, u.1)
+  from_lane (m ∷ ms) (suc k) h p l u = (u.0, from_lane ms k (le_of_suc-le-suc h) p l u.1)
+
+level_at : (ms : List Float) (k : ℕ) → k < length ms → All Level ms → Level (get_or ms k nan)
+level_at [] k h l = absurd (not-suc-le-zero h)
+level_at (m ∷ ms) zero h l = l.0
+level_at (m ∷ ms) (suc k) h l = level_at ms k (le_of_suc-le-suc h) l.1
+
+levels_set : (ms : List Float) (k : ℕ) {r : Float} → Level r → All Level ms → All Level (set ms k r)
+levels_set [] k p l = tt
+levels_set (m ∷ ms) zero p l = (p, l.1)
+levels_set (m ∷ ms) (suc k) p l = (l.0, levels_set ms k p l.1)
+
+levels_fit : (ms : List Float) → All Level ms → All Fit ms
+levels_fit [] l = tt
+levels_fit (m ∷ ms) l = (l.0.fit, levels_fit ms l.1)
+
+-- the four maxima and what is left have the bounds of the whole
+pub record Lanes (ms rest whole : List Float) : Type 0 where
+  pub four : length ms ≡ 4
+  pub levels : All Level ms
+  pub same : Same (ms ++ rest) whole
+
+pub lanes_start : (xs : List Float) → Lanes (0·0 ∷ 0·0 ∷ 0·0 ∷ 0·0 ∷ []) xs xs
 lanes_start xs = record {
-  a_level = zero_level;
-  b_level = zero_level;
-  c_level = zero_level;
-  d_level = zero_level;
+  four = refl;
+  levels = (zero_level, (zero_level, (zero_level, (zero_level, tt))));
   same = record { to = λ k u. u.1.1.1.1; from = λ k u. (zero_under k, (zero_under k, (zero_under k, (zero_under k, u)))) };
 }
 
--- four samples taken in
-pub lanes_next : {a b c d x y z w a' b' c' d' : Float} {rest whole : List Float} → Lanes a b c d (x ∷ y ∷ z ∷ w ∷ rest) whole
-    → Raised a x a' → Raised b y b' → Raised c z c' → Raised d w d' → Lanes a' b' c' d' rest whole
-lanes_next h p q r s = record {
-  a_level = p.level;
-  b_level = q.level;
-  c_level = r.level;
-  d_level = s.level;
-  same = same_as (record {
-    to = λ k u. (
-      le_trans p.first u.0,
-      (
-        le_trans q.first u.1.0,
-        (
-          le_trans r.first u.1.1.0,
-          (
-            le_trans s.first u.1.1.1.0,
-            (le_trans p.second u.0, (le_trans q.second u.1.0, (le_trans r.second u.1.1.0, (le_trans s.second u.1.1.1.0, u.1.1.1.1)))),
-          ),
-        ),
-      ),
-    );
-    from = λ k u. (
-      p.least k u.0 u.1.1.1.1.0,
-      (
-        q.least k u.1.0 u.1.1.1.1.1.0,
-        (r.least k u.1.1.0 u.1.1.1.1.1.1.0, (s.least k u.1.1.1.0 u.1.1.1.1.1.1.1.0, u.1.1.1.1.1.1.1.1)),
-      ),
-    );
-  }) h.same;
-}
+pub lane_level : (ms : List Float) (k : ℕ) {rest whole : List Float} → Lanes ms rest whole → k < 4 → Level (get_or ms k nan)
+lane_level ms k l h = level_at ms k (omega (arith, h, l.four)) l.levels
 
--- joined, and the rest taken in one by one
-pub lanes_end : {a b c d p q r : Float} {rest whole : List Float} → Lanes a b c d rest whole → Raised a b p → Raised p c q → Raised q d r → All Fit rest → All Fit whole
-    → peak_from r rest ≡ peak whole
-lanes_end {a} {b} {c} {d} {p} {q} {r} {rest} {whole} h i j l f g =
-    let left = peak_from_is r rest l.level f in
-    let right = peak_from_is 0·0 whole zero_level g in
-    only (peak_from r rest) (peak whole) left.0 right.0
-    (same_as left.1 (same_as (taken_in l) (same_as (taken_in j) (same_as (taken_in i) h.same))))
+-- a sample taken in by lane k
+pub lanes_next : (ms xs : List Float) (k i : ℕ) {r : Float} → k < 4 → i < length xs → Fit (get_or xs i nan) → Lanes ms (drop i xs) xs
+    → r ≡ larger (get_or ms k nan) (absolute (get_or xs i nan)) → Lanes (set ms k r) (drop (i + 1) xs) xs
+lanes_next ms xs k i {r} o n f l e =
+    let h : k < length ms = omega (arith, o, l.four) in
+    let x = get_or xs i nan in
+    let rest = drop (i + 1) xs in
+    let p : Raised (get_or ms k nan) x r = raised_by (get_or ms k nan) x r (level_at ms k h l.levels) f e in
+    let d : drop i xs ≡ x ∷ rest = drop-cons xs i nan n ∙ ap (λ (j : ℕ). x ∷ drop j xs) (sym (add-one i)) in
+    record {
+      four = length-set ms k r ∙ l.four;
+      levels = levels_set ms k p.level l.levels;
+      same = same_as (record {
+        to = λ j u.
+            let v = parted j (set ms k r) rest u in
+            let w = to_lane j ms k h p v.0 in
+            joined j ms (x ∷ rest) w.1 (le_trans p.second w.0, v.1);
+        from = λ j u.
+            let v = parted j ms (x ∷ rest) u in
+            joined j (set ms k r) rest (from_lane j ms k h p v.1.0 v.0) v.1.1;
+      }) (subst (λ (ys : List Float). Same (ms ++ ys) xs) d l.same);
+    }
+
+-- the maximum of the maxima, and the rest, which is `take (length xs - i) (drop i xs)`, taken in one by one
+pub lanes_rest : (ms xs : List Float) (i : ℕ) {m : Float} → ((k : ℕ) → Fit (get_or xs k nan)) → Lanes ms (drop i xs) xs → m ≡ peak ms
+    → peak_from m (take (length xs - i) (drop i xs)) ≡ peak xs
+lanes_rest ms xs i {m} f l e =
+    let rest = drop i xs in
+    let fits = all_fit xs f in
+    let rest_fits = all_fit rest (λ k. subst Fit (sym (get_or-drop i xs k nan)) (f (i + k))) in
+    let top = peak_from_is 0·0 ms zero_level (levels_fit ms l.levels) in
+    let left = peak_from_is (peak ms) rest top.0 rest_fits in
+    let right = peak_from_is 0·0 xs zero_level fits in
+    ap (peak_from m) (take_all (length xs - i) rest (le_of_eq (length-drop i xs)))
+    ∙ ap (λ (v : Float). peak_from v rest) e
+    ∙ only (peak_from (peak ms) rest) (peak xs) left.0 right.0
+    (same_as left.1 (same_as (record {
+      to = λ j u. joined j ms rest (top.1.to j (u.0, tt)).1 u.1;
+      from = λ j u. let v = parted j ms rest u in ((top.1.from j (zero_under j, v.0)).0, v.1);
+    }) l.same))
     (same_as right.1 (record { to = λ k u. u.1; from = λ k u. (zero_under k, u) }))
-
-four : (xs : List Float) (i : ℕ) → i + 4 ≤ length xs → drop i xs ≡ get_or xs i nan ∷ get_or xs (i + 1) nan ∷ get_or xs (i + 2) nan ∷ get_or xs (i + 3) nan ∷ drop (i + 4) xs
-four xs i h =
-    one i (i + 1) (omega arith) (omega arith)
-    ∙ ap (λ (l : List Float). get_or xs i nan ∷ l) (one (i + 1) (i + 2) (omega arith) (omega arith)
-    ∙ ap (λ (l : List Float). get_or xs (i + 1) nan ∷ l) (one (i + 2) (i + 3) (omega arith) (omega arith)
-    ∙ ap (λ (l : List Float). get_or xs (i + 2) nan ∷ l) (one (i + 3) (i + 4) (omega arith) (omega arith))))
-  where
-    one : (k n : ℕ) → k < length xs → suc k ≡ n → drop k xs ≡ get_or xs k nan ∷ drop n xs
-    one k n h e = drop-cons xs k nan h ∙ ap (λ (n : ℕ). get_or xs k nan ∷ drop n xs) e
-
-pub lanes_again : (xs : List Float) (i : ℕ) {a b c d a' b' c' d' : Float} → i + 4 ≤ length xs → ((k : ℕ) → Fit (get_or xs k nan)) → Lanes a b c d (drop i xs) xs
-    → a' ≡ larger a (absolute (get_or xs i nan)) → b' ≡ larger b (absolute (get_or xs (i + 1) nan)) → c' ≡ larger c (absolute (get_or xs (i + 2) nan))
-    → d' ≡ larger d (absolute (get_or xs (i + 3) nan))
-    → Lanes a' b' c' d' (drop (i + 4) xs) xs
-lanes_again xs i {a} {b} {c} {d} {a'} {b'} {c'} {d'} h f l p q r s =
-    lanes_next (subst (λ (ys : List Float). Lanes a b c d ys xs) (four xs i h) l)
-    (raised_by a (get_or xs i nan) a' l.a_level (f i) p) (raised_by b (get_or xs (i + 1) nan) b' l.b_level (f (i + 1)) q)
-    (raised_by c (get_or xs (i + 2) nan) c' l.c_level (f (i + 2)) r) (raised_by d (get_or xs (i + 3) nan) d' l.d_level (f (i + 3)) s)
-
--- the part of a slice from i on is `take (length xs - i) (drop i xs)`
-pub lanes_rest : (xs : List Float) (i : ℕ) {a b c d p q r : Float} → ((k : ℕ) → Fit (get_or xs k nan)) → Lanes a b c d (drop i xs) xs → Raised a b p → Raised p c q → Raised q d r
-    → peak_from r (take (length xs - i) (drop i xs)) ≡ peak xs
-lanes_rest xs i {r = r} f l u v w =
-    ap (peak_from r) (take_all (length xs - i) (drop i xs) (le_of_eq (length-drop i xs)))
-    ∙ lanes_end l u v w (all_fit (drop i xs) (λ k. subst Fit (sym (get_or-drop i xs k nan)) (f (i + k)))) (all_fit xs f)
 
 -- ---- a block
 -- p bounds each channel, and is the least such level from m on

@@ -7,9 +7,9 @@
 pub mod meters;
 pub mod places;
 
-ghost use Rattle.std.specs.Prelude.{◌≡◌, ◌+◌, ◌*◌, ◌≤◌, length};
+ghost use Rattle.std.specs.Prelude.{◌≡◌, ◌≤◌};
 ghost use Rattle.ieee.specs.Small.{absolute, larger};
-ghost use Rattle.formats.specs.Areas.{row_count, row_places, place_count};
+ghost use Rattle.formats.specs.Areas.{row_count, row_places};
 ghost use Rattle.limiter.specs.Level.{Level};
 ghost use Rattle.limiter.specs.Limiter.{0·0, 1·0, peak_from, peak, lowered, grown};
 ghost use Rattle.limiter.specs.Limiter.{block_peak};
@@ -30,7 +30,8 @@ pub struct Limited {
     pub meters: Meters,
 }
 
-// The maximum of a level and the size of a sample: a maximum instruction, since a level is no NaN.
+// The maximum of a level and the size of a sample: a maximum instruction, since a level is no NaN. `ieee::max` tests for one.
+// That `max` is one stands in the contract: a type of levels would wrap and unwrap each of the four lanes at each comparison.
 fn raise(max: f32, sample: f32) -> f32
     requires { Level max }
     ensures { (result ≡ larger max (absolute sample)) × Level result }
@@ -44,48 +45,35 @@ fn max_abs_from(max: f32, samples: &[f32]) -> f32
     ensures { (result ≡ peak_from max samples.now) × Level result }
 {
     let mut m = max;
-    let mut i: usize = 0;
-    while i < samples.len() {
-        m = raise(m, samples[i]);
-        i += 1;
+    for x in samples {
+        m = raise(m, *x);
     }
     m
 }
 
-// Four running maxima, which the compiler makes one vector.
+// Four running maxima, which the compiler makes one vector, and then the rest.
 pub fn max_abs_slice(samples: &[f32]) -> f32
     ensures { (result ≡ peak samples.now) × Level result }
 {
-    let n = samples.len();
-    let mut a: f32 = 0.0;
-    let mut b: f32 = 0.0;
-    let mut c: f32 = 0.0;
-    let mut d: f32 = 0.0;
-    let mut i: usize = 0;
-    while n - i >= 4 {
-        a = raise(a, samples[i]);
-        b = raise(b, samples[i + 1]);
-        c = raise(c, samples[i + 2]);
-        d = raise(d, samples[i + 3]);
-        i += 4;
+    let mut lanes = [0.0f32; 4];
+    let fours = samples.len() / 4;
+    for j in 0..fours {
+        for k in 0..4 {
+            lanes[k] = raise(lanes[k], samples[4 * j + k]);
+        }
     }
-    let m = raise(raise(raise(a, b), c), d);
-    max_abs_from(m, &samples[i..])
+    max_abs_from(max_abs_from(0.0, &lanes), &samples[4 * fours..])
 }
 
 // The peak of a block: twelve channels of 64 places, `samples` of each in use.
-fn block_peak(block: &[f32], samples: usize) -> f32
-    requires { (length block.now ≡ place_count) × (samples ≤ row_places) }
+fn block_peak(block: &[f32; areas::PLACE_COUNT], samples: usize) -> f32
+    requires { samples ≤ row_places }
     ensures { result ≡ block_peak 0·0 (channels row_count samples block.now) }
 {
     let mut max: f32 = 0.0;
-    let mut at: usize = 0;
-    let mut left: usize = areas::ROW_COUNT;
-    while left > 0 {
-        let end = at + samples;
-        max = raise(max, max_abs_slice(&block[at..end]));
-        at += areas::ROW_PLACES;
-        left -= 1;
+    for c in 0..areas::ROW_COUNT {
+        let at = areas::ROW_PLACES * c;
+        max = raise(max, max_abs_slice(&block[at..at + samples]));
     }
     max
 }
@@ -123,8 +111,7 @@ impl Limiter {
         requires { (samples ≤ 16777216) × (rate ≤ 16777216) }
         ensures { result.gain ≡ grown samples rate self.gain }
     {
-        let decay = samples as f32 / rate as f32;
-        let gain = self.gain + decay;
+        let gain = self.gain + samples as f32 / rate as f32;
         if gain > 1.0 {
             return Limiter { gain: 1.0 };
         }
@@ -132,6 +119,7 @@ impl Limiter {
     }
 
     // One block from the places of a state block to the output, channel c at `to` + c x `step`.
+    // `out`, `step` and `to` go together here and in `store_block` alone: a type of them would be made and taken apart in one line.
     pub fn apply_output_limiter_block(
         self,
         places: &[u8],

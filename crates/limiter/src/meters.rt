@@ -12,14 +12,13 @@ pub struct Meters {
 }
 
 impl Meters {
-    // Before any block: a NaN is no gain yet.
+    // Before any block. A NaN and no Option is no gain yet: `ieee::min` passes over it, as document 02 passes over NaNs of a handed-in block.
     pub fn unmet() -> Self
         ensures { result ≡ unmet }
     {
-        let zero: f32 = 0.0;
         Meters {
-            peak: zero,
-            gain: zero / zero,
+            peak: 0.0,
+            gain: f32::NAN,
         }
     }
 
@@ -37,11 +36,8 @@ impl Meters {
     pub fn shown(self) -> Self
         ensures { result ≡ shown self }
     {
-        if self.gain != self.gain {
-            return Meters {
-                peak: self.peak,
-                gain: 1.0,
-            };
+        if self.gain.is_nan() {
+            return Meters { gain: 1.0, ..self };
         }
         self
     }

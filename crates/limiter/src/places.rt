@@ -9,15 +9,13 @@ ghost use Rattle.limiter.specs.ChannelPlaces.{floats_at, with_floats, channels, 
 
 use formats::areas;
 
-// The floats from `at` on, as many as `samples` has.
+// The floats from `at` on, as many as `samples` has. `mixing::read_row` reads without a test for NaNs, which it asks of the bytes, and is quicker.
 pub fn load_samples(places: &[u8], at: usize, samples: &mut [f32])
     requires { at + 4 * length samples.old ≤ length places.now }
     ensures { samples.new ≡ floats_at places.now at (length samples.old) }
 {
-    let mut i: usize = 0;
-    while i < samples.len() {
+    for i in 0..samples.len() {
         samples[i] = words::f32_at(places, at + 4 * i);
-        i += 1;
     }
 }
 
@@ -26,43 +24,31 @@ pub fn scale_slice_into(samples: &[f32], gain: f32, out: &mut [u8])
     requires { length out.old ≡ 4 * length samples.now }
     ensures { out.new ≡ with_floats out.old 0 (scaled gain samples.now) }
 {
-    let mut i: usize = 0;
-    while i < samples.len() {
-        words::put_f32(out, 4 * i, samples[i] * gain);
-        i += 1;
+    for (i, x) in samples.iter().enumerate() {
+        words::put_f32(out, 4 * i, x * gain);
     }
 }
 
 // The places of a state block, `samples` of each channel, in a block of floats.
-pub fn load_block(places: &[u8], samples: usize, block: &mut [f32])
-    requires { (length places.now ≡ places_bytes) × (length block.old ≡ place_count) × (samples ≤ row_places) }
+pub fn load_block(places: &[u8], samples: usize, block: &mut [f32; areas::PLACE_COUNT])
+    requires { (length places.now ≡ places_bytes) × (samples ≤ row_places) }
     ensures { block.new ≡ overlaid (channels_at row_count samples places.now 0) block.old }
 {
-    let mut at: usize = 0;
-    let mut left: usize = areas::ROW_COUNT;
-    while left > 0 {
-        let end = at + samples;
-        load_samples(places, 4 * at, &mut block[at..end]);
-        at += areas::ROW_PLACES;
-        left -= 1;
+    for row in 0..areas::ROW_COUNT {
+        let at = areas::ROW_PLACES * row;
+        load_samples(places, 4 * at, &mut block[at..at + samples]);
     }
 }
 
-// The block times the gain, channel c at `to` + c x `step`.
+// The block times the gain, channel c at `to` + c x `step`. The block is a slice: `rendering` has its rows as one, and would have to test their number.
 pub fn store_block(block: &[f32], samples: usize, gain: f32, out: &mut [u8], step: usize, to: usize)
     requires { (length block.now ≡ place_count) × (samples ≤ row_places) × (to + 4 * samples ≤ step) × (row_count * step ≤ length out.old) }
     ensures { out.new ≡ with_channels (scaled_block gain (channels row_count samples block.now)) step to out.old }
 {
-    let mut at: usize = 0;
-    let mut base: usize = 0;
-    let mut unscaled: usize = areas::ROW_COUNT;
-    while unscaled > 0 {
-        let end = at + samples;
-        let from = base + to;
+    for c in 0..areas::ROW_COUNT {
+        let at = areas::ROW_PLACES * c;
+        let from = step * c + to;
         let until = from + 4 * samples;
-        scale_slice_into(&block[at..end], gain, &mut out[from..until]);
-        at += areas::ROW_PLACES;
-        base += step;
-        unscaled -= 1;
+        scale_slice_into(&block[at..at + samples], gain, &mut out[from..until]);
     }
 }

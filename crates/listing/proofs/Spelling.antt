@@ -1,19 +1,18 @@
--- A number's digits are its decimal; a text that grows piece by piece. Assumes nothing.
+-- A number's digits are its decimal, a word's its eight; a text that grows piece by piece. Assumes nothing.
 use Prim.Native.Nat.{ℕ, zero, suc, ◌+◌, ◌-◌, ◌*◌, ◌/◌, ◌%◌, ◌^◌, ◌≤◌, ◌<◌}
-use mathlib.Core.Path.{◌≡◌, refl, sym, ap, subst, ◌∙◌}
+use mathlib.Core.Path.{◌≡◌, refl, sym, ap, ◌∙◌}
 use mathlib.Core.List.{List, [], ◌∷◌, ◌++◌, append_assoc, append-nil}
 use mathlib.Core.Logic.{⊎_elim}
-use native.Mathlib.Nat.{eq-zero-or-pos, pow-suc, pow-le-pow_right, mod-eq_of_lt, div-lt_iff_lt-mul, le-div_iff_mul-le}
+use native.Mathlib.Nat.{eq-or-lt_of_le, pow-suc, pow-le-pow_right, mod-eq_of_lt, div-lt_iff_lt-mul, le-div_iff_mul-le}
 use native.Mathlib.Numerals.{add-one}
 use native.Mathlib.Omega.{arith}
 use borrow.Author.Tests.{lt-ltb, le-ltb}
 use lib.Dec.{lit<}
-use lib.ListN.{length, take, length-append, length-take}
-use lib.Seq.{take_at, length-take-le}
+use lib.ListN.{take}
+use Rattle.words.specs.Words.{word}
 use Rattle.io.specs.Digits.{hex_digit_ascii, last_digits, IsDigitCount}
-use Rattle.listing.specs.Line.{line_of}
+use Rattle.listing.specs.Line.{hex8, cells, line_of}
 use Rattle.listing.specs.Text.{decimal_to, decimal, lines_of}
-use Rattle.listing.specs.GrownText.{Put, Told}
 
 -- ---- decimal
 
@@ -51,46 +50,34 @@ pub spelt_decimal : (n k : ℕ) (t : List ℕ) → IsDigitCount 10 1 n k → tak
 unfolding decimal
 spelt_decimal n k t w e = e ∙ spelt_to n n k (omega arith) w
 
--- a u64 has no more than twenty digits
-pub twenty : (n k : ℕ) → n < 2 ^ 64 → IsDigitCount 10 1 n k → k ≤ 20
-twenty n k h w =
+-- ---- hexadecimal
+
+-- a word has no more than eight digits
+pub eight : (n k : ℕ) → n < 2 ^ 32 → IsDigitCount 16 8 n k → k ≡ 8
+eight n k h f =
     ⊎_elim
-    (λ l. omega arith)
-    (λ l.
-    let p : 10 ^ 20 ≤ 10 ^ (k - 1) = pow-le-pow_right (lit< tt) {i = 20} {j = k - 1} (omega arith) in
-    absurd (omega (arith, w.2 (omega arith))))
-    (eq-zero-or-pos (k - 20))
+    (λ e. sym e)
+    (λ l. absurd (let q : 8 ≤ k - 1 = omega arith in let p : 16 ^ 8 ≤ 16 ^ (k - 1) = pow-le-pow_right (lit< tt) q in omega (arith, p, f.2 l)))
+    (eq-or-lt_of_le f.0)
+
+pub spelt : (w k : ℕ) (t : List ℕ) → w < 2 ^ 32 → IsDigitCount 16 8 w k → take k t ≡ last_digits 16 k w → take 8 t ≡ hex8 w
+unfolding hex8
+spelt w k t h f e = rw (eight w k h f) at e
 
 -- ---- a text that grows
 
-pub put_at : (at : ℕ) (text s x y : List ℕ) → at + length s ≤ length text → take (at + length s) (take at text ++ ((s ++ x) ++ y)) ≡ take at text ++ s
-put_at at text s x y h =
-    let n : length (take at text ++ s) ≡ at + length s = length-append (take at text) s ∙ ap (λ (i : ℕ). i + length s) (length-take-le at text (omega arith)) in
-    let e : take at text ++ ((s ++ x) ++ y) ≡ (take at text ++ s) ++ (x ++ y) = simp append_assoc in
-    ap (take (at + length s)) e ∙ take_at (take at text ++ s) (x ++ y) (at + length s) n
+pub no_cell : (out : List ℕ) (i : ℕ) (text : List ℕ) → text ≡ text ++ cells out i 0
+unfolding cells
+no_cell out i text = sym (append-nil text)
 
-pub grown : (s t : List ℕ) {at e f : ℕ} {a b c : List ℕ} → Put at a s e b → Put e b t f c → Put at a (s ++ t) f c
-grown s t {at} {e} {f} {a} {b} {c} p q =
-    record {
-      end = omega (arith, p.end, q.end, length-append s t);
-      text = q.text ∙ ap (λ (x : List ℕ). x ++ t) p.text ∙ append_assoc (take at a) s t;
-    }
+pub cell_more : (out : List ℕ) (i c : ℕ) (text : List ℕ) → (text ++ cells out i c) ++ (hex8 (word out (1024 * c + 4 * i)) ++ (32 ∷ [])) ≡ text ++ cells out i (c + 1)
+unfolding cells
+cell_more out i c text = rw add-one (append_assoc text (cells out i c) (hex8 (word out (1024 * c + 4 * i)) ++ (32 ∷ [])))
 
-pub renamed : {s t : List ℕ} {at e : ℕ} {a b : List ℕ} → s ≡ t → Put at a s e b → Put at a t e b
-renamed {s} {t} {at} {e} {a} {b} p q = subst (λ (x : List ℕ). Put at a x e b) p q
-
-pub no_line : (out : List ℕ) (at : ℕ) (text : List ℕ) → Put at text (lines_of out 0) at text
+pub no_line : (out : List ℕ) (text : List ℕ) → text ≡ text ++ lines_of out 0
 unfolding lines_of
-no_line out at text = record { end = omega arith; text = sym (append-nil (take at text)) }
+no_line out text = sym (append-nil text)
 
-pub line_more : (out : List ℕ) (i : ℕ) {at e f : ℕ} {a b c : List ℕ} → Put at a (lines_of out i) e b → Put e b (line_of out i) f c → Put at a (lines_of out (i + 1)) f c
+pub line_more : (out : List ℕ) (i : ℕ) (text : List ℕ) → (text ++ lines_of out i) ++ line_of out i ≡ text ++ lines_of out (i + 1)
 unfolding lines_of
-line_more out i p q = rw add-one (grown (lines_of out i) (line_of out i) p q)
-
-pub said : {before s text : List ℕ} {n : ℕ} → 0 < length s → Put 0 before s n text → Told n text s
-said {before} {s} {text} {n} h p =
-    record {
-      some = omega (arith, p.end);
-      fits = omega (arith, p.end, length-take n text, ap length p.text);
-      text = p.text;
-    }
+line_more out i text = rw add-one (append_assoc text (lines_of out i) (line_of out i))

@@ -8,6 +8,9 @@ ghost use Rattle.std.specs.Prelude.{◌≡◌};
 ghost use Rattle.angles.specs.Angle.{Listed};
 ghost use Rattle.lowpass.specs.Lowpass.{new, output, next, filtered, after_all};
 
+use angles::filter::Coefficients;
+
+// The coefficients stand beside the memory, as in the block: a `Coefficients` within would put one name more into each term of the sum.
 #[repr(C)]
 #[derive(Clone, Copy)]
 pub struct BiquadLowpassState {
@@ -31,17 +34,17 @@ pub struct Filtered {
 
 impl BiquadLowpassState {
     // The filter of a listed rate, with nothing in its memory.
-    pub fn new(rate: u32) -> BiquadLowpassState
+    pub fn new(rate: u32) -> Self
         requires { Listed rate }
         ensures { result ≡ new rate }
     {
-        let c = angles::coefficients(rate);
+        let Coefficients { a1, a2, b0, b1, b2 } = angles::coefficients(rate);
         BiquadLowpassState {
-            a1: c.a1,
-            a2: c.a2,
-            b0: c.b0,
-            b1: c.b1,
-            b2: c.b2,
+            a1,
+            a2,
+            b0,
+            b1,
+            b2,
             x1: 0.0,
             x2: 0.0,
             y1: 0.0,
@@ -59,31 +62,24 @@ impl BiquadLowpassState {
         Filtered {
             sample,
             filter: BiquadLowpassState {
-                a1: self.a1,
-                a2: self.a2,
-                b0: self.b0,
-                b1: self.b1,
-                b2: self.b2,
                 x1: current,
                 x2: self.x1,
                 y1: sample,
                 y2: self.y1,
+                ..self
             },
         }
     }
 
     // All samples, each replaced by its filtered value.
-    pub fn process_in_place(self, samples: &mut [f32]) -> BiquadLowpassState
+    pub fn process_in_place(mut self, samples: &mut [f32]) -> BiquadLowpassState
         ensures { (result ≡ after_all self samples.old) × (samples.new ≡ filtered self samples.old) }
     {
-        let mut filter = self;
-        let mut i = 0usize;
-        while i < samples.len() {
-            let done = filter.process(samples[i]);
+        for i in 0..samples.len() {
+            let done = self.process(samples[i]);
             samples[i] = done.sample;
-            filter = done.filter;
-            i += 1;
+            self = done.filter;
         }
-        filter
+        self
     }
 }

@@ -7,6 +7,7 @@ use Prim.Native.Nat.{ℕ, zero, suc, ◌+◌, ◌*◌, ◌%◌, ◌<◌, ◌≤�
 use native.Mathlib.Omega.{arith}
 use native.Mathlib.Nat.{not-suc-le-zero, le_of_suc-le-suc}
 use native.Mathlib.Numerals.{add-one}
+use Rattle.std.proofs.Math.Bool.{and-true, and_assoc}
 use lib.Dec.{T}
 use lib.Ieee.{nan, neg, lt, le, eq}
 use Rattle.words.specs.Words.{word}
@@ -14,18 +15,6 @@ use Rattle.words.proofs.Nan.{above}
 use Rattle.ieee.proofs.Grid.{le_or_lt}
 use Rattle.mixing.specs.FrameSamples.{within16, passes, all_pass}
 use Rattle.mixing.specs.SampleBits.{Plain}
-
-and_assoc : (a b c : Bool) → (a && (b && c)) ≡ ((a && b) && c)
-and_assoc true b c = refl
-and_assoc false b c = refl
-
-pub and_true : (a : Bool) → a ≡ (a && true)
-and_true true = refl
-and_true false = refl
-
-pub and_false : (a : Bool) → false ≡ (a && false)
-and_false true = refl
-and_false false = refl
 
 both : (a b : Bool) → (a && b) ≡ true → (a ≡ true) × (b ≡ true)
 both true b e = (refl, e)
@@ -43,14 +32,14 @@ word_plain w e = elim (le_or_lt (w % 0x8000_0000) 0x7f80_0000) [
 
 module _ (s : List ℕ) where
   more : (at n : ℕ) → all_pass s at (suc n) ≡ (all_pass s at n && passes (word s (at + 4 * n)))
-  more at zero = sym (and_true (passes (word s at))) ∙ ap (λ (k : ℕ). passes (word s k)) (omega arith)
+  more at zero = and-true (passes (word s at)) ∙ ap (λ (k : ℕ). passes (word s k)) (omega arith)
   more at (suc n) =
       ap (λ (b : Bool). passes (word s at) && b) (more (at + 4) n ∙ ap (λ (k : ℕ). all_pass s (at + 4) n && passes (word s k)) (omega arith))
-      ∙ and_assoc (passes (word s at)) (all_pass s (at + 4) n) (passes (word s (at + 4 * suc n)))
+      ∙ sym (and_assoc (passes (word s at)) (all_pass s (at + 4) n) (passes (word s (at + 4 * suc n))))
 
-  -- one word more, that passes or does not
-  pub pass_step : (at i : ℕ) {t : Bool} → t ≡ all_pass s at i → (u v : Bool) → passes (word s (at + 4 * i)) ≡ v → u ≡ (t && v) → u ≡ all_pass s at (i + 1)
-  pass_step at i e u v p q = q ∙ rw (e, ← p) (sym (more at i)) ∙ ap (all_pass s at) (sym (add-one i))
+  -- one word more
+  pub pass_step : (at i : ℕ) {t v : Bool} → t ≡ all_pass s at i → v ≡ passes (word s (at + 4 * i)) → (t && v) ≡ all_pass s at (i + 1)
+  pass_step at i p q = rw (p, q) (sym (more at i)) ∙ ap (all_pass s at) (sym (add-one i))
 
   -- each of them passes
   pub pass_at : (at n : ℕ) → all_pass s at n ≡ true → (k : ℕ) → k < n → passes (word s (at + 4 * k)) ≡ true

@@ -16,10 +16,8 @@ pub fn mix_add_scaled(input: &[f32], output: &mut [f32], gain: f32)
     requires { length input.now ≤ length output.old }
     ensures { output.new ≡ mixed input.now gain output.old }
 {
-    let mut k = 0usize;
-    while k < input.len() {
-        output[k] = output[k] + input[k] * gain;
-        k += 1;
+    for k in 0..input.len() {
+        output[k] += input[k] * gain;
     }
 }
 
@@ -43,23 +41,20 @@ pub fn mix_segment(input: &[f32], output: &mut [f32], offset: usize, gain: f32)
     mix_full_channel(input, &mut output[offset..end], gain);
 }
 
-// Refusal 8: whether each of `count` samples from `at` on is finite and within ±16. All are looked at, so that the loop is vectorised.
+// Refusal 8: whether each of `count` samples from `at` on is finite and within ±16. All are looked at, where `all` stops at the first that is not: so the loop is vectorised.
 pub fn samples_pass(pcm: &[u8], at: usize, count: usize) -> bool
     requires { at + 4 * count ≤ length pcm.now }
     ensures { result ≡ all_pass pcm.now at count }
 {
     let mut pass = true;
-    let mut i = 0usize;
-    while i < count {
-        if words::u32_at(pcm, at + 4 * i) % 0x8000_0000 > 0x4180_0000 {
-            pass = false;
-        }
-        i += 1;
+    for i in 0..count {
+        pass &= words::u32_at(pcm, at + 4 * i) % 0x8000_0000 <= 0x4180_0000;
     }
     pass
 }
 
 // The sample whose word stands at `at`: no NaN's pattern, so that there is no branch.
+#[tactic(auto, using(words::proofs::Nan::not_above), unfolding(words::specs::Words::float_at))]
 fn sample_at(pcm: &[u8], at: usize) -> f32
     requires { (at + 4 ≤ length pcm.now) × (word pcm.now at % 0x8000_0000 ≤ 0x7f80_0000) }
     ensures { result ≡ float_at pcm.now at }
@@ -77,9 +72,7 @@ pub fn read_row(pcm: &[u8], at: usize, row: &mut [f32])
         row[0] = sample_at(pcm, at);
         return;
     }
-    let mut i = 0usize;
-    while i < row.len() {
+    for i in 0..row.len() {
         row[i] = sample_at(pcm, at + 4 * i);
-        i += 1;
     }
 }

@@ -5,22 +5,18 @@ use mathlib.Core.List.{List, [], ◌∷◌, map}
 use Prim.Native.Nat.{ℕ, zero, suc, ◌<◌}
 use lib.Dec.{lit<}
 use lib.ListN.{get_or, replicate}
-use lib.Ieee.{Float, binary32, sub, mul, eq, ne}
-use Rattle.roots.specs.Root.{root}
+use lib.Ieee.{Float, nan, binary32, mul, eq}
 use Rattle.vectors.specs.declared.Vec3.{Vec3}
-use Rattle.panning.specs.Choice.{Corner, corner, corners, 0·0, 1·0}
-use Rattle.panning.specs.Terms.{ratio, up, ahead, across, part, row_weight, weighted, coefficient, inner_gain, extra, nothing, panned}
+use Rattle.panning.specs.Choice.{Corner, corner, corners, 0·0}
+use Rattle.panning.specs.Terms.{up, ahead, across, part, row_weight, weighted, coefficient, inner_gain, extra, nothing, panned}
+use Rattle.panning.specs.Speakers.{hall714}
 use Rattle.panning.specs.Found.{Inside, chosen}
+use Rattle.panning.specs.Shares.{layer_coefficients, SharesOf}
 use Rattle.panning.specs.declared.Ends.{Ends}
 use Rattle.panning.specs.declared.Cube.{Cube}
+use Rattle.panning.specs.declared.LayerShares.{LayerShares}
+use Rattle.panning.specs.declared.Shares.{Shares}
 use Rattle.panning.specs.declared.Panned.{Panned}
-
--- the coefficient of a side, by the test of its row's weight
-pub side_yes : (w s : Float) {r : Float} → ne w 0·0 ≡ true → r ≡ root (mul binary32 w s) → r ≡ weighted w s
-side_yes w s t e = e ∙ sym (ap (λ (y : Bool). cond y (root (mul binary32 w s)) 0·0) t)
-
-pub side_no : (w s : Float) → ne w 0·0 ≡ false → 0·0 ≡ weighted w s
-side_no w s t = sym (ap (λ (y : Bool). cond y (root (mul binary32 w s)) 0·0) t)
 
 -- the two ends of a row
 pub ends_of : {l h l' h' : ℕ} → l ≡ l' → h ≡ h' → ◌≡◌ {A = Ends} (record { low = l; high = h }) (record { low = l'; high = h' })
@@ -31,41 +27,38 @@ eight : {A : Type 0} {a b c d e f g h a' b' c' d' e' f' g' h' : A} → a ≡ a' 
     → a ∷ b ∷ c ∷ d ∷ e ∷ f ∷ g ∷ h ∷ [] ≡ a' ∷ b' ∷ c' ∷ d' ∷ e' ∷ f' ∷ g' ∷ h' ∷ []
 eight i j k l m n o p = cc
 
-weigh : (g : Float) {a a' v v' : Float} → a ≡ a' → v ≡ v' → mul binary32 (mul binary32 a v) g ≡ mul binary32 (mul binary32 a' v') g
-weigh g h i = cc
+pub layer_of_shares : {a b c a' b' c' : Float} → a ≡ a' → b ≡ b' → c ≡ c' → ◌≡◌ {A = LayerShares} (record { ahead = a; front = b; rear = c }) (record { ahead = a'; front = b'; rear = c' })
+layer_of_shares h i j = cc
 
-less : {a a' : Float} → a ≡ a' → sub binary32 1·0 a ≡ sub binary32 1·0 a'
-less h = cc
+module _ (c : Cube) (p : Vec3) (g : Float) where
+  -- one of them, from the three shares that it rests on
+  one_of : (k : Corner) {a u w : Float} → a ≡ ahead hall714 (chosen c) p k.top → u ≡ up hall714 (chosen c) p → w ≡ across hall714 (chosen c) p k.top k.front
+      → weighted (mul binary32 (mul binary32 (part k.front a) (part k.top u)) g) (part k.right w) ≡ coefficient hall714 (chosen c) p g k
+  unfolding coefficient row_weight
+  one_of k {a} {u} {w} e f h =
+      ap (λ (v : Float). weighted (mul binary32 (mul binary32 (part k.front v) (part k.top u)) g) (part k.right w)) e
+      ∙ ap (λ (v : Float). weighted (mul binary32 (mul binary32 (part k.front (ahead hall714 (chosen c) p k.top)) (part k.top v)) g) (part k.right w)) f
+      ∙ ap (λ (v : Float). weighted (row_weight hall714 (chosen c) p g k.top k.front) (part k.right v)) h
 
-side_moved : (right : Bool) {w w' s s' x : Float} → w ≡ w' → s ≡ s' → x ≡ weighted w (part right s) → x ≡ weighted w' (part right s')
-side_moved right {w' = w'} {s = s} h i e = e ∙ ap (λ (v : Float). weighted v (part right s)) h ∙ ap (λ (v : Float). weighted w' (part right v)) i
-
-pub ratio_of : (v : Float) {a b a' b' r : Float} → a ≡ a' → b ≡ b' → r ≡ ratio a b v → r ≡ ratio a' b' v
-ratio_of v h i e = cc
-
-module _ (sp : ℕ → Vec3) (c : Cube) (p : Vec3) (g : Float) {u b t : Float}
-    (up_is : u ≡ ratio (sp c.bottom.front.low).y (sp c.top.front.low).y p.y)
-    (bottom-is : b ≡ ratio (sp c.bottom.rear.low).z (sp c.bottom.front.low).z p.z)
-    (top_is : t ≡ ratio (sp c.top.rear.low).z (sp c.top.front.low).z p.z) where
-  pub coefficients_are : {bf br tf tr : Float} {bfl bfr brl brr tfl tfr trl trr : Float}
-      → bf ≡ ratio (sp c.bottom.front.low).x (sp c.bottom.front.high).x p.x
-      → br ≡ ratio (sp c.bottom.rear.low).x (sp c.bottom.rear.high).x p.x
-      → tf ≡ ratio (sp c.top.front.low).x (sp c.top.front.high).x p.x
-      → tr ≡ ratio (sp c.top.rear.low).x (sp c.top.rear.high).x p.x
-      → bfl ≡ weighted (mul binary32 (mul binary32 b (sub binary32 1·0 u)) g) (sub binary32 1·0 bf) → bfr ≡ weighted (mul binary32 (mul binary32 b (sub binary32 1·0 u)) g) bf
-      → brl ≡ weighted (mul binary32 (mul binary32 (sub binary32 1·0 b) (sub binary32 1·0 u)) g) (sub binary32 1·0 br)
-      → brr ≡ weighted (mul binary32 (mul binary32 (sub binary32 1·0 b) (sub binary32 1·0 u)) g) br
-      → tfl ≡ weighted (mul binary32 (mul binary32 t u) g) (sub binary32 1·0 tf) → tfr ≡ weighted (mul binary32 (mul binary32 t u) g) tf
-      → trl ≡ weighted (mul binary32 (mul binary32 (sub binary32 1·0 t) u) g) (sub binary32 1·0 tr) → trr ≡ weighted (mul binary32 (mul binary32 (sub binary32 1·0 t) u) g) tr
-      → bfl ∷ bfr ∷ brl ∷ brr ∷ tfl ∷ tfr ∷ trl ∷ trr ∷ [] ≡ map (coefficient sp (chosen c) p g) corners
-  unfolding coefficient row_weight up ahead across
-  coefficients_are h i j k hl hr il ir jl jr kl kr =
-      let hw = weigh g bottom-is (less up_is) in
-      let iw = weigh g (less bottom-is) (less up_is) in
-      let jw = weigh g top_is up_is in
-      let kw = weigh g (less top_is) up_is in
-      eight (side_moved false hw h hl) (side_moved true hw h hr) (side_moved false iw i il) (side_moved true iw i ir) (side_moved false jw j jl) (side_moved true jw j jr)
-      (side_moved false kw k kl) (side_moved true kw k kr)
+  pub coefficients_are : {s : Shares} (h : SharesOf c p s) {b t : List Float} → b ≡ layer_coefficients s.bottom (part false s.up) g
+      → t ≡ layer_coefficients s.top (part true s.up) g
+      → get_or b 0 nan ∷ get_or b 1 nan ∷ get_or b 2 nan ∷ get_or b 3 nan ∷ get_or t 0 nan ∷ get_or t 1 nan ∷ get_or t 2 nan ∷ get_or t 3 nan ∷ []
+      ≡ map (coefficient hall714 (chosen c) p g) corners
+  coefficients_are h d e =
+      let b = h.bottom in
+      let t = h.top in
+      eight
+      (at 0 d ∙ one_of (record { top = false; front = true; right = false }) b.ahead.0 h.up.0 b.front.0)
+      (at 1 d ∙ one_of (record { top = false; front = true; right = true }) b.ahead.0 h.up.0 b.front.0)
+      (at 2 d ∙ one_of (record { top = false; front = false; right = false }) b.ahead.0 h.up.0 b.rear.0)
+      (at 3 d ∙ one_of (record { top = false; front = false; right = true }) b.ahead.0 h.up.0 b.rear.0)
+      (at 0 e ∙ one_of (record { top = true; front = true; right = false }) t.ahead.0 h.up.0 t.front.0)
+      (at 1 e ∙ one_of (record { top = true; front = true; right = true }) t.ahead.0 h.up.0 t.front.0)
+      (at 2 e ∙ one_of (record { top = true; front = false; right = false }) t.ahead.0 h.up.0 t.rear.0)
+      (at 3 e ∙ one_of (record { top = true; front = false; right = true }) t.ahead.0 h.up.0 t.rear.0)
+    where
+      at : (k : ℕ) {l m : List Float} → l ≡ m → get_or l k nan ≡ get_or m k nan
+      at k e = ap (λ (l : List Float). get_or l k nan) e
 
 -- ---- the whole
 module _ (sp : ℕ → Vec3) (l : List ℕ) (n : Float) (p : Vec3) (g s : Float) where
@@ -99,14 +92,14 @@ pub none_less : {r : Panned} → r ≡ nothing → (i : ℕ) → get_or r.corner
 none_less e i = subst⁻¹ (λ (q : Panned). get_or q.corners i 0 < 12) e (subst⁻¹ (λ (n : ℕ). n < 12) (zeros 8 i) (lit< tt))
 
 inside_less : {c : Cube} → Inside c → (i : ℕ) → get_or (map (chosen c) corners) i 0 < 12
-inside_less h zero = h.bfl
-inside_less h (suc zero) = h.bfr
-inside_less h (suc (suc zero)) = h.brl
-inside_less h (suc (suc (suc zero))) = h.brr
-inside_less h (suc (suc (suc (suc zero)))) = h.tfl
-inside_less h (suc (suc (suc (suc (suc zero))))) = h.tfr
-inside_less h (suc (suc (suc (suc (suc (suc zero)))))) = h.trl
-inside_less h (suc (suc (suc (suc (suc (suc (suc zero))))))) = h.trr
+inside_less h zero = h.bottom.fl
+inside_less h (suc zero) = h.bottom.fr
+inside_less h (suc (suc zero)) = h.bottom.rl
+inside_less h (suc (suc (suc zero))) = h.bottom.rr
+inside_less h (suc (suc (suc (suc zero)))) = h.top.fl
+inside_less h (suc (suc (suc (suc (suc zero))))) = h.top.fr
+inside_less h (suc (suc (suc (suc (suc (suc zero)))))) = h.top.rl
+inside_less h (suc (suc (suc (suc (suc (suc (suc zero))))))) = h.top.rr
 inside_less h (suc (suc (suc (suc (suc (suc (suc (suc i)))))))) = lit< tt
 
 pub some_less : {c : Cube} {ks : List ℕ} → Inside c → ks ≡ map (chosen c) corners → (i : ℕ) → get_or ks i 0 < 12

@@ -366,4 +366,7 @@ pub inside : (p : Vec3) → Inside (cube714 p)
 inside p =
     let b = few_layer p.z p.x (le (one false) p.y) in
     let t = few_layer p.z p.x (le 0·0 p.y) in
-    record { bfl = b.0.low; bfr = b.0.high; brl = b.1.low; brr = b.1.high; tfl = t.0.low; tfr = t.0.high; trl = t.1.low; trr = t.1.high }
+    record {
+      bottom = record { fl = b.0.low; fr = b.0.high; rl = b.1.low; rr = b.1.high };
+      top = record { fl = t.0.low; fr = t.0.high; rl = t.1.low; rr = t.1.high };
+    }

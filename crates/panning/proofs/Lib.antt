@@ -1,5 +1,4 @@
 pub mod Answers
-pub mod Arms
 pub mod Corners714
 pub mod Lists
 pub mod Axis

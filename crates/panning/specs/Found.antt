@@ -24,15 +24,15 @@ abbrev pub chosen : Cube → Corner → ℕ
 chosen r c = side_of c.right (row_of c.front (layer_of c.top r))
 
 -- all of them are channels
+pub record LayerInside (l : Layer) : Type 0 where
+  pub fl : l.front.low < 12
+  pub fr : l.front.high < 12
+  pub rl : l.rear.low < 12
+  pub rr : l.rear.high < 12
+
 pub record Inside (r : Cube) : Type 0 where
-  pub bfl : r.bottom.front.low < 12
-  pub bfr : r.bottom.front.high < 12
-  pub brl : r.bottom.rear.low < 12
-  pub brr : r.bottom.rear.high < 12
-  pub tfl : r.top.front.low < 12
-  pub tfr : r.top.front.high < 12
-  pub trl : r.top.rear.low < 12
-  pub trr : r.top.rear.high < 12
+  pub bottom : LayerInside r.bottom
+  pub top : LayerInside r.top
 
 -- what `pan` answers: the eight corners are channels
 pub record PannedIs (p : Vec3) (g s : Float) (r : Panned) : Type 0 where

@@ -1,24 +1,50 @@
--- A reader may skip this file: the contract of `shares_at`. Document 01, "Our forms for each place": "f32 arithmetic with the share shown in 0..1 for the chosen speakers".
--- Assumes nothing.
-use Rattle.std.specs.Prelude.{◌≡◌, true, false, T, Float}
+-- A reader may skip this file: the contracts of the shares and of the coefficients. Document 01, "Our forms for each place": "f32 arithmetic with the share shown in 0..1 for the
+-- chosen speakers". Assumes nothing.
+use Rattle.std.specs.Prelude.{◌≡◌, Bool, true, false, List, [], ◌∷◌, ◌++◌, T, Float}
+use Rattle.std.specs.Float.{binary32}
+use Rattle.std.specs.Float.Ieee.{mul}
 use Rattle.vectors.specs.declared.Vec3.{Vec3}
+use Rattle.panning.specs.declared.Layer.{Layer}
 use Rattle.panning.specs.declared.Cube.{Cube}
+use Rattle.panning.specs.declared.LayerShares.{LayerShares}
 use Rattle.panning.specs.declared.Shares.{Shares}
 use Rattle.panning.specs.Choice.{0·0, 1·0}
 use Rattle.panning.specs.Coefficients.{between}
+use Rattle.panning.specs.Terms.{ratio, part, weighted}
 use Rattle.panning.specs.Terms as t
 use Rattle.panning.specs.Speakers.{hall714}
 use Rattle.panning.specs.Found.{chosen}
 
+-- ---- coefficients
+
+-- those of a row's two sides, of weight w, `right` being the share of the right one
+abbrev pub row_coefficients : Float → Float → List Float
+row_coefficients w right = weighted w (part false right) ∷ weighted w (part true right) ∷ []
+
+-- those of a layer's corners, whose share is u, for the gain g
+abbrev pub layer_coefficients : LayerShares → Float → Float → List Float
+layer_coefficients s u g =
+    row_coefficients (mul binary32 (mul binary32 (part true s.ahead) u) g) s.front ++ row_coefficients (mul binary32 (mul binary32 (part false s.ahead) u) g) s.rear
+
+-- ---- shares
+
+abbrev pub layer_shares : Layer → Vec3 → LayerShares
+layer_shares l p = record {
+  ahead = ratio (hall714 l.rear.low).z (hall714 l.front.low).z p.z;
+  front = ratio (hall714 l.front.low).x (hall714 l.front.high).x p.x;
+  rear = ratio (hall714 l.rear.low).x (hall714 l.rear.high).x p.x;
+}
+
 abbrev pub Part : Float → Type 0
 Part s = T (between 0·0 1·0 s)
 
--- those of the speakers c about the place p, each finite and from 0 to 1
+-- those of the speakers c about the place p in the lower or the upper layer, each finite and from 0 to 1
+pub record LayerSharesOf (c : Cube) (p : Vec3) (top : Bool) (s : LayerShares) : Type 0 where
+  pub ahead : (s.ahead ≡ t.ahead hall714 (chosen c) p top) × Part s.ahead
+  pub front : (s.front ≡ t.across hall714 (chosen c) p top true) × Part s.front
+  pub rear : (s.rear ≡ t.across hall714 (chosen c) p top false) × Part s.rear
+
 pub record SharesOf (c : Cube) (p : Vec3) (s : Shares) : Type 0 where
   pub up : (s.up ≡ t.up hall714 (chosen c) p) × Part s.up
-  pub bottom : (s.bottom ≡ t.ahead hall714 (chosen c) p false) × Part s.bottom
-  pub top : (s.top ≡ t.ahead hall714 (chosen c) p true) × Part s.top
-  pub bf : (s.bf ≡ t.across hall714 (chosen c) p false true) × Part s.bf
-  pub br : (s.br ≡ t.across hall714 (chosen c) p false false) × Part s.br
-  pub tf : (s.tf ≡ t.across hall714 (chosen c) p true true) × Part s.tf
-  pub tr : (s.tr ≡ t.across hall714 (chosen c) p true false) × Part s.tr
+  pub bottom : LayerSharesOf c p false s.bottom
+  pub top : LayerSharesOf c p true s.top

@@ -6,124 +6,137 @@
 
 ghost use Rattle.std.specs.Prelude.{◌≡◌, true, false, cond, map, ◌<◌};
 ghost use Rattle.panning.specs.Choice.{corners};
-ghost use Rattle.panning.specs.Terms.{ratio, weighted, inner_gain, extra, coefficient, nothing};
+ghost use Rattle.panning.specs.Terms.{ratio, weighted, inner_gain, extra, coefficient};
 ghost use Rattle.panning.specs.Speakers.{hall714, 12·0};
-ghost use Rattle.panning.specs.Corners714.{pair_ends, narrow_ends, wide_ends, front_ends, floor_ends, ceiling_ends, cube714};
-ghost use Rattle.panning.specs.Found.{chosen, Inside, PannedIs};
-ghost use Rattle.panning.specs.Shares.{SharesOf};
+ghost use Rattle.panning.specs.Corners714.{pair_ends, front_ends, floor_ends, ceiling_ends, cube714};
+ghost use Rattle.panning.specs.Found.{chosen, LayerInside, Inside, PannedIs};
+ghost use Rattle.panning.specs.Shares.{row_coefficients, layer_coefficients, layer_shares, SharesOf};
 
 use roots::sqrt;
 use vectors::Vec3;
 
-// `RENDER_714_CHANNEL_POSITIONS`, by coordinate. A `match` compiles to a table, where an array would be built on the stack at every call; the arm 15, which is no channel,
-// makes it a table of sixteen, so that no index is tested.
-fn x_of(channel: usize) -> f32
-    requires { channel < 12 }
-    ensures { result ≡ (hall714 channel).x }
-{
-    match channel % 16 {
-        0 => -0.70710677,
-        1 => 0.70710677,
-        2 => 0.0,
-        3 => 0.0,
-        4 => -0.70710677,
-        5 => 0.70710677,
-        6 => -1.0,
-        7 => 1.0,
-        8 => -1.0,
-        9 => 1.0,
-        10 => -0.70710677,
-        15 => 0.0,
-        _ => 0.70710677,
-    }
-}
+const DIAGONAL: f32 = 0.70710677;
 
-fn y_of(channel: usize) -> f32
-    requires { channel < 12 }
-    ensures { result ≡ (hall714 channel).y }
-{
-    if channel < 8 { 0.0 } else { 1.0 }
-}
+const SURROUND: f32 = 0.48368952;
 
-fn z_of(channel: usize) -> f32
-    requires { channel < 12 }
-    ensures { result ≡ (hall714 channel).z }
-{
-    match channel % 16 {
-        0 => 1.0,
-        1 => 1.0,
-        2 => 1.0,
-        3 => 1.0,
-        4 => -1.0,
-        5 => -1.0,
-        6 => -0.48368952,
-        7 => -0.48368952,
-        8 => 0.48368952,
-        9 => 0.48368952,
-        10 => -1.0,
-        15 => 0.0,
-        _ => -1.0,
-    }
-}
+// `RENDER_714_CHANNEL_POSITIONS`, in channel order.
+pub static SPEAKERS: [Vec3; 12] = [
+    Vec3 {
+        x: -DIAGONAL,
+        y: 0.0,
+        z: 1.0,
+    },
+    Vec3 {
+        x: DIAGONAL,
+        y: 0.0,
+        z: 1.0,
+    },
+    Vec3 {
+        x: 0.0,
+        y: 0.0,
+        z: 1.0,
+    },
+    Vec3 {
+        x: 0.0,
+        y: 0.0,
+        z: 1.0,
+    },
+    Vec3 {
+        x: -DIAGONAL,
+        y: 0.0,
+        z: -1.0,
+    },
+    Vec3 {
+        x: DIAGONAL,
+        y: 0.0,
+        z: -1.0,
+    },
+    Vec3 {
+        x: -1.0,
+        y: 0.0,
+        z: -SURROUND,
+    },
+    Vec3 {
+        x: 1.0,
+        y: 0.0,
+        z: -SURROUND,
+    },
+    Vec3 {
+        x: -1.0,
+        y: 1.0,
+        z: SURROUND,
+    },
+    Vec3 {
+        x: 1.0,
+        y: 1.0,
+        z: SURROUND,
+    },
+    Vec3 {
+        x: -DIAGONAL,
+        y: 1.0,
+        z: -1.0,
+    },
+    Vec3 {
+        x: DIAGONAL,
+        y: 1.0,
+        z: -1.0,
+    },
+];
 
 // The two sides of a row.
 #[derive(Clone, Copy)]
-struct Ends {
-    low: usize,
-    high: usize,
+pub struct Ends {
+    pub low: usize,
+    pub high: usize,
 }
 
 #[derive(Clone, Copy)]
-struct Layer {
-    front: Ends,
-    rear: Ends,
+pub struct Layer {
+    pub front: Ends,
+    pub rear: Ends,
 }
 
 // The eight corners.
 #[derive(Clone, Copy)]
-struct Cube {
-    bottom: Layer,
-    top: Layer,
+pub struct Cube {
+    pub bottom: Layer,
+    pub top: Layer,
 }
 
-fn choose(test: bool, yes: usize, no: usize) -> usize
-    ensures { result ≡ cond test yes no }
-{
-    if test { yes } else { no }
-}
-
-fn choose_row(test: bool, yes: Ends, no: Ends) -> Ends
-    ensures { result ≡ cond test yes no }
-{
-    if test { yes } else { no }
-}
-
-fn choose_layer(test: bool, yes: Layer, no: Layer) -> Layer
-    ensures { result ≡ cond test yes no }
-{
-    if test { yes } else { no }
-}
-
-// The sides about x of a row of two speakers, at a and b.
-fn pair_ends(left: usize, right: usize, a: f32, b: f32, x: f32) -> Ends
-    ensures { result ≡ pair_ends left right a b x }
-{
-    Ends {
-        low: choose(b <= x, right, left),
-        high: choose(a < x, right, left),
+impl Cube {
+    // The corners in the order in which they are mixed.
+    pub fn channels(self) -> [usize; 8]
+        ensures { result ≡ map (chosen self) corners }
+    {
+        [
+            self.bottom.front.low,
+            self.bottom.front.high,
+            self.bottom.rear.low,
+            self.bottom.rear.high,
+            self.top.front.low,
+            self.top.front.high,
+            self.top.rear.low,
+            self.top.rear.high,
+        ]
     }
 }
 
-fn narrow_ends(left: usize, right: usize, x: f32) -> Ends
-    ensures { result ≡ narrow_ends left right x }
+// A function and no `if`: a proof loses what an `if` chose where two of them join (tried: where two stand in one literal the proof does not close).
+fn choose<T: Copy>(test: bool, yes: T, no: T) -> T
+    ensures { result ≡ cond test yes no }
 {
-    pair_ends(left, right, -0.70710677, 0.70710677, x)
+    if test { yes } else { no }
 }
 
-fn wide_ends(left: usize, right: usize, x: f32) -> Ends
-    ensures { result ≡ wide_ends left right x }
+// The sides about x of a row of two speakers.
+fn pair_ends(left: usize, right: usize, x: f32) -> Ends
+    requires { (left < 12) × (right < 12) }
+    ensures { result ≡ pair_ends left right (hall714 left).x (hall714 right).x x }
 {
-    pair_ends(left, right, -1.0, 1.0, x)
+    Ends {
+        low: choose(SPEAKERS[right].x <= x, right, left),
+        high: choose(SPEAKERS[left].x < x, right, left),
+    }
 }
 
 // Those of the floor's front row, which has a centre.
@@ -131,8 +144,8 @@ fn front_ends(x: f32) -> Ends
     ensures { result ≡ front_ends x }
 {
     Ends {
-        low: choose(0.70710677 <= x, 1, choose(0.0 <= x, 2, 0)),
-        high: choose(0.0 < x, 1, choose(-0.70710677 < x, 2, 0)),
+        low: choose(DIAGONAL <= x, 1, choose(0.0 <= x, 2, 0)),
+        high: choose(0.0 < x, 1, choose(-DIAGONAL < x, 2, 0)),
     }
 }
 
@@ -140,22 +153,22 @@ fn floor_ends(z: f32, x: f32) -> Layer
     ensures { result ≡ floor_ends z x }
 {
     let front = front_ends(x);
-    let middle = wide_ends(6, 7, x);
-    let rear = narrow_ends(4, 5, x);
+    let middle = pair_ends(6, 7, x);
+    let rear = pair_ends(4, 5, x);
     Layer {
-        front: choose_row(-1.0 <= z, choose_row(-0.48368952 <= z, front, middle), rear),
-        rear: choose_row(1.0 <= z, front, choose_row(-0.48368952 <= z, middle, rear)),
+        front: choose(-1.0 <= z, choose(-SURROUND <= z, front, middle), rear),
+        rear: choose(1.0 <= z, front, choose(-SURROUND <= z, middle, rear)),
     }
 }
 
 fn ceiling_ends(z: f32, x: f32) -> Layer
     ensures { result ≡ ceiling_ends z x }
 {
-    let front = wide_ends(8, 9, x);
-    let rear = narrow_ends(10, 11, x);
+    let front = pair_ends(8, 9, x);
+    let rear = pair_ends(10, 11, x);
     Layer {
-        front: choose_row(-1.0 <= z, front, rear),
-        rear: choose_row(0.48368952 <= z, front, rear),
+        front: choose(-1.0 <= z, front, rear),
+        rear: choose(SURROUND <= z, front, rear),
     }
 }
 
@@ -166,12 +179,13 @@ fn cube_714(place: Vec3) -> Cube
     let ceiling = ceiling_ends(place.z, place.x);
     let floor = floor_ends(place.z, place.x);
     Cube {
-        bottom: choose_layer(1.0 <= place.y, ceiling, floor),
-        top: choose_layer(0.0 <= place.y, ceiling, floor),
+        bottom: choose(1.0 <= place.y, ceiling, floor),
+        top: choose(0.0 <= place.y, ceiling, floor),
     }
 }
 
 // The share of b where v lies between a and b.
+#[tactic(auto, unfolding(crate::specs::Terms::ratio))]
 pub fn ratio(a: f32, b: f32, v: f32) -> f32
     ensures { result ≡ ratio a b v }
 {
@@ -179,6 +193,7 @@ pub fn ratio(a: f32, b: f32, v: f32) -> f32
 }
 
 // The gain that the size leaves to the corners.
+#[tactic(auto, unfolding(crate::specs::Terms::inner_gain))]
 fn inner_gain(gain: f32, size: f32) -> f32
     ensures { result ≡ inner_gain gain size }
 {
@@ -190,6 +205,7 @@ fn inner_gain(gain: f32, size: f32) -> f32
 }
 
 // What the size adds to every speaker but the bass.
+#[tactic(auto, unfolding(crate::specs::Terms::extra))]
 fn extra(gain: f32, size: f32) -> f32
     ensures { result ≡ extra 12·0 gain size }
 {
@@ -200,14 +216,6 @@ fn extra(gain: f32, size: f32) -> f32
     }
 }
 
-// The share of a row's right side.
-fn blend(row: Ends, x: f32) -> f32
-    requires { (row.low < 12) × (row.high < 12) }
-    ensures { result ≡ ratio (hall714 row.low).x (hall714 row.high).x x }
-{
-    ratio(x_of(row.low), x_of(row.high), x)
-}
-
 // The coefficient of a corner whose share of its row, of weight w, is `part`.
 fn side(w: f32, part: f32) -> f32
     ensures { result ≡ weighted w part }
@@ -215,32 +223,75 @@ fn side(w: f32, part: f32) -> f32
     if w != 0.0 { sqrt(w * part) } else { 0.0 }
 }
 
-// The shares of the chosen speakers: of the upper layer, of each layer's front row, of each row's right side.
+// Those of a row's two sides, `right` being the share of its right side.
+fn sides(w: f32, right: f32) -> [f32; 2]
+    ensures { result ≡ row_coefficients w right }
+{
+    [side(w, 1.0 - right), side(w, right)]
+}
+
+// The shares in a layer: of its front row, and of the right side of each of its rows.
+#[derive(Clone, Copy)]
+struct LayerShares {
+    ahead: f32,
+    front: f32,
+    rear: f32,
+}
+
+impl LayerShares {
+    // The coefficients of the layer's corners, `part` being its share, for the gain g that the corners share.
+    fn coefficients(self, part: f32, g: f32) -> [f32; 4]
+        ensures { result ≡ layer_coefficients self part g }
+    {
+        let [front_left, front_right] = sides(self.ahead * part * g, self.front);
+        let [rear_left, rear_right] = sides((1.0 - self.ahead) * part * g, self.rear);
+        [front_left, front_right, rear_left, rear_right]
+    }
+}
+
+// The shares of the chosen speakers: of the upper layer, and those in each layer.
 #[derive(Clone, Copy)]
 struct Shares {
     up: f32,
-    bottom: f32,
-    top: f32,
-    bf: f32,
-    br: f32,
-    tf: f32,
-    tr: f32,
+    bottom: LayerShares,
+    top: LayerShares,
+}
+
+// The share of a row's right side.
+fn across(row: Ends, x: f32) -> f32
+    requires { (row.low < 12) × (row.high < 12) }
+    ensures { result ≡ ratio (hall714 row.low).x (hall714 row.high).x x }
+{
+    ratio(SPEAKERS[row.low].x, SPEAKERS[row.high].x, x)
+}
+
+fn layer_shares(layer: Layer, place: Vec3) -> LayerShares
+    requires { LayerInside layer }
+    ensures { result ≡ layer_shares layer place }
+{
+    LayerShares {
+        ahead: ratio(
+            SPEAKERS[layer.rear.low].z,
+            SPEAKERS[layer.front.low].z,
+            place.z,
+        ),
+        front: across(layer.front, place.x),
+        rear: across(layer.rear, place.x),
+    }
 }
 
 fn shares_at(c: Cube, place: Vec3) -> Shares
     requires { Inside c × (c ≡ cube714 place) }
     ensures { SharesOf c place result }
 {
-    let bottom = c.bottom;
-    let top = c.top;
     Shares {
-        up: ratio(y_of(bottom.front.low), y_of(top.front.low), place.y),
-        bottom: ratio(z_of(bottom.rear.low), z_of(bottom.front.low), place.z),
-        top: ratio(z_of(top.rear.low), z_of(top.front.low), place.z),
-        bf: blend(bottom.front, place.x),
-        br: blend(bottom.rear, place.x),
-        tf: blend(top.front, place.x),
-        tr: blend(top.rear, place.x),
+        up: ratio(
+            SPEAKERS[c.bottom.front.low].y,
+            SPEAKERS[c.top.front.low].y,
+            place.y,
+        ),
+        bottom: layer_shares(c.bottom, place),
+        top: layer_shares(c.top, place),
     }
 }
 
@@ -250,40 +301,12 @@ fn coefficients(c: Cube, place: Vec3, g: f32) -> [f32; 8]
     ensures { result ≡ map (coefficient hall714 (chosen c) place g) corners }
 {
     let s = shares_at(c, place);
-    let down = 1.0 - s.up;
-    let bf = s.bottom * down * g;
-    let br = (1.0 - s.bottom) * down * g;
-    let tf = s.top * s.up * g;
-    let tr = (1.0 - s.top) * s.up * g;
-    [
-        side(bf, 1.0 - s.bf),
-        side(bf, s.bf),
-        side(br, 1.0 - s.br),
-        side(br, s.br),
-        side(tf, 1.0 - s.tf),
-        side(tf, s.tf),
-        side(tr, 1.0 - s.tr),
-        side(tr, s.tr),
-    ]
+    let [bfl, bfr, brl, brr] = s.bottom.coefficients(1.0 - s.up, g);
+    let [tfl, tfr, trl, trr] = s.top.coefficients(s.up, g);
+    [bfl, bfr, brl, brr, tfl, tfr, trl, trr]
 }
 
-// The corners in the order in which they are mixed.
-fn channels(c: Cube) -> [usize; 8]
-    ensures { result ≡ map (chosen c) corners }
-{
-    [
-        c.bottom.front.low,
-        c.bottom.front.high,
-        c.bottom.rear.low,
-        c.bottom.rear.high,
-        c.top.front.low,
-        c.top.front.high,
-        c.top.rear.low,
-        c.top.rear.high,
-    ]
-}
-
-// What is mixed of an object: `extra` on every speaker but the bass, then the corners in their order.
+// What is mixed of an object: `extra` on every speaker but the bass, then the corners in their order. Two arrays, since C code reads it as such (`probe_pan`).
 #[repr(C)]
 #[derive(Clone, Copy)]
 pub struct Panned {
@@ -292,29 +315,23 @@ pub struct Panned {
     pub extra: f32,
 }
 
-fn silent() -> Panned
-    ensures { result ≡ nothing }
-{
-    Panned {
-        corners: [0; 8],
-        coefficients: [0.0; 8],
-        extra: 0.0,
-    }
-}
+const SILENT: Panned = Panned {
+    corners: [0; 8],
+    coefficients: [0.0; 8],
+    extra: 0.0,
+};
 
 // What `render_object_timeslot_to_714` mixes of an object.
 pub fn pan(place: Vec3, gain: f32, size: f32) -> Panned
     ensures { PannedIs place gain size result }
 {
     if gain == 0.0 {
-        return silent();
+        return SILENT;
     }
-    let c = cube_714(place);
-    let coefficients = coefficients(c, place, inner_gain(gain, size));
-    let corners = channels(c);
+    let cube = cube_714(place);
     Panned {
-        corners,
-        coefficients,
+        corners: cube.channels(),
+        coefficients: coefficients(cube, place, inner_gain(gain, size)),
         extra: extra(gain, size),
     }
 }

@@ -1,10 +1,15 @@
 -- The test of a timed state is its ranges. Assumes nothing.
-use Prim.Native.Nat.{ℕ, zero, suc, ◌+◌, ◌-◌, ◌*◌, ◌<◌}
+use Prim.Native.Nat.{ℕ, zero, suc, ◌+◌, ◌-◌, ◌*◌, ◌<◌, ◌≤◌}
 use native.Mathlib.Omega.{arith}
 use mathlib.Core.Path.{◌≡◌, refl, sym, subst}
 use mathlib.Core.Bool.{Bool, true, false, ◌&&◌}
 use lib.Dec.{T, leb}
-use lib.ListN.{get_or}
+use lib.ListN.{length, get_or}
+use mathlib.Core.List.{List}
+use mathlib.Core.Logic.{◌↔◌}
+use Rattle.std.specs.Prelude.{EachIndex, IsTrue}
+use Rattle.fields.specs.RecordBytes.{all}
+use Rattle.timed.specs.declared.state.BlockState.{BlockState}
 use borrow.Author.Tests.{leb-true, le-leb}
 use Rattle.fields.proofs.All.{and_left, and_right, all_at, all_true}
 use Rattle.timed.specs.Slot.{InRange, middle, no_block}
@@ -27,6 +32,24 @@ four true true true d h = (refl, refl, refl, h)
 four true true false d h = never h
 four true false c d h = never h
 four false b c d h = never h
+
+-- ---- a schedule
+
+same : (a b : Bool) → (a ≡ true → b ≡ true) → (b ≡ true → a ≡ true) → a ≡ b
+same true b f g = sym (f refl)
+same false true f g = g refl
+same false false f g = refl
+
+pub schedule_is : (bs : List BlockState) (r : Bool) → length bs ≡ 8
+    → (IsTrue r ↔ EachIndex bs (λ k. ((get_or bs k no_block).offset ≤ 2097152) × ((get_or bs k no_block).ramp ≤ 2097152))) → r ≡ schedule_fits bs
+unfolding schedule_fits
+schedule_is bs r n h =
+    let p : ℕ → Bool = λ k. block_fits (get_or bs k no_block) in
+    same r (all p 8)
+    (λ e. all_true p 8 (λ k l. let b = h.0 e k (omega arith) in simp (le-leb _ _ b.0, le-leb _ _ b.1)))
+    (λ e. h.1 (λ k l.
+    let b = all_at p 8 k (omega arith) e in
+    (leb-true _ _ (and_left _ (leb (get_or bs k no_block).ramp 2097152) b), leb-true _ _ (and_right (leb (get_or bs k no_block).offset 2097152) _ b))))
 
 -- ---- an element
 module _ (p : ℕ) (e : ElementRendererState) where

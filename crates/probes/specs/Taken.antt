@@ -8,7 +8,8 @@ use Rattle.clock.specs.Start.{frame_start}
 use Rattle.limiter.specs.Meters.{block_meters}
 use Rattle.limiter.specs.ChannelPlaces.{channels_at}
 use Rattle.limiter.specs.declared.Limited.{Limited}
-use Rattle.fields.specs.declared.block.Block.{Block}
+use Rattle.fields.specs.Block.{block_of}
+use Rattle.probes.specs.declared.probe_records.BlockTimes.{BlockTimes}
 use Rattle.fields.specs.declared.object.Info.{Info}
 use Rattle.fields.specs.declared.update.Header.{Header}
 
@@ -43,8 +44,12 @@ zero_coefficients = record { a1 = 0·0; a2 = 0·0; b0 = 0·0; b1 = 0·0; b2 = 0�
 abbrev pub zero_header : Header
 zero_header = record { offset = frame_start; objects = 0; bed_or_isf = 0; beds = 0; elements = 0 }
 
-abbrev pub zero_block : Block
-zero_block = record { offset = pos 0; ramp = pos 0 }
+-- the numbers of a block, as a probe answers them
+abbrev pub times_of : List ℕ → ℕ → BlockTimes
+times_of m r = record { offset = (block_of m r).offset; ramp = (block_of m r).ramp }
+
+abbrev pub zero_times : BlockTimes
+zero_times = record { offset = pos 0; ramp = pos 0 }
 
 abbrev pub zero_info : Info
 zero_info = record { head = 0; gain = 0; size = 0; distance = 0; screen = 0; x = 0; y = 0; z = 0; send = 0 }

@@ -1,5 +1,6 @@
 // Leaf functions under C names, for the comparisons of rust/compare: a file `probe_NAME.rt` for
-// each crate NAME (a module cannot have a crate's name).
+// each crate NAME (a module cannot have a crate's name). C calls each by its signature here: what is not there is answered by
+// zeros (written out, since the leaves' types need no default), places and kinds are numbers, and what travels together stands in a row.
 #![tactic(auto)]
 
 mod probe_angles;

@@ -12,15 +12,16 @@ use angles::filter::Coefficients;
 pub extern "C" fn probe_coefficients(rate: u32) -> Coefficients
     ensures { cond (listed rate) (LowpassAt rate result) (result ≡ zero_coefficients) }
 {
-    match rate {
-        8000..=192000 => angles::coefficients(rate),
-        _ => Coefficients {
+    if angles::listed(rate) {
+        angles::coefficients(rate)
+    } else {
+        Coefficients {
             a1: 0.0,
             a2: 0.0,
             b0: 0.0,
             b1: 0.0,
             b2: 0.0,
-        },
+        }
     }
 }
 
@@ -29,8 +30,9 @@ pub extern "C" fn probe_coefficients(rate: u32) -> Coefficients
 pub extern "C" fn probe_angle(rate: u32) -> Turn
     ensures { cond (listed rate) (Meant 0 (w0 rate) result.cos × Meant 1 (w0 rate) result.sin) (result ≡ zero_turn) }
 {
-    match rate {
-        8000..=192000 => angles::angle(rate),
-        _ => Turn { cos: 0.0, sin: 0.0 },
+    if angles::listed(rate) {
+        angles::angle(rate)
+    } else {
+        Turn { cos: 0.0, sin: 0.0 }
     }
 }

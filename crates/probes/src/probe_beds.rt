@@ -4,15 +4,14 @@ ghost use Rattle.beds.specs.Positions.{bed_position};
 ghost use Rattle.beds.specs.Matching.{matches, matching, counted};
 ghost use Rattle.probes.specs.Beds.{route_number, found_number};
 
-use beds::{Found, Route};
+use beds::Route;
 use vectors::Vec3;
 
 #[unsafe(no_mangle)]
 pub extern "C" fn probe_route_of(code: u8) -> u64
     ensures { result ≡ route_number (route_of code) }
 {
-    let route = beds::route_of(code);
-    match route {
+    match beds::route_of(code) {
         Route::Direct(k) => k as u64,
         Route::Bass => 100,
         Route::Folded => 101,
@@ -45,10 +44,9 @@ pub extern "C" fn probe_bed_channel_matches_input(requested: u8, provided: u8) -
 pub extern "C" fn probe_find_matching_input_bed_channel(requested: u8, inputs: &[u8]) -> u64
     ensures { result ≡ found_number (matching requested inputs.now) }
 {
-    let found = beds::find_matching_input_bed_channel(requested, inputs);
-    match found {
-        Found::At(i) => i as u64,
-        Found::Nothing => u64::MAX,
+    match beds::find_matching_input_bed_channel(requested, inputs) {
+        Some(i) => i as u64,
+        None => u64::MAX,
     }
 }
 
@@ -58,7 +56,8 @@ pub extern "C" fn probe_count_matching(requested: u8, codes: &[u8]) -> u32
     ensures { result ≡ cond (leb (length codes.now) 18) (counted requested codes.now) 0 }
 {
     if codes.len() <= 18 {
-        return beds::count_matching(requested, codes);
+        beds::count_matching(requested, codes)
+    } else {
+        0
     }
-    0
 }

@@ -18,10 +18,8 @@ pub extern "C" fn probe_scale_slice_into(samples: &[f32], gain: f32, out: &mut [
     ensures { out.new ≡ cond (eqb (length out.old) (4 * length samples.now))
         (with_floats out.old 0 (scaled gain samples.now)) out.old }
 {
-    if samples.len() <= out.len() / 4 {
-        if out.len() == 4 * samples.len() {
-            limiter::places::scale_slice_into(samples, gain, out);
-        }
+    if samples.len() <= out.len() / 4 && out.len() == 4 * samples.len() {
+        limiter::places::scale_slice_into(samples, gain, out);
     }
 }
 
@@ -40,22 +38,8 @@ pub extern "C" fn probe_apply_output_limiter_block(
         (Given gain samples rate places.now step to out.old (with_gain result gain samples places.now) out.new)
         ((result ≡ gain) × (out.new ≡ out.old)) }
 {
-    if places.len() != 3072 {
-        return gain;
-    }
-    if samples > 64 {
-        return gain;
-    }
-    if rate > 16777216 {
-        return gain;
-    }
-    if step > out.len() / 12 {
-        return gain;
-    }
-    if to > step {
-        return gain;
-    }
-    if 4 * samples > step - to {
+    let known = places.len() == 3072 && samples <= 64 && rate <= 16777216;
+    if !(known && step <= out.len() / 12 && to <= step && 4 * samples <= step - to) {
         return gain;
     }
     let done = Limiter { gain }.apply_output_limiter_block(places, samples, rate, out, step, to);

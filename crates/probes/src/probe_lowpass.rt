@@ -10,9 +10,10 @@ use lowpass::BiquadLowpassState;
 pub extern "C" fn probe_lowpass_new(rate: u32) -> BiquadLowpassState
     ensures { result ≡ cond (listed rate) (new rate) (unfed zero_coefficients) }
 {
-    match rate {
-        8000..=192000 => BiquadLowpassState::new(rate),
-        _ => BiquadLowpassState {
+    if angles::listed(rate) {
+        BiquadLowpassState::new(rate)
+    } else {
+        BiquadLowpassState {
             a1: 0.0,
             a2: 0.0,
             b0: 0.0,
@@ -22,7 +23,7 @@ pub extern "C" fn probe_lowpass_new(rate: u32) -> BiquadLowpassState
             x2: 0.0,
             y1: 0.0,
             y2: 0.0,
-        },
+        }
     }
 }
 

@@ -29,10 +29,8 @@ pub extern "C" fn probe_mix_segment(input: &[f32], output: &mut [f32], offset: u
     ensures { output.new ≡ cond (leb (offset + length input.now) (length output.old))
         (on_part (mixed_full input.now gain) offset (length input.now) output.old) output.old }
 {
-    if offset <= output.len() {
-        if input.len() <= output.len() - offset {
-            mixing::mix_segment(input, output, offset, gain);
-        }
+    if offset <= output.len() && input.len() <= output.len() - offset {
+        mixing::mix_segment(input, output, offset, gain);
     }
 }
 
@@ -40,10 +38,7 @@ pub extern "C" fn probe_mix_segment(input: &[f32], output: &mut [f32], offset: u
 pub extern "C" fn probe_samples_pass(pcm: &[u8], count: usize) -> bool
     ensures { result ≡ (leb (4 * count) (length pcm.now) && all_pass pcm.now 0 count) }
 {
-    if count <= pcm.len() / 4 {
-        return mixing::samples_pass(pcm, 0, count);
-    }
-    false
+    count <= pcm.len() / 4 && mixing::samples_pass(pcm, 0, count)
 }
 
 // Samples that refusal 8 stops are not read either.
@@ -53,9 +48,7 @@ pub extern "C" fn probe_read_row(pcm: &[u8], row: &mut [f32])
         (samples pcm.now 0 (length row.old)) row.old }
 {
     let count = row.len();
-    if count <= pcm.len() / 4 {
-        if mixing::samples_pass(pcm, 0, count) {
-            mixing::read_row(pcm, 0, row);
-        }
+    if count <= pcm.len() / 4 && mixing::samples_pass(pcm, 0, count) {
+        mixing::read_row(pcm, 0, row);
     }
 }

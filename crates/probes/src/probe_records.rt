@@ -1,31 +1,37 @@
 // A record, update or place that is not there is answered by zeros.
 ghost use Rattle.std.specs.Prelude.{◌≡◌, cond, ◌&&◌, ◌+◌, ◌*◌, leb, ltb};
 ghost use Rattle.fields.specs.Update.{offset, header_of};
-ghost use Rattle.fields.specs.Block.{blocks, block_of};
+ghost use Rattle.fields.specs.Block.{blocks};
 ghost use Rattle.fields.specs.ObjectInfos.{stored_info};
 ghost use Rattle.records.specs.Laid.{update_at, count, element_end, object_at};
 ghost use Rattle.records.specs.ValuesInRange.{refusal};
 ghost use Rattle.records.specs.UpdateWalk.{next_offset, FirstAt};
-ghost use Rattle.probes.specs.Taken.{has_record, zero_header, zero_block, zero_info};
+ghost use Rattle.probes.specs.Taken.{has_record, zero_header, times_of, zero_times, zero_info};
 
 use clock::{FrameOffset, START};
 use fields::block::Block;
 use fields::object::Info;
+use fields::record::Record;
 use fields::update::Header;
+use records::layout::{element_after, layout_of, object_place};
+use records::ranges::{Fault, check};
 
 #[unsafe(no_mangle)]
 pub extern "C" fn probe_refusal(meta: &[u8]) -> u32
     ensures { result ≡ refusal meta.now }
 {
-    records::ranges::refusal(meta)
+    match check(meta) {
+        Ok(()) => 0,
+        Err(Fault::NotLaidOut) => 5,
+        Err(Fault::OutOfRange) => 6,
+    }
 }
 
 #[unsafe(no_mangle)]
 pub extern "C" fn probe_updates(meta: &[u8]) -> usize
     ensures { result ≡ count meta.now }
 {
-    let l = records::layout::layout_of(meta);
-    l.count
+    layout_of(meta).count
 }
 
 // The record of update i.
@@ -33,12 +39,8 @@ pub extern "C" fn probe_updates(meta: &[u8]) -> usize
 pub extern "C" fn probe_update_place(meta: &[u8], i: usize) -> usize
     ensures { result ≡ cond (ltb i (count meta.now)) (update_at meta.now i) 0 }
 {
-    let l = records::layout::layout_of(meta);
-    let first = l.first;
-    if i >= l.count {
-        return 0;
-    }
-    first[i]
+    let l = layout_of(meta);
+    if i < l.count { l.sent[i].place } else { 0 }
 }
 
 #[unsafe(no_mangle)]
@@ -54,17 +56,18 @@ pub extern "C" fn probe_header(meta: &[u8], u: usize) -> Header
             elements: 0,
         };
     }
-    fields::update::header_at(meta, u)
+    Record { meta, place: u }.header()
 }
 
 #[unsafe(no_mangle)]
 pub extern "C" fn probe_blocks(meta: &[u8], e: usize) -> usize
     ensures { result ≡ cond (has_record meta.now e) (blocks meta.now e) 0 }
 {
-    if e >= meta.len() / 40 {
-        return 0;
+    if e < meta.len() / 40 {
+        Record { meta, place: e }.blocks()
+    } else {
+        0
     }
-    fields::block::blocks_at(meta, e)
 }
 
 // The record after the element at e.
@@ -72,16 +75,11 @@ pub extern "C" fn probe_blocks(meta: &[u8], e: usize) -> usize
 pub extern "C" fn probe_element_after(meta: &[u8], objects: usize, e: usize) -> usize
     ensures { result ≡ cond (has_record meta.now e && leb objects 32 && leb (blocks meta.now e) 8) (element_end meta.now objects e) 0 }
 {
-    if e >= meta.len() / 40 {
-        return 0;
+    if e < meta.len() / 40 && objects <= 32 && (Record { meta, place: e }).blocks() <= 8 {
+        element_after(Record { meta, place: e }, objects)
+    } else {
+        0
     }
-    if objects > 32 {
-        return 0;
-    }
-    if fields::block::blocks_at(meta, e) > 8 {
-        return 0;
-    }
-    records::layout::element_after(meta, objects, e)
 }
 
 #[unsafe(no_mangle)]
@@ -89,29 +87,30 @@ pub extern "C" fn probe_object_place(meta: &[u8], e: usize, o: usize, b: usize) 
     ensures { result ≡ cond (has_record meta.now e && ltb o 32 && ltb b 8 && leb (blocks meta.now e) 8)
         (object_at meta.now e (o * blocks meta.now e + b)) 0 }
 {
-    if e >= meta.len() / 40 {
-        return 0;
+    if e < meta.len() / 40 && o < 32 && b < 8 && (Record { meta, place: e }).blocks() <= 8 {
+        object_place(Record { meta, place: e }, o, b)
+    } else {
+        0
     }
-    if o >= 32 {
-        return 0;
-    }
-    if b >= 8 {
-        return 0;
-    }
-    if fields::block::blocks_at(meta, e) > 8 {
-        return 0;
-    }
-    records::layout::object_place(meta, e, o, b)
+}
+
+// A block's numbers, as C sees them: no generic struct stands in the signature of an exported function.
+#[repr(C)]
+#[derive(Clone, Copy)]
+pub struct BlockTimes {
+    pub offset: i64,
+    pub ramp: i64,
 }
 
 #[unsafe(no_mangle)]
-pub extern "C" fn probe_block(meta: &[u8], r: usize) -> Block
-    ensures { result ≡ cond (has_record meta.now r) (block_of meta.now r) zero_block }
+pub extern "C" fn probe_block(meta: &[u8], r: usize) -> BlockTimes
+    ensures { result ≡ cond (has_record meta.now r) (times_of meta.now r) zero_times }
 {
     if r >= meta.len() / 40 {
-        return Block { offset: 0, ramp: 0 };
+        return BlockTimes { offset: 0, ramp: 0 };
     }
-    fields::block::block_at(meta, r)
+    let Block { offset, ramp } = Record { meta, place: r }.block();
+    BlockTimes { offset, ramp }
 }
 
 #[unsafe(no_mangle)]
@@ -131,14 +130,14 @@ pub extern "C" fn probe_info(meta: &[u8], r: usize) -> Info
             send: 0,
         };
     }
-    fields::object::info_at(meta, r)
+    Record { meta, place: r }.info()
 }
 
 #[unsafe(no_mangle)]
 pub extern "C" fn probe_next_offset(meta: &[u8], t: FrameOffset, end: FrameOffset) -> FrameOffset
     ensures { result.0 ≡ next_offset (λ i. offset meta.now (update_at meta.now i)) (count meta.now) t.0 end.0 }
 {
-    records::order::next_offset(records::layout::layout_of(meta), t, end)
+    layout_of(meta).next_offset(t, end)
 }
 
 #[unsafe(no_mangle)]
@@ -146,9 +145,10 @@ pub extern "C" fn probe_sent_at(meta: &[u8], t: FrameOffset, from: usize) -> usi
     ensures { cond (leb from (count meta.now))
         (FirstAt (λ i. offset meta.now (update_at meta.now i)) (count meta.now) t.0 from result) (result ≡ 0) }
 {
-    let l = records::layout::layout_of(meta);
-    if from > l.count {
-        return 0;
+    let l = layout_of(meta);
+    if from <= l.count {
+        l.sent_at(t, from)
+    } else {
+        0
     }
-    records::order::sent_at(l, t, from)
 }

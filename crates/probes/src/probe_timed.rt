@@ -4,8 +4,8 @@ ghost use Rattle.timed.specs.TimedResults.{IsTimed};
 ghost use Rattle.probes.specs.Timed.{schedule_fits, element_fits, counts_suit, state_fits, slot_if, update_if};
 
 use clock::StreamSample;
+use fields::record::Record;
 use timed::infos::{ELEMENT_INFOS, INFO_BYTES};
-use timed::state;
 use timed::state::{BlockState, ElementRendererState, MetadataRendererState};
 
 const INFOS_BYTES: usize = 2 * ELEMENT_INFOS * INFO_BYTES;
@@ -13,77 +13,43 @@ const INFOS_BYTES: usize = 2 * ELEMENT_INFOS * INFO_BYTES;
 fn schedule_fits(schedule: [BlockState; 8]) -> bool
     ensures { result ≡ schedule_fits schedule }
 {
-    let mut b = 0usize;
-    while b < 8 {
-        let block = schedule[b];
-        if block.offset > 2097152 {
-            return false;
-        }
-        if block.ramp > 2097152 {
-            return false;
-        }
-        b += 1;
-    }
-    true
+    schedule
+        .iter()
+        .all(|block| block.offset <= 2097152 && block.ramp <= 2097152)
 }
 
+#[tactic(auto, unfolding(crate::specs::Timed::element_fits))]
 fn element_fits(e: ElementRendererState, position: u64) -> bool
     requires { position ≤ 1099511627776 }
     ensures { result ≡ element_fits position e }
 {
-    if e.blocks > 8 {
-        return false;
-    }
-    let schedule = e.schedule;
-    if !schedule_fits(schedule) {
-        return false;
-    }
-    let remaining = e.remaining;
-    if remaining > 140737489403904 {
-        return false;
-    }
-    140737488355328 <= remaining + (2097152 + 64 * position)
+    e.blocks <= 8
+        && schedule_fits(e.schedule)
+        && e.remaining <= 140737489403904
+        && 140737488355328 <= e.remaining + (2097152 + 64 * position)
 }
 
+#[tactic(auto, unfolding(crate::specs::Timed::counts_suit))]
 fn counts_fit(s: MetadataRendererState) -> bool
     ensures { result ≡ counts_suit s }
 {
-    if s.objects > 32 {
-        return false;
-    }
-    if s.isf > 255 {
-        return false;
-    }
-    if state::dynamic(s.objects, s.isf) > 16 {
-        return false;
-    }
-    if s.beds > 18 {
-        return false;
-    }
-    if s.beds > s.objects {
-        return false;
-    }
-    s.elements <= 2
+    s.objects <= 32
+        && s.isf <= 255
+        && s.objects.saturating_sub(s.isf) <= 16
+        && s.beds <= 18
+        && s.beds <= s.objects
+        && s.elements <= 2
 }
 
+#[tactic(auto, unfolding(crate::specs::Timed::state_fits))]
 fn state_fits(s: MetadataRendererState, position: u64) -> bool
     requires { position ≤ 1099511627776 }
     ensures { result ≡ state_fits position s }
 {
-    if !counts_fit(s) {
-        return false;
-    }
-    let payload = s.payload;
-    if !payload.is_up_to(StreamSample(1099511627776)) {
-        return false;
-    }
-    let states = s.states;
-    let first = states[0];
-    if !element_fits(first, position) {
-        return false;
-    }
-    let second = states[1];
-    element_fits(second, position)
+    counts_fit(s)
+        && s.payload <= StreamSample(1099511627776)
+        && element_fits(s.states[0], position)
+        && element_fits(s.states[1], position)
 }
 
 #[unsafe(no_mangle)]
@@ -94,16 +60,11 @@ pub extern "C" fn probe_update_timeslot(
 ) -> MetadataRendererState
     ensures { IsTimed (slot_if start (record { state = s; infos = infos.old })) result infos.new }
 {
-    if infos.len() != INFOS_BYTES {
-        return s;
+    if infos.len() == INFOS_BYTES && start <= 1099511627776 && state_fits(s, start) {
+        s.update_timeslot(infos, StreamSample(start))
+    } else {
+        s
     }
-    if start > 1099511627776 {
-        return s;
-    }
-    if !state_fits(s, start) {
-        return s;
-    }
-    s.update_timeslot(infos, StreamSample(start))
 }
 
 #[unsafe(no_mangle)]
@@ -116,22 +77,16 @@ pub extern "C" fn probe_apply_update(
 ) -> MetadataRendererState
     ensures { IsTimed (update_if meta.now i at (record { state = s; infos = infos.old })) result infos.new }
 {
-    if infos.len() != INFOS_BYTES {
-        return s;
-    }
     let l = records::layout::layout_of(meta);
-    if !l.laid {
-        return s;
+    if infos.len() == INFOS_BYTES && l.laid && records::ranges::in_range(meta) && i < l.count {
+        let update = Record {
+            meta,
+            place: l.sent[i].place,
+        };
+        updates::update::TimedState(s)
+            .apply_update(infos, update, StreamSample(at))
+            .0
+    } else {
+        s
     }
-    if !records::ranges::in_range(meta) {
-        return s;
-    }
-    let count = l.count;
-    if i >= count {
-        return s;
-    }
-    let first = l.first;
-    let timed = updates::update::TimedState(s);
-    let next = timed.apply_update(infos, meta, first[i], StreamSample(at));
-    next.0
 }

@@ -23,13 +23,11 @@ pub extern "C" fn probe_f32_of(n: u32) -> f32
 pub extern "C" fn probe_i64_at(s: &[u8], at: usize) -> i64
     ensures { result ≡ cond (has_long s.now at) (signed_at s.now at) (pos 0) }
 {
-    if s.len() < 8 {
-        return 0;
+    if 8 <= s.len() && at <= s.len() - 8 {
+        words::i64_at(s, at)
+    } else {
+        0
     }
-    if at > s.len() - 8 {
-        return 0;
-    }
-    words::i64_at(s, at)
 }
 
 // Writes a number of 64 bits at byte `at`; nothing where it has no room.
@@ -37,11 +35,7 @@ pub extern "C" fn probe_i64_at(s: &[u8], at: usize) -> i64
 pub extern "C" fn probe_put_u64(s: &mut [u8], at: usize, n: u64)
     ensures { s.new ≡ cond (has_long s.old at) (with_long s.old at n) s.old }
 {
-    if s.len() < 8 {
-        return;
+    if 8 <= s.len() && at <= s.len() - 8 {
+        words::put_u64(s, at, n);
     }
-    if at > s.len() - 8 {
-        return;
-    }
-    words::put_u64(s, at, n);
 }

@@ -1,30 +1,35 @@
 -- A reader may skip this file: what the functions that read a layout answer, by `laid_out`, `count` and `update_at` of specs/Laid. Assumes nothing.
-use Rattle.std.specs.Prelude.{ℕ, ◌≤◌, ◌<◌, ◌≡◌, Bool, true, false, List, get_or, replicate}
+use Rattle.std.specs.Prelude.{ℕ, ◌≤◌, ◌<◌, ◌≡◌, Bool, true, false, List, get_or, replicate, Option, Some, None}
 use Rattle.clock.specs.Start.{frame_start}
 use Rattle.fields.specs.Update.{offset}
 use Rattle.records.specs.Laid.{update_at, laid_out, count}
-use Rattle.records.specs.declared.layout.End.{End}
-use Rattle.records.specs.declared.layout.End.TheVariants.{At, Broken}
 use Rattle.records.specs.declared.layout.Layout.{Layout}
+use Rattle.records.specs.declared.layout.Sent.{Sent}
 
 -- the record after a part that is whole
-unfoldable pub end_if : Bool → ℕ → End
-end_if true r = At r
-end_if false r = Broken
+unfoldable pub end_if : Bool → ℕ → Option ℕ
+end_if true r = Some r
+end_if false r = None
 
--- the sample offset of update i, as a layout has it
+abbrev pub no_sent : Sent
+no_sent = record { place = 0; offset = frame_start }
+
+-- the record and the sample offset of update i, as a layout has them
+abbrev pub place_at : Layout → ℕ → ℕ
+place_at l i = (get_or l.sent i no_sent).place
+
 abbrev pub offset_at : Layout → ℕ → ℕ
-offset_at l i = (get_or l.offset i frame_start).0
+offset_at l i = (get_or l.sent i no_sent).offset.0
 
 -- l is the layout of m; past its updates stand zeros
 pub record IsLayout (m : List ℕ) (l : Layout) : Type 0 where
   pub fits : l.laid ≡ laid_out m
   pub counted : l.count ≡ count m
   pub few : count m ≤ 16
-  pub firsts : (i : ℕ) → i < count m → get_or l.first i 0 ≡ update_at m i
+  pub places : (i : ℕ) → i < count m → place_at l i ≡ update_at m i
   pub offsets : (i : ℕ) → i < count m → offset_at l i ≡ offset m (update_at m i)
-  pub past : (i : ℕ) → count m ≤ i → (get_or l.first i 0 ≡ 0) × (offset_at l i ≡ 0)
+  pub past : (i : ℕ) → count m ≤ i → (place_at l i ≡ 0) × (offset_at l i ≡ 0)
 
 -- of a list that is not laid out
 abbrev pub no_layout : Layout
-no_layout = record { laid = false; count = 0; first = replicate 16 0; offset = replicate 16 frame_start }
+no_layout = record { laid = false; count = 0; sent = replicate 16 no_sent }

@@ -3,3 +3,4 @@ pub mod Laid
 pub mod ValuesInRange
 pub mod UpdateWalk
 pub mod LayoutAnswers
+pub mod FaultNumbers

@@ -1,48 +1,16 @@
 // Where updates and elements stand, and whether all records are as laid out: refusal 5.
 ghost use Rattle.std.specs.Prelude.{◌≡◌, ◌+◌, ◌*◌, ◌/◌, ◌%◌, ◌<◌, ◌≤◌, length};
-ghost use Rattle.fields.specs.RecordBytes.{all};
 ghost use Rattle.fields.specs.Update.{objects};
-ghost use Rattle.fields.specs.Block.{blocks, is_block};
-ghost use Rattle.fields.specs.Object.{is_object};
+ghost use Rattle.fields.specs.Block.{blocks};
 ghost use Rattle.records.specs.Laid.{block_at, object_at, is_whole_element, is_whole_update, element_end, element_at, update_end};
-ghost use Rattle.records.specs.LayoutAnswers.{end_if, no_layout, IsLayout};
+ghost use Rattle.records.specs.LayoutAnswers.{end_if, IsLayout};
 
+use crate::run::all_pass;
 use clock::{FrameOffset, START};
-use fields::block::{blocks_at, is_block, is_element};
-use fields::object::is_object;
-use fields::update::{header_at, is_update, offset_at};
+use fields::record::Record;
+use fields::update::Header;
 
-// Whether the n records from r on are blocks.
-fn are_blocks(meta: &[u8], r: usize, n: usize) -> bool
-    requires { 40 * (r + n) ≤ length meta.now }
-    ensures { result ≡ all (λ k. is_block meta.now (r + k)) n }
-{
-    let mut k = 0usize;
-    while k < n {
-        if !is_block(meta, r + k) {
-            return false;
-        }
-        k += 1;
-    }
-    true
-}
-
-// Whether the n records from r on are objects in blocks.
-fn are_objects(meta: &[u8], r: usize, n: usize) -> bool
-    requires { 40 * (r + n) ≤ length meta.now }
-    ensures { result ≡ all (λ k. is_object meta.now (r + k)) n }
-{
-    let mut k = 0usize;
-    while k < n {
-        if !is_object(meta, r + k) {
-            return false;
-        }
-        k += 1;
-    }
-    true
-}
-
-// How many records hold the objects in all blocks.
+// How many records hold the objects in all blocks. A product of two variables: its bound is proved here once, for three callers.
 fn cells(objects: usize, blocks: usize) -> usize
     requires { (objects ≤ 32) × (blocks ≤ 8) }
     ensures { (result ≡ objects * blocks) × (result ≤ 256) }
@@ -50,127 +18,122 @@ fn cells(objects: usize, blocks: usize) -> usize
     objects * blocks
 }
 
-// The record after an element or an update.
-#[derive(Clone, Copy)]
-pub enum End {
-    At(usize),
-    Broken,
-}
-
 // Where the element at e ends, of an update of so many objects.
-fn element_end(meta: &[u8], objects: usize, e: usize) -> End
+fn element_end(meta: &[u8], objects: usize, e: usize) -> Option<usize>
     requires { (length meta.now % 40 ≡ 0) × (objects ≤ 32) × (e ≤ length meta.now / 40) }
     ensures { result ≡ end_if (is_whole_element meta.now objects e) (element_end meta.now objects e) }
 {
     let records = meta.len() / 40;
     if e >= records {
-        return End::Broken;
+        return None;
     }
-    if !is_element(meta, e) {
-        return End::Broken;
+    let element = Record { meta, place: e };
+    if !element.is_element() {
+        return None;
     }
-    let blocks = blocks_at(meta, e);
+    let blocks = element.blocks();
     let first = e + 1 + blocks;
     let n = cells(objects, blocks);
     let end = first + n;
     if end > records {
-        return End::Broken;
+        return None;
     }
-    if !are_blocks(meta, e + 1, blocks) {
-        return End::Broken;
+    if !all_pass(meta, e + 1, blocks, Record::is_block) {
+        return None;
     }
-    if !are_objects(meta, first, n) {
-        return End::Broken;
+    if !all_pass(meta, first, n, Record::is_object) {
+        return None;
     }
-    End::At(end)
+    Some(end)
 }
 
 // Where the update at u ends.
-fn update_end(meta: &[u8], u: usize) -> End
+fn update_end(meta: &[u8], u: usize) -> Option<usize>
     requires { (length meta.now % 40 ≡ 0) × (u < length meta.now / 40) }
     ensures { result ≡ end_if (is_whole_update meta.now u) (update_end meta.now u) }
 {
-    if !is_update(meta, u) {
-        return End::Broken;
+    let update = Record { meta, place: u };
+    if !update.is_update() {
+        return None;
     }
-    let h = header_at(meta, u);
-    let objects = h.objects;
-    let elements = h.elements;
-    let mut r = u + 1;
-    let mut e = 0usize;
-    while e < elements {
-        let end = element_end(meta, objects, r);
-        let End::At(next) = end else {
-            return End::Broken;
-        };
-        r = next;
-        e += 1;
+    let Header {
+        objects,
+        elements,
+        ..
+    } = update.header();
+    let mut next = u + 1;
+    for _e in 0..elements {
+        next = element_end(meta, objects, next)?;
     }
-    End::At(r)
+    Some(next)
 }
 
-// Up to 16 updates: the record and the sample offset of each, in the order sent.
+// An update of a list: its record and its sample offset.
+#[derive(Clone, Copy)]
+pub struct Sent {
+    pub place: usize,
+    pub offset: FrameOffset,
+}
+
+const NOT_SENT: Sent = Sent {
+    place: 0,
+    offset: START,
+};
+
+// Up to 16 updates in the order sent. (d) `laid` and no Option: refusal 5 has its turn between 4 and 6, and the layout is read from 9 on; an Option would be opened again there, with a case that cannot be.
+// (d) `count` beside `sent`: an ArrayVec is no Copy, and `IsLayout` speaks of each of the 16 entries.
 #[derive(Clone, Copy)]
 pub struct Layout {
     pub laid: bool,
     pub count: usize,
-    pub first: [usize; 16],
-    pub offset: [FrameOffset; 16],
+    pub sent: [Sent; 16],
 }
 
-fn broken() -> Layout
-    ensures { result ≡ no_layout }
-{
-    Layout {
-        laid: false,
-        count: 0,
-        first: [0usize; 16],
-        offset: [START; 16],
-    }
-}
+const BROKEN: Layout = Layout {
+    laid: false,
+    count: 0,
+    sent: [NOT_SENT; 16],
+};
 
-// The layout of a list of records; not laid out is refusal 5.
+// The layout of a list of records; not laid out is refusal 5. No range counts the records: `place` rises by what an update takes.
 pub fn layout_of(meta: &[u8]) -> Layout
     ensures { IsLayout meta.now result }
 {
     if meta.len() % 40 != 0 {
-        return broken();
+        return BROKEN;
     }
     let records = meta.len() / 40;
-    let mut first = [0usize; 16];
-    let mut offset = [START; 16];
-    let mut n = 0usize;
-    let mut r = 0usize;
-    while r < records {
-        if n == 16 {
-            return broken();
+    let mut sent = [NOT_SENT; 16];
+    let mut count = 0usize;
+    let mut place = 0usize;
+    while place < records {
+        if count == 16 {
+            return BROKEN;
         }
-        let end = update_end(meta, r);
-        let End::At(next) = end else {
-            return broken();
+        let Some(next) = update_end(meta, place) else {
+            return BROKEN;
         };
-        first[n] = r;
-        offset[n] = offset_at(meta, r);
-        r = next;
-        n += 1;
+        let offset = Record { meta, place }.offset();
+        sent[count] = Sent { place, offset };
+        place = next;
+        count += 1;
     }
     Layout {
         laid: true,
-        count: n,
-        first,
-        offset,
+        count,
+        sent,
     }
 }
 
 // ---- where a record stands, of a list that is laid out
 
-// The record after the element at e, of an update of so many objects.
-pub fn element_after(meta: &[u8], objects: usize, e: usize) -> usize
-    requires { (40 * e + 40 ≤ length meta.now) × (objects ≤ 32) × (blocks meta.now e ≤ 8) }
-    ensures { result ≡ element_end meta.now objects e }
+// The record after an element, of an update of so many objects.
+pub fn element_after(element: Record<'_>, objects: usize) -> usize
+    requires { (objects ≤ 32) × (blocks element.meta.now element.place ≤ 8) }
+    ensures { result ≡ element_end element.entry.meta.now objects element.entry.place }
 {
-    let n = blocks_at(meta, e);
-    e + 1 + n + cells(objects, n)
+    let n = element.blocks();
+    element.place + 1 + n + cells(objects, n)
 }
 
 // The record of block b of the element at e.
@@ -181,11 +144,11 @@ pub fn block_place(e: usize, b: usize) -> usize
     e + 1 + b
 }
 
-// The record of object o in block b of the element at e.
-pub fn object_place(meta: &[u8], e: usize, o: usize, b: usize) -> usize
-    requires { (40 * e + 40 ≤ length meta.now) × (o ≤ 32) × (blocks meta.now e ≤ 8) × (b < 8) }
-    ensures { result ≡ object_at meta.now e (o * blocks meta.now e + b) }
+// The record of object o in block b of an element.
+pub fn object_place(element: Record<'_>, o: usize, b: usize) -> usize
+    requires { (o ≤ 32) × (blocks element.meta.now element.place ≤ 8) × (b < 8) }
+    ensures { result ≡ object_at element.entry.meta.now element.entry.place (o * blocks element.entry.meta.now element.entry.place + b) }
 {
-    let n = blocks_at(meta, e);
-    e + 1 + n + (cells(o, n) + b)
+    let n = element.blocks();
+    element.place + 1 + n + (cells(o, n) + b)
 }

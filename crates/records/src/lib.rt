@@ -2,6 +2,7 @@
 // which order of time the updates are taken.
 #![tactic(auto)]
 
+mod run; // run.rt: runs of records
 pub mod layout; // layout.rt: where updates, elements, blocks and objects stand; refusal 5
 pub mod ranges; // ranges.rt: whether values are within their ranges; refusal 6
 pub mod order; // order.rt: updates in order of time

@@ -1,50 +1,49 @@
-// Whether the values of all records are within their ranges: refusal 6.
-ghost use Rattle.std.specs.Prelude.{◌≡◌, ◌+◌, ◌*◌, ◌≤◌, length};
+// Whether the values of all records are within their ranges: refusal 6. The first fault of a list: 5 or 6.
+ghost use Rattle.std.specs.Prelude.{◌≡◌};
 ghost use Rattle.records.specs.ValuesInRange.{record_in_range, in_range, refusal};
+ghost use Rattle.records.specs.FaultNumbers.{number_of};
 
 use crate::layout::layout_of;
-use fields::block::block_in_range;
-use fields::object::object_in_range;
+use crate::run::all_pass;
+use fields::record::{BLOCK, OBJECT, Record};
 
-fn record_in_range(meta: &[u8], r: usize) -> bool
-    requires { 40 * r + 40 ≤ length meta.now }
-    ensures { result ≡ record_in_range meta.now r }
+// Whether each value of a record is within its range.
+fn record_in_range(r: Record<'_>) -> bool
+    ensures { result ≡ record_in_range r.entry.meta.now r.entry.place }
 {
-    let kind = meta[40 * r];
-    if kind == 3 {
-        return block_in_range(meta, r);
+    match r.kind() {
+        BLOCK => r.block_in_range(),
+        OBJECT => r.object_in_range(),
+        _ => true,
     }
-    if kind == 4 {
-        return object_in_range(meta, r);
-    }
-    true
 }
 
 // Whether each value is within its range; otherwise refusal 6.
 pub fn in_range(meta: &[u8]) -> bool
     ensures { result ≡ in_range meta.now }
 {
-    let records = meta.len() / 40;
-    let mut r = 0usize;
-    while r < records {
-        if !record_in_range(meta, r) {
-            return false;
-        }
-        r += 1;
-    }
-    true
+    all_pass(meta, 0, meta.len() / 40, record_in_range)
 }
 
-// 5, 6, or 0 for neither.
-pub fn refusal(meta: &[u8]) -> u32
-    ensures { result ≡ refusal meta.now }
+// Why a list of records is refused.
+#[derive(Clone, Copy, PartialEq, Eq)]
+pub enum Fault {
+    // not laid out: refusal 5
+    NotLaidOut,
+    // a value outside its range: refusal 6
+    OutOfRange,
+}
+
+// The first fault, if any.
+#[tactic(auto, unfolding(crate::specs::ValuesInRange::refusal))]
+pub fn check(meta: &[u8]) -> Result<(), Fault>
+    ensures { number_of result ≡ refusal meta.now }
 {
-    let l = layout_of(meta);
-    if !l.laid {
-        return 5;
+    if !layout_of(meta).laid {
+        return Err(Fault::NotLaidOut);
     }
     if !in_range(meta) {
-        return 6;
+        return Err(Fault::OutOfRange);
     }
-    0
+    Ok(())
 }

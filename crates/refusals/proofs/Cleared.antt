@@ -1,30 +1,19 @@
--- What is no `Clear`. Assumes nothing.
+-- What is found is `clear` of no refusal. Assumes nothing.
 use mathlib.Core.Path.{◌≡◌, refl, sym, ap, ◌∙◌, subst}
-use mathlib.Core.Bool.{false}
+use mathlib.Core.Bool.{true, false}
 use lib.Dec.{T}
-use Rattle.rules.specs.Refusals.{clear}
-use Rattle.refusals.specs.RefusalNumbers.{found_of}
+use Rattle.std.specs.Prelude.{Err}
+use Rattle.rules.specs.Refusals.{Found, clear, stop}
+use Rattle.refusals.specs.RefusalNumbers.{stop_of}
 use Rattle.refusals.specs.declared.Refusal.{Refusal}
-use Rattle.refusals.specs.declared.Refusal.TheVariants.{Clear, Lent, Sizes, Rate, StreamEnd, Records, Ranges, Samples}
-use Rattle.refusals.specs.declared.Refusal.TheVariants.{SampleRateChanged, MissingOamd, ObjectCountMismatch}
-use Rattle.refusals.specs.declared.Refusal.TheVariants.{UnsupportedSampleCount, BedChannelCountMismatch, UnsupportedBedChannel}
 use Rattle.refusals.specs.FirstFound.{is_none, is_clear}
 
-pub told : (r : Refusal) → (r ≡ Clear → ⊥) → false ≡ is_clear r
-told Clear h = absurd (h refl)
-told Lent h = refl
-told Sizes h = refl
-told Rate h = refl
-told StreamEnd h = refl
-told Records h = refl
-told Ranges h = refl
-told Samples h = refl
-told (SampleRateChanged a b) h = refl
-told MissingOamd h = refl
-told (ObjectCountMismatch a b) h = refl
-told UnsupportedSampleCount h = refl
-told (BedChannelCountMismatch a) h = refl
-told (UnsupportedBedChannel a) h = refl
+pub told : (r : Refusal) → false ≡ is_clear (Err r)
+told r = refl
 
-pub not_clear : (r : Refusal) → (r ≡ Clear → ⊥) → found_of r ≡ clear → ⊥
-not_clear r h e = subst T (sym (told r h ∙ ap is_none e)) tt
+pub not_clear : (r : Refusal) → stop_of r ≡ clear → ⊥
+not_clear r e = subst T (sym (told r ∙ ap is_none e)) tt
+
+pub is_none_is : (f : Found) → is_none f ≡ true → f ≡ clear
+is_none_is clear e = refl
+is_none_is (stop n a b) e = absurd cc

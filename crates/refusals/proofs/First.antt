@@ -1,18 +1,23 @@
 -- The first that stops: what a refusal, or a test, that stops or does not leaves of those after it. Assumes nothing.
-use Prim.Native.Nat.{ℕ, ◌+◌, ◌<◌, ◌≤◌}
+use Prim.Native.Nat.{ℕ, zero, suc, ◌+◌, ◌<◌, ◌≤◌}
 use mathlib.Core.Path.{◌≡◌, refl, sym, ap, ◌∙◌}
 use mathlib.Core.Bool.{Bool, true, false}
-use mathlib.Core.List.{List}
+use mathlib.Core.Logic.{◌↔◌}
+use mathlib.Core.List.{List, [], ◌∷◌}
+use lib.Dec.{leb}
 use lib.ListN.{length, get_or, drop, drop_of_length-le}
 use lib.Seq.{drop-cons}
 use native.Mathlib.Numerals.{add-one}
 use native.Mathlib.Omega.{arith}
-use borrow.Author.Tests.{ne_eqb}
+use borrow.Author.Tests.{ne_eqb, le-leb, leb-true}
+use Rattle.std.specs.Prelude.{EachIndex, IsTrue, IsErrAnd}
+use Rattle.std.proofs.lemmas.Result.{err_from_is_err_and}
+use Rattle.fields.proofs.All.{and_left, and_right}
 use Rattle.beds.specs.Matching.{counted}
 use Rattle.rules.specs.Refusals.{Found, clear, stop, ◌then◌, unless, every, bed_found, beds_found}
-use Rattle.refusals.specs.RefusalNumbers.{found_of}
+use Rattle.refusals.specs.RefusalNumbers.{Checked, stop_of, numbers_of, found_of}
 use Rattle.refusals.specs.declared.Refusal.{Refusal}
-use Rattle.refusals.specs.FirstFound.{is_none, is_clear}
+use Rattle.refusals.specs.declared.Stop.{Stop}
 
 -- a test that the code makes and that fails, or does not
 pub failed : {b r : Bool} → r ≡ b → r ≡ false → b ≡ false
@@ -21,34 +26,19 @@ failed e t = sym e ∙ t
 pub passed : {b r : Bool} → r ≡ b → r ≡ true → b ≡ true
 passed e t = sym e ∙ t
 
-pub stops : (f x : Found) → is_none f ≡ false → (f then x) ≡ f
-stops clear x e = absurd (let z : ◌≡◌ {A = ℕ} 0 1 = cc in omega arith)
-stops (stop n a b) x e = refl
+-- ---- a part f of a chain, and the rest x of it
 
-pub passes : (f x : Found) → is_none f ≡ true → (f then x) ≡ x
-passes clear x e = refl
-passes (stop n a b) x e = absurd (let z : ◌≡◌ {A = ℕ} 0 1 = cc in omega arith)
+module _ (f x all : Found) (rest : (f then x) ≡ all) where
+  pub chain_stops : (r : Refusal) → stop_of r ≡ f → stop_of r ≡ all
+  chain_stops r is = ap (λ (g : Found). g then x) is ∙ rest
 
-pub is_none_is : (f : Found) → is_none f ≡ true → f ≡ clear
-is_none_is clear e = refl
-is_none_is (stop n a b) e = absurd (let z : ◌≡◌ {A = ℕ} 0 1 = cc in omega arith)
+  pub chain_passes : clear ≡ f → x ≡ all
+  chain_passes is = ap (λ (g : Found). g then x) is ∙ rest
 
--- the first that stops is what is found
-pub first_stops : (x y : Found) → (x ≡ clear → ⊥) → x ≡ (x then y)
-first_stops clear y n = absurd (n refl)
-first_stops (stop k a b) y n = refl
+-- ---- what `?` hands on is the refusal e
 
-pub then_second : (x y z : Found) → x ≡ clear → z ≡ y → z ≡ (x then y)
-then_second x y z e h = h ∙ ap (λ (f : Found). f then y) (sym e)
-
--- ---- one refusal r of a chain, which is f
-
-module _ (r : Refusal) (f x all : Found) (is : found_of r ≡ f) (rest : (f then x) ≡ all) where
-  pub chain_stops : is_clear r ≡ false → found_of r ≡ all
-  chain_stops e = sym (stops (found_of r) x e) ∙ rw is rest
-
-  pub chain_passes : is_clear r ≡ true → x ≡ all
-  chain_passes e = sym (passes (found_of r) x e) ∙ rw is rest
+pub handed_on : (r : Checked) (e : Refusal) {x : Found} → IsErrAnd r (λ y. y ≡ e) → stop_of e ≡ x → found_of r ≡ x
+handed_on r e h is = let p = err_from_is_err_and r h in rw (p.1, p.2) is
 
 -- ---- the beds in order
 
@@ -79,11 +69,25 @@ module _ (t : Bool) (n a b : ℕ) (x : Found) where
   pub unless_passes : t ≡ true → x ≡ (unless t n a b then x)
   unless_passes e = rw e
 
--- ---- a test along a list
+-- ---- whether each of a list is listed
 
-module _ (f : ℕ → Bool) (s : List ℕ) (i : ℕ) (h : i < length s) where
-  pub every_stops : f (get_or s i 0) ≡ false → every f (drop i s) ≡ false
-  every_stops e = rw (drop-cons s i 0 h, e)
+each_listed : (s : List ℕ) → EachIndex s (λ k. get_or s k 0 ≤ 17) → every (λ c. leb c 17) s ≡ true
+each_listed [] h = refl
+each_listed (x ∷ s) h = rw (le-leb x 17 (h 0 (omega arith))) (each_listed s (λ k l. h (suc k) (omega arith)))
 
-  pub every_goes_on : f (get_or s i 0) ≡ true → every f (drop i s) ≡ every f (drop (i + 1) s)
-  every_goes_on e = rw (drop-cons s i 0 h, e, add-one)
+listed_each : (s : List ℕ) → every (λ c. leb c 17) s ≡ true → EachIndex s (λ k. get_or s k 0 ≤ 17)
+listed_each [] e k l = absurd (omega arith)
+listed_each (x ∷ s) e zero l = leb-true x 17 (and_left (leb x 17) _ e)
+listed_each (x ∷ s) e (suc k) l = listed_each s (and_right (leb x 17) _ e) k (omega arith)
+
+pub all_listed : (s : List ℕ) (r : Bool) → (IsTrue r ↔ EachIndex s (λ k. get_or s k 0 ≤ 17)) → r ≡ every (λ c. leb c 17) s
+all_listed s r h = same r (every (λ c. leb c 17) s) (λ e. each_listed s (h.0 e)) (λ e. h.1 (listed_each s e))
+  where
+    same : (a b : Bool) → (a ≡ true → b ≡ true) → (b ≡ true → a ≡ true) → a ≡ b
+    same true b f g = sym (f refl)
+    same false true f g = g refl
+    same false false f g = refl
+
+-- ---- the numbers of a refusal that is y
+pub by_case : {x y : Refusal} {s : Stop} → x ≡ y → s ≡ numbers_of y → s ≡ numbers_of x
+by_case e h = h ∙ ap numbers_of (sym e)

@@ -1,7 +1,7 @@
 -- The updates of metadata one after the other: 11 for those at a time, and the shape after them. Assumes nothing.
 use Prim.Native.Nat.{ℕ, zero, suc, ◌+◌, ◌-◌, ◌<◌, ◌≤◌}
 use mathlib.Core.Path.{◌≡◌, refl, sym, ap, ◌∙◌}
-use mathlib.Core.Bool.{true, false, cond}
+use mathlib.Core.Bool.{true, cond}
 use mathlib.Core.List.{List, [], ◌∷◌, map}
 use lib.Dec.{eqb}
 use lib.ListN.{length, get_or, take, drop, drop_of_length-le}
@@ -9,6 +9,7 @@ use lib.Seq.{drop-cons}
 use native.Mathlib.Nat.{le_of_suc-le-suc}
 use native.Mathlib.Numerals.{add-one}
 use native.Mathlib.Omega.{arith}
+use Rattle.std.specs.Prelude.{Ok, Err}
 use Rattle.fields.specs.Update.{offset, objects, bed_or_isf_of, beds, code}
 use Rattle.records.specs.Runs.{each}
 use Rattle.records.specs.Laid.{count, update_at}
@@ -18,12 +19,11 @@ use Rattle.updates.specs.Said.{update_of}
 use Rattle.updates.specs.Applied.{codes_given}
 use Rattle.theorem.specs.Instance as theorem
 use Rattle.theorem.proofs.TimedShapes.{each_same, codes_are}
-use Rattle.refusals.specs.RefusalNumbers.{found_of}
+use Rattle.refusals.specs.RefusalNumbers.{stop_of}
 use Rattle.refusals.specs.declared.Refusal.{Refusal}
-use Rattle.refusals.specs.declared.Refusal.TheVariants.{Clear}
 use Rattle.refusals.specs.declared.present.Present.{Present}
 use Rattle.refusals.specs.PresentShape.{told_of, said_shape, present_shape}
-use Rattle.refusals.specs.FirstFound.{IsAfter, IsEleven, matched, is_clear}
+use Rattle.refusals.specs.FirstFound.{IsAfter, IsEleven, matched}
 use Rattle.refusals.proofs.First.{chain_stops, chain_passes}
 
 -- the first n of a list, by their places
@@ -74,14 +74,14 @@ module _ (m : List ℕ) (n t : ℕ) where
       (refused_at i then counts_at (told_of m) n codes t (drop (i + 1) (told_of m))) ≡ counts_at (told_of m) n codes t (told_of m)
   counts_step i l h codes = ap (counts_at (told_of m) n codes t) (sym (told_from m i l)) ∙ h codes
 
-  module _ (r : Refusal) (i : ℕ) (l : i < count m) (h : CountsFrom i) (is : found_of r ≡ refused_at i) where
-    pub counts_stop : is_clear r ≡ false → IsEleven m n t r
-    counts_stop e = record { is = λ codes. chain_stops r (refused_at i) _ _ is (counts_step i l h codes) e }
+  module _ (i : ℕ) (l : i < count m) (h : CountsFrom i) where
+    pub counts_stop : (r : Refusal) → stop_of r ≡ refused_at i → IsEleven m n t (Err r)
+    counts_stop r is = record { is = λ codes. chain_stops (refused_at i) _ _ (counts_step i l h codes) r is }
 
-    pub counts_go : is_clear r ≡ true → CountsFrom (i + 1)
-    counts_go e codes = chain_passes r (refused_at i) _ _ is (counts_step i l h codes) e
+    pub counts_go : clear ≡ refused_at i → CountsFrom (i + 1)
+    counts_go is codes = chain_passes (refused_at i) _ _ (counts_step i l h codes) is
 
-  pub counts_end : (i : ℕ) → count m ≤ i → CountsFrom i → IsEleven m n t Clear
+  pub counts_end : (i : ℕ) → count m ≤ i → CountsFrom i → IsEleven m n t (Ok tt)
   counts_end i l h = record { is = λ codes. ap (counts_at (told_of m) n codes t) (sym (told_end m i l)) ∙ h codes }
 
 -- ---- the shape after those at t

@@ -8,28 +8,27 @@ use Rattle.store.specs.declared.renderer.Renderer714.{Renderer714}
 use Rattle.store.specs.Fields.{small_of}
 use Rattle.store.specs.Layout.{small_width, decode}
 use Rattle.theorem.specs.Instance.{hall}
-use Rattle.refusals.specs.RefusalNumbers.{found_of}
+use Rattle.refusals.specs.RefusalNumbers.{Checked, found_of}
 use Rattle.refusals.specs.PresentShape.{told_of, present_shape}
 use Rattle.refusals.specs.declared.Numbers.{Numbers}
-use Rattle.refusals.specs.declared.Refusal.{Refusal}
 use Rattle.refusals.specs.declared.present.Present.{Present}
 
 abbrev pub is_none : Found → Bool
 is_none clear = true
 is_none (stop n a b) = false
 
-abbrev pub is_clear : Refusal → Bool
+abbrev pub is_clear : Checked → Bool
 is_clear r = is_none (found_of r)
 
 abbrev pub args_with : List ℕ → List ℕ → List ℕ → List ℕ → Numbers → Args
 args_with pcm meta out codes n = args_of pcm meta out codes n.rate n.samples n.objects n.stride
 
 -- r is the first of 1 to 8 at a stream position, whatever else the state has and whatever stands in an output of so many bytes
-abbrev pub IsEarly : ℕ → ℕ → (List ℕ → Args) → Refusal → Type 0
+abbrev pub IsEarly : ℕ → ℕ → (List ℕ → Args) → Checked → Type 0
 IsEarly position bytes args r = (out : List ℕ) → length out ≡ bytes → (t : State hall) → t.clock.position ≡ position → found_of r ≡ early hall t (args out)
 
 -- r is the first of 1 to 14 on each block whose small part s is
-abbrev pub IsFound : Renderer714 → ℕ → (List ℕ → Args) → Refusal → Type 0
+abbrev pub IsFound : Renderer714 → ℕ → (List ℕ → Args) → Checked → Type 0
 IsFound s bytes args r = (b out : List ℕ) → s ≡ small_of (words_at b 0 small_width) → length out ≡ bytes → found_of r ≡ found hall (decode b) (args out)
 
 -- r is p after the updates at t, whatever objects and inputs the push has
@@ -38,7 +37,7 @@ pub record IsAfter (m : List ℕ) (t : ℕ) (p r : Present) : Type 0 where
   pub is : (n : ℕ) (codes : List ℕ) → present_shape r ≡ shape_at (told_of m) n codes t (told_of m) (present_shape p)
 
 -- r is 11 for the updates at t, whatever inputs the push has
-pub record IsEleven (m : List ℕ) (n t : ℕ) (r : Refusal) : Type 0 where
+pub record IsEleven (m : List ℕ) (n t : ℕ) (r : Checked) : Type 0 where
   pub is : (codes : List ℕ) → found_of r ≡ counts_at (told_of m) n codes t (told_of m)
 
 -- 11: so many dynamic objects expected, and so many provided

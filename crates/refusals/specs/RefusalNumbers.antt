@@ -1,24 +1,39 @@
 -- The number and the counts of each case of `Refusal`. Document 01: "An answer may be an enum. If so, a definition gives this paper's number and values for each of the enum's
 -- cases, and the promises use that definition." Assumes nothing.
+use Rattle.std.specs.Prelude.{ℕ, Result, Ok, Err}
 use Rattle.rules.specs.Refusals.{Found, clear, stop}
+use Rattle.refusals.specs.declared.Stop.{Stop}
 use Rattle.refusals.specs.declared.Refusal.{Refusal}
-use Rattle.refusals.specs.declared.Refusal.TheVariants.{Clear, Lent, Sizes, Rate, StreamEnd, Records, Ranges, Samples}
+use Rattle.refusals.specs.declared.Refusal.TheVariants.{Lent, Sizes, Rate, StreamEnd, Records, Ranges, Samples}
 use Rattle.refusals.specs.declared.Refusal.TheVariants.{SampleRateChanged, MissingOamd, ObjectCountMismatch}
 use Rattle.refusals.specs.declared.Refusal.TheVariants.{UnsupportedSampleCount, BedChannelCountMismatch, UnsupportedBedChannel}
 
 -- "A refusal gives its number and two counts, zero where unnamed."
-abbrev pub found_of : Refusal → Found
-found_of Clear = clear
-found_of Lent = stop 1 0 0
-found_of Sizes = stop 2 0 0
-found_of Rate = stop 3 0 0
-found_of StreamEnd = stop 4 0 0
-found_of Records = stop 5 0 0
-found_of Ranges = stop 6 0 0
-found_of Samples = stop 8 0 0
-found_of (SampleRateChanged expected provided) = stop 9 expected provided
-found_of MissingOamd = stop 10 0 0
-found_of (ObjectCountMismatch expected provided) = stop 11 expected provided
-found_of UnsupportedSampleCount = stop 12 0 0
-found_of (BedChannelCountMismatch expected) = stop 13 expected 0
-found_of (UnsupportedBedChannel code) = stop 14 code 0
+abbrev pub numbers : ℕ → ℕ → ℕ → Stop
+numbers number first second = record { number = number; first = first; second = second }
+
+abbrev pub numbers_of : Refusal → Stop
+numbers_of Lent = numbers 1 0 0
+numbers_of Sizes = numbers 2 0 0
+numbers_of Rate = numbers 3 0 0
+numbers_of StreamEnd = numbers 4 0 0
+numbers_of Records = numbers 5 0 0
+numbers_of Ranges = numbers 6 0 0
+numbers_of Samples = numbers 8 0 0
+numbers_of (SampleRateChanged expected provided) = numbers 9 expected provided
+numbers_of MissingOamd = numbers 10 0 0
+numbers_of (ObjectCountMismatch expected provided) = numbers 11 expected provided
+numbers_of UnsupportedSampleCount = numbers 12 0 0
+numbers_of (BedChannelCountMismatch expected) = numbers 13 expected 0
+numbers_of (UnsupportedBedChannel code) = numbers 14 code 0
+
+abbrev pub stop_of : Refusal → Found
+stop_of r = let n = numbers_of r in stop n.number n.first n.second
+
+-- what a check answers
+abbrev pub Checked : Type 0
+Checked = Result (Unit {0}) Refusal
+
+abbrev pub found_of : Checked → Found
+found_of (Ok u) = clear
+found_of (Err r) = stop_of r

@@ -11,21 +11,14 @@ use clock::StreamSample;
 pub fn room(stride: u32, bytes: usize) -> bool
     ensures { result ≡ rules.room stride bytes }
 {
-    (stride % 64 == 0) & (64 <= stride) & (stride <= 1536) & (48 * (stride as usize) <= bytes)
+    stride % 64 == 0 && 64 <= stride && stride <= 1536 && 48 * stride as usize <= bytes
 }
 
 // Whether each bed code is listed.
 fn codes_listed(codes: &[u8]) -> bool
     ensures { result ≡ rules.every (λ c. leb c 17) codes.now }
 {
-    let mut i = 0usize;
-    while i < codes.len() {
-        if codes[i] > 17 {
-            return false;
-        }
-        i += 1;
-    }
-    true
+    codes.iter().all(|c| *c <= 17)
 }
 
 // The bytes of so many samples in each channel.
@@ -33,40 +26,22 @@ fn pcm_bytes(channels: usize, samples: u32) -> usize
     requires { channels ≤ 34 }
     ensures { result ≡ 4 * (channels * samples) }
 {
-    4 * (channels * (samples as usize))
+    4 * (channels * samples as usize)
 }
 
 // Whether samples, beds, objects, codes and the PCM's length are as allowed: refusal 2.
 fn sized(pcm: &[u8], codes: &[u8], n: Numbers) -> bool
     ensures { result ≡ rules.sized (args_with pcm.now [] [] codes.now n) }
 {
-    let samples = n.samples;
-    let objects = n.objects;
-    let stride = n.stride;
-    if samples > stride {
+    if n.samples > n.stride || codes.len() > 18 || n.objects > 16 || !codes_listed(codes) {
         return false;
     }
-    if codes.len() > 18 {
-        return false;
-    }
-    if objects > 16 {
-        return false;
-    }
-    if !codes_listed(codes) {
-        return false;
-    }
-    let channels = codes.len() + objects as usize;
-    if pcm.len() != pcm_bytes(channels, samples) {
-        return false;
-    }
-    if samples == 0 {
-        return true;
-    }
-    channels != 0
+    let channels = codes.len() + n.objects as usize;
+    pcm.len() == pcm_bytes(channels, n.samples) && (n.samples == 0 || channels != 0)
 }
 
 // The first of refusals 1 to 8 of a push at a stream position; the output has so many bytes, and `laid` says whether the records are as laid out.
-pub fn refusal(
+pub fn check(
     position: StreamSample,
     pcm: &[u8],
     meta: &[u8],
@@ -74,30 +49,30 @@ pub fn refusal(
     codes: &[u8],
     laid: bool,
     n: Numbers,
-) -> Refusal
+) -> Result<(), Refusal>
     requires { laid ≡ laid_out meta.now }
     ensures { IsEarly position.0 bytes (λ out. args_with pcm.now meta.now out codes.now n) result }
 {
     if !room(n.stride, bytes) {
-        return Refusal::Lent;
+        return Err(Refusal::Lent);
     }
     if !sized(pcm, codes, n) {
-        return Refusal::Sizes;
+        return Err(Refusal::Sizes);
     }
     if !angles::listed(n.rate) {
-        return Refusal::Rate;
+        return Err(Refusal::Rate);
     }
     if !position.has_room(n.samples) {
-        return Refusal::StreamEnd;
+        return Err(Refusal::StreamEnd);
     }
     if !laid {
-        return Refusal::Records;
+        return Err(Refusal::Records);
     }
     if !records::ranges::in_range(meta) {
-        return Refusal::Ranges;
+        return Err(Refusal::Ranges);
     }
     if !mixing::samples_pass(pcm, 0, pcm.len() / 4) {
-        return Refusal::Samples;
+        return Err(Refusal::Samples);
     }
-    Refusal::Clear
+    Ok(())
 }

@@ -1,17 +1,17 @@
 // What 10 to 14 look at: the shape of the state or, from the first update on, that of the last update.
-ghost use Rattle.std.specs.Prelude.{◌≡◌, cond, ◌≤◌};
+ghost use Rattle.std.specs.Prelude.{◌≡◌, ◌≤◌};
 ghost use Rattle.updates.specs.WholeRecords.{WholeUpdate, WholeUpdates};
 ghost use Rattle.records.specs.LayoutAnswers.{IsLayout};
 ghost use Rattle.refusals.specs.PresentShape.{said_shape, present_shape, present_of};
 ghost use Rattle.refusals.specs.FirstFound.{IsAfter};
 
 use clock::FrameOffset;
-use fields::update::header_at;
+use fields::record::Record;
 use records::layout::Layout;
-use timed::state::{MetadataRendererState, dynamic};
+use timed::state::MetadataRendererState;
 use updates::update::next_codes;
 
-// The shape as a value: the codes past `beds` count for nothing.
+// The shape as a value: the codes past `beds` count for nothing. `started` is no Option: the rules' `Shape` has it beside the counts, and a state not begun has counts too. (d) `beds` beside `codes`, as in the state and in an update: a list would be copied out of these and read once.
 #[derive(Clone, Copy)]
 pub struct Present {
     pub started: bool,
@@ -28,45 +28,39 @@ pub fn present_of(state: MetadataRendererState) -> Present
     let codes = state.codes;
     Present {
         started: state.initialized,
-        objects: dynamic(state.objects, state.isf) as u32,
+        objects: state.objects.saturating_sub(state.isf) as u32,
         beds: state.beds,
-        codes: codes,
+        codes,
     }
 }
 
-// That of the update at record u where it is taken, else p.
-fn present_next(p: Present, meta: &[u8], u: usize, taken: bool) -> Present
-    requires { WholeUpdate meta.now u × (p.beds ≤ 18) }
-    ensures { (present_shape result ≡ cond taken (said_shape meta.now u) (present_shape p)) × (result.beds ≤ 18) }
+// That of an update.
+fn present_said(said: Record<'_>) -> Present
+    requires { WholeUpdate said.meta.now said.place }
+    ensures { (present_shape result ≡ said_shape said.entry.meta.now said.entry.place) × (result.beds ≤ 18) }
 {
-    if !taken {
-        return p;
-    }
-    let h = header_at(meta, u);
-    let none = [0u8; 18];
-    let codes = next_codes(none, meta, u);
+    let header = said.header();
     Present {
         started: true,
-        objects: dynamic(h.objects, h.bed_or_isf) as u32,
-        beds: h.beds,
-        codes: codes,
+        objects: header.dynamic() as u32,
+        beds: header.beds,
+        codes: next_codes([0; 18], said),
     }
 }
 
 // The shape after the updates at sample offset t.
 pub fn present_after(p: Present, meta: &[u8], l: Layout, t: FrameOffset) -> Present
-    requires { IsLayout meta.now l × WholeUpdates meta.now l.first l.count × (p.beds ≤ 18) }
+    requires { IsLayout meta.now l × WholeUpdates meta.now l × (p.beds ≤ 18) }
     ensures { IsAfter meta.now t.0 p result }
 {
-    let first = l.first;
-    let offset = l.offset;
-    let count = l.count;
     let mut present = p;
-    let mut i = 0usize;
-    while i < count {
-        let x = offset[i];
-        present = present_next(present, meta, first[i], x.is(t));
-        i += 1;
+    for i in 0..l.count {
+        if l.sent[i].offset == t {
+            present = present_said(Record {
+                meta,
+                place: l.sent[i].place,
+            });
+        }
     }
     present
 }

@@ -6,8 +6,7 @@ use lib.ListN.{length}
 use lib.Ieee.{Float}
 use Rattle.beds.specs.declared.Route.{Route}
 use Rattle.beds.specs.declared.Route.TheVariants.{Bass, Folded, Direct, Unsupported}
-use Rattle.beds.specs.declared.Found.{Found}
-use Rattle.beds.specs.declared.Found.TheVariants.{At}
+use Rattle.std.specs.Prelude.{Option, Some}
 use Rattle.beds.specs.Routes.{route_of}
 use Rattle.beds.specs.Positions.{bed_position}
 use Rattle.beds.specs.BedTerms.{routed, bed_adds}
@@ -30,13 +29,13 @@ pub by_route : (xs os : List Float) (code : ℕ) (gain : Float) {r : Route} {new
     → new ≡ mixed_terms xs (bed_terms (bed_with code gain)) os
 by_route xs os code gain e p = p ∙ ap (λ (s : Route). mixed_terms xs (route_terms s code gain) os) (sym e)
 
-pub by_found : (pcm : List ℕ) (s : Span) (ts : List Term) (os : List Float) {found f : Found} {new : List Float} → found ≡ f
+pub by_found : (pcm : List ℕ) (s : Span) (ts : List Term) (os : List Float) {found f : Option ℕ} {new : List Float} → found ≡ f
     → new ≡ mixed_found pcm s ts f os
     → new ≡ mixed_found pcm s ts found os
-by_found pcm s ts os e p = p ∙ ap (λ (g : Found). mixed_found pcm s ts g os) (sym e)
+by_found pcm s ts os e p = p ∙ ap (λ (g : Option ℕ). mixed_found pcm s ts g os) (sym e)
 
 -- what is found is one of the inputs
-pub found_inside : (code : ℕ) (codes : List ℕ) {i : ℕ} → matching code codes ≡ At i → i < length codes
+pub found_inside : (code : ℕ) (codes : List ℕ) {i : ℕ} → matching code codes ≡ Some i → i < length codes
 found_inside code codes e = (subst (Judged code codes) e (judged code codes)).0
 
 -- on each channel a bed's terms have the coefficients that the rules add in the built-in hall

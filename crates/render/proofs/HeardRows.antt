@@ -11,8 +11,7 @@ use Rattle.words.specs.Words.{float_at}
 use Rattle.mixing.specs.Sums as sums
 use Rattle.mixing.specs.Sums.{total}
 use Rattle.mixing.proofs.Theorems.{length-samples, sample-at}
-use Rattle.beds.specs.declared.Found.{Found}
-use Rattle.beds.specs.declared.Found.TheVariants.{At, Nothing}
+use Rattle.std.specs.Prelude.{Option, Some, None}
 use Rattle.beds.specs.Matching.{matching}
 use Rattle.panning.specs.Setup.{built_in}
 use Rattle.panning.specs.Terms.{Term, on_channel}
@@ -71,9 +70,9 @@ module _ (pcm : List ℕ) (s : Span) (short : s.count ≤ 64) where
       adds_as k G (λ c i. scaled_on c ts (input i j)) os (mixed_terms xs ts os) (λ c i l m. ap (scaled_by (on_channel c ts)) (row_at i j m))
       (subst (λ (m : ℕ). Adds m G os (mixed_terms xs ts os)) e (adds_terms xs (omega arith) ts os h))
 
-  adds_found : (ts : List Term) (f : Found) (os : List Float) → length os ≡ 768 → Adds k (λ c i. fed_by (on_channel c ts) f (input i)) os (mixed_found pcm s ts f os)
-  adds_found ts (At j) os h = adds_row j ts os h
-  adds_found ts Nothing os h = adds_none k os h
+  adds_found : (ts : List Term) (f : Option ℕ) (os : List Float) → length os ≡ 768 → Adds k (λ c i. fed_by (on_channel c ts) f (input i)) os (mixed_found pcm s ts f os)
+  adds_found ts (Some j) os h = adds_row j ts os h
+  adds_found ts None os h = adds_none k os h
 
   adds_beds : (codes : List ℕ) (bs : List Bed) (os : List Float) → length os ≡ 768 → Adds k (λ c i. beds_on built_in c bs codes (input i)) os (mixed_beds pcm s codes bs os)
   adds_beds codes [] os h = adds_none k os h

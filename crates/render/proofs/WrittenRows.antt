@@ -1,14 +1,15 @@
 -- Rows written into bytes: one sample more, one channel more. Assumes nothing.
-use mathlib.Core.Path.{◌≡◌}
+use mathlib.Core.Path.{◌≡◌, sym, ap, ◌∙◌}
 use mathlib.Core.List.{List}
-use Prim.Native.Nat.{ℕ, suc, ◌+◌, ◌-◌, ◌*◌, ◌<◌, ◌≤◌}
+use Prim.Native.Nat.{ℕ, ◌+◌, ◌-◌, ◌*◌, ◌<◌, ◌≤◌}
 use native.Mathlib.Omega.{arith}
 use native.Mathlib.Numerals.{add-one}
 use lib.ListN.{length, get_or, take, drop, drop_of_length-le}
-use lib.Seq.{drop-cons, drop-drop}
+use lib.Seq.{drop-cons}
 use lib.Ieee.{Float, nan}
 use Rattle.words.specs.Words.{with_float}
 use Rattle.limiter.specs.ChannelPlaces.{channels, with_floats, with_channels}
+use Rattle.limiter.proofs.Theorems.{channels_more, length_channels, written_more}
 
 pub store_start : (s : List ℕ) (at : ℕ) (xs : List Float) → with_floats s (at + 4 * 0) xs ≡ with_floats s at xs
 store_start s at xs = let e : at + 4 * 0 ≡ at = omega arith in rw e
@@ -22,16 +23,14 @@ store_step at i xs s h p q =
 pub store_done : (at i : ℕ) (xs : List Float) (s : List ℕ) {end : List ℕ} → length xs ≤ i → with_floats s at (drop i xs) ≡ end → s ≡ end
 store_done at i xs s h q = rw (drop_of_length-le xs h) at q
 
-pub channel_step : (from to left k : ℕ) (xs : List Float) (s : List ℕ) {new end : List ℕ} → 0 < left → new ≡ with_floats s to (take (from + k - from) (drop from xs))
-    → with_channels (channels left k (drop from xs)) 256 to s ≡ end → with_channels (channels (left - 1) k (drop (from + 64) xs)) 256 (to + 256) new ≡ end
-unfolding channels with_channels
-channel_step from to left k xs s h p q =
-    let e : from + k - from ≡ k = omega arith in
-    let f : left ≡ suc (left - 1) = omega arith in
-    rw (p, e, ← drop-drop 64 from xs) (rw f at q)
-
-pub channels_done : (to left k : ℕ) (xs : List Float) (s : List ℕ) {end : List ℕ} → left ≤ 0 → with_channels (channels left k xs) 256 to s ≡ end → s ≡ end
-unfolding channels with_channels
-channels_done to left k xs s h q =
-    let e : left ≡ 0 = omega arith in
-    rw e at q
+-- channel c, from its place behind the pending samples on
+pub channel_step : (c k pending : ℕ) (xs : List Float) (s : List ℕ) {t new : List ℕ} → t ≡ with_channels (channels c k xs) 256 (4 * pending) s
+    → new ≡ with_floats t (256 * c + 4 * pending) (take (64 * c + k - 64 * c) (drop (64 * c) xs))
+    → new ≡ with_channels (channels (c + 1) k xs) 256 (4 * pending) s
+channel_step c k pending xs s p q =
+    let e : 64 * c + k - 64 * c ≡ k = omega arith in
+    let ys = take k (drop (64 * c) xs) in
+    q ∙ rw (p, e)
+    (ap (λ (n : ℕ). with_floats (with_channels (channels c k xs) 256 (4 * pending) s) (256 * n + 4 * pending) ys) (sym (length_channels c k xs))
+    ∙ sym (written_more (channels c k xs) ys 256 (4 * pending) s)
+    ∙ sym (ap (λ (cs : List (List Float)). with_channels cs 256 (4 * pending) s) (channels_more c k xs)))

@@ -1,12 +1,10 @@
 -- A reader may skip this file: how the code mixes the beds and the objects of a run into the rows, each with its samples out of the frame's PCM. Channel by channel that is
 -- `heard` of the rules (`run_heard`). Assumes nothing.
-use Rattle.std.specs.Prelude.{ℕ, suc, ◌+◌, ◌*◌, ◌≤◌, List, [], ◌∷◌, length, Float}
+use Rattle.std.specs.Prelude.{ℕ, suc, ◌+◌, ◌*◌, ◌≤◌, List, [], ◌∷◌, length, Float, Option, Some, None}
 use Rattle.mixing.specs.FrameSamples.{samples}
 use Rattle.mixing.specs.SampleBits.{Plain}
 use Rattle.beds.specs.declared.Route.{Route}
 use Rattle.beds.specs.declared.Route.TheVariants.{Bass, Folded, Direct, Unsupported}
-use Rattle.beds.specs.declared.Found.{Found}
-use Rattle.beds.specs.declared.Found.TheVariants.{At, Nothing}
 use Rattle.beds.specs.Routes.{route_of, bass_gain}
 use Rattle.beds.specs.Positions.{bed_position}
 use Rattle.beds.specs.Matching.{matching}
@@ -43,9 +41,9 @@ module _ (pcm : List ℕ) (s : Span) where
   channel_row i = samples pcm (channel_start s i) s.count
 
   -- terms fed by the input that was found
-  abbrev pub mixed_found : List Term → Found → List Float → List Float
-  mixed_found ts (At i) os = mixed_terms (channel_row i) ts os
-  mixed_found ts Nothing os = os
+  abbrev pub mixed_found : List Term → Option ℕ → List Float → List Float
+  mixed_found ts (Some i) os = mixed_terms (channel_row i) ts os
+  mixed_found ts None os = os
 
   abbrev pub mixed_beds : List ℕ → List Bed → List Float → List Float
   mixed_beds codes [] os = os

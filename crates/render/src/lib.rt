@@ -16,7 +16,15 @@ pub struct Span {
     pub count: usize,
 }
 
-// What sounds in a run: the beds' codes and gains, and the objects. Tables with counts beside them.
+// What a run is fed with: the samples of a frame's PCM, beds then objects, and the codes of its beds.
+#[derive(Clone, Copy)]
+pub struct Input<'a> {
+    pub pcm: &'a [u8],
+    pub codes: &'a [u8],
+    pub span: Span,
+}
+
+// What sounds in a run: the beds' codes and gains, and the objects. Tables with counts beside them, codes and gains apart, as in the state's block: specs can make no scene of lent slices.
 #[derive(Clone, Copy)]
 pub struct Scene {
     pub codes: [u8; 18],

@@ -5,15 +5,13 @@ ghost use Rattle.limiter.specs.ChannelPlaces.{channels, with_floats, with_channe
 
 use formats::areas;
 
-// The samples written from `at` on.
+// The samples written from `at` on. `limiter::places::scale_slice_into` times a gain: one function for both would take a closure, and say by `post` what a sample becomes.
 fn store_samples(samples: &[f32], places: &mut [u8], at: usize)
     requires { at + 4 * length samples.now ≤ length places.old }
     ensures { places.new ≡ with_floats places.old at samples.now }
 {
-    let mut i = 0usize;
-    while i < samples.len() {
-        words::put_f32(places, at + 4 * i, samples[i]);
-        i += 1;
+    for (i, x) in samples.iter().enumerate() {
+        words::put_f32(places, at + 4 * i, *x);
     }
 }
 
@@ -22,14 +20,12 @@ pub fn append_rows(rows: &[f32], places: &mut [u8], pending: usize, k: usize)
     requires { (length rows.now ≡ place_count) × (length places.old ≡ places_bytes) × (pending + k ≤ row_places) }
     ensures { places.new ≡ with_channels (channels row_count k rows.now) row_bytes (4 * pending) places.old }
 {
-    let mut from = 0usize;
-    let mut to = 4 * pending;
-    let mut left = areas::ROW_COUNT;
-    while left > 0 {
-        let end = from + k;
-        store_samples(&rows[from..end], places, to);
-        from += areas::ROW_PLACES;
-        to += areas::ROW_BYTES;
-        left -= 1;
+    for c in 0..areas::ROW_COUNT {
+        let from = areas::ROW_PLACES * c;
+        store_samples(
+            &rows[from..from + k],
+            places,
+            areas::ROW_BYTES * c + 4 * pending,
+        );
     }
 }

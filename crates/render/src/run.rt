@@ -8,40 +8,36 @@ ghost use Rattle.mixing.specs.Part.{on_part};
 ghost use Rattle.lowpass.specs.Lowpass.{filtered, after_all};
 ghost use Rattle.render.specs.Run.{CanMix, scene_at, Heard, Passed};
 
-use crate::{Scene, Span};
+use crate::{Input, Scene, terms};
+use formats::areas;
 use lowpass::BiquadLowpassState;
 
+// Where the bass row starts.
+const BASS: usize = areas::ROW_PLACES * terms::BASS;
+
 // What sounds in the span, into row c from place 64 c on.
-fn mix_run(rows: &mut [f32], pcm: &[u8], codes: &[u8], scene: Scene, span: Span)
-    requires { CanMix pcm.now codes.now scene span rows.old }
-    ensures { Heard (scene_at scene codes.now pcm.now span.frame) span.first span.count rows.new }
+fn mix_run(rows: &mut [f32], input: Input, scene: &Scene)
+    requires { CanMix input.pcm.now input.codes.now scene.now input.span rows.old }
+    ensures { Heard (scene_at scene.now input.entry.codes.now input.entry.pcm.now input.entry.span.frame) input.entry.span.first input.entry.span.count rows.new }
 {
-    crate::sources::mix_beds(rows, pcm, codes, scene, span);
-    crate::sources::mix_sources(rows, pcm, codes.len(), scene, span);
+    input.mix_beds(rows, scene);
+    input.mix_sources(rows, scene);
 }
 
 // The bass row through the low-pass: the part of its samples is lent.
-fn filter_bass(rows: &mut [f32], filter: BiquadLowpassState, k: usize) -> BiquadLowpassState
+fn filter_bass(rows: &mut [f32], filter: &mut BiquadLowpassState, k: usize)
     requires { (length rows.old ≡ place_count) × (k ≤ row_places) }
-    ensures { (result ≡ after_all filter (take k (drop 192 rows.old))) × (rows.new ≡ on_part (filtered filter) 192 k rows.old) }
+    ensures { (filter.new ≡ after_all filter.old (take k (drop 192 rows.old))) × (rows.new ≡ on_part (filtered filter.old) 192 k rows.old) }
 {
-    let start = 192usize;
-    let end = start + k;
-    filter.process_in_place(&mut rows[start..end])
+    let end = BASS + k;
+    *filter = filter.process_in_place(&mut rows[BASS..end]);
 }
 
-// `mix_run`, and then the low-pass; the filter after the run is answered.
-pub fn pass_run(
-    rows: &mut [f32],
-    pcm: &[u8],
-    codes: &[u8],
-    scene: Scene,
-    span: Span,
-    filter: BiquadLowpassState,
-) -> BiquadLowpassState
-    requires { CanMix pcm.now codes.now scene span rows.old }
-    ensures { Passed (scene_at scene codes.now pcm.now span.frame) filter span.first span.count rows.new result }
+// `mix_run`, and then the low-pass.
+pub fn pass_run(rows: &mut [f32], input: Input, scene: &Scene, filter: &mut BiquadLowpassState)
+    requires { CanMix input.pcm.now input.codes.now scene.now input.span rows.old }
+    ensures { Passed (scene_at scene.now input.entry.codes.now input.entry.pcm.now input.entry.span.frame) filter.old input.entry.span.first input.entry.span.count rows.new filter.new }
 {
-    mix_run(rows, pcm, codes, scene, span);
-    filter_bass(rows, filter, span.count)
+    mix_run(rows, input, scene);
+    filter_bass(rows, filter, input.span.count);
 }

@@ -11,58 +11,24 @@ ghost use Rattle.render.specs.Run.{Framed, bed_with, beds_of, plain_source, sour
 ghost use Rattle.render.specs.MixedRows.{Sized, mixed_terms};
 ghost use Rattle.render.specs.MixedSources.{Reached, bed_terms, channel_row, mixed_found, mixed_beds, mixed_objects};
 
-use crate::{Scene, Span};
-use beds::{Found, Route};
+use crate::{Input, Scene, Span, terms};
+use beds::Route;
 use formats::areas;
 use timed::state::DynamicSourceState;
-
-// The run's samples of channel i, into the start of a row.
-fn read_channel(row: &mut [f32], pcm: &[u8], i: usize, span: Span)
-    requires { Reached pcm.now span i × (span.count ≤ length row.old) }
-    ensures { row.new ≡ channel_row pcm.now span i ++ drop span.count row.old }
-{
-    let k = span.count;
-    mixing::read_row(pcm, 4 * (i * span.frame + span.first), &mut row[..k]);
-}
 
 // A bed's terms, by its route.
 fn mix_routed(rows: &mut [f32], samples: &[f32], code: u8, gain: f32)
     requires { Sized samples.now rows.old }
     ensures { rows.new ≡ mixed_terms samples.now (bed_terms (bed_with code gain)) rows.old }
 {
-    let route = beds::route_of(code);
-    match route {
-        Route::Bass => {
-            crate::terms::mix_term(rows, samples, 3, beds::bass_gain(gain));
-            return;
-        }
+    match beds::route_of(code) {
+        Route::Bass => terms::mix_term(rows, samples, terms::BASS, beds::bass_gain(gain)),
         Route::Folded => {
-            crate::terms::mix_object(rows, samples, beds::bed_channel_position(code), gain, 0.0);
-            return;
+            terms::mix_object(rows, samples, beds::bed_channel_position(code), gain, 0.0)
         }
-        Route::Direct(channel) => {
-            crate::terms::mix_term(rows, samples, channel, gain);
-            return;
-        }
-        Route::Unsupported => {
-            return;
-        }
+        Route::Direct(channel) => terms::mix_term(rows, samples, channel, gain),
+        Route::Unsupported => {}
     }
-}
-
-// A bed, fed by the input that matches it.
-fn mix_bed(rows: &mut [f32], pcm: &[u8], codes: &[u8], code: u8, gain: f32, span: Span)
-    requires { Framed pcm.now (length codes.now) span × (length rows.old ≡ place_count) }
-    ensures { rows.new ≡ mixed_found pcm.now span (bed_terms (bed_with code gain)) (matching code codes.now) rows.old }
-{
-    let found = beds::find_matching_input_bed_channel(code, codes);
-    let Found::At(i) = found else {
-        return;
-    };
-    let mut row = [0.0f32; areas::ROW_PLACES];
-    read_channel(&mut row, pcm, i, span);
-    let k = span.count;
-    mix_routed(rows, &row[..k], code, gain);
 }
 
 // All that an object adds: what it is panned to, then its send on channel 3.
@@ -70,47 +36,65 @@ fn mix_added(rows: &mut [f32], samples: &[f32], source: DynamicSourceState)
     requires { Sized samples.now rows.old }
     ensures { rows.new ≡ mixed_terms samples.now (added_terms built_in (plain_source source)) rows.old }
 {
-    let place = source.place;
-    crate::terms::mix_object(rows, samples, place, source.gain, source.size);
-    crate::terms::mix_term(rows, samples, 3, source.gain * source.send);
+    terms::mix_object(rows, samples, source.place, source.gain, source.size);
+    terms::mix_term(rows, samples, terms::BASS, source.gain * source.send);
 }
 
-// An object, fed by channel i.
-fn mix_source(rows: &mut [f32], pcm: &[u8], i: usize, source: DynamicSourceState, span: Span)
-    requires { Reached pcm.now span i × (span.count ≤ row_places) × (length rows.old ≡ place_count) }
-    ensures { rows.new ≡ mixed_terms (channel_row pcm.now span i) (added_terms built_in (plain_source source)) rows.old }
-{
-    let mut row = [0.0f32; areas::ROW_PLACES];
-    read_channel(&mut row, pcm, i, span);
-    let k = span.count;
-    mix_added(rows, &row[..k], source);
-}
-
-// The beds in order.
-pub fn mix_beds(rows: &mut [f32], pcm: &[u8], codes: &[u8], scene: Scene, span: Span)
-    requires { Framed pcm.now (length codes.now) span × (length rows.old ≡ place_count) × (scene.beds ≤ 18) }
-    ensures { rows.new ≡ mixed_beds pcm.now span codes.now (beds_of scene.beds scene.codes scene.gains) rows.old }
-{
-    let wanted = scene.codes;
-    let gains = scene.gains;
-    let count = scene.beds;
-    let mut j = 0usize;
-    while j < count {
-        mix_bed(rows, pcm, codes, wanted[j], gains[j], span);
-        j += 1;
+impl Input<'_> {
+    // The run's samples of channel i, into the start of a row.
+    fn read_channel(self, row: &mut [f32], i: usize)
+        requires { Reached self.pcm.now self.span i × (self.span.count ≤ length row.old) }
+        ensures { row.new ≡ channel_row self.entry.pcm.now self.entry.span i ++ drop self.entry.span.count row.old }
+    {
+        let Span {
+            frame,
+            first,
+            count,
+        } = self.span;
+        mixing::read_row(self.pcm, 4 * (i * frame + first), &mut row[..count]);
     }
-}
 
-// The objects in order, fed by the channels from `first` on.
-pub fn mix_sources(rows: &mut [f32], pcm: &[u8], first: usize, scene: Scene, span: Span)
-    requires { Framed pcm.now (first + scene.objects) span × (length rows.old ≡ place_count) × (first ≤ 18) × (scene.objects ≤ 16) }
-    ensures { rows.new ≡ mixed_objects pcm.now span first (sources_of scene.objects scene.sources) rows.old }
-{
-    let sources = scene.sources;
-    let count = scene.objects;
-    let mut object = 0usize;
-    while object < count {
-        mix_source(rows, pcm, first + object, sources[object], span);
-        object += 1;
+    // A bed, fed by the input that matches it.
+    fn mix_bed(self, rows: &mut [f32], code: u8, gain: f32)
+        requires { Framed self.pcm.now (length self.codes.now) self.span × (length rows.old ≡ place_count) }
+        ensures { rows.new ≡ mixed_found self.entry.pcm.now self.entry.span (bed_terms (bed_with code gain)) (matching code self.entry.codes.now) rows.old }
+    {
+        let Some(i) = beds::find_matching_input_bed_channel(code, self.codes) else {
+            return;
+        };
+        let mut row = [0.0f32; areas::ROW_PLACES];
+        self.read_channel(&mut row, i);
+        mix_routed(rows, &row[..self.span.count], code, gain);
+    }
+
+    // An object, fed by channel i.
+    fn mix_source(self, rows: &mut [f32], i: usize, source: DynamicSourceState)
+        requires { Reached self.pcm.now self.span i × (self.span.count ≤ row_places) × (length rows.old ≡ place_count) }
+        ensures { rows.new ≡ mixed_terms (channel_row self.entry.pcm.now self.entry.span i) (added_terms built_in (plain_source source)) rows.old }
+    {
+        let mut row = [0.0f32; areas::ROW_PLACES];
+        self.read_channel(&mut row, i);
+        mix_added(rows, &row[..self.span.count], source);
+    }
+
+    // The beds in order.
+    pub(crate) fn mix_beds(self, rows: &mut [f32], scene: &Scene)
+        requires { Framed self.pcm.now (length self.codes.now) self.span × (length rows.old ≡ place_count) × (scene.now.beds ≤ 18) }
+        ensures { rows.new ≡ mixed_beds self.entry.pcm.now self.entry.span self.entry.codes.now (beds_of scene.now.beds scene.now.codes scene.now.gains) rows.old }
+    {
+        for j in 0..scene.beds {
+            self.mix_bed(rows, scene.codes[j], scene.gains[j]);
+        }
+    }
+
+    // The objects in order, fed by the channels behind those of the beds.
+    pub(crate) fn mix_sources(self, rows: &mut [f32], scene: &Scene)
+        requires { Framed self.pcm.now (length self.codes.now + scene.now.objects) self.span × (length rows.old ≡ place_count)
+            × (length self.codes.now ≤ 18) × (scene.now.objects ≤ 16) }
+        ensures { rows.new ≡ mixed_objects self.entry.pcm.now self.entry.span (length self.entry.codes.now) (sources_of scene.now.objects scene.now.sources) rows.old }
+    {
+        for object in 0..scene.objects {
+            self.mix_source(rows, self.codes.len() + object, scene.sources[object]);
+        }
     }
 }

@@ -8,7 +8,11 @@ ghost use Rattle.panning.specs.Terms.{term, paired, spread};
 ghost use Rattle.render.specs.MixedRows.{Sized, AmongTwelve, up_from, mixed_term, mixed_terms};
 
 use formats::areas;
+use panning::Panned;
 use vectors::Vec3;
+
+// The bass channel.
+pub const BASS: usize = 3;
 
 // One term: the row's part from its start is lent.
 pub fn mix_term(rows: &mut [f32], samples: &[f32], channel: usize, gain: f32)
@@ -23,10 +27,8 @@ fn mix_range(rows: &mut [f32], samples: &[f32], from: usize, to: usize, gain: f3
     requires { Sized samples.now rows.old × (from ≤ to) × (to ≤ 12) }
     ensures { rows.new ≡ mixed_terms samples.now (spread (up_from from (to - from)) gain) rows.old }
 {
-    let mut c = from;
-    while c < to {
+    for c in from..to {
         mix_term(rows, samples, c, gain);
-        c += 1;
     }
 }
 
@@ -38,19 +40,17 @@ fn mix_spread(rows: &mut [f32], samples: &[f32], gain: f32)
     if gain == 0.0 {
         return;
     }
-    mix_range(rows, samples, 0, 3, gain);
-    mix_range(rows, samples, 4, 12, gain);
+    mix_range(rows, samples, 0, BASS, gain);
+    mix_range(rows, samples, BASS + 1, areas::ROW_COUNT, gain);
 }
 
 // The eight corners in order.
-fn mix_corners(rows: &mut [f32], samples: &[f32], corners: [usize; 8], coefficients: [f32; 8])
-    requires { Sized samples.now rows.old × AmongTwelve corners }
-    ensures { rows.new ≡ mixed_terms samples.now (paired corners coefficients) rows.old }
+fn mix_corners(rows: &mut [f32], samples: &[f32], p: &Panned)
+    requires { Sized samples.now rows.old × AmongTwelve p.now.corners }
+    ensures { rows.new ≡ mixed_terms samples.now (paired p.now.corners p.now.coefficients) rows.old }
 {
-    let mut j = 0usize;
-    while j < 8 {
-        mix_term(rows, samples, corners[j], coefficients[j]);
-        j += 1;
+    for j in 0..8 {
+        mix_term(rows, samples, p.corners[j], p.coefficients[j]);
     }
 }
 
@@ -60,8 +60,6 @@ pub fn mix_object(rows: &mut [f32], samples: &[f32], place: Vec3, gain: f32, siz
     ensures { rows.new ≡ mixed_terms samples.now (terms714 place gain size) rows.old }
 {
     let p = panning::pan(place, gain, size);
-    let corners = p.corners;
-    let coefficients = p.coefficients;
     mix_spread(rows, samples, p.extra);
-    mix_corners(rows, samples, corners, coefficients);
+    mix_corners(rows, samples, &p);
 }

@@ -7,7 +7,7 @@ use native.Mathlib.Omega.{arith}
 use native.Mathlib.Numerals.{add-one}
 use borrow.Author.Tests.{eq-eqb, ne_eqb}
 use lib.Dec.{eqb}
-use lib.ListN.{length, get_or}
+use lib.ListN.{length}
 use Rattle.timed.specs.State.{Timed, slot_at}
 use Rattle.timed.specs.Resting.{rests_at}
 use Rattle.timed.specs.TimedResults.{IsTimed}
@@ -16,7 +16,7 @@ use Rattle.timed.proofs.Theorems as timed
 use Rattle.records.specs.Runs.{each}
 use Rattle.records.specs.Laid.{update_at, count}
 use Rattle.records.specs.UpdateWalk.{FirstAt}
-use Rattle.records.specs.LayoutAnswers.{IsLayout, offset_at}
+use Rattle.records.specs.LayoutAnswers.{IsLayout, place_at, offset_at}
 use Rattle.records.specs.declared.layout.Layout as records
 use Rattle.updates.specs.Said.{Update, update_of}
 use Rattle.updates.specs.Applied as updates
@@ -134,35 +134,38 @@ module _ (t : ℕ) (g : ℕ → Sent) (n : ℕ) where
 module _ (m : List ℕ) (l : records.Layout) (t at : ℕ) (all : Renderer Timed) (b₀ : List ℕ) where
   -- where the walk stands, from the block b₀: the updates from i on lead to `all`
   pub record Standing (i : ℕ) (s : Renderer714) (b : List ℕ) : Type 0 where
-    pub within : i ≤ l.count
-    pub time : i < l.count → offset_at l i ≡ t
     pub long : length b ≡ size
     pub small : small_bytes b ≡ small_bytes b₀
     pub here : at ≡ s.clock.position.0
     pub left : rest t (sent_at m) l.count i (held s b) ≡ all
 
   module _ (g : IsLayout m l) where
-    pub standing :
-        (from i : ℕ) (s : Renderer714) (b : List ℕ) → FirstAt (offset_at l) l.count t from i → length b ≡ size → small_bytes b ≡ small_bytes b₀ → at ≡ s.clock.position.0 →
-        rest t (sent_at m) l.count from (held s b) ≡ all → Standing i s b
-    standing from i s b h long small here left =
-        let a = h.after in
-        let w = h.within in
-        let e : from + (i - from) ≡ i = omega arith in
-        let z = skip t (sent_at m) l.count (i - from) from (held s b) (omega arith) (λ k p q o. h.none k p (omega arith) (g.offsets k (omega (arith, g.counted)) ∙ o)) in
-        record { within = w; time = h.here; long = long; small = small; here = here; left = sym (rw e at z) ∙ left }
-
     -- an update more
     pub goes_on :
-        (i j : ℕ) (s r : Renderer714) (b c : List ℕ) → i < l.count → Standing i s b → IsNext (applied_at hall t (sent t (update_of m (get_or l.first i 0))) (held s b)) b r c →
-        FirstAt (offset_at l) l.count t (i + 1) j → Standing j r c
-    goes_on i j s r b c low h next first =
+        (i : ℕ) (s r : Renderer714) (b c : List ℕ) → i < l.count → offset_at l i ≡ t → Standing i s b →
+        IsNext (applied_at hall t (sent t (update_of m (place_at l i))) (held s b)) b r c → Standing (i + 1) r c
+    goes_on i s r b c low time h next =
         let k : i < count m = omega (arith, g.counted) in
-        let o : (sent_at m i).offset ≡ t = sym (g.offsets i k) ∙ h.time low in
-        let u : update_of m (get_or l.first i 0) ≡ update_of m (update_at m i) = ap (update_of m) (g.firsts i k) in
+        let o : (sent_at m i).offset ≡ t = sym (g.offsets i k) ∙ time in
+        let u : update_of m (place_at l i) ≡ update_of m (update_at m i) = ap (update_of m) (g.places i k) in
         let one : held r c ≡ applied_at hall t (sent_at m i) (held s b) = next.holds.is ∙ rw u in
-        standing (i + 1) j r c first next.holds.long (next.small ∙ h.small) (h.here ∙ sym (ap (λ (x : Renderer Timed). x.clock.position) next.holds.is))
-        (rw (add-one, one) (sym (rest_here t (sent_at m) l.count i (held s b) low o) ∙ h.left))
+        record {
+          long = next.holds.long;
+          small = next.small ∙ h.small;
+          here = h.here ∙ sym (ap (λ (x : Renderer Timed). x.clock.position) next.holds.is);
+          left = rw (add-one, one) (sym (rest_here t (sent_at m) l.count i (held s b) low o) ∙ h.left);
+        }
+
+    -- one for another time
+    pub passes : (i : ℕ) (s : Renderer714) (b : List ℕ) → i < l.count → (offset_at l i ≡ t → ⊥) → Standing i s b → Standing (i + 1) s b
+    passes i s b low off h =
+        let k : i < count m = omega (arith, g.counted) in
+        record {
+          long = h.long;
+          small = h.small;
+          here = h.here;
+          left = rw add-one (sym (rest_past t (sent_at m) l.count i (held s b) low (λ o. off (g.offsets i k ∙ o))) ∙ h.left);
+        }
 
     pub ends : (i : ℕ) (s : Renderer714) (b : List ℕ) → l.count ≤ i → Standing i s b → IsNext all b₀ s b
     ends i s b low h = record { holds = record { is = sym (rest_none t (sent_at m) l.count i (held s b) low) ∙ h.left; long = h.long }; small = h.small }
@@ -201,5 +204,7 @@ pub none_applied : (m : List ℕ) (l : records.Layout) → IsLayout m l → (t :
     → IsNext (updated hall t (sent_of m) (held s b)) b s b
 none_applied m l g t s b long h =
     let all = updated hall t (sent_of m) (held s b) in
+    let e : 0 + l.count ≡ l.count = omega arith in
+    let z = skip t (sent_at m) l.count l.count 0 (held s b) (omega arith) (λ k p q o. h.none k p (omega arith) (g.offsets k (omega (arith, g.counted)) ∙ o)) in
     ends m l t s.clock.position.0 all b g l.count s b (omega arith)
-    (standing m l t s.clock.position.0 all b g 0 l.count s b h long refl refl (from_first m l g t (held s b)))
+    (record { long = long; small = refl; here = refl; left = sym (rw e at z) ∙ from_first m l g t (held s b) })

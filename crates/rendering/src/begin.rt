@@ -10,42 +10,25 @@ ghost use Rattle.rules.specs.Samples.{applied_at, updated, slotted};
 ghost use Rattle.store.specs.Layout.{size};
 ghost use Rattle.theorem.specs.Instance.{hall, sent_of};
 ghost use Rattle.rendering.specs.Held.{held, Leads};
-ghost use Rattle.rendering.specs.Begin.{restated, CanStart, Starts};
+ghost use Rattle.rendering.specs.Begin.{CanStart, Starts};
 
 use crate::Rendering;
 use clock::{FrameOffset, START, StreamSample};
+use fields::record::Record;
 use records::layout::Layout;
-use records::order::sent_at;
-use timed::state::MetadataRendererState;
 use updates::update::TimedState;
 
 // Whether an update at offset t starts a new slot.
 fn starts_slot(started: bool, t: FrameOffset) -> bool
     ensures { result ≡ (not started || eqb t.0 0) }
 {
-    if !started {
-        return true;
-    }
-    t.is(START)
+    !started || t == START
 }
 
 impl Rendering {
-    // With another timed state, and in a new slot where `new`.
-    fn restate(mut self, state: MetadataRendererState, new: bool) -> Rendering
-        ensures { result ≡ record { renderer = restated new self.renderer state; ready = self.ready; meters = self.meters } }
-    {
-        let next = self.renderer.with_state(state);
-        self.renderer = next;
-        if new {
-            let slot = self.renderer.begin_slot();
-            self.renderer = slot;
-        }
-        self
-    }
-
     // The update at record u, whose sample offset is t.
     fn apply_one(
-        self,
+        mut self,
         state: &mut [u8],
         meta: &[u8],
         u: usize,
@@ -58,46 +41,44 @@ impl Rendering {
     {
         let before = self.renderer.state;
         let new = starts_slot(before.initialized, t);
-        let first = store::INFOS;
-        let end = store::PLACES;
-        let timed = TimedState(before);
-        let after = timed.apply_update(&mut state[first..end], meta, u, at);
-        self.restate(after.0, new)
+        let infos = &mut state[store::INFOS..store::PLACES];
+        let after = TimedState(before).apply_update(infos, Record { meta, place: u }, at);
+        self.renderer = self.renderer.with_state(after.0);
+        if new {
+            self.renderer = self.renderer.begin_slot();
+        }
+        self
     }
 
     // The updates at sample offset t, in the order sent.
     pub fn apply_sent(
-        self,
+        mut self,
         state: &mut [u8],
         meta: &[u8],
         l: Layout,
         t: FrameOffset,
         at: StreamSample,
     ) -> Rendering
-        requires { (length state.old ≡ size) × (at.0 ≡ self.renderer.clock.position.0) × IsLayout meta.now l × WholeUpdates meta.now l.first l.count }
+        requires { (length state.old ≡ size) × (at.0 ≡ self.renderer.clock.position.0) × IsLayout meta.now l × WholeUpdates meta.now l }
         ensures { Leads (updated hall t.0 (sent_of meta.now) (held self.renderer state.old)) self state.old result state.new }
     {
-        let first = l.first;
-        let count = l.count;
-        let mut next = self;
-        let mut i = sent_at(l, t, 0);
-        while i < count {
-            next = next.apply_one(state, meta, first[i], t, at);
-            i = sent_at(l, t, i + 1);
+        for i in 0..l.count {
+            if l.sent[i].offset == t {
+                self = self.apply_one(state, meta, l.sent[i].place, t, at);
+            }
         }
-        next
+        self
     }
 
     // The slot that starts.
-    pub fn start_slot(self, state: &mut [u8]) -> Rendering
+    pub fn start_slot(mut self, state: &mut [u8]) -> Rendering
         requires { (length state.old ≡ size) × CanStart (held self.renderer state.old) × Starts self.renderer }
         ensures { Leads (slotted hall (held self.renderer state.old)) self state.old result state.new }
     {
-        let before = self.renderer.state;
         let start = self.renderer.clock.start;
-        let first = store::INFOS;
-        let end = store::PLACES;
-        let after = before.update_timeslot(&mut state[first..end], start);
-        self.restate(after, false)
+        let infos = &mut state[store::INFOS..store::PLACES];
+        let after = self.renderer.state.update_timeslot(infos, start);
+        self.renderer = self.renderer.with_state(after);
+        self
     }
 }

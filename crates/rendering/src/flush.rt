@@ -20,20 +20,17 @@ impl Rendering {
     {
         let limiter = self.renderer.limiter;
         let pending = self.renderer.pending as usize;
-        let start = store::PLACES;
         let after = limiter.apply_output_limiter_block(
-            &state[start..],
+            &state[store::PLACES..],
             pending,
             self.renderer.rate,
             out,
             4 * stride,
             4 * self.ready,
         );
-        let next = self.renderer.empty(after.limiter);
-        self.renderer = next;
-        self.ready = self.ready + pending;
-        let meters = self.meters.meet(after.meters);
-        self.meters = meters;
+        self.renderer = self.renderer.empty(after.limiter);
+        self.ready += pending;
+        self.meters = self.meters.meet(after.meters);
         self
     }
 
@@ -42,17 +39,14 @@ impl Rendering {
         requires { CanGiveRows self rows.now out.old stride }
         ensures { GaveRows self rows.now stride out.old result out.new }
     {
-        let limiter = self.renderer.limiter;
         let peak = limiter::max_abs_slice(rows);
-        let scaling = limiter.lower(peak);
-        store_block(rows, 64, scaling.gain, out, 4 * stride, 4 * self.ready);
-        let grown = scaling.grow(64, self.renderer.rate);
-        let next = self.renderer.empty(grown);
-        self.renderer = next;
-        self.ready = self.ready + 64;
-        let met = scaling.meters(peak);
-        let meters = self.meters.meet(met);
-        self.meters = meters;
+        let lowered = self.renderer.limiter.lower(peak);
+        let met = lowered.meters(peak);
+        store_block(rows, 64, lowered.gain, out, 4 * stride, 4 * self.ready);
+        let grown = lowered.grow(64, self.renderer.rate);
+        self.renderer = self.renderer.empty(grown);
+        self.ready += 64;
+        self.meters = self.meters.meet(met);
         self
     }
 

@@ -10,7 +10,7 @@ ghost use Rattle.rendering.specs.Pass.{CanPass, frame_with, moment_here, Waits};
 use crate::Rendering;
 use chunk::mix;
 use clock::FrameOffset;
-use render::Span;
+use render::{Input, Span};
 
 impl Rendering {
     // The k samples from t on of a frame of n samples, mixed into the rows; they wait then.
@@ -28,17 +28,16 @@ impl Rendering {
         ensures { (rate : ℕ) (us : List Sent) (b : List ℕ)
             → Waits (moment_here (frame_with rate us codes.now objects pcm.now n) t.0 k self.renderer b) self t.0 k rows.new result }
     {
-        let m = self.renderer.state;
-        let before = self.renderer.filter;
         let first = t.index();
         let span = Span {
             frame: n,
             first,
             count: k,
         };
-        let filter = mix(m, before, rows, pcm, codes, objects, span);
-        let next = self.renderer.settle(filter, k as u32);
-        self.renderer = next;
+        let input = Input { pcm, codes, span };
+        let mut filter = self.renderer.filter;
+        mix(&self.renderer.state, &mut filter, rows, input, objects);
+        self.renderer = self.renderer.settle(filter, k as u32);
         self
     }
 }

@@ -1,5 +1,5 @@
--- A reader may skip this file: what the inner functions find, in whole numbers: the digits of an f32's size, and the number nearest to a root. Assumes nothing.
-use Rattle.std.specs.Prelude.{ℕ, ◌+◌, ◌-◌, ◌*◌, ◌/◌, ◌^◌, ◌≤◌, ◌<◌, ◌≡◌, Bool, true, false}
+-- A reader may skip this file: what the inner functions find, in whole numbers: the digits of an f32's size, and the number nearest to a fourth root. Assumes nothing.
+use Rattle.std.specs.Prelude.{ℕ, ◌+◌, ◌-◌, ◌*◌, ◌/◌, ◌^◌, ◌≤◌, ◌<◌, ◌≡◌}
 
 -- n units as m * 2 ^ (e - 23), m having 24 digits
 pub record Normal (n m e : ℕ) : Type 0 where
@@ -8,20 +8,18 @@ pub record Normal (n m e : ℕ) : Type 0 where
   pub few : e ≤ 276
   pub is : n * 2 ^ 23 ≡ m * 2 ^ e
 
--- The root of n, for `false` the square root of n and for `true` the fourth root of n * 2 ^ 60, is above r - 1 / 2 where n is above this:
--- the whole part of (r - 1 / 2) ^ 2, or of 16 * (r - 1 / 2) ^ 4 / 2 ^ 64.
-unfoldable pub top_of : Bool → ℕ → ℕ
-top_of false r = r * (r - 1)
-top_of true r = (2 * r - 1) * (2 * r - 1) * ((2 * r - 1) * (2 * r - 1)) / 2 ^ 64
+-- The fourth root of n * 2 ^ 60 is above r - 1 / 2 where n is above this: the whole part of 16 * (r - 1 / 2) ^ 4 / 2 ^ 64.
+unfoldable pub top_of : ℕ → ℕ
+top_of r = (2 * r - 1) * (2 * r - 1) * ((2 * r - 1) * (2 * r - 1)) / 2 ^ 64
 
 -- the root of n has 24 digits
-pub record Spanned (fourth : Bool) (n : ℕ) : Type 0 where
-  pub first : top_of fourth 8388608 < n
-  pub past : n ≤ top_of fourth 16777217
+pub record Spanned (n : ℕ) : Type 0 where
+  pub first : top_of 8388608 < n
+  pub past : n ≤ top_of 16777217
 
 -- r is the whole number nearest to the root of n: r - 1 / 2 is below the root and r + 1 / 2 is not
-pub record NearWhole (fourth : Bool) (n r : ℕ) : Type 0 where
+pub record NearWhole (n r : ℕ) : Type 0 where
   pub low : 2 ^ 23 ≤ r
   pub high : r ≤ 2 ^ 24
-  pub under : top_of fourth r < n
-  pub over : n ≤ top_of fourth (r + 1)
+  pub under : top_of r < n
+  pub over : n ≤ top_of (r + 1)

@@ -15,13 +15,11 @@ fn subnormal(t: u64) -> Scaled
     requires { (0 < t) × (t < 2 ^ 23) }
     ensures { Normal t result.m result.e }
 {
-    let mut m = t;
-    let mut e: u64 = 23;
-    while m < 8388608 {
-        m = m * 2;
-        e = e - 1;
+    let places = t.leading_zeros() - 40;
+    Scaled {
+        m: t << places,
+        e: u64::from(23 - places),
     }
-    Scaled { m, e }
 }
 
 // Of the bits of one.
@@ -29,7 +27,7 @@ pub fn parts(b: u32) -> Scaled
     requires { (0 < b) × (b < 0x7f80_0000) }
     ensures { Normal (units_of b) result.m result.e }
 {
-    let b = b as u64;
+    let b = u64::from(b);
     if b < 8388608 {
         return subnormal(b);
     }

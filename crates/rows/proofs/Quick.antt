@@ -8,8 +8,7 @@ use lib.Ieee.{Float, binary32, to_bits}
 use Rattle.lowpass.specs.Lowpass.{output, next}
 use Rattle.mixing.specs.Sums as sums
 use Rattle.mixing.specs.Sums.{total}
-use Rattle.beds.specs.declared.Found as input
-use Rattle.beds.specs.declared.Found.TheVariants.{At, Nothing}
+use Rattle.std.specs.Prelude.{Option, Some, None}
 use Rattle.beds.specs.BedTerms.{bed_adds}
 use Rattle.beds.specs.Matching.{matching}
 use Rattle.panning.specs.Terms.{Term, term, panned, terms, on_channel}
@@ -85,10 +84,10 @@ unfoldable pub feeds : ℕ → List Float → List Feed
 feeds row [] = []
 feeds row (k ∷ ks) = record { coef = k; row = row } ∷ feeds row ks
 
-unfoldable pub fed_from : List Float → input.Found → List Feed
+unfoldable pub fed_from : List Float → Option ℕ → List Feed
 unfolding feeds
-fed_from ks (At i) = feeds i ks
-fed_from ks Nothing = []
+fed_from ks (Some i) = feeds i ks
+fed_from ks None = []
 
 -- a place, a gain and a size panned
 abbrev pub Pan : Type 0

@@ -13,8 +13,7 @@ use borrow.Author.Tests.{ltb-true}
 use Rattle.words.specs.Words.{Words}
 use Rattle.mixing.specs.Sums as sums
 use Rattle.mixing.specs.Sums.{total}
-use Rattle.beds.specs.declared.Found as input
-use Rattle.beds.specs.declared.Found.TheVariants.{At, Nothing}
+use Rattle.std.specs.Prelude.{Option, Some, None}
 use Rattle.beds.specs.Matching.{matching}
 use Rattle.beds.proofs.Range.{Each, between}
 use Rattle.panning.specs.Terms.{on_channel}
@@ -84,10 +83,10 @@ module _ (xs : ℕ → Float) where
   scaled_feeds i [] = refl
   scaled_feeds i (k ∷ ks) = ap (λ (ts : List sums.Addend). record { coef = k; sample = xs i } ∷ ts) (scaled_feeds i ks)
 
-  scaled_fed : (ks : List Float) (i : input.Found) → scaled xs (fed_from ks i) ≡ fed_by ks i xs
+  scaled_fed : (ks : List Float) (i : Option ℕ) → scaled xs (fed_from ks i) ≡ fed_by ks i xs
   unfolding scaled fed_from
-  scaled_fed ks (At i) = scaled_feeds i ks
-  scaled_fed ks Nothing = refl
+  scaled_fed ks (Some i) = scaled_feeds i ks
+  scaled_fed ks None = refl
 
   scaled_beds : (h : Setup) (c : ℕ) (bs : List Bed) (codes : List ℕ) → scaled xs (bed_feeds (present h.layout) (terms_in h) c bs codes) ≡ beds_on h c bs codes xs
   unfolding scaled bed_feeds

@@ -10,8 +10,7 @@ use lib.Ieee.{Float}
 use Rattle.ieee.specs.Bounds.{All}
 use Rattle.mixing.specs.Sums as sums
 use Rattle.mixing.specs.Sums.{total}
-use Rattle.beds.specs.declared.Found.{Found}
-use Rattle.beds.specs.declared.Found.TheVariants.{At, Nothing}
+use Rattle.std.specs.Prelude.{Option, Some, None}
 use Rattle.beds.specs.declared.Route.{Route}
 use Rattle.beds.specs.declared.Route.TheVariants.{Bass, Folded, Direct, Unsupported}
 use Rattle.beds.specs.Routes.{route_of, bass_gain, folded_unless, route_in}
@@ -80,9 +79,9 @@ module _ (hall : Setup) (f : HallFits hall) (c : ℕ) (away : T (present hall.la
       go (Direct k) = direct k (here k) refl
       go Unsupported = refl
 
-  fed_none : (i : Found) (inputs : ℕ → Float) → fed_by [] i inputs ≡ []
-  fed_none (At i) inputs = refl
-  fed_none Nothing inputs = refl
+  fed_none : (i : Option ℕ) (inputs : ℕ → Float) → fed_by [] i inputs ≡ []
+  fed_none (Some i) inputs = refl
+  fed_none None inputs = refl
 
   beds_absent : (bs : List Bed) (codes : List ℕ) (inputs : ℕ → Float) → beds_on hall c bs codes inputs ≡ []
   beds_absent [] codes inputs = refl

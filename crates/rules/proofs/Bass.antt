@@ -18,8 +18,7 @@ use Rattle.mixing.specs.Sums.{plus, total}
 use Rattle.mixing.specs.FrameSamples.{passes, all_pass}
 use Rattle.mixing.proofs.Theorems.{pass_at, total_append}
 use Rattle.ieee.proofs.Grid.{le_or_lt}
-use Rattle.beds.specs.declared.Found as matched
-use Rattle.beds.specs.declared.Found.TheVariants.{At, Nothing}
+use Rattle.std.specs.Prelude.{Option, Some, None}
 use Rattle.beds.specs.Matching.{matching}
 use Rattle.beds.proofs.Matches.{Judged, judged}
 use Rattle.panning.specs.Setup.{Setup, HallFits}
@@ -57,10 +56,10 @@ same_sent hall f (s ∷ ss) (x ∷ xs) (y ∷ ys) b h e =
     rw (sent_alone s h.0 hall f, plus_same s h.0 b x y e.0) (same_sent hall f ss xs ys (plus b (record { coef = send_of s; sample = y })) h.1 e.1)
 
 -- ---- beds read the rows below their number
-same_fed : (ks : List Float) (code : ℕ) (codes : List ℕ) (f : matched.Found) (x y : ℕ → Float) → Judged code codes f → ((i : ℕ) → i < length codes → x i ≡ y i)
+same_fed : (ks : List Float) (code : ℕ) (codes : List ℕ) (f : Option ℕ) (x y : ℕ → Float) → Judged code codes f → ((i : ℕ) → i < length codes → x i ≡ y i)
     → fed_by ks f x ≡ fed_by ks f y
-same_fed ks code codes (At i) x y j h = ap (scaled_by ks) (h i j.0)
-same_fed ks code codes Nothing x y j h = refl
+same_fed ks code codes (Some i) x y j h = ap (scaled_by ks) (h i j.0)
+same_fed ks code codes None x y j h = refl
 
 same_beds : (hall : Setup) (bs : List Bed) (codes : List ℕ) (x y : ℕ → Float) → ((i : ℕ) → i < length codes → x i ≡ y i)
     → beds_on hall 3 bs codes x ≡ beds_on hall 3 bs codes y

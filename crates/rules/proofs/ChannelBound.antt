@@ -17,8 +17,7 @@ use Rattle.mixing.specs.Sums as sums
 use Rattle.mixing.proofs.Theorems.{AddendWithin, total_bounded}
 use Rattle.beds.specs.declared.Route.{Route}
 use Rattle.beds.specs.declared.Route.TheVariants.{Bass, Folded, Direct, Unsupported}
-use Rattle.beds.specs.declared.Found.{Found}
-use Rattle.beds.specs.declared.Found.TheVariants.{At, Nothing}
+use Rattle.std.specs.Prelude.{Option, Some, None}
 use Rattle.beds.specs.Routes.{route_in, bass_gain}
 use Rattle.beds.specs.Positions.{positions, bed_position}
 use Rattle.beds.specs.Matching.{matching}
@@ -120,10 +119,10 @@ one_more n = omega arith
 joined : {m n : ℕ} (ss ts : List sums.Addend) → Fewer m ss → Fewer n ts → Fewer (m + n) (ss ++ ts)
 joined ss ts a b = let e = length-append ss ts in record { few = omega arith; small = all_append Small ss ts a.small b.small }
 
-fed_fewer : (ks : List Float) (code : ℕ) (codes : List ℕ) (f : Found) (inputs : ℕ → Float) → Judged code codes f → Modest ks
+fed_fewer : (ks : List Float) (code : ℕ) (codes : List ℕ) (f : Option ℕ) (inputs : ℕ → Float) → Judged code codes f → Modest ks
     → ((i : ℕ) → i < length codes → Bounded (16 * One) (inputs i)) → Fewer 19 (fed_by ks f inputs)
-fed_fewer ks code codes (At i) inputs j m h = modest_by ks (inputs i) m (h i j.0)
-fed_fewer ks code codes Nothing inputs j m h = record { few = lit≤ tt; small = tt }
+fed_fewer ks code codes (Some i) inputs j m h = modest_by ks (inputs i) m (h i j.0)
+fed_fewer ks code codes None inputs j m h = record { few = lit≤ tt; small = tt }
 
 module _ (hall : Setup) (f : HallFits hall) (c : ℕ) where
   beds_fewer : (bs : List Bed) (codes : List ℕ) (inputs : ℕ → Float) → All (λ (b : Bed). T (between 0·0 8·0 b.gain)) bs

@@ -11,8 +11,7 @@ use borrow.Author.Tests.{eqb-true, eqb-false, not-true}
 use lib.Dec.{T, eqb}
 use lib.ListN.{length}
 use lib.Ieee.{Float}
-use Rattle.beds.specs.declared.Found as matched
-use Rattle.beds.specs.declared.Found.TheVariants.{At, Nothing}
+use Rattle.std.specs.Prelude.{Option, Some, None}
 use Rattle.beds.specs.Matching.{matching, counted}
 use Rattle.beds.proofs.Matches as match
 use Rattle.ieee.specs.Bounds.{All}
@@ -102,16 +101,16 @@ bed_matched beds codes b e = go (matching b.code codes) refl (match.judged b.cod
     some : counted b.code codes ≢ 0
     some = eqb-false (counted b.code codes) 0 (not-true _ (unless_clear _ 13 (counted b.code beds) 0 clear_both.0))
 
-    go : (f : matched.Found) → matching b.code codes ≡ f → match.Judged b.code codes f → Matched codes b
-    go (At i) q w = record { input = i; there = w.0; feeds = q; supported = eqb-false b.code 6 (not-true _ (unless_clear _ 14 b.code 0 clear_both.1)) }
-    go Nothing q w = absurd (some w)
+    go : (f : Option ℕ) → matching b.code codes ≡ f → match.Judged b.code codes f → Matched codes b
+    go (Some i) q w = record { input = i; there = w.0; feeds = q; supported = eqb-false b.code 6 (not-true _ (unless_clear _ 14 b.code 0 clear_both.1)) }
+    go None q w = absurd (some w)
 
 all_matched : (beds codes : List ℕ) (bs : List Bed) → beds_found beds codes (map (λ (b : Bed). b.code) bs) ≡ clear → All (Matched codes) bs
 all_matched beds codes [] e = tt
 all_matched beds codes (b ∷ bs) e = let p = then_clear (bed_found beds codes b.code) _ e in (bed_matched beds codes b p.0, all_matched beds codes bs p.1)
 
 -- a bed without an input, which 13 keeps out, adds nothing
-pub unmatched : (ks : List Float) (inputs : ℕ → Float) → fed_by ks Nothing inputs ≡ []
+pub unmatched : (ks : List Float) (inputs : ℕ → Float) → fed_by ks None inputs ≡ []
 unmatched ks inputs = refl
 
 module _ (L : Leaves) (B : Layout L) (F : Facts L B) where

@@ -1,13 +1,11 @@
 -- The twelve sums at one sample. Document 01, item 6: "Sums in the source's order": beds, then objects, each in order. Document 02, R-3: "Each object then adds sample × (gain ×
 -- send) to channel 3 before the filter, after all beds and in object order." Assumes nothing.
-use Rattle.std.specs.Prelude.{ℕ, zero, suc, ◌+◌, ◌*◌, List, [], ◌∷◌, ◌++◌, Float}
+use Rattle.std.specs.Prelude.{ℕ, zero, suc, ◌+◌, ◌*◌, List, [], ◌∷◌, ◌++◌, Float, Option, Some, None}
 use Rattle.std.specs.Float.{binary32}
 use Rattle.std.specs.Float.Ieee.{mul}
 use Rattle.words.specs.Words.{float_at}
 use Rattle.mixing.specs.Sums as sums
 use Rattle.mixing.specs.Sums.{total}
-use Rattle.beds.specs.declared.Found.{Found}
-use Rattle.beds.specs.declared.Found.TheVariants.{At, Nothing}
 use Rattle.beds.specs.Matching.{matching}
 use Rattle.beds.specs.BedTerms.{bed_adds}
 use Rattle.panning.specs.Terms.{Term, term, on_channel}
@@ -55,9 +53,9 @@ scaled_by [] x = []
 scaled_by (k ∷ ks) x = record { coef = k; sample = x } ∷ scaled_by ks x
 
 -- a bed takes the input that matches it; without one, which refusal 13 keeps out, it adds nothing
-abbrev pub fed_by : List Float → Found → (ℕ → Float) → List sums.Addend
-fed_by ks (At i) inputs = scaled_by ks (inputs i)
-fed_by ks Nothing inputs = []
+abbrev pub fed_by : List Float → Option ℕ → (ℕ → Float) → List sums.Addend
+fed_by ks (Some i) inputs = scaled_by ks (inputs i)
+fed_by ks None inputs = []
 
 -- the beds in order; `codes` are the frame's, and `inputs` its bed channels' samples
 abbrev pub beds_on : Setup → ℕ → List Bed → List ℕ → (ℕ → Float) → List sums.Addend

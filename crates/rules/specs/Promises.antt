@@ -1,5 +1,5 @@
 -- What each call promises on the renderer that it finds: a push that was accepted, a flush, a reset. Assumes nothing.
-use Rattle.std.specs.Prelude.{ℕ, suc, ◌+◌, ◌*◌, ◌%◌, ◌≤◌, ◌<◌, ◌≡◌, Bool, true, false, cond, ◌||◌, List, [], ◌∷◌, T, leb, length, get_or, drop}
+use Rattle.std.specs.Prelude.{ℕ, suc, ◌+◌, ◌*◌, ◌%◌, ◌≤◌, ◌<◌, ◌≡◌, Bool, true, false, cond, ◌||◌, List, [], ◌∷◌, T, leb, length, get_or, drop, Some}
 use Rattle.std.specs.Float.{binary32}
 use Rattle.std.specs.Float.Ieee.{eq, to_bits}
 use Rattle.words.specs.Words.{Bytes}
@@ -7,7 +7,6 @@ use Rattle.ieee.specs.Bounds.{All}
 use Rattle.mixing.specs.FrameSamples.{all_pass}
 use Rattle.lowpass.specs.Lowpass.{next}
 use Rattle.limiter.specs.Meters.{call_meters}
-use Rattle.beds.specs.declared.Found.TheVariants.{At}
 use Rattle.beds.specs.Matching.{matching}
 use Rattle.panning.specs.Coefficients.{between, 8·0, squares, AddsUp, Each}
 use Rattle.panning.specs.Setup.{Setup, SpeakerOf, speakers_in}
@@ -44,7 +43,7 @@ pub record Squares (h : Setup) (s : Source) : Type 0 where
 pub record Matched (codes : List ℕ) (b : Bed) : Type 0 where
   pub input : ℕ
   pub there : input < length codes
-  pub feeds : matching b.code codes ≡ At input
+  pub feeds : matching b.code codes ≡ Some input
   pub supported : b.code ≡ 6 → ⊥
 
 -- ---- a push that was accepted, on the renderer r that the rules worked out from the list's start

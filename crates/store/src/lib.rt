@@ -1,7 +1,7 @@
 // The state block between calls: the renderer that it holds, its ranges, a fresh block.
 #![tactic(auto)]
 
-ghost use Rattle.std.specs.Prelude.{◌≡◌, length, replicate};
+ghost use Rattle.std.specs.Prelude.{◌≡◌, length};
 ghost use Rattle.words.specs.Words.{words_at};
 ghost use Rattle.store.specs.Fields.{small_of};
 ghost use Rattle.store.specs.Layout.{small_width, size, encode, fresh_renderer};
@@ -9,6 +9,8 @@ ghost use Rattle.store.specs.Layout.{small_width, size, encode, fresh_renderer};
 use formats::areas;
 use renderer::Renderer714;
 
+mod entry;
+mod parts;
 pub mod places;
 pub mod ranges;
 pub mod read;
@@ -29,7 +31,8 @@ const FIRST_RAMP: usize = 4 * places::FIRST_RAMP;
 
 const SECOND_RAMP: usize = 4 * places::SECOND_RAMP;
 
-// The renderer of a block, but for what stays in it.
+// The renderer of a block, but for what stays in it. Here, in `reset` and in `save` the block is the slice that C lends, of any length: an array would ask more of who
+// has the slice.
 pub fn load(state: &[u8]) -> Renderer714
     requires { length state.now ≡ size }
     ensures { result ≡ small_of (words_at state.now 0 small_width) }
@@ -37,22 +40,12 @@ pub fn load(state: &[u8]) -> Renderer714
     read::small(state)
 }
 
-fn zeros(s: &mut [u8])
-    ensures { s.new ≡ replicate (length s.old) 0 }
-{
-    let mut i = 0usize;
-    while i < s.len() {
-        s[i] = 0;
-        i += 1;
-    }
-}
-
 // A fresh block: the limiter's gain 1.0, and no ramp left in either element.
 pub fn reset(state: &mut [u8])
     requires { length state.old ≡ size }
     ensures { state.new ≡ encode fresh_renderer }
 {
-    zeros(state);
+    state.fill(0);
     words::put_u32(state, LIMITER_GAIN, 0x3f80_0000);
     words::put_u64(state, FIRST_RAMP, 140737488355328);
     words::put_u64(state, SECOND_RAMP, 140737488355328);

@@ -1,47 +1,57 @@
 // The ranges of a block's fields.
-ghost use Rattle.std.specs.Prelude.{◌≡◌, ◌+◌, ◌*◌, ◌≤◌, true, not, ◌||◌, eqb, length};
+ghost use Rattle.std.specs.Prelude.{◌≡◌, ◌+◌, ◌*◌, ◌-◌, ◌≤◌, true, length};
 ghost use Rattle.formats.specs.NumberWords.{in_words};
-ghost use Rattle.rules.specs.Refusals as refusals;
-ghost use Rattle.store.specs.Fields.{longest, element_format, counts_format, tables_format, basics_format, small_format, small_of};
-ghost use Rattle.store.specs.FieldPlaces.{state_at, tables_at, size};
+ghost use Rattle.store.specs.Fields.{longest, head_format, element_format, counts_format, tables_format, basics_format, small_format, small_of};
+ghost use Rattle.store.specs.FieldPlaces.{state_at, tables_at};
 ghost use Rattle.store.specs.ValidBlocks as ranges;
 ghost use Rattle.store.specs.ValidBlocks.{clock_in, counts_in, least, element_in, small_valid, valid};
 
 use crate::places;
 use formats::areas::heads_valid;
 use formats::{at_most, long, word_of};
-use timed::state;
 
-fn rate_valid(rate: u32) -> bool
-    ensures { result ≡ (eqb rate 0 || refusals.listed rate) }
-{
-    if rate == 0 {
-        return true;
-    }
-    angles::listed(rate)
-}
+// A state block: its type says its length.
+type Block = [u8; crate::SIZE];
 
-// ---- each field by itself
+// The longest stream; a ramp of 0, as ramps are kept; the largest offset of a block, and ramp, as they are kept.
+const LONGEST: u64 = 1 << 40;
 
-fn basics_fields(s: &[u8]) -> bool
-    requires { length s.now ≡ size }
+const MIDDLE: u64 = 1 << 47;
+
+const LARGEST: u32 = 1 << 21;
+
+// ---- each field by itself. Tests that are values are joined by `&`, grouped as the formats are: by `&&` each would be a branch, of which the proofs don't close
+// (`search` stops at its limit), and in a valid block each is true.
+
+fn basics_fields(s: &Block) -> bool
     ensures { result ≡ basics_format.test (in_words s.now) 0 }
 {
-    rate_valid(word_of(s, places::RATE))
-        & ((word_of(s, places::PHASE) < 64)
-            & ((long(s, places::POSITION) <= 1099511627776)
-                & ((long(s, places::START) <= 1099511627776) & (word_of(s, places::PENDING) < 64))))
+    let rate = word_of(s, places::RATE);
+    (rate == 0 || angles::listed(rate))
+        && word_of(s, places::PHASE) < 64
+        && long(s, places::POSITION) <= LONGEST
+        && long(s, places::START) <= LONGEST
+        && word_of(s, places::PENDING) < 64
 }
 
-fn counts_fields(s: &[u8]) -> bool
-    requires { length s.now ≡ size }
+fn counts_fields(s: &Block) -> bool
     ensures { result ≡ counts_format.test (in_words s.now) state_at }
 {
-    (word_of(s, places::INITIALIZED) <= 1)
-        & ((long(s, places::PAYLOAD) <= 1099511627776)
-            & ((word_of(s, places::OBJECTS) <= 32)
-                & ((word_of(s, places::ISF) <= 255)
-                    & ((word_of(s, places::BEDS) <= 18) & (word_of(s, places::IN_USE) <= 2)))))
+    word_of(s, places::INITIALIZED) <= 1
+        && long(s, places::PAYLOAD) <= LONGEST
+        && word_of(s, places::OBJECTS) <= 32
+        && word_of(s, places::ISF) <= 255
+        && word_of(s, places::BEDS) <= 18
+        && word_of(s, places::IN_USE) <= 2
+}
+
+fn head_fields(s: &[u8], at: usize) -> bool
+    requires { 4 * (at + head_format.width) ≤ length s.now }
+    ensures { result ≡ head_format.test (in_words s.now) at }
+{
+    let flags = at + 1;
+    let remaining = flags + 1;
+    word_of(s, at) <= 8 && word_of(s, flags) <= 16 && long(s, remaining) <= MIDDLE + (1 << 20)
 }
 
 // The element whose words start at `at`.
@@ -49,21 +59,17 @@ fn element_fields(s: &[u8], at: usize) -> bool
     requires { 4 * (at + element_format.width) ≤ length s.now }
     ensures { result ≡ element_format.test (in_words s.now) at }
 {
-    let flags = at + 1;
-    let remaining = flags + 1;
     let blocks = at + places::HEAD;
     let rows = blocks + places::SCHEDULE;
-    let head = (word_of(s, at) <= 8)
-        & ((word_of(s, flags) <= 16) & (long(s, remaining) <= 140737489403904));
-    let offsets = at_most(s, blocks, 0, places::BLOCK, 8, 2097152);
-    let ramps = at_most(s, blocks, 1, places::BLOCK, 8, 2097152);
+    let head = head_fields(s, at);
+    let offsets = at_most(s, blocks, 0, places::BLOCK, 8, LARGEST);
+    let ramps = at_most(s, blocks, 1, places::BLOCK, 8, LARGEST);
     let used = at_most(s, blocks, 2, places::BLOCK, 8, 1);
     let now = at_most(s, rows, 0, places::TRACK, 16, 1);
     head & ((offsets & (ramps & used)) & now)
 }
 
-fn tables_fields(s: &[u8]) -> bool
-    requires { length s.now ≡ size }
+fn tables_fields(s: &Block) -> bool
     ensures { result ≡ tables_format.test (in_words s.now) tables_at }
 {
     let codes = at_most(s, places::CODES, 0, 1, 18, 17);
@@ -73,63 +79,49 @@ fn tables_fields(s: &[u8]) -> bool
     codes & (placed & (first & second))
 }
 
-fn fields_valid(s: &[u8]) -> bool
-    requires { length s.now ≡ size }
+fn fields_valid(s: &Block) -> bool
     ensures { result ≡ small_format.test (in_words s.now) 0 }
 {
-    let basics = basics_fields(s);
-    let counts = counts_fields(s);
-    let tables = tables_fields(s);
-    basics & (counts & tables)
+    basics_fields(s) && counts_fields(s) && tables_fields(s)
 }
 
 // ---- what fields owe each other
 
-// Nothing pending without a rate.
-fn idle_valid(rate: u32, pending: u32) -> bool
-    ensures { result ≡ (not (eqb rate 0) || eqb pending 0) }
-{
-    if rate != 0 {
-        return true;
-    }
-    pending == 0
-}
-
+// The slot starts in the stream's past; nothing is pending without a rate.
 fn clock_valid(rate: u32, phase: u32, position: u64, start: u64, pending: u32) -> bool
     requires { start ≤ longest }
     ensures { result ≡ clock_in rate phase position start pending }
 {
-    let idle = idle_valid(rate, pending);
-    (start + phase as u64 <= position) & idle
+    start + phase as u64 <= position && (rate != 0 || pending == 0)
 }
 
 fn counts_valid(objects: u32, isf: u32, beds: u32) -> bool
     ensures { result ≡ counts_in objects isf beds }
 {
-    let dynamic = state::dynamic(objects as usize, isf as usize);
-    (dynamic <= 16) & (beds <= objects)
+    objects.saturating_sub(isf) <= 16 && beds <= objects
 }
 
 // How many flags element i must have.
-fn least_flags(i: u32, elements: u32, objects: u32, isf: u32) -> usize
+fn least_flags(i: u32, elements: u32, objects: u32, isf: u32) -> u32
     ensures { result ≡ least i elements objects isf }
 {
     if i < elements {
-        return state::dynamic(objects as usize, isf as usize);
+        objects.saturating_sub(isf)
+    } else {
+        0
     }
-    0
 }
 
 // An element's flags and its remaining ramp, at a stream position; `least` is how many flags it must have.
-fn element_valid(position: u64, least: usize, flags: u32, remaining: u64) -> bool
+fn element_valid(position: u64, least: u32, flags: u32, remaining: u64) -> bool
     requires { (position ≤ longest) × (remaining ≤ 140737489403904) }
     ensures { result ≡ element_in position least flags remaining }
 {
-    (least <= flags as usize) & (140737488355328 <= remaining + (2097152 + 64 * position))
+    least <= flags && MIDDLE <= remaining + (2097152 + 64 * position)
 }
 
-fn related(s: &[u8]) -> bool
-    requires { (length s.now ≡ size) × (small_format.test (in_words s.now) 0 ≡ true) }
+fn related(s: &Block) -> bool
+    requires { small_format.test (in_words s.now) 0 ≡ true }
     ensures { result ≡ ranges.related (small_of (in_words s.now)) }
 {
     let position = long(s, places::POSITION);
@@ -160,25 +152,18 @@ fn related(s: &[u8]) -> bool
     clock & (counts & (first & second))
 }
 
-fn small_valid(s: &[u8]) -> bool
-    requires { length s.now ≡ size }
+fn small_valid(s: &Block) -> bool
     ensures { result ≡ small_valid (in_words s.now) }
 {
-    if !fields_valid(s) {
-        return false;
-    }
-    related(s)
+    fields_valid(s) && related(s)
 }
 
 // Whether a block has the right length and every field in its range.
 pub fn is_valid(state: &[u8]) -> bool
     ensures { result ≡ valid state.now }
 {
-    if state.len() != crate::SIZE {
+    let Some(block) = state.as_array::<{ crate::SIZE }>() else {
         return false;
-    }
-    if !heads_valid(&state[crate::INFOS..crate::PLACES]) {
-        return false;
-    }
-    small_valid(state)
+    };
+    heads_valid(&block[crate::INFOS..crate::PLACES]) && small_valid(block)
 }

@@ -2,7 +2,7 @@
 // Translated from libstarmine_ad render.rs; changed.
 
 // The renderer by value. Infos and the samples that wait stay in the state block.
-ghost use Rattle.std.specs.Prelude.{◌≡◌, cond, ◌&&◌, leb, ◌+◌, ◌≤◌};
+ghost use Rattle.std.specs.Prelude.{◌≡◌, ◌+◌, ◌≤◌};
 ghost use Rattle.angles.specs.Angle.{Listed};
 ghost use Rattle.rules.specs.Samples.{ticked};
 ghost use Rattle.store.specs.Fields.{clock_of};
@@ -23,7 +23,7 @@ pub struct Clock {
 
 #[derive(Clone, Copy)]
 pub struct Renderer714 {
-    // 0: no frame was accepted yet
+    // 0: no frame was accepted yet. No Option: the block's word and the rules' renderer have this number, and clauses speak of it
     pub rate: u32,
     pub clock: Clock,
     pub limiter: Limiter,
@@ -33,58 +33,39 @@ pub struct Renderer714 {
     pub state: MetadataRendererState,
 }
 
-// The phase of the slot after k samples; it rests before the first update.
-fn phase_after(started: bool, phase: u32, k: u32) -> u32
-    requires { phase + k ≤ 128 }
-    ensures { result ≡ cond started (cond (leb 64 (phase + k)) 0 (phase + k)) phase }
-{
-    if started {
-        if phase + k >= 64 {
-            return 0;
-        }
-        return phase + k;
-    }
-    phase
-}
-
-// The start of the slot after k samples.
-fn start_after(started: bool, phase: u32, start: StreamSample, k: u32) -> StreamSample
-    requires { (phase + k ≤ 128) × (start.0 ≤ 1099511627776) }
-    ensures { result.0 ≡ cond (started && leb 64 (phase + k)) (start.0 + 64) start.0 }
-{
-    if started {
-        if phase + k >= 64 {
-            return start.plus(64);
-        }
-        return start;
-    }
-    start
-}
-
 impl Clock {
     // A new slot at the present sample.
     pub fn at_slot(self) -> Clock
         ensures { result ≡ at_slot self }
     {
-        let position = self.position;
         Clock {
-            position,
-            start: position,
+            start: self.position,
             phase: 0,
+            ..self
         }
     }
 
-    // k samples later. The slots go on where an update was applied.
+    // k samples later. The slots go on where an update was applied; else the first one rests.
     pub fn tick(self, started: bool, k: u32) -> Clock
         requires { (self.phase + k ≤ 128) × (self.start.0 ≤ 1099511627776) × (self.position.0 ≤ 1099511627776) × (k ≤ 64) }
         ensures { clock_of result ≡ ticked started k (clock_of self) }
     {
-        let position = self.position;
-        let start = self.start;
+        let position = self.position.plus(k);
+        if !started {
+            return Clock { position, ..self };
+        }
+        let phase = self.phase + k;
+        if phase < 64 {
+            return Clock {
+                position,
+                phase,
+                ..self
+            };
+        }
         Clock {
-            position: position.plus(k),
-            start: start_after(started, self.phase, start, k),
-            phase: phase_after(started, self.phase, k),
+            position,
+            start: self.start.plus(64),
+            phase: 0,
         }
     }
 }
@@ -94,25 +75,14 @@ impl Renderer714 {
     pub fn with_state(self, state: MetadataRendererState) -> Renderer714
         ensures { result ≡ with_state self state }
     {
-        let clock = self.clock;
-        let limiter = self.limiter;
-        let filter = self.filter;
-        Renderer714 {
-            rate: self.rate,
-            clock,
-            limiter,
-            filter,
-            pending: self.pending,
-            state,
-        }
+        Renderer714 { state, ..self }
     }
 
     // A new slot at the present sample.
     pub fn begin_slot(mut self) -> Renderer714
         ensures { result ≡ in_new_slot self }
     {
-        let clock = self.clock.at_slot();
-        self.clock = clock;
+        self.clock = self.clock.at_slot();
         self
     }
 
@@ -121,12 +91,10 @@ impl Renderer714 {
         requires { Listed rate }
         ensures { result ≡ opened_by self rate }
     {
-        if self.rate != 0 {
-            return self;
+        if self.rate == 0 {
+            self.rate = rate;
+            self.filter = BiquadLowpassState::new(rate);
         }
-        let filter = BiquadLowpassState::new(rate);
-        self.rate = rate;
-        self.filter = filter;
         self
     }
 
@@ -135,10 +103,9 @@ impl Renderer714 {
         requires { (self.clock.phase + k ≤ 128) × (self.clock.start.0 ≤ 1099511627776) × (self.clock.position.0 ≤ 1099511627776) × (self.pending + k ≤ 64) }
         ensures { result ≡ settled_by self filter k }
     {
-        let clock = self.clock.tick(self.state.initialized, k);
-        self.clock = clock;
+        self.clock = self.clock.tick(self.state.initialized, k);
         self.filter = filter;
-        self.pending = self.pending + k;
+        self.pending += k;
         self
     }
 

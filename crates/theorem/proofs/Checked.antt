@@ -9,11 +9,10 @@ use lib.Ieee.{Float, binary32, of_bits, fits}
 use lib.Ieee.Bits.{of_bits-fits}
 use native.Mathlib.Omega.{arith}
 use borrow.Author.Tests.{leb-true, ltb-true}
+use Rattle.std.specs.Prelude.{Option, Some, None}
 use Rattle.ieee.specs.Bounds.{All}
 use Rattle.words.specs.Words.{Bytes, word, float_at}
 use Rattle.words.proofs.Small.{number_small}
-use Rattle.vectors.specs.declared.Maybe.{Maybe}
-use Rattle.vectors.specs.declared.Maybe.TheVariants.{Absent, Value}
 use Rattle.panning.specs.Choice.{0·0, 1·0}
 use Rattle.panning.specs.Table.{between, 8·0}
 use Rattle.fields.specs.RecordBytes.{byte, kind, has}
@@ -56,8 +55,8 @@ checked meta b l f = each_all Checked (sent_at meta) (count meta) (λ i h. recor
 
 -- ---- what is said of an info: its head, gain and size
 
-abbrev pub value_in : ℕ → ℕ → ℕ → Maybe
-value_in head bit w = cond (has head bit) (Value (of_bits binary32 w)) Absent
+abbrev pub value_in : ℕ → ℕ → ℕ → Option Float
+value_in head bit w = cond (has head bit) (Some (of_bits binary32 w)) None
 
 abbrev pub SoundSaid : Said
 SoundSaid h g z d = UpTo 8·0 (value_in h 4 g) × UpTo 1·0 (value_in h 32 z) × T (between 0·0 1·0 (of_bits binary32 d))
@@ -69,7 +68,7 @@ t_of : (b : Bool) → b ≡ true → T b
 t_of true e = tt
 t_of false e = absurd (let z : ◌≡◌ {A = ℕ} 0 1 = cc in omega arith)
 
-up_to : (most : Float) (b : Bool) (w : ℕ) → absent_or most (cond b (Value (of_bits binary32 w)) Absent) ≡ true → UpTo most (cond b (Value (of_bits binary32 w)) Absent)
+up_to : (most : Float) (b : Bool) (w : ℕ) → absent_or most (cond b (Some (of_bits binary32 w)) None) ≡ true → UpTo most (cond b (Some (of_bits binary32 w)) None)
 unfolding between
 up_to most true w e = and_in (fits binary32 (of_bits binary32 w)) _ (of_bits-fits binary32 w) (t_of _ e)
 up_to most false w e = tt
@@ -148,11 +147,11 @@ module _ (m : List ℕ) (bytes : Bytes m) (laid : laid_out m ≡ true) (fit : in
     head_is : (bed : Bool) → HeadOf (byte m r 2) (depth_code (float_at m (40 * r + 32))) (head_of bed (stored_info m r))
     head_is bed = bed_head bed (byte m r 2) (byte m r 1) (depth_code (float_at m (40 * r + 32))) (stored_info m r) flags_few anchor_listed depth_listed refl
 
-    gain_in : UpTo 8·0 (cond (has (byte m r 2) 4) (Value (of_bits binary32 (word m (40 * r + 4)))) Absent)
+    gain_in : UpTo 8·0 (cond (has (byte m r 2) 4) (Some (of_bits binary32 (word m (40 * r + 4)))) None)
     unfolding maybe_of float_at
     gain_in = up_to 8·0 (has (byte m r 2) 4) (word m (40 * r + 4)) (and_left (absent_or 8·0 (object_of m r).gain) _ (and_left _ _ (and_left _ _ inside)))
 
-    size_in : UpTo 1·0 (cond (has (byte m r 2) 32) (Value (of_bits binary32 (word m (40 * r + 24)))) Absent)
+    size_in : UpTo 1·0 (cond (has (byte m r 2) 32) (Some (of_bits binary32 (word m (40 * r + 24)))) None)
     unfolding maybe_of float_at
     size_in = up_to 1·0 (has (byte m r 2) 32) (word m (40 * r + 24)) (and_right (absent_or 8·0 (object_of m r).gain) _ (and_left _ _ (and_left _ _ inside)))
 
@@ -183,7 +182,7 @@ module _ (m : List ℕ) (bytes : Bytes m) (laid : laid_out m ≡ true) (fit : in
         let n = head_of bed (stored_info m r) in
         let h = head_is bed in
         fit_for SoundSaid bed (
-          subst (λ (k : ℕ). UpTo 8·0 (cond (eqb k 1) (Value (of_bits binary32 (word m (40 * r + 4)))) Absent)) (sym h.gain) gain_in,
-          subst (λ (k : ℕ). UpTo 1·0 (cond (eqb k 1) (Value (of_bits binary32 (word m (40 * r + 24)))) Absent)) (sym h.size) size_in,
+          subst (λ (k : ℕ). UpTo 8·0 (cond (eqb k 1) (Some (of_bits binary32 (word m (40 * r + 4)))) None)) (sym h.gain) gain_in,
+          subst (λ (k : ℕ). UpTo 1·0 (cond (eqb k 1) (Some (of_bits binary32 (word m (40 * r + 24)))) None)) (sym h.size) size_in,
           send_in,
         )

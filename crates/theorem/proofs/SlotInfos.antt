@@ -133,7 +133,7 @@ pub applied_like : (w : Timing) (r : Reach) (b : ℕ) (k : SlotWork) → Like k.
 unfolding block_applied
 applied_like w r b k =
     let s = k.slot in
-    moved_all_like (ramp_over (left_after w (get_or s.schedule b no_block))) (r.first + b) r.count (record { sources = s.sources; tracks = s.tracks }) k.infos
+    moved_all_like (ramp_over (left_after w (get_or s.schedule b no_block))) (r.first + b) r.count s.moving k.infos
 
 pub blocks_like : (w : Timing) (r : Reach) (n : ℕ) (k : SlotWork) → Like k.infos (blocks_applied w r n k).infos
 unfolding blocks_applied

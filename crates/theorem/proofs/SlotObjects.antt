@@ -8,15 +8,14 @@ use native.Mathlib.Omega.{arith}
 use lib.ListN.{get_or}
 use lib.Ieee.{Float, nan, binary32}
 use lib.Ieee.Bits.{of_bits-fits}
+use Rattle.std.specs.Prelude.{unwrap_or, Option, Some, None}
 use Rattle.words.specs.Words.{float_at}
-use Rattle.vectors.specs.declared.Maybe.{Maybe}
-use Rattle.vectors.specs.declared.Maybe.TheVariants.{Absent, Value}
 use Rattle.vectors.specs.Vectors.{lerp_vec3}
 use Rattle.vectors.specs.Target.{placed}
 use Rattle.vectors.specs.Fit.{VecFits, BlockFits, PlacedFits}
 use Rattle.vectors.proofs.Fitting.{placed_fits, lerp_fits}
 use Rattle.timed.specs.Infos.{maybe_at, vec_at, gain_at, size_at, send_at, block_position}
-use Rattle.timed.specs.Objects.{no_source, no_track, or_else, object_moved, moved_at, moved_all, bed_at, bed_gains, ramped, ramped_at, ramped_all}
+use Rattle.timed.specs.Objects.{no_source, no_track, object_moved, moved_at, moved_all, bed_at, bed_gains, ramped, ramped_at, ramped_all}
 use Rattle.timed.specs.Objects as objects
 use Rattle.timed.specs.declared.state.Track.{Track}
 use Rattle.timed.specs.declared.state.DynamicSourceState.{DynamicSourceState}
@@ -26,9 +25,9 @@ use Rattle.timed.specs.InfoSizes.{info_bytes, position_byte, last_byte}
 use Rattle.theorem.proofs.SlotInfos.{Like, like_head, moved_like}
 
 -- absent, or with P
-abbrev pub Holds : (Float → Type 0) → Maybe → Type 0
-Holds P Absent = Unit {0}
-Holds P (Value x) = P x
+abbrev pub Holds : (Float → Type 0) → Option Float → Type 0
+Holds P None = Unit {0}
+Holds P (Some x) = P x
 
 pub record SourceHas (G Z : Float → Type 0) (s : DynamicSourceState) : Type 0 where
   pub gain : G s.gain
@@ -68,9 +67,9 @@ block_fits : (is : List ℕ) (k : ℕ) → BlockFits (block_position is k)
 unfolding block_position
 block_fits is k = record { position_fits = vec_at_fits is (info_bytes * k + position_byte); last_fits = vec_at_fits is (info_bytes * k + last_byte) }
 
-or_else_holds : (P : Float → Type 0) (m : Maybe) (x : Float) → Holds P m → P x → P (or_else m x)
-or_else_holds P Absent x h p = p
-or_else_holds P (Value y) x h p = h
+or_else_holds : (P : Float → Type 0) (m : Option Float) (x : Float) → Holds P m → P x → P (unwrap_or m x)
+or_else_holds P None x h p = p
+or_else_holds P (Some y) x h p = h
 
 -- ---- one object
 
@@ -156,6 +155,6 @@ module _ (G Z : Float → Type 0) where
   unfolding bed_gains
   bed_gains_have is first count gs l h =
       times_in (λ (x : List Float). (i : ℕ) → i < 18 → G (get_or x i nan)) (bed_at is first) 18
-      (λ i x b k. set_each (λ j y. j < 18 → G y) x i (or_else (gain_at is (first + 8 * i)) (get_or x i nan)) nan
+      (λ i x b k. set_each (λ j y. j < 18 → G y) x i (unwrap_or (gain_at is (first + 8 * i)) (get_or x i nan)) nan
       (λ _. or_else_holds G (gain_at is (first + 8 * i)) (get_or x i nan) (h.gain (first + 8 * i)) (k i b)) k)
       count 0 (omega arith) gs

@@ -6,8 +6,9 @@ use mathlib.Core.List.{List}
 use lib.Dec.{eqb}
 use lib.ListN.{length, get_or, length-set}
 use lib.Ieee.{Float, nan}
+use Rattle.std.specs.Prelude.{unwrap_or}
 use Rattle.timed.specs.Infos.{gain_at}
-use Rattle.timed.specs.Objects.{no_source, no_track, or_else, object_moved, moved_at, moved_all, bed_at, bed_gains, ramped, ramped_at, ramped_all}
+use Rattle.timed.specs.Objects.{no_source, no_track, object_moved, moved_at, moved_all, bed_at, bed_gains, ramped, ramped_at, ramped_all}
 use Rattle.timed.specs.Objects as objects
 use Rattle.timed.specs.Rules.{no_block, remaining_of, due, left_after, ramp_over, share, active}
 use Rattle.timed.specs.Slot.{SlotWork, block_applied, block_turn, blocks_applied, ramp_applied, updated_sources}
@@ -25,8 +26,8 @@ use Rattle.timed.proofs.Theorems.{times_keeps, cond_keeps, set_each}
 pub record Long (s t : Slot) : Type 0 where
   pub schedule : length t.schedule ≡ length s.schedule
   pub gains : length t.gains ≡ length s.gains
-  pub sources : length t.sources ≡ length s.sources
-  pub tracks : length t.tracks ≡ length s.tracks
+  pub sources : length t.moving.sources ≡ length s.moving.sources
+  pub tracks : length t.moving.tracks ≡ length s.moving.tracks
 
 pub record ElementShaped (e f : ElementRendererState) : Type 0 where
   pub blocks : f.blocks ≡ e.blocks
@@ -78,7 +79,7 @@ bed_gains_long : (is : List ℕ) (first count : ℕ) (gs : List Float) → lengt
 unfolding bed_gains
 bed_gains_long is first count gs =
     times_keeps (λ (x : List Float). length x ≡ length gs) (bed_at is first)
-    (λ i x h. length-set x i (or_else (gain_at is (first + 8 * i)) (get_or x i nan)) ∙ h) count 0 gs refl
+    (λ i x h. length-set x i (unwrap_or (gain_at is (first + 8 * i)) (get_or x i nan)) ∙ h) count 0 gs refl
 
 -- ---- blocks and the ramp
 
@@ -93,7 +94,7 @@ unfolding block_applied
 applied_long w r b k =
     let s = k.slot in
     let x = get_or s.schedule b no_block in
-    let m = moved_all_long (ramp_over (left_after w x)) (r.first + b) r.count (record { sources = s.sources; tracks = s.tracks }) k.infos in
+    let m = moved_all_long (ramp_over (left_after w x)) (r.first + b) r.count s.moving k.infos in
     record {
       schedule = length-set s.schedule b (record { offset = x.offset; ramp = x.ramp; used = true });
       gains = bed_gains_long k.infos (r.beds + b) r.channels s.gains;
@@ -116,15 +117,15 @@ ramp_long before n s =
     (λ _. record {
       schedule = refl;
       gains = refl;
-      sources = (ramped_all_long (share (remaining_of s.remaining)) before n (record { sources = s.sources; tracks = s.tracks })).sources;
-      tracks = refl;
+      sources = (ramped_all_long (share (remaining_of s.remaining)) before n s.moving).sources;
+      tracks = (ramped_all_long (share (remaining_of s.remaining)) before n s.moving).tracks;
     })
 
 -- ---- the state
 
 -- the slot that element e starts
 abbrev pub slot_on : MetadataRendererState → ElementRendererState → Slot
-slot_on s e = record { schedule = e.schedule; remaining = e.remaining; gains = s.gains; sources = s.sources; tracks = e.tracks }
+slot_on s e = record { schedule = e.schedule; remaining = e.remaining; gains = s.gains; moving = record { sources = s.sources; tracks = e.tracks } }
 
 shaped_refl : (s : MetadataRendererState) → Shaped s s
 shaped_refl s =

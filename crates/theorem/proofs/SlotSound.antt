@@ -9,10 +9,9 @@ use borrow.Author.Tests.{ltb-true, ltb-false}
 use lib.Dec.{T, ltb}
 use lib.ListN.{length, get_or, get_or-eq_default}
 use lib.Ieee.{Float, fits, le, of_bits}
+use Rattle.std.specs.Prelude.{Option, Some, None}
 use Rattle.words.specs.Words.{number, float_at}
 use Rattle.vectors.specs.declared.Vec3.{Vec3}
-use Rattle.vectors.specs.declared.Maybe.{Maybe}
-use Rattle.vectors.specs.declared.Maybe.TheVariants.{Absent, Value}
 use Rattle.vectors.specs.Fit.{VecFits}
 use Rattle.panning.specs.Choice.{0·0, 1·0}
 use Rattle.panning.specs.Table.{between, 8·0, Position}
@@ -43,11 +42,11 @@ module _ (is : List ℕ) (long : length is ≡ all_bytes) (k : ℕ) (past : 512 
   head_past : number is (info_bytes * k) 4 ≡ 0
   head_past = number_past is (info_bytes * k) 4 (omega arith)
 
-  gain_past : gain_at is k ≡ Absent
+  gain_past : gain_at is k ≡ None
   unfolding maybe_at
   gain_past = rw head_past
 
-  size_past : size_at is k ≡ Absent
+  size_past : size_at is k ≡ None
   unfolding maybe_at
   size_past = rw head_past
 
@@ -57,20 +56,20 @@ module _ (is : List ℕ) (long : length is ≡ all_bytes) (k : ℕ) (past : 512 
 
 -- ---- the two ways to say it
 
-held : (most : Float) (m : Maybe) → UpTo most m → Holds (Upto most) m
-held most Absent h = h
-held most (Value x) h = h
+held : (most : Float) (m : Option Float) → UpTo most m → Holds (Upto most) m
+held most None h = h
+held most (Some x) h = h
 
-up_to : (most : Float) (m : Maybe) → Holds (Upto most) m → UpTo most m
-up_to most Absent h = h
-up_to most (Value x) h = h
+up_to : (most : Float) (m : Option Float) → Holds (Upto most) m → UpTo most m
+up_to most None h = h
+up_to most (Some x) h = h
 
 sends_held : (is : List ℕ) → InfosSound is → (k : ℕ) (b : Bool) → ltb k 512 ≡ b → Upto 1·0 (send_at is k)
 sends_held is h k true e = h.send k (ltb-true k 512 e)
 sends_held is h k false e = send_past is h.long k (ltb-false k 512 e)
 
 -- below 512 as given, from there on absent
-each_held : (most : Float) (f : ℕ → Maybe) → ((k : ℕ) → k < 512 → UpTo most (f k)) → ((k : ℕ) → 512 ≤ k → f k ≡ Absent) → (k : ℕ) → (b : Bool) → ltb k 512 ≡ b
+each_held : (most : Float) (f : ℕ → Option Float) → ((k : ℕ) → k < 512 → UpTo most (f k)) → ((k : ℕ) → 512 ≤ k → f k ≡ None) → (k : ℕ) → (b : Bool) → ltb k 512 ≡ b
     → Holds (Upto most) (f k)
 each_held most f h p k true e = held most (f k) (h k (ltb-true k 512 e))
 each_held most f h p k false e = subst (Holds (Upto most)) (sym (p k (ltb-false k 512 e))) tt

@@ -25,7 +25,7 @@ use Rattle.theorem.proofs.SlotObjects.{SourceHas, InfosHave, MovingHas, like_has
 
 record SlotHas (G Z : Float → Type 0) (s : Slot) : Type 0 where
   gains : (i : ℕ) → i < 18 → G (get_or s.gains i nan)
-  moving : MovingHas G Z (record { sources = s.sources; tracks = s.tracks })
+  moving : MovingHas G Z s.moving
 
 record WorkHas (G Z : Float → Type 0) (k : SlotWork) : Type 0 where
   slot : SlotHas G Z k.slot
@@ -48,11 +48,11 @@ module _ (G Z : Float → Type 0) where
     applied_has b k h =
         let s = k.slot in
         let left = left_after w (get_or s.schedule b no_block) in
-        let m = moved_all_has G Z (ramp_over left) (r.first + b) r.count (record { sources = s.sources; tracks = s.tracks }) k.infos some h.slot.moving h.infos in
+        let m = moved_all_has G Z (ramp_over left) (r.first + b) r.count s.moving k.infos some h.slot.moving h.infos in
         record {
           slot = record {
             gains = bed_gains_have G Z k.infos (r.beds + b) r.channels s.gains few h.infos h.slot.gains;
-            moving = record { sources = m.sources; targets = m.targets };
+            moving = m;
           };
           infos = like_has (applied_like w r b k) h.infos;
         }
@@ -69,8 +69,7 @@ module _ (G Z : Float → Type 0) where
   ramp_has before n s l h =
       cond_keeps (SlotHas G Z) (ramp_over (remaining_of s.remaining)) s _ (λ _. h)
       (λ _.
-      let m = ramped_all_has G Z (share (remaining_of s.remaining)) before n (record { sources = s.sources; tracks = s.tracks }) l h.moving in
-      record { gains = h.gains; moving = record { sources = m.sources; targets = h.moving.targets } })
+      record { gains = h.gains; moving = ramped_all_has G Z (share (remaining_of s.remaining)) before n s.moving l h.moving })
 
   -- ---- the state
 

@@ -7,10 +7,10 @@ use native.Mathlib.Omega.{arith}
 use lib.ListN.{length, get_or}
 use lib.Ieee.{Float, nan, binary32}
 use lib.Ieee.Bits.{of_bits-fits}
+use Rattle.std.specs.Prelude.{Some, None}
 use Rattle.ieee.specs.Bounds.{All}
 use Rattle.words.specs.Words.{word, float_at}
 use Rattle.vectors.specs.declared.Vec3.{Vec3}
-use Rattle.vectors.specs.declared.Maybe.TheVariants.{Absent, Value}
 use Rattle.vectors.specs.Fit.{VecFits}
 use Rattle.vectors.specs.Head.{has}
 use Rattle.timed.specs.Infos.{head_at, maybe_at}
@@ -36,7 +36,7 @@ all_out P d [] h i l = absurd (omega arith)
 all_out P d (x ∷ xs) h zero l = h.0
 all_out P d (x ∷ xs) h (suc i) l = all_out P d xs h.1 i (omega arith)
 
-either_holds : (P : Float → Type 0) (b : Bool) (x : Float) → P x → Holds P (cond b (Value x) Absent)
+either_holds : (P : Float → Type 0) (b : Bool) (x : Float) → P x → Holds P (cond b (Some x) None)
 either_holds P true x h = h
 either_holds P false x h = tt
 

@@ -5,9 +5,8 @@ use mathlib.Core.List.{List}
 use lib.Dec.{T}
 use lib.ListN.{length, get_or}
 use lib.Ieee.{Float, nan}
+use Rattle.std.specs.Prelude.{Option, Some, None}
 use Rattle.words.specs.Words.{Bytes}
-use Rattle.vectors.specs.declared.Maybe.{Maybe}
-use Rattle.vectors.specs.declared.Maybe.TheVariants.{Absent, Value}
 use Rattle.panning.specs.Choice.{0·0, 1·0}
 use Rattle.panning.specs.Table.{between, 8·0, Position}
 use Rattle.timed.specs.Infos.{gain_at, size_at, send_at}
@@ -18,9 +17,9 @@ use Rattle.store.specs.Ranged.{StateRanged, InfosRanged}
 use Rattle.timed.specs.InfoSizes.{all_bytes}
 
 -- absent, or from 0 to `most`
-abbrev pub UpTo : Float → Maybe → Type 0
-UpTo most Absent = Unit {0}
-UpTo most (Value x) = T (between 0·0 most x)
+abbrev pub UpTo : Float → Option Float → Type 0
+UpTo most None = Unit {0}
+UpTo most (Some x) = T (between 0·0 most x)
 
 pub record SourceSound (s : DynamicSourceState) : Type 0 where
   pub gain : T (between 0·0 8·0 s.gain)

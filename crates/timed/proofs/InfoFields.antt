@@ -7,10 +7,10 @@ use native.Mathlib.Omega.{arith}
 use lib.Dec.{lit<}
 use lib.Ieee.{Float, binary32, of_bits}
 use lib.ListN.{get_or}
+use Rattle.std.specs.Prelude.{Some, None}
 use Rattle.words.specs.Words.{words_at, float_at}
 use Rattle.formats.specs.Info.{info_format, gain_in, size_in, distance_in, screen_in, position_in, last_in, send_in}
 use Rattle.formats.proofs.Theorems.{word_of_run}
-use Rattle.vectors.specs.declared.Maybe.TheVariants.{Absent, Value}
 use Rattle.vectors.specs.Head.{head_in, anchor_of}
 use Rattle.vectors.proofs.Theorems.{IsBit, flag_of_word}
 use Rattle.timed.specs.InfoSizes.{gain_byte, size_byte, distance_byte, screen_byte, position_byte, last_byte, info_at}
@@ -59,7 +59,7 @@ module _ (is : List ℕ) (k : ℕ) where
 
   value_read : {bit : ℕ} → IsBit bit → (at : ℕ) (x : Float) → x ≡ float_at is (info_at k + at) → maybe_at is k bit at ≡ present_with (info_of is k).head.flags bit x
   unfolding maybe_at
-  value_read {bit} b at x e = λ j. cond (flag_of_word b (head_at is k) j) (Value (sym e j)) Absent
+  value_read {bit} b at x e = λ j. cond (flag_of_word b (head_at is k) j) (Some (sym e j)) None
 
   pub gain_said_is : gain_at is k ≡ gain_said (info_of is k)
   gain_said_is = value_read IsBit.gain gain_byte _ gain_read

@@ -1,14 +1,15 @@
 -- A slot that rests changes nothing. Assumes nothing.
 use Prim.Native.Nat.{ℕ, zero, suc, ◌+◌, ◌<◌, ◌≤◌}
-use mathlib.Core.Path.{◌≡◌, refl}
+use mathlib.Core.Path.{◌≡◌, refl, ap, ◌∙◌}
 use mathlib.Core.Bool.{Bool, true, false, cond, not, ◌&&◌, ◌||◌}
 use mathlib.Core.List.{List}
 use native.Mathlib.Nat.{not-suc-le-zero}
-use native.Mathlib.Numerals.{add-one}
 use native.Mathlib.Omega.{arith}
 use borrow.Author.Tests.{eq-eqb, ne_eqb, eqb-true, eqb-false, le-leb, lt-leb}
 use lib.Dec.{eqb}
-use lib.ListN.{get_or}
+use lib.ListN.{get_or, length, take}
+use Rattle.std.specs.List.{list_all}
+use Rattle.std.proofs.lemmas.List.Folds.{list_all_more}
 use lib.Seq.{set-get_or}
 use Rattle.timed.specs.Rules.{middle, no_block, no_element, element_of, remaining_of, ramp_over, due, active}
 use Rattle.timed.specs.Slot.{SlotWork, block_turn, blocks_applied, ramp_applied, updated_sources}
@@ -46,18 +47,13 @@ not_due w bs (suc n) i h l = by (eqb i n) refl (λ k. not_due w bs n i p.0 k)
     by true e before = rw (eqb-true i n e) (not_so (due w (get_or bs n no_block)) p.1)
     by false e before = before (let d = eqb-false i n e in omega arith)
 
--- one that is not due more
-pub none_more : (w : Timing) (bs : List BlockState) (n : ℕ) → none_due w bs n ≡ true → due w (get_or bs n no_block) ≡ false → none_due w bs (n + 1) ≡ true
+-- each of the first n blocks
+all_due : (w : Timing) (bs : List BlockState) (n : ℕ) → n ≤ length bs → list_all (λ b. not (due w b)) (take n bs) ≡ none_due w bs n
 unfolding none_due
-none_more w bs n h d = rw (add-one, h, d)
-
--- one that is due
-some_due : (w : Timing) (bs : List BlockState) (n i : ℕ) → due w (get_or bs i no_block) ≡ true → i < n → none_due w bs n ≡ false
-some_due w bs n i d l = by (none_due w bs n) refl
-  where
-    by : (b : Bool) → none_due w bs n ≡ b → b ≡ false
-    by true e = let f = not_due w bs n i e l in cc
-    by false e = refl
+all_due w bs zero h = refl
+all_due w bs (suc n) h =
+    let e : suc n ≡ n + 1 = omega arith in
+    rw e (list_all_more (λ b. not (due w b)) bs n no_block (omega arith)) ∙ ap (λ (b : Bool). b && not (due w (get_or bs n no_block))) (all_due w bs n (omega arith))
 
 -- the test, way by way
 module _ (w : Timing) (e : ElementRendererState) where
@@ -65,17 +61,9 @@ module _ (w : Timing) (e : ElementRendererState) where
   unfolding resting
   ramp_left h = rw (over_shifted e.remaining, lt-leb e.remaining middle h)
 
-  pub block_due : (i : ℕ) → i < e.blocks → due w (get_or e.schedule i no_block) ≡ true → resting w e ≡ false
+  pub blocks_rest : e.remaining ≤ middle → e.blocks ≤ length e.schedule → list_all (λ b. not (due w b)) (take e.blocks e.schedule) ≡ resting w e
   unfolding resting
-  block_due i l d = rw (some_due w e.schedule e.blocks i d l) (by (ramp_over (remaining_of e.remaining)))
-    where
-      by : (b : Bool) → (b && false) ≡ false
-      by true = refl
-      by false = refl
-
-  pub all_rests : e.remaining ≤ middle → none_due w e.schedule e.blocks ≡ true → resting w e ≡ true
-  unfolding resting
-  all_rests h n = rw (over_shifted e.remaining, le-leb e.remaining middle h, n)
+  blocks_rest h n = rw (over_shifted e.remaining, le-leb e.remaining middle h) (all_due w e.schedule e.blocks n)
 
 none_applied : (w : Timing) (r : Reach) (n : ℕ) (k : SlotWork) → none_due w k.slot.schedule n ≡ true → blocks_applied w r n k ≡ k
 unfolding blocks_applied
@@ -91,7 +79,7 @@ module _ (w : Timing) (t : Timed) (i : ℕ) where
       let e = element_of s i in
       let p = both (ramp_over (remaining_of e.remaining)) (none_due w e.schedule e.blocks) h in
       let k : SlotWork =
-      record { slot = record { schedule = e.schedule; remaining = e.remaining; gains = s.gains; sources = s.sources; tracks = e.tracks }; infos = t.infos } in
+      record { slot = record { schedule = e.schedule; remaining = e.remaining; gains = s.gains; moving = record { sources = s.sources; tracks = e.tracks } }; infos = t.infos } in
       rw (none_applied w (reach_of s i) e.blocks k p.1, p.0, set-get_or s.states i no_element)
 
 -- ---- the slot

@@ -1,5 +1,6 @@
 pub mod Turns
 pub mod InfoSizes
+pub mod Times
 pub mod Infos
 pub mod Objects
 pub mod Rules

@@ -1,10 +1,8 @@
 -- What a block that is applied and a ramp do to beds and dynamic objects: `update_source_state`, `update_bed_source_state` and the loops of `update_sources` over objects.
 -- Assumes nothing.
-use Rattle.std.specs.Prelude.{ℕ, ◌+◌, ◌*◌, Bool, true, false, ◌&&◌, ◌||◌, cond, List, get_or, set, Float}
+use Rattle.std.specs.Prelude.{ℕ, ◌+◌, ◌*◌, Bool, true, false, ◌&&◌, ◌||◌, cond, List, get_or, set, Float, unwrap_or}
 use Rattle.std.specs.Float.{nan}
 use Rattle.vectors.specs.declared.Vec3.{Vec3}
-use Rattle.vectors.specs.declared.Maybe.{Maybe}
-use Rattle.vectors.specs.declared.Maybe.TheVariants.{Absent, Value}
 use Rattle.vectors.specs.declared.BlockPosition.{BlockPosition}
 use Rattle.vectors.specs.declared.Placed.{Placed}
 use Rattle.vectors.specs.Vectors.{lerp_vec3}
@@ -30,10 +28,6 @@ no_track = record { now = false; future = nowhere }
 
 -- ---- a block that is applied
 
-abbrev pub or_else : Maybe → Float → Float
-or_else Absent x = x
-or_else (Value y) x = y
-
 -- an object with its track, and the infos after it
 pub record ObjectAfter : Type 0 where
   pub moved : Moved
@@ -45,7 +39,7 @@ heard_with s gain size send = record { gain = gain; size = size; place = s.place
 
 -- gain and size where info k has them, and the send; R-3: "a block that is applied sets it"
 abbrev pub with_levels : List ℕ → ℕ → DynamicSourceState → DynamicSourceState
-with_levels is k s = heard_with s (or_else (gain_at is k) s.gain) (or_else (size_at is k) s.size) (send_at is k)
+with_levels is k s = heard_with s (unwrap_or (gain_at is k) s.gain) (unwrap_or (size_at is k) s.size) (send_at is k)
 
 -- what block position b and its target p make of an object, for info k
 abbrev pub after_move : Bool → ℕ → DynamicSourceState → List ℕ → BlockPosition → Placed → ObjectAfter
@@ -90,7 +84,7 @@ unfolding times object_moved
 moved_all arrived first count m is = times count 0 (moved_at arrived first) (record { moving = m; infos = is })
 
 abbrev pub bed_at : List ℕ → ℕ → ℕ → List Float → List Float
-bed_at is first i gs = set gs i (or_else (gain_at is (first + most_blocks * i)) (get_or gs i nan))
+bed_at is first i gs = set gs i (unwrap_or (gain_at is (first + most_blocks * i)) (get_or gs i nan))
 
 -- the beds' gains, where present; the info of bed i is first + 8 i
 unfoldable pub bed_gains : List ℕ → ℕ → ℕ → List Float → List Float

@@ -1,27 +1,11 @@
 -- A reader may skip this file: what the code asks of its arguments, so that nothing wraps and every info that is reached is one. These follow from document 01's ranges of a
 -- state block, which stand in the specs of `store`. Assumes nothing.
 use Rattle.std.specs.Prelude.{ℕ, ◌+◌, ◌-◌, ◌*◌, ◌≤◌, ◌<◌, List, get_or}
-use Rattle.timed.specs.InfoSizes.{most_elements, most_objects, most_blocks, all_infos}
+use Rattle.timed.specs.InfoSizes.{most_elements, most_objects, most_blocks}
 use Rattle.timed.specs.Rules.{middle, no_block, element_of}
 use Rattle.timed.specs.declared.state.BlockState.{BlockState}
 use Rattle.timed.specs.declared.state.ElementRendererState.{ElementRendererState}
 use Rattle.timed.specs.declared.state.MetadataRendererState.{MetadataRendererState}
-use Rattle.timed.specs.declared.slot.Timing.{Timing}
-use Rattle.timed.specs.declared.slot.Reach.{Reach}
-
--- "Stream positions lie from 0 to 2^40"
-pub record InTime (w : Timing) : Type 0 where
-  pub start : w.start.0 ≤ 1099511627776
-  pub payload : w.payload.0 ≤ 1099511627776
-
--- every info that is reached is one of the 512
-pub record Reaches (r : Reach) : Type 0 where
-  pub few : r.channels ≤ 18
-  pub some : r.count ≤ 16
-  pub beds : (i : ℕ) → i < r.channels → r.beds + most_blocks * i + most_blocks ≤ all_infos
-  pub objects : (d : ℕ) → d < r.count → r.first + most_blocks * d + most_blocks ≤ all_infos
-  pub near : r.beds ≤ 4096
-  pub low : r.first ≤ 4096
 
 -- "an offset or ramp outside ±1,048,576" is refused; "a remaining ramp from -2^21 - 64 × the stream's position to 2^20"
 pub record Ramps (position : ℕ) (schedule : List BlockState) (remaining : ℕ) : Type 0 where

@@ -27,14 +27,13 @@ block_applied w r b k =
     let s = k.slot in
     let block = get_or s.schedule b no_block in
     let left = left_after w block in
-    let m = moved_all (ramp_over left) (r.first + b) r.count (record { sources = s.sources; tracks = s.tracks }) k.infos in
+    let m = moved_all (ramp_over left) (r.first + b) r.count s.moving k.infos in
     record {
       slot = record {
         schedule = set s.schedule b (record { offset = block.offset; ramp = block.ramp; used = true });
         remaining = kept_as left;
         gains = bed_gains k.infos (r.beds + b) r.channels s.gains;
-        sources = m.moving.sources;
-        tracks = m.moving.tracks;
+        moving = m.moving;
       };
       infos = m.infos;
     }
@@ -58,8 +57,7 @@ ramp_applied before n s =
       schedule = s.schedule;
       remaining = kept_as (slot_less (remaining_of s.remaining));
       gains = s.gains;
-      sources = (ramped_all (share (remaining_of s.remaining)) before n (record { sources = s.sources; tracks = s.tracks })).sources;
-      tracks = s.tracks;
+      moving = ramped_all (share (remaining_of s.remaining)) before n s.moving;
     })
 
 -- ---- the element
@@ -72,14 +70,14 @@ pub record Sourced : Type 0 where
 unfoldable pub updated_sources : Timing → Reach → ElementRendererState → List Float → List DynamicSourceState → List ℕ → Sourced
 unfolding due left_after remaining_of kept_as share blocks_applied ramp_applied
 updated_sources w r e gains sources is =
-    let begun : Slot = record { schedule = e.schedule; remaining = e.remaining; gains = gains; sources = sources; tracks = e.tracks } in
+    let begun : Slot = record { schedule = e.schedule; remaining = e.remaining; gains = gains; moving = record { sources = sources; tracks = e.tracks } } in
     let k = blocks_applied w r e.blocks (record { slot = begun; infos = is }) in
     let s = ramp_applied e.tracks r.count k.slot in
     record {
       updated = record {
-        element = record { blocks = e.blocks; flags = e.flags; remaining = s.remaining; schedule = s.schedule; tracks = s.tracks };
+        element = record { blocks = e.blocks; flags = e.flags; remaining = s.remaining; schedule = s.schedule; tracks = s.moving.tracks };
         gains = s.gains;
-        sources = s.sources;
+        sources = s.moving.sources;
       };
       infos = k.infos;
     }

@@ -4,31 +4,20 @@
 // What a block and a ramp do to beds and dynamic objects.
 ghost use Rattle.std.specs.Prelude.{◌≡◌, ℕ, ◌+◌, ◌*◌, ◌<◌, ◌≤◌, length};
 ghost use Rattle.timed.specs.InfoSizes.{most_blocks, all_infos, info_bytes, all_bytes, info_at};
-ghost use Rattle.timed.specs.Objects.{or_else, with_levels, object_moved, moved_all, bed_gains, ramped, ramped_all};
+ghost use Rattle.timed.specs.Objects.{with_levels, object_moved, moved_all, bed_gains, ramped, ramped_all};
 ghost use Rattle.timed.specs.TimedResults.{IsMoved, IsMovedAll};
 
 use crate::infos;
-use crate::infos::{BLOCKS, GAIN, INFO_BYTES, LAST, POSITION, SIZE};
+use crate::infos::{BLOCKS, Bytes, GAIN, INFO_BYTES, LAST, POSITION, SIZE};
 use crate::state::{DynamicSourceState, Track};
-use vectors::Maybe;
-
-// The value of a maybe, or another.
-fn or_else(m: Maybe, other: f32) -> f32
-    ensures { result ≡ or_else m other }
-{
-    match m {
-        Maybe::Value(x) => x,
-        Maybe::Absent => other,
-    }
-}
 
 // The object with gain and size where info k has them, and with its send.
-fn with_levels(infos: &[u8], k: usize, source: DynamicSourceState) -> DynamicSourceState
-    requires { (info_at k + info_bytes ≤ length infos.now) × (k < all_infos) }
+fn with_levels(infos: &Bytes, k: usize, source: DynamicSourceState) -> DynamicSourceState
+    requires { k < all_infos }
     ensures { result ≡ with_levels infos.now k source }
 {
-    let gain = or_else(infos::maybe_at(infos, k, 4, GAIN), source.gain);
-    let size = or_else(infos::maybe_at(infos, k, 32, SIZE), source.size);
+    let gain = infos::maybe_at(infos, k, 4, GAIN).unwrap_or(source.gain);
+    let size = infos::maybe_at(infos, k, 32, SIZE).unwrap_or(source.size);
     source.heard_with(gain, size, infos::send_at(infos, k))
 }
 
@@ -39,48 +28,42 @@ pub struct Moved {
     pub track: Track,
 }
 
-// `update_source_state` of info k; where no ramp remains (`arrived`), the object is put at its target.
+// `update_source_state` of info k; where no ramp remains (`arrived`, a fact of the block and no choice of a step), the object is put at its target.
 fn update_source_state(
-    infos: &mut [u8],
+    infos: &mut Bytes,
     k: usize,
     source: DynamicSourceState,
     arrived: bool,
 ) -> Moved
-    requires { (info_at k + info_bytes ≤ length infos.old) × (k < all_infos) }
+    requires { k < all_infos }
     ensures { IsMoved (object_moved arrived k source infos.old) result infos.new }
 {
     let heard = with_levels(infos, k, source);
-    let here = source.place;
     let block = infos::block_position(infos, k);
-    let to = vectors::update_source_position(block, here);
-    let target = to.target;
+    let to = block.placed(source.place);
     infos::put_vec(infos, INFO_BYTES * k + POSITION, to.position);
     infos::put_vec(infos, INFO_BYTES * k + LAST, to.last);
     let track = Track {
         now: block.valid,
-        future: target,
+        future: to.target,
     };
-    if block.valid {
-        if arrived {
-            return Moved {
-                source: DynamicSourceState {
-                    gain: heard.gain,
-                    size: heard.size,
-                    place: target,
-                    placed: true,
-                    send: heard.send,
-                },
-                track: track,
-            };
-        }
+    if block.valid && arrived {
+        return Moved {
+            source: DynamicSourceState {
+                place: to.target,
+                placed: true,
+                ..heard
+            },
+            track,
+        };
     }
     Moved {
         source: heard,
-        track: track,
+        track,
     }
 }
 
-// The dynamic objects, each with where it is going.
+// The dynamic objects, each with where it is going: two tables, since the state has one of the objects, and each element one of where it moves them.
 #[derive(Clone, Copy)]
 pub struct Moving {
     pub sources: [DynamicSourceState; 16],
@@ -89,81 +72,54 @@ pub struct Moving {
 
 impl Moving {
     // A block applied to `count` objects; the info of object d is `first` + 8 d.
-    pub fn apply_block(self, infos: &mut [u8], first: usize, count: usize, arrived: bool) -> Moving
-        requires { (length infos.old ≡ all_bytes) × (count ≤ 16) × ((d : ℕ) → d < count → first + most_blocks * d < all_infos) }
-        ensures { IsMovedAll (moved_all arrived first count self infos.old) result infos.new }
+    pub fn apply_block(&mut self, infos: &mut Bytes, first: usize, count: usize, arrived: bool)
+        requires { (count ≤ 16) × ((d : ℕ) → d < count → first + most_blocks * d < all_infos) }
+        ensures { IsMovedAll (moved_all arrived first count self.old infos.old) self.new infos.new }
     {
-        let mut next = self;
-        let mut d = 0usize;
-        while d < count {
-            let source = next.sources[d];
-            let m = update_source_state(infos, first + BLOCKS * d, source, arrived);
-            let s = m.source;
-            let t = m.track;
-            next.sources[d] = s;
-            next.tracks[d] = t;
-            d += 1;
+        for d in 0..count {
+            let moved = update_source_state(infos, first + BLOCKS * d, self.sources[d], arrived);
+            self.sources[d] = moved.source;
+            self.tracks[d] = moved.track;
         }
-        next
     }
 
     // The ramp's share t for `count` objects; `before` has their flags at the element's previous slot.
-    pub fn ramp(self, before: [Track; 16], count: usize, t: f32) -> Moving
+    pub fn ramp(&mut self, before: &[Track; 16], count: usize, t: f32)
         requires { count ≤ 16 }
-        ensures { result ≡ ramped_all t before count self }
+        ensures { self.new ≡ ramped_all t before.now count self.old }
     {
-        let mut next = self;
-        let mut d = 0usize;
-        while d < count {
-            let source = next.sources[d];
-            let track = next.tracks[d];
-            let last = before[d];
-            next.sources[d] = ramp_one(source, track, last.now, t);
-            d += 1;
+        for d in 0..count {
+            self.sources[d] = ramp_one(self.sources[d], self.tracks[d], before[d].now, t);
         }
-        next
     }
 }
 
 // One object of a ramp: `last` is its flag at the element's previous slot.
+#[tactic(auto, unfolding(crate::specs::Objects::ramped))]
 fn ramp_one(source: DynamicSourceState, track: Track, last: bool, t: f32) -> DynamicSourceState
     ensures { result ≡ ramped t last track source }
 {
-    let here = source.place;
-    let future = track.future;
-    if track.now {
-        if last {
-            if source.placed {
-                return DynamicSourceState {
-                    gain: source.gain,
-                    size: source.size,
-                    place: vectors::lerp_vec3(here, future, t),
-                    placed: true,
-                    send: source.send,
-                };
-            }
-        }
-        return DynamicSourceState {
-            gain: source.gain,
-            size: source.size,
-            place: future,
-            placed: true,
-            send: source.send,
-        };
+    if !track.now {
+        return source;
     }
-    source
+    let place = if last && source.placed {
+        source.place.lerp(track.future, t)
+    } else {
+        track.future
+    };
+    DynamicSourceState {
+        place,
+        placed: true,
+        ..source
+    }
 }
 
 // The beds' gains after a block; the info of bed i is `first` + 8 i.
-pub fn bed_gains(gains: [f32; 18], infos: &[u8], first: usize, count: usize) -> [f32; 18]
-    requires { (length infos.now ≡ all_bytes) × (count ≤ 18) × ((d : ℕ) → d < count → first + most_blocks * d < all_infos) }
-    ensures { result ≡ bed_gains infos.now first count gains }
+pub fn bed_gains(gains: &mut [f32; 18], infos: &Bytes, first: usize, count: usize)
+    requires { (count ≤ 18) × ((d : ℕ) → d < count → first + most_blocks * d < all_infos) }
+    ensures { gains.new ≡ bed_gains infos.now first count gains.old }
 {
-    let mut next = gains;
-    let mut i = 0usize;
-    while i < count {
-        next[i] = or_else(infos::maybe_at(infos, first + BLOCKS * i, 4, GAIN), next[i]);
-        i += 1;
+    for i in 0..count {
+        gains[i] = infos::maybe_at(infos, first + BLOCKS * i, 4, GAIN).unwrap_or(gains[i]);
     }
-    next
 }

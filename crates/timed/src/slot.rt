@@ -7,19 +7,33 @@ ghost use Rattle.timed.specs.InfoSizes.{most_blocks, all_bytes};
 ghost use Rattle.timed.specs.Rules.{remaining_of, kept_as, due, left_after, share, active, begins};
 ghost use Rattle.timed.specs.Slot.{block_applied, blocks_applied, ramp_applied, updated_sources};
 ghost use Rattle.timed.specs.Resting.{resting};
-ghost use Rattle.timed.specs.Preconditions.{InTime, InRange, Reaches};
+ghost use Rattle.timed.specs.Preconditions.{InRange};
 ghost use Rattle.timed.specs.TimedResults.{IsSlotWork, IsUpdated};
 
+use crate::infos::Bytes;
 use crate::objects;
 use crate::objects::Moving;
 use crate::state::{BlockState, DynamicSourceState, ElementRendererState, Track};
 use clock::StreamSample;
+use std::marker::Model;
 
 // The stream positions of a slot's start and of the last applied update: the timecode is their difference.
 #[derive(Clone, Copy)]
 pub struct Timing {
     pub start: StreamSample,
     pub payload: StreamSample,
+}
+
+impl Model for Timing {
+    ghost use Rattle.timed.specs.Times.{Times, InTime};
+
+    ghost Value = { Times };
+
+    ghost view = { λ w. record { start = w.start; payload = w.payload } };
+
+    ghost inverse = { λ w. record { start = w.start; payload = w.payload } };
+
+    ghost invariant = { λ w. InTime (record { start = w.start; payload = w.payload }) };
 }
 
 // Where an element finds its infos: those of bed i from `beds` + 8 i on, those of dynamic object d from `first` + 8 d on, and how many there are of each.
@@ -31,131 +45,97 @@ pub struct Reach {
     pub count: usize,
 }
 
+impl Model for Reach {
+    ghost use Rattle.timed.specs.Times.{Places, Reaches};
+
+    ghost Value = { Places };
+
+    ghost view = { λ r. record { beds = r.beds; channels = r.channels; first = r.first; count = r.count } };
+
+    ghost inverse = { λ r. record { beds = r.beds; channels = r.channels; first = r.first; count = r.count } };
+
+    ghost invariant = { λ r. Reaches (record { beds = r.beds; channels = r.channels; first = r.first; count = r.count }) };
+}
+
+// An offset or ramp 0, as it is kept: 2^20.
+const RAISED: u32 = 1048576;
+
 impl BlockState {
     // Whether the block is applied in this slot.
+    #[tactic(auto, using(crate::proofs::Shifted::due_shifted_is))]
     fn due(self, when: Timing) -> bool
-        requires { InTime when }
         ensures { result ≡ due when self }
     {
-        if self.used {
-            return false;
-        }
-        let payload = when.payload;
-        let start = when.start;
-        payload.plus(self.offset).is_before(start.plus(1048576))
+        !self.used && when.payload.plus(self.offset) < when.start.plus(RAISED)
     }
 
     // The ramp that remains after the block, plus 2^47.
     fn left(self, when: Timing) -> u64
-        requires { InTime when }
         ensures { result ≡ kept_as (left_after when self) }
     {
-        let payload = when.payload;
-        let start = when.start;
-        let end = payload.plus(self.offset).plus(self.ramp);
-        end.past(start.plus(2097152))
+        let end = when.payload.plus(self.offset).plus(self.ramp);
+        end.past(when.start.plus(2 * RAISED))
     }
 }
+
+// The remaining ramp 0, as it is kept: 2^47.
+const RAMP_OVER: u64 = 140737488355328;
 
 // The share of a ramp that one slot takes.
 fn share(remaining: u64) -> f32
     requires { (140737488355328 ≤ remaining) × (remaining ≤ 140737489403904) }
     ensures { result ≡ share (remaining_of remaining) }
 {
-    ieee::min(64.0 / ((remaining - 140737488355328) as f32), 1.0)
+    ieee::min(64.0 / ((remaining - RAMP_OVER) as f32), 1.0)
 }
 
-// An element's blocks, remaining ramp and tracks, and the beds and objects that it moves.
+// An element's blocks and remaining ramp, and the beds and objects that it moves.
 #[derive(Clone, Copy)]
 pub struct Slot {
     pub schedule: [BlockState; 8],
     pub remaining: u64,
     pub gains: [f32; 18],
-    pub sources: [DynamicSourceState; 16],
-    pub tracks: [Track; 16],
+    pub moving: Moving,
 }
 
 impl Slot {
     // Block b, applied.
-    fn apply_block(self, infos: &mut [u8], b: usize, when: Timing, reach: Reach) -> Slot
-        requires { (length infos.old ≡ all_bytes) × (b < most_blocks) × InTime when × Reaches reach }
-        ensures { IsSlotWork (block_applied when reach b (record { slot = self; infos = infos.old })) result infos.new }
+    fn apply_block(&mut self, infos: &mut Bytes, b: usize, when: Timing, reach: Reach)
+        requires { (b < most_blocks) }
+        ensures { IsSlotWork (block_applied when reach b (record { slot = self.old; infos = infos.old })) self.new infos.new }
     {
-        let mut schedule = self.schedule;
-        let block = schedule[b];
+        let block = self.schedule[b];
         let left = block.left(when);
-        schedule[b] = BlockState {
-            offset: block.offset,
-            ramp: block.ramp,
+        self.schedule[b] = BlockState {
             used: true,
+            ..block
         };
-        let gains = self.gains;
-        let heard = objects::bed_gains(gains, infos, reach.beds + b, reach.channels);
-        let sources = self.sources;
-        let tracks = self.tracks;
-        let moving = Moving {
-            sources: sources,
-            tracks: tracks,
-        };
-        let moved = moving.apply_block(
-            infos,
-            reach.first + b,
-            reach.count,
-            left <= 140737488355328,
-        );
-        let next = moved.sources;
-        let going = moved.tracks;
-        Slot {
-            schedule: schedule,
-            remaining: left,
-            gains: heard,
-            sources: next,
-            tracks: going,
-        }
+        self.remaining = left;
+        objects::bed_gains(&mut self.gains, infos, reach.beds + b, reach.channels);
+        self.moving
+            .apply_block(infos, reach.first + b, reach.count, left <= RAMP_OVER);
     }
 
     // The first n blocks in order, each applied where it is due.
-    fn apply_blocks(self, infos: &mut [u8], n: usize, when: Timing, reach: Reach) -> Slot
-        requires { (length infos.old ≡ all_bytes) × (n ≤ most_blocks) × InTime when × Reaches reach }
-        ensures { IsSlotWork (blocks_applied when reach n (record { slot = self; infos = infos.old })) result infos.new }
+    fn apply_blocks(&mut self, infos: &mut Bytes, n: usize, when: Timing, reach: Reach)
+        requires { (n ≤ most_blocks) }
+        ensures { IsSlotWork (blocks_applied when reach n (record { slot = self.old; infos = infos.old })) self.new infos.new }
     {
-        let mut next = self;
-        let mut b = 0usize;
-        while b < n {
-            let block = next.schedule[b];
-            if block.due(when) {
-                next = next.apply_block(infos, b, when, reach);
+        for b in 0..n {
+            if self.schedule[b].due(when) {
+                self.apply_block(infos, b, when, reach);
             }
-            b += 1;
         }
-        next
     }
 
     // The ramp, where one remains; `before` has the flags of the element's previous slot.
-    fn ramp(self, before: [Track; 16], count: usize) -> Slot
-        requires { (count ≤ 16) × (self.remaining ≤ 140737489403904) }
-        ensures { result ≡ ramp_applied before count self }
+    fn ramp(&mut self, before: &[Track; 16], count: usize)
+        requires { (count ≤ 16) × (self.old.remaining ≤ 140737489403904) }
+        ensures { self.new ≡ ramp_applied before.now count self.old }
     {
-        let remaining = self.remaining;
-        if remaining <= 140737488355328 {
-            return self;
-        }
-        let sources = self.sources;
-        let tracks = self.tracks;
-        let moving = Moving {
-            sources: sources,
-            tracks: tracks,
-        };
-        let moved = moving.ramp(before, count, share(remaining));
-        let schedule = self.schedule;
-        let gains = self.gains;
-        let next = moved.sources;
-        Slot {
-            schedule: schedule,
-            remaining: remaining - 64,
-            gains: gains,
-            sources: next,
-            tracks: tracks,
+        if self.remaining > RAMP_OVER {
+            self.moving.ramp(before, count, share(self.remaining));
+            self.remaining -= 64;
         }
     }
 }
@@ -171,89 +151,71 @@ pub struct Updated {
 impl ElementRendererState {
     // Whether the first block's offset is from 0 up to the timecode.
     pub fn begins(self, when: Timing) -> bool
-        requires { InTime when }
         ensures { result ≡ begins when self }
     {
-        if self.active() {
-            let schedule = self.schedule;
-            let block = schedule[0];
-            let payload = when.payload;
-            let start = when.start;
-            return payload.plus(block.offset).is_up_to(start.plus(1048576));
-        }
-        false
+        self.active() && when.payload.plus(self.schedule[0].offset) <= when.start.plus(RAISED)
     }
 
     // Whether the element has blocks and a first offset of 0 or more: else it does nothing.
+    #[tactic(auto, using(crate::proofs::Shifted::active_shifted_is))]
     pub fn active(self) -> bool
         ensures { result ≡ active self }
     {
-        if self.blocks == 0 {
-            return false;
-        }
-        let schedule = self.schedule;
-        let block = schedule[0];
-        1048576 <= block.offset
+        self.blocks != 0 && RAISED <= self.schedule[0].offset
     }
 
     // Whether a slot of this element changes nothing: no ramp remains, and no block is due.
     pub fn rests(self, when: Timing) -> bool
-        requires { (self.blocks ≤ most_blocks) × InTime when }
+        requires { self.blocks ≤ most_blocks }
         ensures { result ≡ resting when self }
     {
-        if self.remaining > 140737488355328 {
-            return false;
-        }
-        let schedule = self.schedule;
-        let n = self.blocks;
-        let mut b = 0usize;
-        while b < n {
-            let block = schedule[b];
-            if block.due(when) {
-                return false;
-            }
-            b += 1;
-        }
-        true
+        self.remaining <= RAMP_OVER
+            && self.schedule[..self.blocks]
+                .iter()
+                .all(|block| !block.due(when))
     }
 
     // A slot of this element.
     pub fn update_sources(
         self,
-        infos: &mut [u8],
+        infos: &mut Bytes,
         when: Timing,
         reach: Reach,
         gains: [f32; 18],
         sources: [DynamicSourceState; 16],
     ) -> Updated
-        requires { (length infos.old ≡ all_bytes) × InTime when × Reaches reach × InRange 1099511627776 self }
+        requires { InRange 1099511627776 self }
         ensures { IsUpdated (updated_sources when reach self gains sources infos.old) result infos.new }
     {
         let schedule = self.schedule;
         let before = self.tracks;
-        let slot = Slot {
-            schedule: schedule,
-            remaining: self.remaining,
-            gains: gains,
-            sources: sources,
+        let moving = Moving {
+            sources,
             tracks: before,
         };
-        let applied = slot.apply_blocks(infos, self.blocks, when, reach);
-        let done = applied.ramp(before, reach.count);
-        let times = done.schedule;
-        let tracks = done.tracks;
-        let heard = done.gains;
-        let next = done.sources;
+        let mut slot = Slot {
+            schedule,
+            remaining: self.remaining,
+            gains,
+            moving,
+        };
+        slot.apply_blocks(infos, self.blocks, when, reach);
+        slot.ramp(&before, reach.count);
+        let Slot {
+            schedule,
+            remaining,
+            gains,
+            moving: Moving { sources, tracks },
+        } = slot;
         Updated {
             element: ElementRendererState {
-                blocks: self.blocks,
-                flags: self.flags,
-                remaining: done.remaining,
-                schedule: times,
-                tracks: tracks,
+                remaining,
+                schedule,
+                tracks,
+                ..self
             },
-            gains: heard,
-            sources: next,
+            gains,
+            sources,
         }
     }
 }

@@ -1,7 +1,9 @@
 // SPDX-License-Identifier: Apache-2.0
 // Translated from libstarmine_ad render.rs; changed.
 
-// What is kept from slot to slot: `MetadataRendererState` and its parts. Tables have their full length, with counts beside them. The object infos stay in lent bytes.
+// What is kept from slot to slot: `MetadataRendererState` and its parts. The object infos stay in lent bytes.
+// Tables have their full length, with counts beside them, and stand each on its own, as in the state block: there is no heap, and C may hold a state as it stands.
+// A flag stands beside a value and is no Option of it: the value is panned or kept whatever the flag says.
 ghost use Rattle.std.specs.Prelude.{◌≡◌, ◌-◌};
 ghost use Rattle.timed.specs.Objects.{heard_with};
 
@@ -25,13 +27,11 @@ impl DynamicSourceState {
     pub fn heard_with(self, gain: f32, size: f32, send: f32) -> DynamicSourceState
         ensures { result ≡ heard_with self gain size send }
     {
-        let place = self.place;
         DynamicSourceState {
-            gain: gain,
-            size: size,
-            place: place,
-            placed: self.placed,
-            send: send,
+            gain,
+            size,
+            send,
+            ..self
         }
     }
 }
@@ -78,14 +78,4 @@ pub struct MetadataRendererState {
     pub gains: [f32; 18],
     pub states: [ElementRendererState; 2],
     pub sources: [DynamicSourceState; 16],
-}
-
-// How many objects are dynamic.
-pub fn dynamic(objects: usize, isf: usize) -> usize
-    ensures { result ≡ objects - isf }
-{
-    if isf < objects {
-        return objects - isf;
-    }
-    0
 }

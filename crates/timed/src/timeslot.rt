@@ -4,71 +4,67 @@
 // A slot of the whole state: the element that it takes, and what that element moves.
 ghost use Rattle.std.specs.Prelude.{◌≡◌, ◌+◌, ◌<◌, ◌≤◌, length};
 ghost use Rattle.timed.specs.InfoSizes.{most_elements, all_bytes};
-ghost use Rattle.timed.specs.State.{element_taken, slot_of, slot_at};
+ghost use Rattle.timed.specs.State.{element_taken, reach_of, slot_of, slot_at};
 ghost use Rattle.timed.specs.Resting.{rests_at};
-ghost use Rattle.timed.specs.Preconditions.{InTime, Within};
+ghost use Rattle.timed.specs.Preconditions.{Within};
 ghost use Rattle.timed.specs.TimedResults.{IsTimed};
 
-use crate::infos::{BLOCKS, ELEMENT_INFOS};
-use crate::slot::{Reach, Timing};
-use crate::state;
+use crate::infos::{BLOCKS, Bytes, ELEMENT_INFOS};
+use crate::slot::{Reach, Timing, Updated};
 use crate::state::MetadataRendererState;
 use clock::StreamSample;
 
+// `Within` is asked where a slot is worked out, and is no invariant: C may hold any state, also where it is only kept.
 impl MetadataRendererState {
-    // The last element whose first block offset is from 0 up to the timecode, else element 0.
+    // The last element whose first block offset is from 0 up to the timecode, else element 0. (01: a downward search whose loop yields the index by `break`.)
     fn element_at(self, when: Timing) -> usize
-        requires { (self.elements ≤ most_elements) × InTime when }
-        ensures { result ≡ element_taken when self.states self.elements }
+        requires { self.elements ≤ most_elements }
+        ensures taken { result ≡ element_taken when self.states self.elements }
+        ensures low { result < most_elements }
     {
-        let states = self.states;
         let mut i = self.elements;
         let index = loop {
             if i == 0 {
                 break 0;
             }
             i -= 1;
-            let element = states[i];
-            if element.begins(when) {
+            if self.states[i].begins(when) {
                 break i;
             }
         };
         index
     }
 
-    // A slot of element `index`.
-    fn slot_of(self, infos: &mut [u8], index: usize, when: Timing) -> MetadataRendererState
-        requires { (length infos.old ≡ all_bytes) × (index < most_elements) × InTime when × Within 1099511627776 self }
-        ensures { IsTimed (slot_of when index (record { state = self; infos = infos.old })) result infos.new }
+    // Where element `index` finds its infos.
+    fn reach(self, index: usize) -> Reach
+        requires { (index < most_elements) × Within 1099511627776 self }
+        ensures { result ≡ reach_of self index }
     {
-        let reach = Reach {
+        Reach {
             beds: index * ELEMENT_INFOS,
             channels: self.beds,
             first: index * ELEMENT_INFOS + BLOCKS * self.isf,
-            count: state::dynamic(self.objects, self.isf),
-        };
+            count: self.objects.saturating_sub(self.isf),
+        }
+    }
+
+    // A slot of element `index`.
+    fn slot_of(self, infos: &mut Bytes, index: usize, when: Timing) -> MetadataRendererState
+        requires { (index < most_elements) × Within 1099511627776 self }
+        ensures { IsTimed (slot_of when index (record { state = self; infos = infos.old })) result infos.new }
+    {
         let mut states = self.states;
-        let element = states[index];
-        let gains = self.gains;
-        let sources = self.sources;
-        let done = element.update_sources(infos, when, reach, gains, sources);
-        let next = done.element;
-        states[index] = next;
-        let heard = done.gains;
-        let moved = done.sources;
-        let payload = self.payload;
-        let codes = self.codes;
+        let Updated {
+            element,
+            gains,
+            sources,
+        } = states[index].update_sources(infos, when, self.reach(index), self.gains, self.sources);
+        states[index] = element;
         MetadataRendererState {
-            initialized: self.initialized,
-            payload: payload,
-            objects: self.objects,
-            isf: self.isf,
-            beds: self.beds,
-            elements: self.elements,
-            codes: codes,
-            gains: heard,
-            states: states,
-            sources: moved,
+            gains,
+            states,
+            sources,
+            ..self
         }
     }
 
@@ -80,21 +76,15 @@ impl MetadataRendererState {
         if self.elements == 0 {
             return true;
         }
-        let payload = self.payload;
         let when = Timing {
-            start: start,
-            payload: payload,
+            start,
+            payload: self.payload,
         };
-        let index = self.element_at(when);
-        let states = self.states;
-        let element = states[index];
-        if element.active() {
-            return element.rests(when);
-        }
-        true
+        let element = self.states[self.element_at(when)];
+        !element.active() || element.rests(when)
     }
 
-    // The slot that starts at a sample of the stream.
+    // The slot that starts at a sample of the stream. The infos come as the range of a block that C lends: an array would ask more of who has a slice.
     pub fn update_timeslot(self, infos: &mut [u8], start: StreamSample) -> MetadataRendererState
         requires { (length infos.old ≡ all_bytes) × (start.0 ≤ 1099511627776) × Within 1099511627776 self }
         ensures { IsTimed (slot_at start.0 (record { state = self; infos = infos.old })) result infos.new }
@@ -102,16 +92,13 @@ impl MetadataRendererState {
         if self.elements == 0 {
             return self;
         }
-        let payload = self.payload;
         let when = Timing {
-            start: start,
-            payload: payload,
+            start,
+            payload: self.payload,
         };
         let index = self.element_at(when);
-        let states = self.states;
-        let element = states[index];
-        if element.active() {
-            return self.slot_of(infos, index, when);
+        if self.states[index].active() {
+            return self.slot_of(infos.as_mut_array().unwrap(), index, when);
         }
         self
     }

@@ -43,7 +43,7 @@ pub element_turn :
     p ≡ element_at m u e → IsElement same c (element_said m p) (e * 256) (get_or es e no_element) is r out →
     ◌≡◌ {A = Work} (record { states = set es e r; infos = out }) (element_given same (update_of m u) e (record { states = es; infos = is }))
 unfolding element_given
-element_turn same m u c p e es is r out k q h = rw (h.element, h.infos, k.objects, k.isf, k.dynamic, q)
+element_turn same m u c p e es is r out k q h = rw (h.element, h.infos, k.objects, k.isf, q)
 
 -- an applied update, from its parts
 module _ (at : StreamSample) (m : List ℕ) (u : ℕ) (s : MetadataRendererState) (is : List ℕ) where

@@ -58,9 +58,9 @@ module _ (m : List ℕ) (laid : laid_out m ≡ true) (fit : in_range m ≡ true)
       }
 
 -- all updates, where the code's layout has them
-pub passes_all : (m : List ℕ) → laid_out m ≡ true → in_range m ≡ true → Bytes m → (l : Layout) → IsLayout m l → WholeUpdates m l.first l.count
+pub passes_all : (m : List ℕ) → laid_out m ≡ true → in_range m ≡ true → Bytes m → (l : Layout) → IsLayout m l → WholeUpdates m l
 passes_all m laid fit bytes l g =
     record {
       few = rw g.counted g.few;
-      all = λ i h. let one : i < count m = omega (arith, g.counted) in rw (g.firsts i one) (passes m laid fit bytes i one);
+      all = λ i h. let one : i < count m = omega (arith, g.counted) in rw (g.places i one) (passes m laid fit bytes i one);
     }

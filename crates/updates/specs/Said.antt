@@ -1,6 +1,6 @@
 -- What an update says, as functions of its numbers: element e, block b, object o. Assumes nothing.
 use Rattle.std.specs.Prelude.{ℕ, ◌+◌, ◌*◌, List}
-use Rattle.fields.specs.declared.block.Raised.{Raised}
+use Rattle.fields.specs.declared.block.Block.{Block}
 use Rattle.fields.specs.declared.object.Info.{Info}
 use Rattle.fields.specs.Update.{objects, bed_or_isf_of, beds, elements, code}
 use Rattle.fields.specs.Block.{blocks}
@@ -10,7 +10,7 @@ use Rattle.records.specs.Laid.{block_at, object_at, element_at}
 
 pub record Element : Type 0 where
   pub blocks : ℕ
-  pub block : ℕ → Raised
+  pub block : ℕ → Block ℕ
   pub info : ℕ → ℕ → Info
 
 -- offsets and ramps are plus 2 ^ 20

@@ -10,11 +10,10 @@ use Rattle.updates.specs.Applied.{Work, is_kept, element_next}
 pub record IsCounts (c : Counts) (u : Update) : Type 0 where
   pub objects : c.objects ≡ u.objects
   pub isf : c.isf ≡ u.isf
-  pub dynamic : c.dynamic ≡ u.objects - u.isf
 
 -- what an element at `s` becomes, and the infos from `first` on
 pub record IsElement (same : Bool) (c : Counts) (x : Element) (first : ℕ) (s : ElementRendererState) (is : List ℕ) (r : ElementRendererState) (out : List ℕ) : Type 0 where
-  pub element : r ≡ element_next (is_kept same s.blocks x.blocks) c.dynamic x s
+  pub element : r ≡ element_next (is_kept same s.blocks x.blocks) (c.objects - c.isf) x s
   pub infos : out ≡ objects_stored (not (is_kept same s.blocks x.blocks)) c.isf x first c.objects is
 
 pub record IsWork (w : Work) (es : List ElementRendererState) (is : List ℕ) : Type 0 where

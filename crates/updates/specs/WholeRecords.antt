@@ -1,9 +1,11 @@
 -- A reader may skip this file: what is asked of the metadata of an update that is applied: its records stand in the list, its counts and blocks are within their limits. Records
 -- that refusals 5 and 6 let pass are so. Assumes nothing.
-use Rattle.std.specs.Prelude.{ℕ, ◌+◌, ◌-◌, ◌*◌, ◌≤◌, ◌<◌, List, length, get_or}
+use Rattle.std.specs.Prelude.{ℕ, ◌+◌, ◌-◌, ◌*◌, ◌≤◌, ◌<◌, List, length}
 use Rattle.fields.specs.Update.{objects, bed_or_isf_of, beds, elements}
 use Rattle.fields.specs.Block.{blocks}
 use Rattle.fields.specs.Raised.{raised}
+use Rattle.records.specs.LayoutAnswers.{place_at}
+use Rattle.records.specs.declared.layout.Layout.{Layout}
 use Rattle.records.specs.Laid.{block_at, element_end, element_at}
 
 -- the blocks of the element at record p
@@ -29,7 +31,7 @@ pub record WholeUpdate (m : List ℕ) (u : ℕ) : Type 0 where
   pub few_elements : elements m u ≤ 2
   pub each : (e : ℕ) → e < elements m u → WholeElement m (objects m u) (element_at m u e)
 
--- the updates of a list: update i is at record get_or first i
-pub record WholeUpdates (m first : List ℕ) (count : ℕ) : Type 0 where
-  pub few : count ≤ 16
-  pub all : (i : ℕ) → i < count → WholeUpdate m (get_or first i 0)
+-- the updates of a list, where its layout has them
+pub record WholeUpdates (m : List ℕ) (l : Layout) : Type 0 where
+  pub few : l.count ≤ 16
+  pub all : (i : ℕ) → i < l.count → WholeUpdate m (place_at l i)

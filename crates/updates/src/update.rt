@@ -1,66 +1,45 @@
 // SPDX-License-Identifier: Apache-2.0
 // Translated from libstarmine_ad render.rs; changed.
 
-// An update: `apply_update`. Its record is record u of the metadata.
-ghost use Rattle.std.specs.Prelude.{◌≡◌, ◌&&◌, ◌+◌, ◌-◌, ◌*◌, ◌<◌, ◌≤◌, eqb, length};
-ghost use Rattle.fields.specs.Update.{elements};
+// An update: `apply_update`. `said` is the update's record.
+ghost use Rattle.std.specs.Prelude.{◌≡◌, ◌&&◌, ◌+◌, ◌-◌, ◌*◌, ◌<◌, ◌≤◌, cond, eqb, length, replicate};
 ghost use Rattle.timed.specs.InfoSizes.{all_bytes};
 ghost use Rattle.timed.specs.TimedResults.{IsTimed};
 ghost use Rattle.updates.specs.WholeRecords.{WholeUpdate};
 ghost use Rattle.updates.specs.Said.{update_of};
-ghost use Rattle.updates.specs.Applied.{next_sources, next_gains, codes_given, elements_applied, applied};
+ghost use Rattle.updates.specs.Applied.{codes_given, elements_applied, applied};
 ghost use Rattle.updates.specs.UpdateResults.{IsCounts, IsWork};
 
 use crate::element::{Counts, apply_element};
 use clock::StreamSample;
-use fields::update::header_at;
+use fields::record::Record;
 use records::layout::element_after;
 use timed::infos::ELEMENT_INFOS;
-use timed::state;
 use timed::state::{DynamicSourceState, ElementRendererState, MetadataRendererState};
 
-// The dynamic objects where there were `was` and are `count` of them.
-fn next_sources(
-    sources: [DynamicSourceState; 16],
-    was: usize,
-    count: usize,
-) -> [DynamicSourceState; 16]
-    ensures { result ≡ next_sources was count sources }
+// An object that starts.
+const NEW_SOURCE: DynamicSourceState = DynamicSourceState {
+    gain: 0.707,
+    size: 0.0,
+    place: vectors::ORIGIN,
+    placed: false,
+    send: 0.0,
+};
+
+// A table as it is where there are as many of its entries as before (`kept`, a fact of the counts), else with each entry new.
+fn kept_or<T: Copy, const N: usize>(table: [T; N], kept: bool, new: T) -> [T; N]
+    ensures { result ≡ cond kept table (replicate N new) }
 {
-    if was == count {
-        return sources;
-    }
-    let origin = vectors::zero_vec3();
-    let source = DynamicSourceState {
-        gain: 0.707,
-        size: 0.0,
-        place: origin,
-        placed: false,
-        send: 0.0,
-    };
-    [source; 16]
+    if kept { table } else { [new; N] }
 }
 
-// The beds' gains where there were `was` and are `count` of them.
-fn next_gains(gains: [f32; 18], was: usize, count: usize) -> [f32; 18]
-    ensures { result ≡ next_gains was count gains }
-{
-    if was == count {
-        return gains;
-    }
-    [0.707; 18]
-}
-
-// The bed codes.
-pub fn next_codes(codes: [u8; 18], meta: &[u8], u: usize) -> [u8; 18]
-    requires { 40 * u + 40 ≤ length meta.now }
-    ensures { result ≡ codes_given (update_of meta.now u) codes }
+// The bed codes, written over one by one, as the definition has it.
+pub fn next_codes(codes: [u8; 18], said: Record<'_>) -> [u8; 18]
+    ensures { result ≡ codes_given (update_of said.entry.meta.now said.entry.place) codes }
 {
     let mut next = codes;
-    let mut k = 0usize;
-    while k < 18 {
-        next[k] = meta[40 * u + (8 + k)];
-        k += 1;
+    for k in 0..18 {
+        next[k] = said.byte(8 + k);
     }
     next
 }
@@ -69,33 +48,24 @@ pub fn next_codes(codes: [u8; 18], meta: &[u8], u: usize) -> [u8; 18]
 fn apply_elements(
     states: [ElementRendererState; 2],
     infos: &mut [u8],
-    meta: &[u8],
-    u: usize,
-    n: usize,
+    said: Record<'_>,
     counts: Counts,
     same: bool,
 ) -> [ElementRendererState; 2]
-    requires { (length infos.old ≡ all_bytes) × (n ≡ elements meta.now u) × IsCounts counts (update_of meta.now u) × WholeUpdate meta.now u }
-    ensures { IsWork (elements_applied same (update_of meta.now u) states infos.old) result infos.new }
+    requires { (length infos.old ≡ all_bytes) × IsCounts counts (update_of said.meta.now said.place) × WholeUpdate said.meta.now said.place }
+    ensures { IsWork (elements_applied same (update_of said.entry.meta.now said.entry.place) states infos.old) result infos.new }
 {
     let mut next = states;
-    let mut p = u + 1;
-    let mut e = 0usize;
-    while e < n {
-        let element = next[e];
-        let given = apply_element(element, infos, meta, p, e * ELEMENT_INFOS, counts, same);
-        next[e] = given;
-        p = element_after(meta, counts.objects, p);
-        e += 1;
+    let mut place = said.place + 1;
+    for e in 0..said.header().elements {
+        let element = Record {
+            meta: said.meta,
+            place,
+        };
+        next[e] = apply_element(next[e], infos, element, e * ELEMENT_INFOS, counts, same);
+        place = element_after(element, counts.objects);
     }
     next
-}
-
-// Whether elements, objects and dynamic objects are as many as at the last applied update.
-fn same_counts(elements: usize, given: usize, last: Counts, counts: Counts) -> bool
-    ensures { result ≡ (eqb elements given && eqb last.objects counts.objects && eqb last.dynamic counts.dynamic) }
-{
-    (elements == given) & (last.objects == counts.objects) & (last.dynamic == counts.dynamic)
 }
 
 // The timed state, as an update finds it and leaves it.
@@ -103,49 +73,35 @@ fn same_counts(elements: usize, given: usize, last: Counts, counts: Counts) -> b
 pub struct TimedState(pub MetadataRendererState);
 
 impl TimedState {
-    // The update at record u, applied at a sample of the stream.
-    pub fn apply_update(
-        self,
-        infos: &mut [u8],
-        meta: &[u8],
-        u: usize,
-        at: StreamSample,
-    ) -> TimedState
-        requires { (length infos.old ≡ all_bytes) × WholeUpdate meta.now u }
-        ensures { IsTimed (applied at.0 (update_of meta.now u) (record { state = self.0; infos = infos.old })) result.0 infos.new }
+    // The update, applied at a sample of the stream.
+    pub fn apply_update(self, infos: &mut [u8], said: Record<'_>, at: StreamSample) -> TimedState
+        requires { (length infos.old ≡ all_bytes) × WholeUpdate said.meta.now said.place }
+        ensures { IsTimed (applied at.0 (update_of said.entry.meta.now said.entry.place) (record { state = self.0; infos = infos.old })) result.0 infos.new }
     {
         let s = self.0;
-        let h = header_at(meta, u);
+        let header = said.header();
         let counts = Counts {
-            objects: h.objects,
-            isf: h.bed_or_isf,
-            dynamic: state::dynamic(h.objects, h.bed_or_isf),
+            objects: header.objects,
+            isf: header.bed_or_isf,
         };
         let last = Counts {
             objects: s.objects,
             isf: s.isf,
-            dynamic: state::dynamic(s.objects, s.isf),
         };
-        let same = same_counts(s.elements, h.elements, last, counts);
-        let states = s.states;
-        let next = apply_elements(states, infos, meta, u, h.elements, counts, same);
-        let before = s.codes;
-        let codes = next_codes(before, meta, u);
-        let heard = s.gains;
-        let gains = next_gains(heard, s.beds, h.beds);
-        let moved = s.sources;
-        let sources = next_sources(moved, last.dynamic, counts.dynamic);
+        let as_many = last.dynamic() == counts.dynamic();
+        // With `&`: plain comparisons, and no branch between them.
+        let same = (s.elements == header.elements) & (last.objects == counts.objects) & as_many;
         TimedState(MetadataRendererState {
             initialized: true,
             payload: at,
-            objects: h.objects,
-            isf: h.bed_or_isf,
-            beds: h.beds,
-            elements: h.elements,
-            codes: codes,
-            gains: gains,
-            states: next,
-            sources: sources,
+            objects: header.objects,
+            isf: header.bed_or_isf,
+            beds: header.beds,
+            elements: header.elements,
+            codes: next_codes(s.codes, said),
+            gains: kept_or(s.gains, s.beds == header.beds, 0.707),
+            states: apply_elements(s.states, infos, said, counts, same),
+            sources: kept_or(s.sources, as_many, NEW_SOURCE),
         })
     }
 }

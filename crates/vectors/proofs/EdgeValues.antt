@@ -3,8 +3,8 @@ use mathlib.Core.Path.{◌≡◌, refl}
 use mathlib.Core.Bool.{Bool, true, false}
 use lib.IntN.{pos}
 use lib.Ieee.{Float, nan, inf, fin, binary32, of_bits, round, is_nan, lt, eq, add, mul, div}
+use Rattle.std.specs.Prelude.{Some}
 use Rattle.ieee.specs.Small.{absolute, larger, clamped}
-use Rattle.vectors.specs.declared.Maybe.TheVariants.{Value}
 use Rattle.vectors.specs.Vectors.{0·0f, 1·0f, vec3, zero_vec3, map_to_cube}
 use Rattle.vectors.specs.Anchors.{0·5, 0·9f, 0·486, 100·0, used_distance}
 use Rattle.vectors.specs.Target.{summed}
@@ -27,7 +27,7 @@ minus_zero_kept : summed (fin true 0 (pos 0)) (fin true 0 (pos 0)) ≡ fin true 
 unfolding clamped add lt of_bits
 minus_zero_kept = refl
 
-infinite_distance : (s : Bool) → used_distance (Value (inf s)) ≡ Value 100·0
+infinite_distance : (s : Bool) → used_distance (Some (inf s)) ≡ Some 100·0
 infinite_distance s = refl
 
 screen_sizes : (0·9f ≡ round binary32 false 9 10) × (0·486 ≡ round binary32 false 486 1000)

@@ -3,11 +3,10 @@ use mathlib.Core.Bool.{Bool, true, false, ◌&&◌, cond}
 use lib.Dec.{T}
 use lib.Ieee.{Float, binary32, fits, of_bits, lt, eq, add, sub, mul, div}
 use lib.Ieee.Fits.{cond-fits, add-fits, sub-fits, mul-fits}
+use Rattle.std.specs.Prelude.{Option, Some, None}
 use Rattle.ieee.specs.Small.{clamped}
 use Rattle.roots.specs.declared.Depth.{Depth}
 use Rattle.vectors.specs.declared.Vec3.{Vec3}
-use Rattle.vectors.specs.declared.Maybe.{Maybe}
-use Rattle.vectors.specs.declared.Maybe.TheVariants.{Absent, Value}
 use Rattle.vectors.specs.declared.Anchor.{Anchor}
 use Rattle.vectors.specs.declared.Anchor.TheVariants.{Room, Screen, Speaker}
 use Rattle.vectors.specs.declared.BlockPosition.{BlockPosition}
@@ -37,10 +36,10 @@ map_to_cube_fits v =
     chosen_fits (eq (largest_size v) 0·0f) zero_vec3 (vec_mul_scalar v (div binary32 1·0f (largest_size v))) zero_fits
     (record { x_fits = mul-fits binary32 _ _; y_fits = mul-fits binary32 _ _; z_fits = mul-fits binary32 _ _ })
 
-pub room_fits : (p : Vec3) (d : Maybe) → VecFits p → VecFits (room_anchored p d)
+pub room_fits : (p : Vec3) (d : Option Float) → VecFits p → VecFits (room_anchored p d)
 unfolding room_anchored
-room_fits p Absent h = h
-room_fits p (Value d) h = pairwise_fits (add binary32) (add-fits binary32) _ _
+room_fits p None h = h
+room_fits p (Some d) h = pairwise_fits (add binary32) (add-fits binary32) _ _
 
 pub screen_fits : (p : Vec3) (s : Float) (d : Depth) → VecFits (screen_anchored p s d)
 unfolding screen_anchored

@@ -1,13 +1,11 @@
 -- Where an anchor puts a position: `room_anchored_position` and `screen_anchored_position`, every operation in f32 and in the source's order. Assumes nothing.
-use Rattle.std.specs.Prelude.{cond, Float}
+use Rattle.std.specs.Prelude.{cond, Float, Option, Some, None}
 use Rattle.std.specs.Float.{binary32}
 use Rattle.std.specs.Float.Ieee.{of_bits, add, sub, mul, div}
 use Rattle.ieee.specs.Small.{infinite}
 use Rattle.roots.specs.Root.{depth_power}
 use Rattle.roots.specs.declared.Depth.{Depth}
 use Rattle.vectors.specs.declared.Vec3.{Vec3}
-use Rattle.vectors.specs.declared.Maybe.{Maybe}
-use Rattle.vectors.specs.declared.Maybe.TheVariants.{Absent, Value}
 use Rattle.vectors.specs.Vectors.{0·0f, 1·0f, vec3, vec_add, vec_sub, vec_mul_scalar, vec_mul_components, vec_length, map_to_cube}
 -- 0·9f is `SCREEN_SIZE_X`
 pub use Rattle.ieee.specs.Numbers.{0·9f}
@@ -29,9 +27,9 @@ abbrev pub 100·0 : Float
 abbrev pub finite_distance : Float → Float
 finite_distance d = cond (infinite d) 100·0 d
 
-abbrev pub used_distance : Maybe → Maybe
-used_distance Absent = Absent
-used_distance (Value d) = Value (finite_distance d)
+abbrev pub used_distance : Option Float → Option Float
+used_distance None = None
+used_distance (Some d) = Some (finite_distance d)
 
 -- `ROOM_CENTER`
 abbrev pub room_center : Vec3
@@ -42,9 +40,9 @@ abbrev pub from_center : Float → Vec3 → Vec3
 from_center k c = vec_add (vec_mul_scalar c k) (vec_mul_scalar room_center (sub binary32 1·0f k))
 
 -- where a distance is given, the position on the cube, drawn to the centre by its own distance over the given one
-unfoldable pub room_anchored : Vec3 → Maybe → Vec3
-room_anchored p Absent = p
-room_anchored p (Value d) = from_center (div binary32 (vec_length (map_to_cube p)) d) (map_to_cube p)
+unfoldable pub room_anchored : Vec3 → Option Float → Vec3
+room_anchored p None = p
+room_anchored p (Some d) = from_center (div binary32 (vec_length (map_to_cube p)) d) (map_to_cube p)
 
 -- ---- the screen
 

@@ -8,9 +8,11 @@ ghost use Rattle.std.specs.Prelude.{◌≡◌};
 ghost use Rattle.std.specs.Float.{binary32};
 ghost use Rattle.vectors.specs.Vectors.{zero_vec3, vec_add, vec_sub, vec_mul_scalar, vec_mul_components, vec_length, largest_size, map_to_cube, lerp, lerp_vec3};
 ghost use Rattle.vectors.specs.Anchors.{finite_distance, used_distance, room_center, from_center, room_anchored, reference, multiplier, on_screen, screen_anchored};
+ghost use Rattle.vectors.specs.Head.{anchor_of};
 ghost use Rattle.vectors.specs.Target.{summed, differential_position, cubical, anchored, next_position, next_last, movable, moved, unmoved, placed};
 
 use roots::Depth;
+use std::ops::{Add, Mul, Sub};
 
 // x grows to the right, y upwards, z to the front.
 #[repr(C)]
@@ -21,12 +23,19 @@ pub struct Vec3 {
     pub z: f32,
 }
 
-// A value that is either absent or carries its number.
-#[derive(Clone, Copy)]
-pub enum Maybe {
-    Absent,
-    Value(f32),
-}
+// The origin.
+pub const ORIGIN: Vec3 = Vec3 {
+    x: 0.0,
+    y: 0.0,
+    z: 0.0,
+};
+
+// The room's centre.
+const CENTER: Vec3 = Vec3 {
+    x: 0.5,
+    y: 0.5,
+    z: 0.0,
+};
 
 // What an object's position is given against: `ObjectAnchor` of types.rs.
 #[derive(Clone, Copy)]
@@ -36,89 +45,108 @@ pub enum Anchor {
     Speaker,
 }
 
-// The origin.
-pub fn zero_vec3() -> Vec3
-    ensures { result ≡ zero_vec3 }
-{
-    Vec3 {
-        x: 0.0,
-        y: 0.0,
-        z: 0.0,
+// By its code; what is past the codes counts as speaker.
+impl From<u32> for Anchor {
+    ghost from_gives = { λ code anchor. anchor ≡ anchor_of code };
+
+    fn from(code: u32) -> Anchor {
+        match code {
+            0 => Anchor::Room,
+            1 => Anchor::Screen,
+            _ => Anchor::Speaker,
+        }
     }
 }
 
-pub fn vec_add(lhs: Vec3, rhs: Vec3) -> Vec3
-    ensures { result ≡ vec_add lhs rhs }
-{
-    Vec3 {
-        x: lhs.x + rhs.x,
-        y: lhs.y + rhs.y,
-        z: lhs.z + rhs.z,
+impl Add for Vec3 {
+    type Output = Vec3;
+
+    ghost add_gives = { λ lhs rhs r. r ≡ vec_add lhs rhs };
+
+    fn add(self, rhs: Vec3) -> Vec3 {
+        Vec3 {
+            x: self.x + rhs.x,
+            y: self.y + rhs.y,
+            z: self.z + rhs.z,
+        }
     }
 }
 
-pub fn vec_sub(lhs: Vec3, rhs: Vec3) -> Vec3
-    ensures { result ≡ vec_sub lhs rhs }
-{
-    Vec3 {
-        x: lhs.x - rhs.x,
-        y: lhs.y - rhs.y,
-        z: lhs.z - rhs.z,
+impl Sub for Vec3 {
+    type Output = Vec3;
+
+    ghost sub_gives = { λ lhs rhs r. r ≡ vec_sub lhs rhs };
+
+    fn sub(self, rhs: Vec3) -> Vec3 {
+        Vec3 {
+            x: self.x - rhs.x,
+            y: self.y - rhs.y,
+            z: self.z - rhs.z,
+        }
     }
 }
 
-pub fn vec_mul_scalar(vector: Vec3, scalar: f32) -> Vec3
-    ensures { result ≡ vec_mul_scalar vector scalar }
-{
-    Vec3 {
-        x: vector.x * scalar,
-        y: vector.y * scalar,
-        z: vector.z * scalar,
+impl Mul<f32> for Vec3 {
+    type Output = Vec3;
+
+    ghost mul_gives = { λ vector scalar r. r ≡ vec_mul_scalar vector scalar };
+
+    fn mul(self, scalar: f32) -> Vec3 {
+        Vec3 {
+            x: self.x * scalar,
+            y: self.y * scalar,
+            z: self.z * scalar,
+        }
     }
 }
 
-pub fn vec_mul_components(lhs: Vec3, rhs: Vec3) -> Vec3
-    ensures { result ≡ vec_mul_components lhs rhs }
-{
-    Vec3 {
-        x: lhs.x * rhs.x,
-        y: lhs.y * rhs.y,
-        z: lhs.z * rhs.z,
+// Component by component.
+impl Mul for Vec3 {
+    type Output = Vec3;
+
+    ghost mul_gives = { λ lhs rhs r. r ≡ vec_mul_components lhs rhs };
+
+    fn mul(self, rhs: Vec3) -> Vec3 {
+        Vec3 {
+            x: self.x * rhs.x,
+            y: self.y * rhs.y,
+            z: self.z * rhs.z,
+        }
     }
 }
 
-pub fn vec_length(vector: Vec3) -> f32
-    ensures { result ≡ vec_length vector }
-{
-    roots::sqrt(vector.x * vector.x + vector.y * vector.y + vector.z * vector.z)
-}
-
-pub fn lerp_vec3(from: Vec3, to: Vec3, t: f32) -> Vec3
-    ensures { result ≡ lerp_vec3 from to t }
-{
-    Vec3 {
-        x: from.x + (to.x - from.x) * t,
-        y: from.y + (to.y - from.y) * t,
-        z: from.z + (to.z - from.z) * t,
+impl Vec3 {
+    pub fn length(self) -> f32
+        ensures { result ≡ vec_length self }
+    {
+        roots::sqrt(self.x * self.x + self.y * self.y + self.z * self.z)
     }
-}
 
-// The largest size of a component; a NaN is passed over.
-fn largest(vector: Vec3) -> f32
-    ensures { result ≡ largest_size vector }
-{
-    let first = ieee::max(ieee::abs(vector.x), ieee::abs(vector.y));
-    ieee::max(first, ieee::abs(vector.z))
-}
-
-pub fn map_to_cube(vector: Vec3) -> Vec3
-    ensures { result ≡ map_to_cube vector }
-{
-    let max = largest(vector);
-    if max == 0.0 {
-        return zero_vec3();
+    // The share t of the way to another, which at t = 1 need not be the other.
+    pub fn lerp(self, to: Vec3, t: f32) -> Vec3
+        ensures { result ≡ lerp_vec3 self to t }
+    {
+        self + (to - self) * t
     }
-    vec_mul_scalar(vector, 1.0 / max)
+
+    // The largest size of a component; a NaN is passed over.
+    fn largest(self) -> f32
+        ensures { result ≡ largest_size self }
+    {
+        let first = ieee::max(ieee::abs(self.x), ieee::abs(self.y));
+        ieee::max(first, ieee::abs(self.z))
+    }
+
+    #[tactic(auto, unfolding(crate::specs::Vectors::map_to_cube))]
+    pub fn map_to_cube(self) -> Vec3
+        ensures { result ≡ map_to_cube self }
+    {
+        let max = self.largest();
+        if max == 0.0 {
+            return ORIGIN;
+        }
+        self * (1.0 / max)
+    }
 }
 
 // A distance as it is used: 100 for an infinity of either sign.
@@ -136,27 +164,18 @@ fn finite_distance(distance: f32) -> f32
 fn from_center(factor: f32, intersect: Vec3) -> Vec3
     ensures { result ≡ from_center factor intersect }
 {
-    let center = Vec3 {
-        x: 0.5,
-        y: 0.5,
-        z: 0.0,
-    };
-    vec_add(
-        vec_mul_scalar(intersect, factor),
-        vec_mul_scalar(center, 1.0 - factor),
-    )
+    intersect * factor + CENTER * (1.0 - factor)
 }
 
-pub fn room_anchored_position(position: Vec3, distance: Maybe) -> Vec3
+#[tactic(auto, unfolding(crate::specs::Anchors::room_anchored))]
+pub fn room_anchored_position(position: Vec3, distance: Option<f32>) -> Vec3
     ensures { result ≡ room_anchored position distance }
 {
-    match distance {
-        Maybe::Absent => position,
-        Maybe::Value(value) => {
-            let intersect = map_to_cube(position);
-            from_center(vec_length(intersect) / value, intersect)
-        }
-    }
+    let Some(value) = distance else {
+        return position;
+    };
+    let intersect = position.map_to_cube();
+    from_center(intersect.length() / value, intersect)
 }
 
 // The place of a position on the screen.
@@ -184,18 +203,10 @@ fn multiplier(factor: f32) -> Vec3
 fn on_screen(depth: Vec3, screen: Vec3, position: Vec3, reference: Vec3) -> Vec3
     ensures { result ≡ on_screen depth screen position reference }
 {
-    vec_add(
-        vec_mul_components(
-            depth,
-            vec_sub(
-                vec_add(vec_mul_components(screen, position), reference),
-                vec_mul_components(screen, reference),
-            ),
-        ),
-        vec_sub(reference, vec_mul_components(depth, reference)),
-    )
+    depth * (screen * position + reference - screen * reference) + (reference - depth * reference)
 }
 
+#[tactic(auto, unfolding(crate::specs::Anchors::screen_anchored))]
 pub fn screen_anchored_position(position: Vec3, screen: f32, depth: Depth) -> Vec3
     ensures { result ≡ screen_anchored position screen depth }
 {
@@ -208,17 +219,8 @@ pub fn screen_anchored_position(position: Vec3, screen: f32, depth: Depth) -> Ve
     )
 }
 
-// A distance as it is used, where there is one.
-fn used_distance(distance: Maybe) -> Maybe
-    ensures { result ≡ used_distance distance }
-{
-    match distance {
-        Maybe::Absent => Maybe::Absent,
-        Maybe::Value(value) => Maybe::Value(finite_distance(value)),
-    }
-}
-
 // The position part of `ObjectInfoBlockState`: `last` is its `last_precise`, the last absolute position, and `depth` its `depth_factor`.
+// `valid` and `differential` are flags and no Option: the block holds a position whatever they say.
 #[derive(Clone, Copy)]
 pub struct BlockPosition {
     pub valid: bool,
@@ -226,7 +228,7 @@ pub struct BlockPosition {
     pub anchor: Anchor,
     pub position: Vec3,
     pub last: Vec3,
-    pub distance: Maybe,
+    pub distance: Option<f32>,
     pub screen: f32,
     pub depth: Depth,
 }
@@ -268,92 +270,65 @@ fn cubical(position: Vec3) -> Vec3
     }
 }
 
-// Where the block's anchor puts a position.
-fn anchored_position(block: BlockPosition, position: Vec3) -> Vec3
-    ensures { result ≡ anchored block.anchor block position }
-{
-    let anchor = block.anchor;
-    match anchor {
-        Anchor::Room => {
-            let distance = block.distance;
-            room_anchored_position(position, used_distance(distance))
+impl BlockPosition {
+    // Where the block's anchor puts a position.
+    fn anchored(self, position: Vec3) -> Vec3
+        ensures { result ≡ anchored self.anchor self position }
+    {
+        match self.anchor {
+            Anchor::Room => room_anchored_position(position, self.distance.map(finite_distance)),
+            Anchor::Screen => screen_anchored_position(position, self.screen, self.depth),
+            Anchor::Speaker => position,
         }
-        Anchor::Screen => {
-            let depth = block.depth;
-            screen_anchored_position(position, block.screen, depth)
+    }
+
+    // The position that the block holds once it is applied.
+    fn next_position(self) -> Vec3
+        ensures { result ≡ next_position self }
+    {
+        if self.differential {
+            differential_position(self.last, self.position)
+        } else {
+            self.position
         }
-        Anchor::Speaker => position,
     }
-}
 
-// The position that the block holds once it is applied.
-fn next_position(block: BlockPosition) -> Vec3
-    ensures { result ≡ next_position block }
-{
-    let position = block.position;
-    let last = block.last;
-    if block.differential {
-        return differential_position(last, position);
+    // The last absolute position, once the block is applied.
+    fn next_last(self) -> Vec3
+        ensures { result ≡ next_last self }
+    {
+        if self.differential {
+            self.last
+        } else {
+            self.position
+        }
     }
-    position
-}
 
-// The last absolute position, once the block is applied.
-fn next_last(block: BlockPosition) -> Vec3
-    ensures { result ≡ next_last block }
-{
-    let position = block.position;
-    let last = block.last;
-    if block.differential { last } else { position }
-}
+    // What a block does that moves its object.
+    #[tactic(auto, unfolding(crate::specs::Target::moved))]
+    fn moved(self) -> Placed
+        ensures { result ≡ moved self }
+    {
+        let position = self.next_position();
+        Placed {
+            target: cubical(self.anchored(position)),
+            position,
+            last: self.next_last(),
+        }
+    }
 
-// What a block does that moves its object.
-fn moved(block: BlockPosition) -> Placed
-    ensures { result ≡ moved block }
-{
-    let position = next_position(block);
-    let last = next_last(block);
-    let target = cubical(anchored_position(block, position));
-    Placed {
-        target,
-        position,
-        last,
+    // The position part of `update_source_state`, for an object that is `here`: it stays there where the position is not valid or the anchor is speaker.
+    #[tactic(auto, unfolding(crate::specs::Target::placed))]
+    pub fn placed(self, here: Vec3) -> Placed
+        ensures { result ≡ placed self here }
+    {
+        if self.valid && !matches!(self.anchor, Anchor::Speaker) {
+            return self.moved();
+        }
+        Placed {
+            target: here,
+            position: self.position,
+            last: self.last,
+        }
     }
-}
-
-// What a block does that leaves its object where it is.
-fn kept(block: BlockPosition, here: Vec3) -> Placed
-    ensures { result ≡ unmoved block here }
-{
-    let position = block.position;
-    let last = block.last;
-    Placed {
-        target: here,
-        position,
-        last,
-    }
-}
-
-fn movable(anchor: Anchor) -> bool
-    ensures { result ≡ movable anchor }
-{
-    match anchor {
-        Anchor::Room => true,
-        Anchor::Screen => true,
-        Anchor::Speaker => false,
-    }
-}
-
-// The position part of `update_source_state`, for an object that is `here`.
-pub fn update_source_position(block: BlockPosition, here: Vec3) -> Placed
-    ensures { result ≡ placed block here }
-{
-    if !block.valid {
-        return kept(block, here);
-    }
-    let anchor = block.anchor;
-    if movable(anchor) {
-        return moved(block);
-    }
-    kept(block, here)
 }

@@ -2,12 +2,12 @@
 use mathlib.Core.Path.{◌≡◌, refl, sym, ap, ap₂, ◌∙◌}
 use mathlib.Core.List.{List}
 use Prim.Native.Nat.{ℕ, zero, suc, ◌+◌, ◌*◌, ◌/◌, ◌%◌, ◌^◌, ◌<◌}
-use native.Mathlib.Nat.{add-zero, add-suc, add_assoc, mul_assoc, div-div-eq-div-mul, mul-add-div, mul-add-mod_self_left, div-add-mod, div-one, mod-eq_of_lt, one-le-pow, pow-succ'}
+use native.Mathlib.Nat.{add-zero, add-suc, add_assoc, mul_assoc, div-div-eq-div-mul, mul-add-div, mul-add-mod_self_left, div-add-mod, one-le-pow, pow-succ'}
 use native.Mathlib.Omega.{arith}
 use lib.Dec.{lit≤}
 use lib.Pow.{pow-add}
 use lib.ListN.{length, get_or, set, length-set}
-use Rattle.words.specs.Words.{number, with_number, half, with_half, word}
+use Rattle.words.specs.Words.{number, with_number, half, word, long}
 
 -- two bytes
 pub half_read : (s : List ℕ) (at : ℕ) → get_or s at 0 + get_or s (at + 1) 0 * 256 ≡ half s at
@@ -19,11 +19,11 @@ pub word_read : (s : List ℕ) (at : ℕ) → get_or s at 0 + get_or s (at + 1) 
 unfolding number
 word_read s at = rw (add-zero at) (omega arith)
 
-pub half_written : (s : List ℕ) (at v : ℕ) → v < 65536 → set (set s at (v % 256)) (at + 1) (v / 256) ≡ with_half s at v
-unfolding with_number
-half_written s at v h =
-    let k : v / 256 < 256 = omega arith in
-    rw (add-zero at, div-one v, mod-eq_of_lt k)
+-- eight bytes
+pub long_read : (s : List ℕ) (at : ℕ) → get_or s at 0 + get_or s (at + 1) 0 * 256 + get_or s (at + 2) 0 * 65536 + get_or s (at + 3) 0 * 16777216
+    + get_or s (at + 4) 0 * 4294967296 + get_or s (at + 5) 0 * 1099511627776 + get_or s (at + 6) 0 * 281474976710656 + get_or s (at + 7) 0 * 72057594037927936 ≡ long s at
+unfolding number
+long_read s at = rw (add-zero at) (omega arith)
 
 joined : (a b x P Q : ℕ) → a + b * P + x * (P * Q) ≡ a + (b + x * Q) * P
 joined a b x P Q = omega arith

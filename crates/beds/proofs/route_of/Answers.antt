@@ -13,23 +13,23 @@ returns-in-3 c = ⊎_elim (λ w. rw w) (λ w. rw w) c.in-3.is
 
 pub returns-in-0-to-2 : goal.returns-in-0-to-2
 unfolding route_of
-returns-in-0-to-2 c = between (λ n. Direct n ≡ route_of n) 0 3 (refl, (refl, (refl, tt))) c.args.code (omega arith) (omega arith)
+returns-in-0-to-2 c = rw c.from.ensures (between (λ n. Direct n ≡ route_of n) 0 3 (refl, (refl, (refl, tt))) c.args.code (omega arith) (omega arith))
 
 pub returns-in-4-to-5 : goal.returns-in-4-to-5
 unfolding route_of
-returns-in-4-to-5 c = between (λ n. Direct (n + 2) ≡ route_of n) 4 2 (refl, (refl, tt)) c.args.code (grind arith) (omega arith)
+returns-in-4-to-5 c = rw c.from-in-4-to-5.ensures (between (λ n. Direct (n + 2) ≡ route_of n) 4 2 (refl, (refl, tt)) c.args.code (grind arith) (omega arith))
 
 pub returns-in-7-to-8 : goal.returns-in-7-to-8
 unfolding route_of
-returns-in-7-to-8 c = between (λ n. Direct (n - 3) ≡ route_of n) 7 2 (refl, (refl, tt)) c.args.code (omega arith) (omega arith)
+returns-in-7-to-8 c = rw c.from-in-7-to-8.ensures (between (λ n. Direct (n - 3) ≡ route_of n) 7 2 (refl, (refl, tt)) c.args.code (omega arith) (omega arith))
 
 pub returns-in-9-to-10 : goal.returns-in-9-to-10
 unfolding route_of
-returns-in-9-to-10 c = between (λ n. Direct (n - 1) ≡ route_of n) 9 2 (refl, (refl, tt)) c.args.code (omega arith) (omega arith)
+returns-in-9-to-10 c = rw c.from-in-9-to-10.ensures (between (λ n. Direct (n - 1) ≡ route_of n) 9 2 (refl, (refl, tt)) c.args.code (omega arith) (omega arith))
 
 pub returns-in-13-to-14 : goal.returns-in-13-to-14
 unfolding route_of
-returns-in-13-to-14 c = between (λ n. Direct (n - 3) ≡ route_of n) 13 2 (refl, (refl, tt)) c.args.code (omega arith) (omega arith)
+returns-in-13-to-14 c = rw c.from-in-13-to-14.ensures (between (λ n. Direct (n - 3) ≡ route_of n) 13 2 (refl, (refl, tt)) c.args.code (omega arith) (omega arith))
 
 pub returns-in-11 : goal.returns-in-11
 unfolding route_of

@@ -1,28 +1,19 @@
--- What is left to test, from entry `i` on, decides. Assumes nothing.
-use Rattle.std.proofs.Common.{◌≡◌, ◌∙◌, sym, ◌+◌, ◌*◌, true, false, arith, le-leb}
-use Rattle.std.proofs.lemmas.Bool.{lt-leb}
+-- Each entry is tested. Assumes nothing.
+use Rattle.std.proofs.Common.{◌≡◌, ◌∙◌, ◌+◌, ◌*◌, refl, ap, rules, arith, ℕ, Bool, leb, get_or}
+use Rattle.std.proofs.lemmas.Iterator.{YieldsList-from_range}
+use Rattle.std.proofs.lemmas.Iterator.Search.{all_from_yields_List}
+use Rattle.std.specs.List.{list_all, range_with_len}
 use Rattle.formats.specs.NumberWords.{in_words}
-use Rattle.formats.proofs.Loops.{all_step, all_stop, all_done, most}
+use Rattle.formats.specs.Format.{all_at}
+use Rattle.formats.proofs.Loops.{all_entries, most}
 use Rattle.formats.proofs.at_most.Goals as goal
-
-pub returns-then-word_of-limit : goal.returns-then-word_of-limit
-returns-then-word_of-limit c =
-    let l = c.loop-i in
-    let a = c.args in
-    let p : l.p ≡ a.at + a.k * l.i + a.j = omega arith in
-    let e : most (in_words a.s.now) a.j a.limit (a.at + a.k * l.i) ≡ false = rw (← p, ← c.word_of.ensures) (lt-leb _ _ c.if-word_of-limit.true) in
-    sym (l.invariant.2 ∙ all_stop a.k (most (in_words a.s.now) a.j a.limit) a.at l.i a.n c.loop-i-test.true e)
-
-pub loop-i-preserved : goal.loop-i-preserved
-loop-i-preserved c =
-    let l = c.loop-i in
-    let a = c.args in
-    let p : l.p ≡ a.at + a.k * l.i + a.j = omega arith in
-    let e : most (in_words a.s.now) a.j a.limit (a.at + a.k * l.i) ≡ true = rw (← p, ← c.word_of.ensures) (le-leb _ _ c.if-word_of-limit.false) in
-    (omega arith, omega arith, l.invariant.2 ∙ all_step a.k (most (in_words a.s.now) a.j a.limit) a.at l.i a.n c.loop-i-test.true e)
 
 pub returns : goal.returns
 returns c =
-    let l = c.loop-i in
     let a = c.args in
-    sym (l.invariant.2 ∙ all_done a.k (most (in_words a.s.now) a.j a.limit) a.at l.i a.n (omega arith))
+    let w = in_words a.s.now in
+    let test : ℕ → Bool = λ i. leb (get_or w (a.at + a.k * i + a.j) 0) a.limit in
+    let h : c.all.result ≡ list_all test (range_with_len 0 a.n) =
+    all_from_yields_List test _ _ c.all.result c.all.ensures.ran (YieldsList-from_range 0 a.n a.n refl (omega arith)) (λ x b q e. search rules) in
+    let e : a.at + a.k * 0 ≡ a.at = omega arith in
+    h ∙ all_entries a.k (most w a.j a.limit) a.at 0 a.n ∙ ap (all_at (most w a.j a.limit) a.k a.n) e

@@ -1,5 +1,5 @@
 -- `unpack`: the first k records are of PCM, and what they hold stands at the front. Assumes nothing.
-use Prim.Native.Nat.{◌+◌, ◌-◌, ◌*◌, ◌≤◌}
+use Prim.Native.Nat.{◌*◌}
 use mathlib.Core.Path.{◌≡◌}
 use mathlib.Core.Bool.{true}
 use lib.ListN.{length, take}
@@ -9,7 +9,4 @@ use Rattle.framing.proofs.unpack.Given as goal
 abbrev pub invariant-loop-k : goal.invariant-loop-k
 invariant-loop-k l =
     let n = length l.initial.pcm in
-    (length l.pcm ≡ n) × (36 * l.k ≤ n + 35) × (are_pcm n l.records l.k ≡ true) × (take (36 * l.k) l.pcm ≡ held_in n l.records l.k)
-
-abbrev pub decreases-loop-k : goal.decreases-loop-k
-decreases-loop-k l = length l.initial.pcm + 36 - 36 * l.k
+    (are_pcm n l.records l.k ≡ true) × (take (36 * l.k) l.pcm ≡ held_in n l.records l.k)

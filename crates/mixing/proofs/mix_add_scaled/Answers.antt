@@ -5,4 +5,4 @@ use Rattle.mixing.proofs.mix_add_scaled.Goals as goal
 
 pub loop-k-preserved : goal.loop-k-preserved
 loop-k-preserved c =
-    (omega arith, rw c.loop-k.invariant.1 (mixed_step c.loop-k.k c.args.input.now c.args.gain c.args.output.now (omega arith) (omega arith)))
+    rw c.loop-k.invariant (mixed_step c.loop-k.k c.args.input.now c.args.gain c.args.output.now (omega arith) (omega arith))

@@ -1,10 +1,7 @@
 -- `mix_add_scaled`: after k samples the output is the first k mixed in.
-use Rattle.std.proofs.Common.{◌≡◌, ◌-◌, ◌≤◌, length, take}
+use Rattle.std.proofs.Common.{◌≡◌, take}
 use Rattle.mixing.specs.Mixing.{mixed}
 use Rattle.mixing.proofs.mix_add_scaled.Given as goal
 
 abbrev pub invariant-loop-k : goal.invariant-loop-k
-invariant-loop-k l = (l.k ≤ length l.input) × (l.output ≡ mixed (take l.k l.input) l.gain l.initial.output)
-
-abbrev pub decreases-loop-k : goal.decreases-loop-k
-decreases-loop-k l = length l.input - l.k
+invariant-loop-k l = (l.output ≡ mixed (take l.k l.input) l.gain l.initial.output)

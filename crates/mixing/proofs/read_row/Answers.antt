@@ -14,4 +14,4 @@ returns-then-row-eq1 c =
 
 pub loop-i-preserved : goal.loop-i-preserved
 loop-i-preserved c =
-    (omega arith, samples_step c.args.pcm.now c.args.at c.loop-i.i c.args.row.now _ _ (omega arith) c.loop-i.invariant.1 c.sample_at-in-loop-i.ensures)
+    samples_step c.args.pcm.now c.args.at c.loop-i.i c.args.row.now _ _ (omega arith) c.loop-i.invariant c.sample_at-in-loop-i.ensures

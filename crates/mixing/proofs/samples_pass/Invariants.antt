@@ -1,10 +1,7 @@
 -- `samples_pass`: after i words it holds what the first i pass.
-use Rattle.std.proofs.Common.{◌≡◌, ◌-◌, ◌≤◌}
+use Rattle.std.proofs.Common.{◌≡◌}
 use Rattle.mixing.specs.FrameSamples.{all_pass}
 use Rattle.mixing.proofs.samples_pass.Given as goal
 
 abbrev pub invariant-loop-i : goal.invariant-loop-i
-invariant-loop-i l = (l.i ≤ l.count) × (l.pass ≡ all_pass l.pcm l.at l.i)
-
-abbrev pub decreases-loop-i : goal.decreases-loop-i
-decreases-loop-i l = l.count - l.i
+invariant-loop-i l = (l.pass ≡ all_pass l.pcm l.at l.i)

@@ -1,4 +1,4 @@
--- x is a positive finite number or infinity.
+-- y is a positive finite number or infinity.
 use mathlib.Core.Path.{◌≡◌, refl, sym, ◌∙◌, subst}
 use mathlib.Core.Bool.{true, false}
 use Prim.Native.Nat.{ℕ}
@@ -18,14 +18,14 @@ top_power : (p : ℕ) (x : Float) → x ≡ inf false → x ≡ root_power p x
 unfolding root_power
 top_power p x e = subst (λ (y : Float). y ≡ root_power p y) (sym e) refl
 
-pub root_bits-requires : goal.root_bits-requires
-root_bits-requires c = ((positive c.well_formed.0.1 c.requires).some, c.if-b-lt2139095040.true)
+pub fourth_bits-requires : goal.fourth_bits-requires
+fourth_bits-requires c = ((positive c.well_formed.0.1 c.requires).some, c.if-b-lt2139095040.true)
 
 pub float_from_bits-result : goal.float_from_bits-result
-float_from_bits-result c = not_above _ (omega (arith, c.root_bits.ensures.0))
+float_from_bits-result c = not_above _ (omega (arith, c.fourth_bits.ensures.0))
 
 pub returns-then-b-lt2139095040 : goal.returns-then-b-lt2139095040
-returns-then-b-lt2139095040 c = sym ((positive c.well_formed.0.1 c.requires).power_is _ c.if-b-lt2139095040.true ∙ c.root_bits.ensures.1)
+returns-then-b-lt2139095040 c = sym ((positive c.well_formed.0.1 c.requires).power_is _ c.if-b-lt2139095040.true ∙ c.fourth_bits.ensures.1)
 
 pub returns : goal.returns
 returns c = top_power _ _ ((positive c.well_formed.0.1 c.requires).top c.if-b-lt2139095040.false)

@@ -14,5 +14,5 @@ returns c =
     c.put_u64-2.ensures
     ∙ ap (λ (x : List ℕ). with_long x (4 * (second_at + remaining_in)) middle)
     (c.put_u64.ensures ∙ ap (λ (x : List ℕ). with_long x (4 * (first_at + remaining_in)) middle)
-    (c.put_u32.ensures ∙ ap (λ (x : List ℕ). with_word x (4 * limiter_gain_at) 0x3f80_0000) c.zeros.ensures))
+    (c.put_u32.ensures ∙ ap (λ (x : List ℕ). with_word x (4 * limiter_gain_at) 0x3f80_0000) (c.fill.ensures.after (λ y e. e))))
     ∙ refilled (length c.args.state.now) c.requires

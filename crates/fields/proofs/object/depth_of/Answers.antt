@@ -1,23 +1,35 @@
 -- `fields::object::depth_of`: each factor in turn. Assumes nothing.
-use Rattle.std.proofs.Common.{arith, eq-eqb, ne_eqb}
-use Rattle.fields.proofs.RangesByBits.{depth_by_bits}
+use Rattle.std.proofs.Common.{ℕ, ap, ltb, refl, arith, ne_eqb}
+use Rattle.fields.proofs.RangesByBits.{depth_by_bits, depth_listed}
 use Rattle.fields.proofs.object.depth_of.Goals as goal
 
-pub returns-then-w-eq1048576000 : goal.returns-then-w-eq1048576000
-returns-then-w-eq1048576000 c = simp (eq-eqb _ _ c.if-w-eq1048576000.true) at (depth_by_bits c.args.w (omega arith))
+pub returns-in-1048576000 : goal.returns-in-1048576000
+returns-in-1048576000 c =
+    let e = depth_listed c.args.w (omega arith) 0x3e800000 0 c.in-1048576000.is refl in
+    record { code = e; listed = ap (λ (n : ℕ). ltb n 4) e }
 
-pub returns-then-w-eq1056964608 : goal.returns-then-w-eq1056964608
-returns-then-w-eq1056964608 c =
-    simp (ne_eqb _ _ c.if-w-eq1048576000.false, eq-eqb _ _ c.if-w-eq1056964608.true) at (depth_by_bits c.args.w (omega arith))
+pub returns-in-1056964608 : goal.returns-in-1056964608
+returns-in-1056964608 c =
+    let e = depth_listed c.args.w (omega arith) 0x3f000000 1 c.in-1056964608.is refl in
+    record { code = e; listed = ap (λ (n : ℕ). ltb n 4) e }
 
-pub returns-then-w-eq1065353216 : goal.returns-then-w-eq1065353216
-returns-then-w-eq1065353216 c =
-    simp (ne_eqb _ _ c.if-w-eq1048576000.false, ne_eqb _ _ c.if-w-eq1056964608.false, eq-eqb _ _ c.if-w-eq1065353216.true) at (depth_by_bits c.args.w (omega arith))
+pub returns-in-1065353216 : goal.returns-in-1065353216
+returns-in-1065353216 c =
+    let e = depth_listed c.args.w (omega arith) 0x3f800000 2 c.in-1065353216.is refl in
+    record { code = e; listed = ap (λ (n : ℕ). ltb n 4) e }
 
-pub returns-then-w-eq1073741824 : goal.returns-then-w-eq1073741824
-returns-then-w-eq1073741824 c =
-    simp (ne_eqb _ _ c.if-w-eq1048576000.false, ne_eqb _ _ c.if-w-eq1056964608.false, ne_eqb _ _ c.if-w-eq1065353216.false, eq-eqb _ _ c.if-w-eq1073741824.true) at (depth_by_bits c.args.w (omega arith))
+pub returns-in-1073741824 : goal.returns-in-1073741824
+returns-in-1073741824 c =
+    let e = depth_listed c.args.w (omega arith) 0x40000000 3 c.in-1073741824.is refl in
+    record { code = e; listed = ap (λ (n : ℕ). ltb n 4) e }
 
-pub returns : goal.returns
-returns c =
-    simp (ne_eqb _ _ c.if-w-eq1048576000.false, ne_eqb _ _ c.if-w-eq1056964608.false, ne_eqb _ _ c.if-w-eq1065353216.false, ne_eqb _ _ c.if-w-eq1073741824.false) at (depth_by_bits c.args.w (omega arith))
+pub returns-in_default : goal.returns-in_default
+returns-in_default c =
+    let w = c.args.w in
+    let e = simp (
+      ne_eqb w 0x3e800000 (λ e. omega arith),
+      ne_eqb w 0x3f000000 (λ e. omega arith),
+      ne_eqb w 0x3f800000 (λ e. omega arith),
+      ne_eqb w 0x40000000 (λ e. omega arith),
+    ) at (depth_by_bits w (omega arith)) in
+    record { code = e; listed = ap (λ (n : ℕ). ltb n 4) e }

@@ -1,16 +1,14 @@
 -- The ORs of the heads so far, and what is left to test from info `k` on, decide. Assumes nothing.
 use Rattle.std.proofs.Common.{sym, ◌∙◌, arith}
-use borrow.Author.Tests.{lt-ltb}
 use Rattle.formats.proofs.HeadsTested.{heads_more, heads_all}
 use Rattle.formats.proofs.areas.each_valid.Goals as goal
 
 pub loop-k-preserved : goal.loop-k-preserved
 loop-k-preserved c =
     let l = c.loop-k in
-    (omega arith, heads_more c.args.infos.now l.heads l.anchors l.k c.u32_at-h.result c.loop-k-test.true c.u32_at-h.ensures ∙ l.invariant.1)
+    heads_more c.args.infos.now l.heads l.anchors l.k c.u32_at-h.result c.loop-k-test.true c.u32_at-h.ensures ∙ l.invariant
 
 pub returns : goal.returns
 returns c =
     let l = c.loop-k in
-    sym (heads_all c.args.infos.now l.heads l.anchors l.k l.invariant.0 c.loop-k-test.false l.invariant.1
-    ∙ rw (lt-ltb _ _ c.if-heads-ge262144.false, lt-ltb _ _ c.if-heads-ge64.false))
+    sym (heads_all c.args.infos.now l.heads l.anchors l.k (omega arith) (omega arith) l.invariant)

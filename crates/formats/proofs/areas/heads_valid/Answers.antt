@@ -6,10 +6,11 @@ use Rattle.formats.proofs.areas.heads_valid.Goals as goal
 pub loop-k-preserved : goal.loop-k-preserved
 loop-k-preserved c =
     let l = c.loop-k in
-    (omega arith, joined_more c.args.infos.now l.heads l.k c.u32_at-heads.result c.loop-k-test.true c.u32_at-heads.ensures l.invariant.1)
+    joined_more c.args.infos.now l.heads l.k c.u32_at-heads.result c.loop-k-test.true c.u32_at-heads.ensures l.invariant
 
 pub returns-then-head_valid : goal.returns-then-head_valid
 returns-then-head_valid c =
     let l = c.loop-k in
-    sym (joined_all c.args.infos.now l.k l.invariant.0 c.loop-k-test.false
-    (l.invariant.1 (subst T (sym (sym c.head_valid.ensures ∙ c.if-head_valid.true)) tt)))
+    c.if-head_valid.true
+    ∙ sym (joined_all c.args.infos.now l.k (omega arith) (omega arith)
+    (l.invariant (subst T (sym (sym c.head_valid.ensures ∙ c.if-head_valid.true)) tt)))

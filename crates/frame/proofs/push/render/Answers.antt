@@ -1,5 +1,5 @@
 -- `render` meets its contract: the loop keeps `Running`, and what is left of the frame falls at each turn. Assumes nothing.
-use Prim.Native.Nat.{ℕ, ◌+◌}
+use Prim.Native.Nat.{ℕ, ◌+◌, ◌<◌}
 use mathlib.Core.Path.{◌≡◌, refl, sym, ap, ◌∙◌, subst}
 use mathlib.Core.List.{List}
 use mathlib.Core.Bool.{Bool, true, false, ◌||◌}
@@ -8,7 +8,7 @@ use lib.Ieee.{of_bits}
 use native.Mathlib.Omega.{arith}
 use native.Mathlib.Nat.{le_of_lt}
 use borrow.Author.Rules.{rules}
-use borrow.Author.Tests.{ltb-true, ltb-false}
+use borrow.Author.Tests.{ltb-false}
 use Rattle.limiter.specs.Meters.{unmet}
 use Rattle.rules.specs.Calls.{frame_of}
 use Rattle.rules.specs.Samples.{Renderer, updated, slotted}
@@ -25,11 +25,12 @@ use Rattle.chunk.specs.ChunkRows.{Laid}
 use Rattle.frame.specs.Turn.{CanBegin}
 use Rattle.rendering.proofs.Theorems.{can_start, slotted_after, none_applied, slot_rests, slot_changes_nothing}
 use Rattle.frame.proofs.Running.{Taken, takes, starts_at, is_rate, Running, opens, can_begin, end_above, few, Turning, turn_some, turn_within, turn_passes}
+use Rattle.clock.proofs.Before.{more_left, none_left}
 use Rattle.frame.proofs.Running.{turn_runs, turn_skips, rendered}
 use Rattle.frame.proofs.ChunkOnBlock.{can_give_rows, can_give, passes_on, passes_given, passes_whole}
 use Rattle.chunk.proofs.Theorems.{fit_all, as_laid}
 use Rattle.frame.proofs.push.render.Goals as goal
-use Rattle.frame.proofs.push.render.Goals.{After-at-at, After-run_length-k, After-start-1, Joined-is_kept, Joined-is_sent, Joined-slot_starts, then-is_sent, else-is_sent, then-slot_starts+then-not-rests, then-slot_starts+else-not-rests, else-slot_starts, then-is_kept, else-is_kept, then-k-eq64, else-k-eq64+then-work-eq64, else-k-eq64+else-work-eq64}
+use Rattle.frame.proofs.push.render.Goals.{After-at-at, After-run_length-k, After-start-1, Joined-is_kept, Joined-is_sent, Joined-slot_starts, then-is_sent, else-is_sent, then-slot_starts+then-not-rests, else-slot_starts, else-slot_starts-via-then-slot_starts+else-not-rests, else-slot_starts-via-else-slot_starts, then-is_kept, else-is_kept, then-k-eq64, else-k-eq64+then-work-eq64, else-k-eq64+else-work-eq64}
 
 -- ---- at the start
 
@@ -76,7 +77,7 @@ may_begin c k =
     let s = c.args in
     let x = c.loop-l in
     let a = args_with s.pcm.now s.meta.now s.out.now s.codes.now s.n in
-    can_begin s.state.now a s.l k x.t.0 x.work x.state x.out x.invariant.0 (ltb-true x.t.0 a.samples (sym c.is_before.ensures ∙ c.loop-l-test.true))
+    can_begin s.state.now a s.l k x.t.0 x.work x.state x.out x.invariant.0 (more_left _ _ _ c.lt.ensures c.loop-l-test.true)
     c.at-at.result.0 (c.at-at.ensures ∙ ap (λ (p : ℕ). p + x.t.0) (starts_at s.idle s.state.now a s.l c.requires))
 
 pub apply_sent-work-requires : goal.apply_sent-work-requires
@@ -136,9 +137,12 @@ begun c a =
       | then-slot_starts+then-not-rests w ↦
           let b = w.start_slot-work.ensures in
           rw (w.work-is, w.state-is) (record { next = slotted_after a.next b.next; ready = b.ready ∙ a.ready; meters = b.meters ∙ a.meters })
-      | then-slot_starts+else-not-rests w ↦
-          rw (w.work-is, w.state-is) (leads_on a (slot_changes_nothing _ _ a.next.holds.long (slot ∙ w.if-slot_starts.true) (sym w.rests.ensures ∙ w.if-not-rests.false)))
-      | else-slot_starts w ↦ rw (w.work-is, w.state-is) (leads_on a (slot_rests _ _ a.next.holds.long (slot ∙ w.if-slot_starts.false)))
+      | else-slot_starts w ↦ rw (w.work-is, w.state-is)
+          (leads_on a (elim w.else-slot_starts.branch [
+            | else-slot_starts-via-then-slot_starts+else-not-rests v ↦
+                slot_changes_nothing _ _ a.next.holds.long (slot ∙ v.if-slot_starts.true) (sym v.rests.ensures ∙ v.if-not-rests.false)
+            | else-slot_starts-via-else-slot_starts v ↦ slot_rests _ _ a.next.holds.long (slot ∙ v.if-slot_starts.false)
+          ]))
     ]
 
 pub next_offset-next-requires : goal.next_offset-next-requires
@@ -152,7 +156,7 @@ run_length-k-requires c =
     let a = args_with s.pcm.now s.meta.now s.out.now s.codes.now s.n in
     let k = taken p.After-start-1 in
     let e = c.next_offset-next.result.0 in
-    let l = ltb-true x.t.0 a.samples (sym c.is_before.ensures ∙ c.loop-l-test.true) in
+    let l : c.loop-l.t.0 < c.args.n.samples = more_left _ _ _ c.lt.ensures c.loop-l-test.true in
     let n = rw x.invariant.1 at c.next_offset-next.ensures in
     let f = few s.state.now a s.l k x.t.0 x.work x.state x.out x.invariant.0 l e n c.if-slot_starts.work c.if-slot_starts.state
     (begun p.Joined-slot_starts (updates_done p.Joined-is_sent k)) in
@@ -167,7 +171,7 @@ turning c k b =
     record {
       taken = k;
       running = c.loop-l.invariant.0;
-      more = ltb-true c.loop-l.t.0 c.args.n.samples (sym c.is_before.ensures ∙ c.loop-l-test.true);
+      more = more_left _ _ _ c.lt.ensures c.loop-l-test.true;
       ends = rw c.loop-l.invariant.1 at c.next_offset-next.ensures;
       begun = b;
       count = c.run_length-k.ensures;
@@ -182,7 +186,7 @@ pass-work-requires c =
 
 pub up_to-requires : goal.up_to-requires
 up_to-requires c =
-    let l = ltb-true c.loop-l.t.0 c.args.n.samples (sym c.is_before.ensures ∙ c.loop-l-test.true) in
+    let l : c.loop-l.t.0 < c.args.n.samples = more_left _ _ _ c.lt.ensures c.loop-l-test.true in
     omega (arith, l, c.loop-l.invariant.1)
 
 pub lay-requires : goal.lay-requires
@@ -314,4 +318,4 @@ returns c =
     let s = c.args in
     let x = c.loop-l in
     rendered s.state.now (args_with s.pcm.now s.meta.now s.out.now s.codes.now s.n) x.t.0 x.work x.state x.out x.invariant.0
-    (ltb-false x.t.0 s.n.samples (sym c.is_before.ensures ∙ c.loop-l-test.false))
+    (none_left _ _ _ c.lt.ensures c.loop-l-test.false)

@@ -1,8 +1,6 @@
 -- `drain`: the flush of the rules, saved.
-use Prim.Native.Nat.{ℕ}
 use mathlib.Core.Path.{refl, ap, ◌∙◌}
 use native.Mathlib.Omega.{arith}
-use Rattle.hall.specs.Answers.{ready_of}
 use Rattle.hall.proofs.Known.{valid_long}
 use Rattle.limiter.specs.Meters.{shown}
 use Rattle.hall.proofs.Done.{can_give, flushed_left}
@@ -30,6 +28,6 @@ returns c =
     flushed_left a.state.now a.s w.loaded.small
     (λ k. omega (arith, c.slice_known-1.given k))
     w.loaded.valid a.out.now a.stride w.room
-    w.some c.drain-last.result.renderer c.shown.result d.next (c.shown.ensures ∙ ap shown d.meters) c.ready.result
-    c.save.new.state c.drain-last.new.out (c.ready.ensures ∙ ap (λ (n : ℕ). ready_of n c.shown.result) d.ready)
+    w.some c.drain-last.result.renderer c.shown.result d.next (c.shown.ensures ∙ ap shown d.meters) c.drain-last.result.ready
+    c.save.new.state c.drain-last.new.out d.ready
     c.save.ensures d.given

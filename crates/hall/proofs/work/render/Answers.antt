@@ -25,4 +25,4 @@ returns c =
     c.render-done.result.renderer c.render-done.result.ready c.shown.result c.render-done.new.state
     (λ i. omega (arith, c.slice_known-3-1.given i)) d.next.holds d.ready
     (c.shown.ensures ∙ ap shown d.meters)
-    c.ready.result c.save.new.state c.render-done.new.out c.ready.ensures c.save.ensures d.given
+    c.save.new.state c.render-done.new.out c.save.ensures d.given

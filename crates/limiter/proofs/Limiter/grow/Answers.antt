@@ -7,11 +7,11 @@ use Rattle.ieee.proofs.Constants.{in_float_is}
 use Rattle.limiter.specs.Limiter.{1·0, grown}
 use Rattle.limiter.proofs.Limiter.grow.Goals as goal
 
-pub int_to_float-decay : goal.int_to_float-decay
-int_to_float-decay c = in_float_is _ c.requires.0
+pub int_to_float-gain : goal.int_to_float-gain
+int_to_float-gain c = in_float_is _ c.requires.0
 
-pub int_to_float-decay-2 : goal.int_to_float-decay-2
-int_to_float-decay-2 c = in_float_is _ c.requires.1
+pub int_to_float-gain-2 : goal.int_to_float-gain-2
+int_to_float-gain-2 c = in_float_is _ c.requires.1
 
 pub returns-then-gain : goal.returns-then-gain
 unfolding of_bits grown

@@ -1,22 +1,16 @@
 -- `limiter::places::scale_slice_into` meets its contract. Assumes nothing.
-use borrow.Author.Rules.{rules}
 use native.Mathlib.Omega.{arith}
-use mathlib.Core.Path.{refl, ◌∙◌}
-use Prim.Native.Nat.{◌*◌}
+use mathlib.Core.Path.{◌∙◌}
 use Rattle.limiter.proofs.Scaled.{write_more, write_end}
 use Rattle.limiter.proofs.places.scale_slice_into.Goals as goal
-
-pub loop-i-init : goal.loop-i-init
-loop-i-init c =
-    (omega arith, refl, refl)
 
 pub loop-i-preserved : goal.loop-i-preserved
 loop-i-preserved c =
     let a = c.args in
     let p = c.put_f32 in
-    (omega arith, search rules, write_more a.gain c.loop-i.out p.new.s c.loop-i.i a.samples.now (omega arith) p.ensures ∙ c.loop-i.invariant.2)
+    write_more a.gain c.loop-i.out p.new.s c.loop-i.i a.samples.now (omega arith) p.ensures ∙ c.loop-i.invariant
 
 pub returns : goal.returns
 returns c =
     let a = c.args in
-    write_end a.gain c.loop-i.out (4 * c.loop-i.i) c.loop-i.i a.samples.now (omega arith) ∙ c.loop-i.invariant.2
+    write_end a.gain c.loop-i.out _ c.loop-i.i a.samples.now (omega arith) ∙ c.loop-i.invariant

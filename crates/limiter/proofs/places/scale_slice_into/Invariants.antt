@@ -1,14 +1,10 @@
 -- `limiter::places::scale_slice_into` meets its contract. Assumes nothing.
 use mathlib.Core.Path.{◌≡◌}
-use Prim.Native.Nat.{◌*◌, ◌-◌, ◌≤◌}
-use lib.ListN.{length, drop}
+use Prim.Native.Nat.{◌*◌}
+use lib.ListN.{drop}
 use Rattle.limiter.specs.Limiter.{scaled}
 use Rattle.limiter.specs.ChannelPlaces.{with_floats}
 use Rattle.limiter.proofs.places.scale_slice_into.Given as goal
 
 abbrev pub invariant-loop-i : goal.invariant-loop-i
-invariant-loop-i l = (l.i ≤ length l.samples) × (length l.out ≡ length l.initial.out)
-    × (with_floats l.out (4 * l.i) (scaled l.gain (drop l.i l.samples)) ≡ with_floats l.initial.out 0 (scaled l.gain l.samples))
-
-abbrev pub decreases-loop-i : goal.decreases-loop-i
-decreases-loop-i l = length l.samples - l.i
+invariant-loop-i l = (with_floats l.out (4 * l.i) (scaled l.gain (drop l.i l.samples)) ≡ with_floats l.initial.out 0 (scaled l.gain l.samples))

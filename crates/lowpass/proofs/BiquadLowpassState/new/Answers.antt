@@ -7,4 +7,4 @@ use Rattle.lowpass.proofs.BiquadLowpassState.new.Goals as goal
 
 pub returns : goal.returns
 unfolding new of_bits
-returns c = ap unfed (lowpass_only c.requires c.coefficients-c.ensures)
+returns c = ap unfed (lowpass_only c.requires c.coefficients-a1.ensures)

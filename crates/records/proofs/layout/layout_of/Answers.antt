@@ -9,28 +9,28 @@ use Rattle.records.proofs.Walked.{walk_begins, walk_goes_on, walk_ends, walk_fai
 use Rattle.records.proofs.layout.layout_of.Goals as goal
 
 pub returns-then-meta-ne0 : goal.returns-then-meta-ne0
-returns-then-meta-ne0 c = walk_fails _ _ c.broken.ensures (odd_length _ c.if-meta-ne0.true)
+returns-then-meta-ne0 c = walk_fails _ (odd_length _ c.if-meta-ne0.true)
 
-pub loop-r-init : goal.loop-r-init
-loop-r-init c = walk_begins _
+pub loop-place-init : goal.loop-place-init
+loop-place-init c = walk_begins _
 
-pub returns-then-n-eq16 : goal.returns-then-n-eq16
-returns-then-n-eq16 c =
+pub returns-then-count-eq16 : goal.returns-then-count-eq16
+returns-then-count-eq16 c =
     let m = c.args.meta.now in
-    let q : c.loop-r.r ≡ update_at m 16 = c.loop-r.invariant.at ∙ ap (update_at m) c.if-n-eq16.true in
-    walk_fails _ _ c.broken-then-n-eq16.ensures (too_many m (omega arith))
+    let q : c.loop-place.place ≡ update_at m 16 = c.loop-place.invariant.at ∙ ap (update_at m) c.if-count-eq16.true in
+    walk_fails _ (too_many m (omega arith))
 
 pub returns-in_default : goal.returns-in_default
 returns-in_default c =
     let m = c.args.meta.now in
-    let q = c.loop-r.invariant.at in
-    let b : is_whole_update m c.loop-r.r ≡ false = end_broken _ _ (sym c.update_end-end.ensures ∙ c.in_default.is) in
-    walk_fails _ _ c.broken-in_default.ensures (not_whole m c.loop-r.n (omega arith) (rw q at b))
+    let q = c.loop-place.invariant.at in
+    let b : is_whole_update m c.loop-place.place ≡ false = end_broken _ _ (sym c.update_end.ensures ∙ c.in_default.is) in
+    walk_fails _ (not_whole m c.loop-place.count (omega arith) (rw q at b))
 
-pub loop-r-preserved : goal.loop-r-preserved
-loop-r-preserved c =
-    let e = sym c.update_end-end.ensures ∙ c.in-At.is in
-    walk_goes_on _ _ _ _ _ _ _ c.if-meta-ne0.false c.loop-r.invariant (omega arith) (end_whole _ _ _ e) (end_at _ _ _ e) c.offset_at.ensures
+pub loop-place-preserved : goal.loop-place-preserved
+loop-place-preserved c =
+    let e = sym c.update_end.ensures ∙ c.in-Some.is in
+    walk_goes_on _ _ _ _ _ _ c.if-meta-ne0.false c.loop-place.invariant (omega arith) (end_whole _ _ _ e) (end_at _ _ _ e) c.offset-offset.ensures
 
 pub returns : goal.returns
-returns c = walk_ends _ _ _ _ _ c.if-meta-ne0.false c.loop-r.invariant c.loop-r-test.false
+returns c = walk_ends _ _ _ _ c.if-meta-ne0.false c.loop-place.invariant c.loop-place-test.false

@@ -3,8 +3,8 @@ use Prim.Native.Nat.{◌-◌}
 use Rattle.records.proofs.Walked.{Walked}
 use Rattle.records.proofs.layout.layout_of.Given as goal
 
-abbrev pub invariant-loop-r : goal.invariant-loop-r
-invariant-loop-r l = Walked l.meta l.first l.offset l.n l.r
+abbrev pub invariant-loop-place : goal.invariant-loop-place
+invariant-loop-place l = Walked l.meta l.sent l.count l.place
 
-abbrev pub decreases-loop-r : goal.decreases-loop-r
-decreases-loop-r l = 16 - l.n
+abbrev pub decreases-loop-place : goal.decreases-loop-place
+decreases-loop-place l = 16 - l.count

@@ -2,4 +2,4 @@
 use Rattle.records.proofs.layout.object_place.Goals as goal
 
 pub returns : goal.returns
-returns c = simp (c.cells.ensures.0, c.blocks_at-n.ensures.0)
+returns c = simp (c.cells.ensures.0, c.blocks-n.ensures.0)

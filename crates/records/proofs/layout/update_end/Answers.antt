@@ -8,7 +8,7 @@ use Rattle.fields.specs.declared.update.Header.{Header}
 use Rattle.fields.specs.Update.{elements, is_update}
 use Rattle.records.specs.Laid.{is_whole_element, is_whole_update, element_at}
 use Rattle.fields.proofs.All.{all_none, all_more}
-use Rattle.records.proofs.Ends.{end_whole, end_at, end_broken}
+use Rattle.records.proofs.Ends.{broken_if, end_whole, end_at, end_broken}
 use Rattle.records.proofs.Reached.{update_counts}
 use Rattle.records.proofs.Within.{element_within, next_element, broken_element, whole_update}
 use Rattle.records.proofs.layout.update_end.Goals as goal
@@ -25,36 +25,36 @@ held c = sym c.is_update.ensures ∙ c.if-not-is_update.false
 pub loop-e-init : goal.loop-e-init
 unfolding element_at
 loop-e-init c =
-    let h = c.header_at-h.ensures in
-    (search rules, ap (λ (x : Header). x.objects) h, ap (λ (x : Header). x.elements) h, refl, all_none _, search rules)
+    let h = c.header-objects.ensures in
+    (ap (λ (x : Header). x.objects) h, ap (λ (x : Header). x.elements) h, refl, all_none _, search rules)
 
-pub element_end-end-requires : goal.element_end-end-requires
-element_end-end-requires c =
+pub element_end-requires : goal.element_end-requires
+element_end-requires c =
     let p = c.requires in
-    let n = (update_counts _ p.0 _ (held (goal.at.element_end-end-requires c).Else-not-is_update)).few_objects in
-    (p.0, rw c.loop-e.invariant.1 n, c.loop-e.invariant.5)
+    let n = (update_counts _ p.0 _ (held (goal.at.element_end-requires c).Else-not-is_update)).few_objects in
+    (p.0, rw c.loop-e.invariant.0 n, c.loop-e.invariant.4)
 
-pub returns-in_default : goal.returns-in_default
-unfolding end_if
-returns-in_default c =
+pub returns-in_err-next : goal.returns-in_err-next
+returns-in_err-next c =
     let a = c.args in
-    let b : is_whole_element a.meta.now c.header_at-h.result.objects c.loop-e.r ≡ false = end_broken _ _ (sym c.element_end-end.ensures ∙ c.in_default.is) in
-    simp (broken_element a.meta.now a.u c.loop-e.e (held (goal.at.returns-in_default c).Else-not-is_update) (omega arith) (rw (c.loop-e.invariant.1, c.loop-e.invariant.3) at b))
+    let b : is_whole_element a.meta.now c.header-objects.result.objects c.loop-e.next ≡ false = end_broken _ _ (sym c.element_end.ensures ∙ c.in_err-next.was) in
+    let no = broken_element a.meta.now a.u c.loop-e._e (held (goal.at.returns-in_err-next c).Else-not-is_update) (omega arith) (rw (c.loop-e.invariant.0, c.loop-e.invariant.2) at b) in
+    c.from_residual.ensures ∙ broken_if _ _ no
 
 pub loop-e-preserved : goal.loop-e-preserved
 loop-e-preserved c =
     let i = c.loop-e.invariant in
-    let q = sym c.element_end-end.ensures ∙ c.in-At.is in
+    let q = sym c.element_end.ensures ∙ c.in_ok-next.was in
     let m = c.args.meta.now in
-    let w : is_whole_element m c.header_at-h.result.objects c.loop-e.r ≡ true = end_whole _ _ _ q in
+    let w : is_whole_element m c.header-objects.result.objects c.loop-e.next ≡ true = end_whole _ _ _ q in
     let end = end_at _ _ _ q in
-    let in_List = element_within m c.requires.0 c.header_at-h.result.objects c.loop-e.r w in
-    (search rules, i.1, i.2, sym end ∙ next_element _ _ _ _ _ i.1 i.3, all_more _ _ i.4 (rw (i.1, i.3) at w), rw end at in_List)
+    let in_List = element_within m c.requires.0 c.header-objects.result.objects c.loop-e.next w in
+    (i.0, i.1, sym end ∙ next_element _ _ _ _ _ i.0 i.2, all_more _ _ i.3 (rw (i.0, i.2) at w), rw end at in_List)
 
 pub returns : goal.returns
 unfolding end_if
 returns c =
     let i = c.loop-e.invariant in
     let a = c.args in
-    let q : c.loop-e.e ≡ elements a.meta.now a.u = omega arith in
-    simp (whole_update _ _ (held (goal.at.returns c).Else-not-is_update) (rw q at i.4), i.3, q)
+    let q : c.loop-e._e ≡ elements a.meta.now a.u = omega arith in
+    simp (whole_update _ _ (held (goal.at.returns c).Else-not-is_update) (rw q at i.3), i.2, q)

@@ -1,5 +1,5 @@
 -- `records::layout::update_end` meets its contract. Assumes nothing.
-use Prim.Native.Nat.{◌-◌, ◌/◌, ◌≤◌}
+use Prim.Native.Nat.{◌/◌, ◌≤◌}
 use mathlib.Core.Path.{◌≡◌}
 use mathlib.Core.Bool.{true}
 use lib.ListN.{length}
@@ -10,8 +10,5 @@ use Rattle.records.proofs.layout.update_end.Given as goal
 
 abbrev pub invariant-loop-e : goal.invariant-loop-e
 invariant-loop-e l =
-    (l.e ≤ l.elements) × (l.objects ≡ objects l.meta l.u) × (l.elements ≡ elements l.meta l.u) × (l.r ≡ element_at l.meta l.u l.e)
-    × (all (λ j. is_whole_element l.meta (objects l.meta l.u) (element_at l.meta l.u j)) l.e ≡ true) × (l.r ≤ length l.meta / 40)
-
-abbrev pub decreases-loop-e : goal.decreases-loop-e
-decreases-loop-e l = l.elements - l.e
+    (l.objects ≡ objects l.meta l.u) × (l.elements ≡ elements l.meta l.u) × (l.next ≡ element_at l.meta l.u l._e)
+    × (all (λ j. is_whole_element l.meta (objects l.meta l.u) (element_at l.meta l.u j)) l._e ≡ true) × (l.next ≤ length l.meta / 40)

@@ -12,5 +12,5 @@ returns c =
     let a = c.args in
     let p = c.process_in_place in
     let e : 192 + a.k - 192 ≡ a.k = omega arith in
-    let after = p.ensures.0 ∙ ap (λ (n : ℕ). after_all a.filter (take n (drop 192 a.rows.now))) e in
-    (after, part_back (filtered a.filter) 192 a.k a.rows.now p.new.samples p.ensures.1)
+    let after = p.ensures.0 ∙ ap (λ (n : ℕ). after_all a.filter.now (take n (drop 192 a.rows.now))) e in
+    (after, part_back (filtered a.filter.now) 192 a.k a.rows.now p.new.samples p.ensures.1)

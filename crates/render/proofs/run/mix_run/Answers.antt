@@ -16,7 +16,7 @@ long s = ap length s.requires.silent ∙ silent_long
 pub mix_beds-requires : goal.mix_beds-requires
 mix_beds-requires c =
     let a = c.args in
-    (fewer a.pcm.now a.span (length a.codes.now) a.scene.objects c.requires.framed, long (goal.at.mix_beds-requires c).Start, c.requires.beds)
+    (fewer a.input.pcm.now a.input.span (length a.input.codes.now) a.scene.now.objects c.requires.framed, long (goal.at.mix_beds-requires c).Start, c.requires.beds)
 
 pub mix_sources-requires : goal.mix_sources-requires
 mix_sources-requires c =
@@ -25,10 +25,10 @@ mix_sources-requires c =
 pub returns : goal.returns
 returns c =
     let a = c.args in
-    let p = a.scene in
+    let p = a.scene.now in
     let beds = beds_of p.beds p.codes p.gains in
     let objects = sources_of p.objects p.sources in
-    run_heard a.pcm.now a.span c.requires.framed.short beds objects a.codes.now
+    run_heard a.input.pcm.now a.input.span c.requires.framed.short beds objects a.input.codes.now
     (c.mix_sources.ensures
-    ∙ ap (mixed_objects a.pcm.now a.span (length a.codes.now) objects)
-    (c.mix_beds.ensures ∙ ap (mixed_beds a.pcm.now a.span a.codes.now beds) c.requires.silent))
+    ∙ ap (mixed_objects a.input.pcm.now a.input.span (length a.input.codes.now) objects)
+    (c.mix_beds.ensures ∙ ap (mixed_beds a.input.pcm.now a.input.span a.input.codes.now beds) c.requires.silent))

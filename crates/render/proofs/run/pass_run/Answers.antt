@@ -10,5 +10,5 @@ pub returns : goal.returns
 returns c =
     let a = c.args in
     let f = c.filter_bass in
-    passed (scene_at a.scene a.codes.now a.pcm.now a.span.frame) a.filter a.span.first a.span.count
-    c.mix_run.new.rows f.new.rows f.result c.mix_run.ensures c.requires.framed.short f.ensures.1 f.ensures.0
+    passed (scene_at a.scene.now a.input.codes.now a.input.pcm.now a.input.span.frame) a.filter.now a.input.span.first a.input.span.count
+    c.mix_run.new.rows f.new.rows f.new.filter c.mix_run.ensures c.requires.framed.short f.ensures.1 f.ensures.0

@@ -10,9 +10,9 @@ pub loop-j-preserved : goal.loop-j-preserved
 loop-j-preserved c =
     let a = c.args in
     let m = c.mix_term in
-    (search rules, search rules, corner_step a.samples.now c.loop-j.j a.corners a.coefficients c.loop-j.rows (search rules) (search rules) m.ensures c.loop-j.invariant.2)
+    corner_step a.samples.now c.loop-j.j a.p.now.corners a.p.now.coefficients c.loop-j.rows (search rules) (search rules) m.ensures c.loop-j.invariant
 
 pub returns : goal.returns
 returns c =
     let a = c.args in
-    corners_done a.samples.now c.loop-j.j a.corners a.coefficients c.loop-j.rows (search rules) c.loop-j.invariant.2
+    corners_done a.samples.now c.loop-j.j a.p.now.corners a.p.now.coefficients c.loop-j.rows (search rules) c.loop-j.invariant

@@ -1,60 +1,51 @@
 -- `apply_sent`: the updates from i on lead from the renderer now to that at the end. Assumes nothing.
 use mathlib.Core.Path.{refl, sym, ◌∙◌}
 use native.Mathlib.Omega.{arith}
+use borrow.Author.Tests.{eqb-true, eqb-false}
 use Rattle.rules.specs.Samples.{updated}
 use Rattle.theorem.specs.Instance.{hall, sent_of}
 use Rattle.rendering.specs.Held.{held}
-use Rattle.rendering.proofs.Begins.{standing, goes_on, ends, from_first}
+use Rattle.rendering.proofs.Begins.{goes_on, passes, ends, from_first}
 use Rattle.rendering.proofs.Rendering.apply_sent.Goals as goal
-
-pub sent_at-i-requires : goal.sent_at-i-requires
-sent_at-i-requires c = (omega (arith, c.requires.3.few), omega arith)
+use Rattle.rendering.proofs.Rendering.apply_sent.Goals.{then-eq, else-eq}
 
 pub loop-i-init : goal.loop-i-init
 loop-i-init c =
     let s = c.args in
     let p = c.requires in (
-      standing s.meta.now s.l s.t.0 s.at.0 (updated hall s.t.0 (sent_of s.meta.now) (held s.self.renderer s.state.now)) s.state.now p.2 0
-          c.sent_at-i.result s.self.renderer s.state.now c.sent_at-i.ensures p.0 refl p.1
-          (from_first s.meta.now s.l p.2 s.t.0 (held s.self.renderer s.state.now)),
+      record { long = p.0; small = refl; here = p.1; left = from_first s.meta.now s.l p.2 s.t.0 (held s.self.renderer s.state.now) },
       refl,
       refl,
     )
-
-pub bounds-first-i : goal.bounds-first-i
-bounds-first-i c = omega (arith, c.requires.3.few, c.loop-i-test)
-
-pub apply_one-next-requires : goal.apply_one-next-requires
-apply_one-next-requires c = (
-  c.loop-i.invariant.0.long,
-  c.loop-i.invariant.0.here,
-  c.requires.3.all c.loop-i.i (omega (arith, c.loop-i-test)),
-)
-
-pub overflow_add-i : goal.overflow_add-i
-overflow_add-i c = omega (arith, c.requires.3.few, c.loop-i-test)
-
-pub sent_at-i-requires-in-loop-i : goal.sent_at-i-requires-in-loop-i
-sent_at-i-requires-in-loop-i c = (
-  omega (arith, c.requires.3.few),
-  omega (arith, c.loop-i-test),
-)
-
-pub loop-i-smaller : goal.loop-i-smaller
-loop-i-smaller c = omega (arith, c.sent_at-i-in-loop-i.ensures.after, c.loop-i-test)
 
 pub loop-i-preserved : goal.loop-i-preserved
 loop-i-preserved c =
     let s = c.args in
     let l = c.loop-i in
-    let u = c.apply_one-next in (
-      goes_on s.meta.now s.l s.t.0 s.at.0 (updated hall s.t.0 (sent_of s.meta.now) (held s.self.renderer s.state.now)) s.state.now
-          c.requires.2 l.i c.sent_at-i-in-loop-i.result l.next.renderer u.result.renderer
-          l.state u.new.state
-          (omega (arith, c.loop-i-test)) l.invariant.0 u.ensures.next c.sent_at-i-in-loop-i.ensures,
-      u.ensures.ready ∙ l.invariant.1,
-      u.ensures.meters ∙ l.invariant.2,
-    )
+    let all = updated hall s.t.0 (sent_of s.meta.now) (held s.self.renderer s.state.now) in
+    elim c.if-eq.branch [
+      | then-eq w ↦
+          let u = w.apply_one-self.ensures in
+          rw (w.self-is, w.state-is) (
+            goes_on s.meta.now s.l s.t.0 s.at.0 all s.state.now c.requires.2 l.i l.self.renderer w.apply_one-self.result.renderer l.state w.apply_one-self.new.state
+                (omega (arith, c.loop-i-test.true)) (eqb-true _ _ (sym c.eq.ensures ∙ w.if-eq.true)) l.invariant.0 u.next,
+            u.ready ∙ l.invariant.1,
+            u.meters ∙ l.invariant.2,
+          )
+      | else-eq w ↦ rw (w.self-is, w.state-is) (
+        passes s.meta.now s.l s.t.0 s.at.0 all s.state.now c.requires.2 l.i l.self.renderer l.state (omega (arith, c.loop-i-test.true))
+            (eqb-false _ _ (sym c.eq.ensures ∙ w.if-eq.false)) l.invariant.0,
+        l.invariant.1,
+        l.invariant.2,
+      )
+    ]
+
+pub apply_one-self-requires : goal.apply_one-self-requires
+apply_one-self-requires c = (
+  c.loop-i.invariant.0.long,
+  c.loop-i.invariant.0.here,
+  c.requires.3.all c.loop-i.i (omega (arith, c.loop-i-test.true)),
+)
 
 pub shape_of-state : goal.shape_of-state
 shape_of-state c = c.loop-i.invariant.0.long ∙ sym c.requires.0
@@ -65,7 +56,7 @@ returns c =
     let l = c.loop-i in
     record {
       next = ends s.meta.now s.l s.t.0 s.at.0 (updated hall s.t.0 (sent_of s.meta.now) (held s.self.renderer s.state.now)) s.state.now
-          c.requires.2 l.i l.next.renderer l.state (omega (arith, c.loop-i-test)) l.invariant.0;
+          c.requires.2 l.i l.self.renderer l.state (omega (arith, c.loop-i-test.false)) l.invariant.0;
       ready = l.invariant.1;
       meters = l.invariant.2;
     }

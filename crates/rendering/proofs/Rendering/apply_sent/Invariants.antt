@@ -1,5 +1,4 @@
 -- `apply_sent`: the updates from i on lead from the renderer now to that at the end. Assumes nothing.
-use Prim.Native.Nat.{◌-◌}
 use mathlib.Core.Path.{◌≡◌}
 use Rattle.rules.specs.Samples.{updated}
 use Rattle.theorem.specs.Instance.{hall, sent_of}
@@ -8,8 +7,5 @@ use Rattle.rendering.proofs.Begins.{Standing}
 use Rattle.rendering.proofs.Rendering.apply_sent.Given as goal
 
 abbrev pub invariant-loop-i : goal.invariant-loop-i
-invariant-loop-i l = Standing l.meta l.l l.t.0 l.at.0 (updated hall l.t.0 (sent_of l.meta) (held l.initial.next.renderer l.initial.state)) l.initial.state l.i
-    l.next.renderer l.state × (l.next.ready ≡ l.initial.next.ready) × (l.next.meters ≡ l.initial.next.meters)
-
-abbrev pub decreases-loop-i : goal.decreases-loop-i
-decreases-loop-i l = l.count - l.i
+invariant-loop-i l = Standing l.meta l.l l.t.0 l.at.0 (updated hall l.t.0 (sent_of l.meta) (held l.initial.self.renderer l.initial.state)) l.initial.state l.i
+    l.self.renderer l.state × (l.self.ready ≡ l.initial.self.ready) × (l.self.meters ≡ l.initial.self.meters)

@@ -10,5 +10,5 @@ overflow_add-self c = let p = c.requires in omega (arith, p.room, p.short)
 pub returns : goal.returns
 returns c =
     let a = c.args in
-    gave a.self a.state.now a.out.now a.stride c.requires.block c.requires.pending c.empty-next.ensures refl c.meet-meters.ensures
+    gave a.self a.state.now a.out.now a.stride c.requires.block c.requires.pending c.empty-self.ensures refl c.meet-self.ensures
     c.apply_output_limiter_block-after.ensures

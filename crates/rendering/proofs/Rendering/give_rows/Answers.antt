@@ -24,16 +24,16 @@ returns c =
     let cs = row_channels a.rows.now in
     let fit = c.type_inv.rows in
     let top = c.max_abs_slice-peak in
-    let low = c.lower-scaling in
+    let low = c.lower-lowered in
     let met = c.meters-met in
     let e : top.result ≡ block_peak 0·0 cs = top.ensures.0 ∙ rows_peak a.rows.now c.requires.whole fit in
     let f : low.result.gain ≡ block_gain g cs = low.ensures ∙ ap (λ (p : Float). lowered p g) e in
     record {
       fit = fit;
-      renderer = c.empty-next.ensures
+      renderer = c.empty-self.ensures
           ∙ ap (λ (x : Float). emptied_by a.self.renderer (record { gain = x })) (c.grow-grown.ensures ∙ ap (grown 64 a.self.renderer.rate) f);
       given = c.store_block.ensures
           ∙ ap (λ (x : Float). with_channels (scaled_block x cs) (4 * a.stride) (4 * a.self.ready) a.out.now) f;
       ready = refl;
-      meters = c.meet-meters.ensures ∙ ap (meets a.self.meters) (λ i. record { peak = (met.ensures.0 ∙ e) i; gain = (met.ensures.1 ∙ f) i });
+      meters = c.meet-self.ensures ∙ ap (meets a.self.meters) (λ i. record { peak = (met.ensures.0 ∙ e) i; gain = (met.ensures.1 ∙ f) i });
     }

@@ -11,7 +11,7 @@ pub returns : goal.returns
 returns c =
     let a = c.args in
     let p = c.requires.0 in
-    let mx = c.mix-filter in
+    let mx = c.mix in
     -- tables have their full length
     let m = a.self.renderer.state in
     let g = c.well_formed.0.1.1.0.1.1.1.1.1.1.1.0.1.1.1.1.1.1.1.1 in
@@ -21,21 +21,21 @@ returns c =
     let full : Full m a.objects = record { codes = omega arith; gains = omega arith; sources = omega arith } in
     λ rate us b. waits (frame_with rate us a.codes.now a.objects a.pcm.now a.n) a.t.0 a.k a.self b
     (mixed a.self.renderer.state a.codes.now a.objects a.pcm.now a.n)
-    (same_heard rate us a.codes.now a.pcm.now a.objects a.n a.self.renderer b full p.dynamic) mx.new.rows mx.result
-    (rw c.index-first.ensures at mx.ensures) c.settle-next.ensures
+    (same_heard rate us a.codes.now a.pcm.now a.objects a.n a.self.renderer b full p.dynamic) mx.new.rows mx.new.filter
+    (rw c.index-first.ensures at mx.ensures) c.settle-self.ensures
 
-pub mix-filter-requires : goal.mix-filter-requires
-mix-filter-requires c =
+pub mix-requires : goal.mix-requires
+mix-requires c =
     let p = c.requires in
     (rw c.index-first.ensures p.0.framed, p.1, p.0.inputs, p.0.beds, p.0.few)
 
 pub overflow_cast-k : goal.overflow_cast-k
 overflow_cast-k c = let p = c.requires.0 in omega (arith, p.pending)
 
-pub settle-next-requires : goal.settle-next-requires
-settle-next-requires c =
+pub settle-self-requires : goal.settle-self-requires
+settle-self-requires c =
     let p = c.requires.0 in
     (omega (arith, p.phase, p.pending), p.start, p.position, p.pending)
 
 pub shape_of-rows : goal.shape_of-rows
-shape_of-rows c = c.mix-filter.ensures.whole ∙ sym (ap length c.requires.1 ∙ silent_long)
+shape_of-rows c = c.mix.ensures.whole ∙ sym (ap length c.requires.1 ∙ silent_long)

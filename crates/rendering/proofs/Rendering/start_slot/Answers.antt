@@ -1,7 +1,6 @@
 -- `start_slot`: the slot, through the lent part. Assumes nothing.
-use mathlib.Core.Path.{ap}
+use mathlib.Core.Path.{refl}
 use borrow.Author.Rules.{rules}
-use Rattle.rendering.specs.declared.Rendering.{Rendering}
 use Rattle.rendering.proofs.Begins.{slot_starts}
 use Rattle.rendering.proofs.Rendering.start_slot.Goals as goal
 
@@ -12,11 +11,10 @@ pub returns : goal.returns
 returns c =
     let s = c.args in
     let u = c.update_timeslot-after in
-    let r = c.restate in
+    let r = c.with_state-self in
     record {
-      next = slot_starts s.self.renderer s.state.now u.result u.new.infos r.result.renderer c.requires.0
-          (search (rules, u.auto)) c.requires.2 u.ensures
-          (ap (λ (w : Rendering). w.renderer) r.ensures);
-      ready = ap (λ (w : Rendering). w.ready) r.ensures;
-      meters = ap (λ (w : Rendering). w.meters) r.ensures;
+      next = slot_starts s.self.renderer s.state.now u.result u.new.infos r.result c.requires.0
+          (search (rules, u.auto)) c.requires.2 u.ensures r.ensures;
+      ready = refl;
+      meters = refl;
     }

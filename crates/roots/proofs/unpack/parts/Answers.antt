@@ -1,4 +1,4 @@
-use mathlib.Core.Path.{◌≡◌, sym, ap, ◌∙◌}
+use mathlib.Core.Path.{◌≡◌, sym, ap, subst, ◌∙◌}
 use mathlib.Core.Bool.{Bool, cond}
 use Prim.Native.Nat.{ℕ, ◌+◌, ◌-◌, ◌*◌, ◌/◌, ◌%◌, ◌^◌, ◌≤◌, ◌<◌}
 use native.Mathlib.Nat.{mul_assoc}
@@ -25,4 +25,6 @@ normal b l h =
     }
 
 pub returns : goal.returns
-returns c = normal _ (omega arith) (omega arith)
+returns c =
+    let b = c.from-b.result in
+    subst (λ (u : ℕ). Normal (units_of u) (8388608 + b % 8388608) (b / 8388608 + 22)) c.from-b.ensures (normal b (omega arith) (omega arith))

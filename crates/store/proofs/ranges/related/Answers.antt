@@ -1,30 +1,17 @@
 -- Test by test; the numbers of two words are in range. Assumes nothing.
-use native.Mathlib.Omega.{arith}
 use Rattle.formats.specs.NumberWords.{in_words}
 use Rattle.store.proofs.BlockTests.{longs, related_from}
 use Rattle.store.proofs.ranges.related.Goals as goal
 
-pub clock_valid-clock-requires : goal.clock_valid-clock-requires
-clock_valid-clock-requires c =
-    rw c.long-start.ensures (longs (in_words c.args.s.now) c.requires.1).start
-
 pub element_valid-first-requires : goal.element_valid-first-requires
 element_valid-first-requires c =
-    let h = longs (in_words c.args.s.now) c.requires.1 in
+    let h = longs (in_words c.args.s.now) c.requires in
     (rw c.long-position.ensures h.position, rw c.long.ensures h.first)
 
 pub element_valid-second-requires : goal.element_valid-second-requires
 element_valid-second-requires c =
-    let h = longs (in_words c.args.s.now) c.requires.1 in
+    let h = longs (in_words c.args.s.now) c.requires in
     (rw c.long-position.ensures h.position, rw c.long-2.ensures h.second)
-
-pub word_of-requires-6 : goal.word_of-requires-6
-word_of-requires-6 c =
-    let h = c.requires.0 in omega arith
-
-pub long-requires-2 : goal.long-requires-2
-long-requires-2 c =
-    let h = c.requires.0 in omega arith
 
 pub returns : goal.returns
 returns c =

@@ -8,27 +8,22 @@ use Rattle.updates.proofs.AppliedByParts.{cell_below}
 use Rattle.updates.proofs.element.put_objects.Goals as goal
 
 pub loop-o-init : goal.loop-o-init
-loop-o-init c = (search rules, search rules, leads)
+loop-o-init c = (search rules, leads)
 
 pub put_object-requires : goal.put_object-requires
 put_object-requires c =
     let s = c.args in
-    let l = c.loop-o in
-    let h = c.requires in
-    let w = h.4 in (
-      omega arith,
-      h.1,
+    let w = c.requires.3 in (
+      c.loop-o.invariant.0,
       omega (arith, w.given.few),
       omega arith,
       omega arith,
-      omega (arith, w.given.within),
-      λ b i. omega (arith, cell_below l.o s.counts.objects b (blocks s.meta.now s.sent.place) (omega arith) (omega arith), w.within),
+      λ b i. omega (arith, cell_below c.loop-o.o s.counts.objects b (blocks s.said.meta.now s.said.place) (omega arith) (omega arith), w.within),
     )
 
 pub loop-o-preserved : goal.loop-o-preserved
-loop-o-preserved c =
-    (search rules, omega (arith, c.put_object.auto), rw c.put_object.ensures (leads_on c.loop-o.invariant.2 (search rules)))
+loop-o-preserved c = (omega (arith, c.put_object.auto), rw c.put_object.ensures (leads_on c.loop-o.invariant.1 (search rules)))
 
 pub returns : goal.returns
 unfolding objects_stored
-returns c = leads_to c.loop-o.invariant.2 (omega arith)
+returns c = leads_to c.loop-o.invariant.1 (omega arith)

@@ -1,5 +1,4 @@
 -- `updates::element::put_objects`: the turns left lead from the infos now to those at the end; each object's records are within the element. Assumes nothing.
-use Prim.Native.Nat.{◌≤◌, ◌-◌}
 use mathlib.Core.Path.{◌≡◌}
 use lib.ListN.{length}
 use Rattle.timed.proofs.Theorems.{Leads}
@@ -10,7 +9,5 @@ use Rattle.updates.proofs.element.put_objects.Given as goal
 
 abbrev pub invariant-loop-o : goal.invariant-loop-o
 invariant-loop-o l =
-    (l.o ≤ l.objects) × (length l.infos ≡ all_bytes) × Leads (object_given l.sent.fresh l.isf (element_said l.meta l.sent.place) l.first) l.objects l.initial.infos l.o l.infos
-
-abbrev pub decreases-loop-o : goal.decreases-loop-o
-decreases-loop-o l = l.objects - l.o
+    (length l.infos ≡ all_bytes)
+    × Leads (object_given l.fresh l.counts.isf (element_said l.said.meta.now l.said.place) l.first) l.counts.objects l.initial.infos l.o l.infos

@@ -1,7 +1,7 @@
--- `updates::update::apply_elements`: the turns left lead from elements and infos now to those at the end; p is the record of element e. Assumes nothing.
-use Prim.Native.Nat.{◌≤◌, ◌-◌}
+-- `updates::update::apply_elements`: the turns left lead from elements and infos now to those at the end; `place` is the record of element e. Assumes nothing.
 use mathlib.Core.Path.{◌≡◌}
 use lib.ListN.{length}
+use Rattle.fields.specs.Update.{elements}
 use Rattle.timed.proofs.Theorems.{Leads}
 use Rattle.records.specs.Laid.{element_at}
 use Rattle.timed.specs.InfoSizes.{all_bytes}
@@ -11,10 +11,8 @@ use Rattle.updates.proofs.update.apply_elements.Given as goal
 
 abbrev pub invariant-loop-e : goal.invariant-loop-e
 invariant-loop-e l =
-    (l.e ≤ l.n)
-    × (length l.infos ≡ all_bytes)
-    × (l.p ≡ element_at l.meta l.u l.e)
-    × Leads (element_given l.same (update_of l.meta l.u)) l.n (record { states = l.initial.next; infos = l.initial.infos }) l.e (record { states = l.next; infos = l.infos })
-
-abbrev pub decreases-loop-e : goal.decreases-loop-e
-decreases-loop-e l = l.n - l.e
+    let m = l.said.meta.now in
+    let u = l.said.place in
+    (length l.infos ≡ all_bytes)
+    × (l.place ≡ element_at m u l.e)
+    × Leads (element_given l.same (update_of m u)) (elements m u) (record { states = l.initial.next; infos = l.initial.infos }) l.e (record { states = l.next; infos = l.infos })

@@ -6,11 +6,11 @@ use Rattle.updates.specs.Applied.{codes_given}
 use Rattle.updates.proofs.update.next_codes.Goals as goal
 
 pub loop-k-init : goal.loop-k-init
-loop-k-init c = (search rules, leads)
+loop-k-init c = leads
 
 pub loop-k-preserved : goal.loop-k-preserved
-loop-k-preserved c = (search rules, leads_on c.loop-k.invariant.1 (search rules))
+loop-k-preserved c = rw c.byte.ensures (leads_on c.loop-k.invariant (search rules))
 
 pub returns : goal.returns
 unfolding codes_given
-returns c = leads_to c.loop-k.invariant.1 (omega arith)
+returns c = leads_to c.loop-k.invariant (omega arith)

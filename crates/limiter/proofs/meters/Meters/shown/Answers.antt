@@ -2,7 +2,6 @@
 use mathlib.Core.Path.{sym, ap, ◌∙◌}
 use mathlib.Core.Bool.{Bool, cond}
 use lib.Ieee.{of_bits}
-use Rattle.ieee.proofs.Functions.{self_nan}
 use Rattle.limiter.specs.Limiter.{1·0}
 use Rattle.limiter.specs.Meters.{Meters, shown}
 use Rattle.limiter.proofs.meters.Meters.shown.Goals as goal
@@ -11,10 +10,10 @@ use Rattle.limiter.proofs.meters.Meters.shown.Goals as goal
 abbrev seen : Meters → Bool → Meters
 seen m b = record { peak = m.peak; gain = cond b 1·0 m.gain }
 
-pub returns-then-self : goal.returns-then-self
+pub returns-then-is_nan : goal.returns-then-is_nan
 unfolding of_bits shown
-returns-then-self c = let a = c.args in sym (ap (seen a.self) (sym (self_nan a.self.gain) ∙ c.if-self.true))
+returns-then-is_nan c = sym (ap (seen c.args.self) (sym c.is_nan.ensures.value ∙ c.if-is_nan.true))
 
 pub returns : goal.returns
 unfolding of_bits shown
-returns c = let a = c.args in sym (ap (seen a.self) (sym (self_nan a.self.gain) ∙ c.if-self.false))
+returns c = sym (ap (seen c.args.self) (sym c.is_nan.ensures.value ∙ c.if-is_nan.false))

@@ -7,26 +7,26 @@ use Rattle.timed.specs.Objects.{moved_all, ObjectsWork}
 use Rattle.timed.proofs.objects.Moving.apply_block.Goals as goal
 
 pub loop-d-init : goal.loop-d-init
-loop-d-init c = (search rules, search rules, leads)
+loop-d-init c = leads
 
-pub update_source_state-m-requires : goal.update_source_state-m-requires
-update_source_state-m-requires c =
-    let h = c.requires.2 c.loop-d.d (search rules) in
-    (omega arith, omega arith)
+pub update_source_state-moved-requires : goal.update_source_state-moved-requires
+update_source_state-moved-requires c =
+    let h = c.requires.1 c.loop-d.d (search rules) in
+    omega arith
 
 pub loop-d-preserved : goal.loop-d-preserved
 loop-d-preserved c =
-    let o = c.update_source_state-m in
-    (search rules, omega (arith, o.auto), rw (o.ensures.object, o.ensures.infos) (leads_on c.loop-d.invariant.2 (search rules)))
+    let o = c.update_source_state-moved in
+    rw (o.ensures.object, o.ensures.infos) (leads_on c.loop-d.invariant (search rules))
 
 pub returns : goal.returns
 unfolding moved_all
 returns c =
     let l = c.loop-d in
     let s = c.args in
-    let w : ◌≡◌ {A = ObjectsWork} (record { moving = l.next; infos = l.infos }) (moved_all s.arrived s.first s.count s.self s.infos.now) =
-    leads_to l.invariant.2 (omega arith) in
+    let w : ◌≡◌ {A = ObjectsWork} (record { moving = l.self; infos = l.infos }) (moved_all s.arrived s.first s.count s.self.now s.infos.now) =
+    leads_to l.invariant (omega arith) in
     record { objects = ap (λ (w : ObjectsWork). w.moving) w; infos = ap (λ (w : ObjectsWork). w.infos) w }
 
 pub overflow_add-first : goal.overflow_add-first
-overflow_add-first c = omega (arith, c.requires.2 c.loop-d.d (search rules))
+overflow_add-first c = omega (arith, c.requires.1 c.loop-d.d (search rules))

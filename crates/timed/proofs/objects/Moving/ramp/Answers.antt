@@ -6,11 +6,11 @@ use Rattle.timed.specs.Objects.{ramped_all}
 use Rattle.timed.proofs.objects.Moving.ramp.Goals as goal
 
 pub loop-d-init : goal.loop-d-init
-loop-d-init c = (search rules, leads)
+loop-d-init c = leads
 
 pub loop-d-preserved : goal.loop-d-preserved
-loop-d-preserved c = (search rules, rw c.ramp_one.ensures (leads_on c.loop-d.invariant.1 (search rules)))
+loop-d-preserved c = rw c.ramp_one.ensures (leads_on c.loop-d.invariant (search rules))
 
 pub returns : goal.returns
 unfolding ramped_all
-returns c = leads_to c.loop-d.invariant.1 (omega arith)
+returns c = leads_to c.loop-d.invariant (omega arith)

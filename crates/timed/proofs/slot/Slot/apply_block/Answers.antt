@@ -5,18 +5,18 @@ use Rattle.timed.specs.Slot.{block_applied}
 use Rattle.timed.proofs.Shifted.{left_shifted_is, left_over}
 use Rattle.timed.proofs.slot.Slot.apply_block.Goals as goal
 
-pub bed_gains-heard-requires : goal.bed_gains-heard-requires
-bed_gains-heard-requires c = (search rules, search rules, λ d h. omega (arith, c.requires.3.beds d h))
+pub bed_gains-requires : goal.bed_gains-requires
+bed_gains-requires c = (search rules, λ d h. omega (arith, c.reach.invariant.beds d h))
 
-pub apply_block-moved-requires : goal.apply_block-moved-requires
-apply_block-moved-requires c =
-    (search rules, search rules, λ d h. omega (arith, c.requires.3.objects d h))
+pub apply_block-requires : goal.apply_block-requires
+apply_block-requires c =
+    (search rules, λ d h. omega (arith, c.reach.invariant.objects d h))
 
 pub returns : goal.returns
 unfolding block_applied
 returns c =
     let l = c.left-left.ensures in
     record {
-      slot = rw (c.apply_block-moved.ensures.objects, c.bed_gains-heard.ensures, l, left_over, left_shifted_is);
-      infos = rw (c.apply_block-moved.ensures.infos, l, left_over, left_shifted_is);
+      slot = rw (← c.reach.view_is, c.apply_block.ensures.objects, c.bed_gains.ensures, l, left_over, left_shifted_is);
+      infos = rw (← c.reach.view_is, c.apply_block.ensures.infos, l, left_over, left_shifted_is);
     }

@@ -8,17 +8,17 @@ use Rattle.timed.proofs.slot.Slot.apply_blocks.Goals as goal
 use Rattle.timed.proofs.slot.Slot.apply_blocks.Goals.{then-due, else-due}
 
 pub loop-b-init : goal.loop-b-init
-loop-b-init c = (search rules, search rules, leads)
+loop-b-init c = leads
 
 pub loop-b-preserved : goal.loop-b-preserved
 loop-b-preserved c =
     let due = c.due.ensures in
-    let on = leads_on c.loop-b.invariant.2 (search rules) in
+    let on = leads_on c.loop-b.invariant (search rules) in
     elim c.if-due.branch [
       | then-due w ↦
-          let a = w.apply_block-next in
-          (search rules, omega arith, rw (w.infos-is, w.next-is, a.ensures.slot, a.ensures.infos) (rw (← due, w.if-due.true) at on))
-      | else-due w ↦ (search rules, omega arith, rw (w.infos-is, w.next-is) (rw (← due, w.if-due.false) at on))
+          let a = w.apply_block in
+          rw (w.infos-is, w.self-is, a.ensures.slot, a.ensures.infos) (rw (← due, w.if-due.true) at on)
+      | else-due w ↦ rw (w.infos-is, w.self-is) (rw (← due, w.if-due.false) at on)
     ]
 
 pub returns : goal.returns
@@ -26,6 +26,6 @@ unfolding blocks_applied
 returns c =
     let l = c.loop-b in
     let s = c.args in
-    let w : ◌≡◌ {A = SlotWork} (record { slot = l.next; infos = l.infos }) (blocks_applied s.when s.reach s.n (record { slot = s.self; infos = s.infos.now })) =
-    leads_to l.invariant.2 (omega arith) in
+    let w : ◌≡◌ {A = SlotWork} (record { slot = l.self; infos = l.infos }) (blocks_applied s.when s.reach s.n (record { slot = s.self.now; infos = s.infos.now })) =
+    leads_to l.invariant (omega arith) in
     record { slot = ap (λ (w : SlotWork). w.slot) w; infos = ap (λ (w : SlotWork). w.infos) w }

@@ -11,7 +11,8 @@ sum r begin end slot ramp offset payload start a b c d = omega arith
 
 pub returns : goal.returns
 returns c =
-    let s = c.args in
-    sum _ _ _ _ s.self.ramp s.self.offset s.when.payload.0 s.when.start.0
+    let s = c.args.self in
+    let w = c.when.inside in
+    rw (← c.when.view_is) (sum _ _ _ _ s.ramp s.offset w.payload.0 w.start.0
     c.plus.ensures c.plus-end.ensures c.plus-2.ensures c.past.ensures
-    ∙ sym (left_shifted_is s.when s.self)
+    ∙ sym (left_shifted_is (record { start = w.start; payload = w.payload }) s))

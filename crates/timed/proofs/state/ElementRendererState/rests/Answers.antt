@@ -1,32 +1,26 @@
--- `timed::state::ElementRendererState::rests`: a ramp remains, or a block is due, or none of those passed is. Assumes nothing.
-use mathlib.Core.Path.{◌≡◌, refl, sym, ◌∙◌}
-use native.Mathlib.Omega.{arith}
+-- `timed::state::ElementRendererState::rests`: a ramp remains, or each block is asked. Assumes nothing.
+use Prim.Native.Nat.{◌≤◌}
+use mathlib.Core.Path.{◌≡◌, sym, ◌∙◌}
+use mathlib.Core.Bool.{not}
+use lib.ListN.{length, take}
 use borrow.Author.Rules.{rules}
-use Rattle.timed.specs.Resting.{none_due}
-use Rattle.timed.proofs.Resting.{none_more, ramp_left, block_due, all_rests}
+use borrow.Author.Tests.{lt-leb}
+use Rattle.std.specs.List.{list_all}
+use Rattle.std.proofs.lemmas.Iterator.{YieldsList-from_slice}
+use Rattle.std.proofs.lemmas.Iterator.Search.{all_from_yields_List}
+use Rattle.timed.specs.Rules.{due}
+use Rattle.timed.proofs.Resting.{ramp_left, blocks_rest}
 use Rattle.timed.proofs.state.ElementRendererState.rests.Goals as goal
 
-pub returns-then-self-gt140737488355328 : goal.returns-then-self-gt140737488355328
-returns-then-self-gt140737488355328 c = let a = c.args in sym (ramp_left a.when a.self (search rules))
-
-pub loop-b-init : goal.loop-b-init
-unfolding none_due
-loop-b-init c = (search rules, refl)
-
-pub returns-then-due : goal.returns-then-due
-returns-then-due c =
+pub returns-then-self-le-RAMP_OVER : goal.returns-then-self-le-RAMP_OVER
+returns-then-self-le-RAMP_OVER c =
     let a = c.args in
-    sym (block_due a.when a.self c.loop-b.b (search rules) (sym c.due.ensures ∙ c.if-due.true))
+    let each : c.all.result ≡ list_all (λ b. not (due a.when b)) (take a.self.blocks a.self.schedule) =
+    all_from_yields_List (λ b. not (due a.when b)) _ _ c.all.result c.all.ensures.ran (YieldsList-from_slice (take a.self.blocks a.self.schedule) (search rules)) (λ x b q e. search rules) in
+    let long : a.self.blocks ≤ length a.self.schedule = search rules in
+    each ∙ blocks_rest a.when a.self (search rules) long
 
-pub loop-b-preserved : goal.loop-b-preserved
-loop-b-preserved c =
+pub returns-else-self-le-RAMP_OVER : goal.returns-else-self-le-RAMP_OVER
+returns-else-self-le-RAMP_OVER c =
     let a = c.args in
-    let l = c.loop-b in
-    (search rules, none_more a.when a.self.schedule l.b l.invariant.1 (sym c.due.ensures ∙ c.if-due.false))
-
-pub returns : goal.returns
-returns c =
-    let a = c.args in
-    let l = c.loop-b in
-    let e : l.b ≡ a.self.blocks = omega arith in
-    sym (all_rests a.when a.self (omega arith) (rw e at l.invariant.1))
+    lt-leb _ _ (search rules) ∙ sym (ramp_left a.when a.self (search rules))

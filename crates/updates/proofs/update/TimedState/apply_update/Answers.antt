@@ -1,18 +1,25 @@
 -- `apply_update`: the state from its parts. Assumes nothing.
-use mathlib.Core.Path.{◌∙◌}
+use mathlib.Core.Path.{refl}
+use mathlib.Core.Bool.{◌&&◌}
+use lib.Dec.{eqb}
 use native.Mathlib.Omega.{arith}
+use Rattle.updates.specs.Applied.{next_gains, next_sources}
 use Rattle.updates.proofs.AppliedByParts.{update_done}
 use Rattle.updates.proofs.update.TimedState.apply_update.Goals as goal
 
-pub apply_elements-next-requires : goal.apply_elements-next-requires
-apply_elements-next-requires c =
-    let e = c.header_at-h.ensures in
-    (omega (arith, c.requires.0), rw e, record { objects = rw e; isf = rw e; dynamic = c.dynamic.ensures ∙ rw e }, c.requires.1)
+pub apply_elements-requires : goal.apply_elements-requires
+apply_elements-requires c =
+    let e = c.header-header.ensures in
+    (omega (arith, c.requires.0), record { objects = rw e; isf = rw e }, c.requires.1)
 
 pub returns : goal.returns
+unfolding next_gains next_sources
 returns c =
     let s = c.args in
-    update_done s.at s.meta.now s.u s.self.0 s.infos.now
-    c.header_at-h.result c.same_counts-same.result c.apply_elements-next.result c.apply_elements-next.new.infos
-    c.next_codes-codes.result c.next_gains-gains.result c.next_sources-sources.result c.dynamic-2.result c.dynamic.result c.header_at-h.ensures c.same_counts-same.ensures
-    c.apply_elements-next.ensures c.next_codes-codes.ensures c.next_gains-gains.ensures c.next_sources-sources.ensures c.dynamic-2.ensures c.dynamic.ensures
+    let h = c.header-header.result in
+    let was = c.dynamic.result in
+    let now = c.dynamic-2.result in
+    update_done s.at s.said.meta.now s.said.place s.self.0 s.infos.now
+    h (eqb s.self.0.elements h.elements && eqb s.self.0.objects h.objects && eqb was now) c.apply_elements.result c.apply_elements.new.infos
+    c.next_codes.result c.kept_or.result c.kept_or-2.result was now c.header-header.ensures refl
+    c.apply_elements.ensures c.next_codes.ensures c.kept_or.ensures c.kept_or-2.ensures c.dynamic.ensures c.dynamic-2.ensures

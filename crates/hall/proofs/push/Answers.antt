@@ -1,0 +1,59 @@
+-- `push`: each way out by its law.
+use mathlib.Core.Path.{refl, sym, ◌∙◌}
+use native.Mathlib.Omega.{arith}
+use Rattle.std.proofs.lemmas.Result.{err_from_is_err_and}
+use Rattle.words.specs.Words.{Bytes}
+use Rattle.rules.specs.Calls.{push}
+use Rattle.rules.specs.Refusals.{args_of}
+use Rattle.hall.proofs.Appending.{appended}
+use Rattle.hall.proofs.WaysOut.{leaves_as, wrong, refused_push}
+use Rattle.hall.proofs.Known.{valid_long, loaded_ranged}
+use Rattle.hall.proofs.push.Goals as goal
+use Rattle.hall.proofs.push.Goals.{After-is_valid}
+
+-- the state block and the metadata are bytes
+lent : (c : After-is_valid) → let a = c.args in Bytes a.state.now × Bytes a.meta.now
+lent c = ((λ i. omega (arith, c.slice_known-1.given i)), λ i. omega (arith, c.type_inv.meta i))
+
+pub returns-then-not-is_valid : goal.returns-then-not-is_valid
+returns-then-not-is_valid c =
+    let s = c.args in
+    let a = args_of s.pcm.now s.meta.now s.out.now s.codes.now s.rate s.samples s.objects s.stride in
+    record {
+      left = leaves_as (wrong (push a) s.state.now (sym c.is_valid.ensures ∙ c.if-not-is_valid.true)) (record { answer = refl; block = refl; output = refl });
+      appends = tt;
+    }
+
+pub load-s-requires : goal.load-s-requires
+load-s-requires c = valid_long c.args.state.now (sym c.is_valid.ensures ∙ c.if-not-is_valid.false)
+
+pub check_push-requires : goal.check_push-requires
+check_push-requires c =
+    let valid = sym c.is_valid.ensures ∙ c.if-not-is_valid.false in
+    let w = (loaded_ranged c.args.state.now c.load-s.result c.load-s.ensures (λ i. omega (arith, c.slice_known-1.given i)) valid).meta.state.within in
+    (w.beds, w.objects, c.layout_of-l.ensures)
+
+pub returns-in_err-check_push : goal.returns-in_err-check_push
+returns-in_err-check_push c =
+    let s = c.args in
+    let a = args_of s.pcm.now s.meta.now s.out.now s.codes.now s.rate s.samples s.objects s.stride in
+    let r = c.in_err-check_push.field-0.0 in
+    let found = c.in_err-check_push.ensures s.state.now s.out.now c.load-s.ensures refl in
+    let p = err_from_is_err_and c.from_residual.result c.from_residual.ensures.1 in
+    record { left = rw (p.1, p.2) (refused_push a s.state.now r (sym c.is_valid.ensures ∙ c.if-not-is_valid.false) found); appends = rw (p.1) tt }
+
+pub render-given-requires : goal.render-given-requires
+render-given-requires c =
+    let a = c.args in
+    record {
+      loaded = record { small = c.load-s.ensures; valid = sym c.is_valid.ensures ∙ c.if-not-is_valid.false };
+      clear = sym (c.in_ok-check_push.ensures a.state.now a.out.now c.load-s.ensures refl);
+      layout = c.layout_of-l.ensures;
+    }
+
+pub returns : goal.returns
+returns c =
+    let s = c.args in
+    let a = args_of s.pcm.now s.meta.now s.out.now s.codes.now s.rate s.samples s.objects s.stride in
+    let h = lent (goal.at.returns c).After-is_valid in
+    record { left = c.render-given.ensures; appends = appended a s.state.now h c.render-given.result c.render-given.ensures }

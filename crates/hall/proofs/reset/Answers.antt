@@ -1,0 +1,19 @@
+-- `reset`: a block of another length is left; any other is filled.
+use mathlib.Core.Path.{sym, ap, ◌∙◌}
+use borrow.Author.Tests.{eq-eqb, ne_eqb}
+use Rattle.rules.specs.Calls.{reset}
+use Rattle.rules.specs.BlockCalls.{Outcome}
+use Rattle.hall.specs.Answers.{code_of}
+use Rattle.hall.proofs.WaysOut.{wrong, resets}
+use Rattle.hall.proofs.reset.Goals as goal
+
+pub returns-then-state-ne-SIZE : goal.returns-then-state-ne-SIZE
+returns-then-state-ne-SIZE c =
+    let b = c.args.state.now in
+    let e = sym (wrong reset b (ne_eqb _ _ c.if-state-ne-SIZE.true)) in
+    (ap (λ (o : Outcome). code_of o.answer) e, ap (λ (o : Outcome). o.state) e)
+
+pub returns : goal.returns
+returns c =
+    let e = sym (resets c.args.state.now (eq-eqb _ _ c.if-state-ne-SIZE.false)) in
+    (ap (λ (o : Outcome). code_of o.answer) e, c.reset.ensures ∙ ap (λ (o : Outcome). o.state) e)

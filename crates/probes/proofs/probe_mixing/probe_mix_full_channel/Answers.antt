@@ -1,9 +1,0 @@
--- Mixed where the lengths fit.
-use Rattle.probes.proofs.ProbeAnswers.{fits, unfit}
-use Rattle.probes.proofs.probe_mixing.probe_mix_full_channel.Goals as goal
-
-pub returns-then-input-output : goal.returns-then-input-output
-returns-then-input-output c = fits _ c.if-input-output.true c.mix_full_channel.ensures
-
-pub returns-else-input-output : goal.returns-else-input-output
-returns-else-input-output c = unfit _ _ c.if-input-output.false

@@ -1,0 +1,41 @@
+-- `checks::check_counts`: nothing was found before update i. Assumes nothing.
+use Prim.Native.Nat.{ℕ, ◌-◌, ◌<◌}
+use mathlib.Core.Path.{refl, ap, ◌∙◌}
+use native.Mathlib.Omega.{arith}
+use Rattle.std.proofs.lemmas.Result.{err_from_is_err_and}
+use Rattle.fields.specs.declared.update.Header.{Header}
+use Rattle.records.specs.Laid.{count}
+use Rattle.refusals.specs.FirstFound.{matched}
+use Rattle.refusals.proofs.Sent.{counts_stop, counts_go, counts_end}
+use Rattle.refusals.proofs.checks.check_counts.Goals as goal
+use Rattle.refusals.proofs.checks.check_counts.Goals.{then-eq+in_ok-check_match, else-eq}
+
+pub returns-in_err-check_match : goal.returns-in_err-check_match
+returns-in_err-check_match c =
+    let s = c.args in
+    let i = c.loop-i.i in
+    let g = c.requires.0 in
+    let b : i < count s.meta.now = omega (arith, c.loop-i-test.true, g.counted) in
+    let p = err_from_is_err_and c.from_residual.result c.from_residual.ensures.1 in
+    let h = ap (λ (x : Header). x.objects - x.bed_or_isf) c.header.ensures in
+    rw (p.1, p.2) (counts_stop s.meta.now s.objects s.t.0 i b c.loop-i.invariant c.in_err-check_match.field-0.0
+    (rw (← g.offsets i b, ← g.places i b, ← c.eq.ensures, c.if-eq.true)
+    (c.in_err-check_match.ensures ∙ ap (λ (n : ℕ). matched n s.objects) (c.dynamic.ensures ∙ h))))
+
+pub loop-i-preserved : goal.loop-i-preserved
+loop-i-preserved c =
+    let s = c.args in
+    let i = c.loop-i.i in
+    let g = c.requires.0 in
+    let b : i < count s.meta.now = omega (arith, c.loop-i-test.true, g.counted) in
+    counts_go s.meta.now s.objects s.t.0 i b c.loop-i.invariant
+    (elim c.if-eq.branch [
+      | then-eq+in_ok-check_match w ↦
+          let h = ap (λ (x : Header). x.objects - x.bed_or_isf) w.header.ensures in
+          rw (← g.offsets i b, ← g.places i b, ← c.eq.ensures, w.if-eq.true)
+          (w.in_ok-check_match.ensures ∙ ap (λ (n : ℕ). matched n s.objects) (w.dynamic.ensures ∙ h))
+      | else-eq w ↦ rw (← g.offsets i b, ← c.eq.ensures, w.if-eq.false) refl
+    ])
+
+pub returns : goal.returns
+returns c = counts_end c.args.meta.now c.args.objects c.args.t.0 c.loop-i.i (omega (arith, c.loop-i-test.false, c.requires.0.counted)) c.loop-i.invariant
