@@ -24,9 +24,9 @@ abbrev pub push_of : List ℕ → List ℕ → List ℕ → Call
 push_of r body out = push (frame_args r (take (metadata_bytes r) body) (pcm_of r body) out)
 
 -- the call that a flush or a reset is
-abbrev pub alone : Plain → List ℕ → Call
-alone Flush out = flush out 256
-alone Reset out = reset
+abbrev pub asked_alone : Plain → List ℕ → Call
+asked_alone Flush out = flush out 256
+asked_alone Reset out = reset
 
 -- "7, flush; 8, reset."
 unfoldable pub plain_call : List ℕ → List ℕ → Call

@@ -4,7 +4,7 @@
 ghost use Rattle.std.specs.Prelude.{◌≡◌};
 ghost use Rattle.rules.specs.Calls.{push};
 ghost use Rattle.hall.specs.Answers.{coded};
-ghost use Rattle.calls.specs.Asked.{frame_args, alone};
+ghost use Rattle.calls.specs.Asked.{asked_alone, frame_args};
 ghost use Rattle.calls.specs.CallResults.{text_of_code, Called};
 
 use framing::header::Header;
@@ -60,7 +60,7 @@ pub fn push(
 // A flush or a reset, and its answer's text.
 #[tactic(auto, using(crate::proofs::Calling::code_text))]
 pub fn plain(state: &mut [u8], out: &mut [u8; 12288], call: Plain) -> Text
-    ensures { Called (alone call out.old) state.old out.old state.new out.new result }
+    ensures { Called (asked_alone call out.old) state.old out.old state.new out.new result }
 {
     let answer = match call {
         Plain::Flush => hall::flush(state, out, STRIDE),

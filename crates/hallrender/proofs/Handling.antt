@@ -19,7 +19,7 @@ use Rattle.framing.specs.Framing.{is_frame, is_plain, is_body, metadata_bytes, p
 use Rattle.framing.specs.PcmTaken.{Unpacked}
 use Rattle.framing.specs.Requested.{plain_of}
 use Rattle.framing.proofs.Theorems.{none_are, frame_kind}
-use Rattle.calls.specs.Asked.{frame_args, push_of, alone, plain_call, call_of}
+use Rattle.calls.specs.Asked.{frame_args, push_of, asked_alone, plain_call, call_of}
 use Rattle.calls.specs.CallResults.{Called}
 use Rattle.hallrender.specs.declared.End.{End}
 use Rattle.hallrender.specs.declared.Program.{Program}
@@ -61,7 +61,7 @@ either : (a : Bool) {b : Bool} → b ≡ true → a || b ≡ true
 either true e = refl
 either false e = e
 
-alone_is : (b : Bool) (o : List ℕ) → alone (cond b Flush Reset) o ≡ cond b (flush o 256) reset
+alone_is : (b : Bool) (o : List ℕ) → asked_alone (cond b Flush Reset) o ≡ cond b (flush o 256) reset
 alone_is true o = refl
 alone_is false o = refl
 
@@ -86,19 +86,19 @@ module _ (r : List ℕ) where
   not_five : is_plain r ≡ true → eqb (get_or r 0 0) 5 ≡ false
   not_five e = ne_eqb (get_or r 0 0) 5 (λ k. let n = frame_not_plain k in cc)
 
-  plain_is : (body o : List ℕ) → is_plain r ≡ true → alone (plain_of r) o ≡ call_of r body o
+  plain_is : (body o : List ℕ) → is_plain r ≡ true → asked_alone (plain_of r) o ≡ call_of r body o
   unfolding plain_of plain_call call_of
   plain_is body o e = alone_is (eqb (get_or r 0 0) 7) o ∙ simp (not_five e)
 
   pub plain_handled : (p q : Program) (call : Plain) (text : List ℕ) → is_plain r ≡ true → call ≡ plain_of r
-      → Called (alone call p.out) p.state p.out q.state q.out text → Answered r p q text
+      → Called (asked_alone call p.out) p.state p.out q.state q.out text → Answered r p q text
   plain_handled p q call text e k c =
       let none : List ℕ = replicate 86720 0 in
       record {
         body = none;
         room = length-replicate {A = ℕ} 86720 0;
         laid = either (is_frame r && is_body r none) e;
-        called = subst (λ x. Called x p.state p.out q.state q.out text) (ap (λ x. alone x p.out) k ∙ plain_is none p.out e) c;
+        called = subst (λ x. Called x p.state p.out q.state q.out text) (ap (λ x. asked_alone x p.out) k ∙ plain_is none p.out e) c;
       }
 
 -- ---- calls in a row: what is run from q on was run from p on

@@ -15,8 +15,8 @@ abbrev pub no_sent : Sent
 no_sent = record { place = 0; offset = frame_start }
 
 -- the record and the sample offset of update i, as a layout has them
-abbrev pub place_at : Layout → ℕ → ℕ
-place_at l i = (get_or l.sent i no_sent).place
+abbrev pub sent_place : Layout → ℕ → ℕ
+sent_place l i = (get_or l.sent i no_sent).place
 
 abbrev pub offset_at : Layout → ℕ → ℕ
 offset_at l i = (get_or l.sent i no_sent).offset.0
@@ -26,9 +26,9 @@ pub record IsLayout (m : List ℕ) (l : Layout) : Type 0 where
   pub fits : l.laid ≡ laid_out m
   pub counted : l.count ≡ count m
   pub few : count m ≤ 16
-  pub places : (i : ℕ) → i < count m → place_at l i ≡ update_at m i
+  pub places : (i : ℕ) → i < count m → sent_place l i ≡ update_at m i
   pub offsets : (i : ℕ) → i < count m → offset_at l i ≡ offset m (update_at m i)
-  pub past : (i : ℕ) → count m ≤ i → (place_at l i ≡ 0) × (offset_at l i ≡ 0)
+  pub past : (i : ℕ) → count m ≤ i → (sent_place l i ≡ 0) × (offset_at l i ≡ 0)
 
 -- of a list that is not laid out
 abbrev pub no_layout : Layout

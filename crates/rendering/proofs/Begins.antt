@@ -16,7 +16,7 @@ use Rattle.timed.proofs.Theorems as timed
 use Rattle.records.specs.Runs.{each}
 use Rattle.records.specs.Laid.{update_at, count}
 use Rattle.records.specs.UpdateWalk.{FirstAt}
-use Rattle.records.specs.LayoutAnswers.{IsLayout, place_at, offset_at}
+use Rattle.records.specs.LayoutAnswers.{IsLayout, sent_place, offset_at}
 use Rattle.records.specs.declared.layout.Layout as records
 use Rattle.updates.specs.Said.{Update, update_of}
 use Rattle.updates.specs.Applied as updates
@@ -143,11 +143,11 @@ module _ (m : List ℕ) (l : records.Layout) (t at : ℕ) (all : Renderer Timed)
     -- an update more
     pub goes_on :
         (i : ℕ) (s r : Renderer714) (b c : List ℕ) → i < l.count → offset_at l i ≡ t → Standing i s b →
-        IsNext (applied_at hall t (sent t (update_of m (place_at l i))) (held s b)) b r c → Standing (i + 1) r c
+        IsNext (applied_at hall t (sent t (update_of m (sent_place l i))) (held s b)) b r c → Standing (i + 1) r c
     goes_on i s r b c low time h next =
         let k : i < count m = omega (arith, g.counted) in
         let o : (sent_at m i).offset ≡ t = sym (g.offsets i k) ∙ time in
-        let u : update_of m (place_at l i) ≡ update_of m (update_at m i) = ap (update_of m) (g.places i k) in
+        let u : update_of m (sent_place l i) ≡ update_of m (update_at m i) = ap (update_of m) (g.places i k) in
         let one : held r c ≡ applied_at hall t (sent_at m i) (held s b) = next.holds.is ∙ rw u in
         record {
           long = next.holds.long;

@@ -14,14 +14,14 @@ pub record InTime (w : Times) : Type 0 where
   pub payload : w.payload.0 ≤ 1099511627776
 
 -- the infos of bed i from `beds` + 8 i on, those of dynamic object d from `first` + 8 d on, and how many there are of each
-pub record Places : Type 0 where
+pub record InfoPlaces : Type 0 where
   pub beds : ℕ
   pub channels : ℕ
   pub first : ℕ
   pub count : ℕ
 
 -- every info that is reached is one of the 512
-pub record Reaches (r : Places) : Type 0 where
+pub record Reaches (r : InfoPlaces) : Type 0 where
   pub few : r.channels ≤ 18
   pub some : r.count ≤ 16
   pub beds : (i : ℕ) → i < r.channels → r.beds + most_blocks * i + most_blocks ≤ all_infos

@@ -46,9 +46,9 @@ pub struct Reach {
 }
 
 impl Model for Reach {
-    ghost use Rattle.timed.specs.Times.{Places, Reaches};
+    ghost use Rattle.timed.specs.Times.{InfoPlaces, Reaches};
 
-    ghost Value = { Places };
+    ghost Value = { InfoPlaces };
 
     ghost view = { λ r. record { beds = r.beds; channels = r.channels; first = r.first; count = r.count } };
 

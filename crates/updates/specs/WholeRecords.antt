@@ -4,7 +4,7 @@ use Rattle.std.specs.Prelude.{ℕ, ◌+◌, ◌-◌, ◌*◌, ◌≤◌, ◌<◌
 use Rattle.fields.specs.Update.{objects, bed_or_isf_of, beds, elements}
 use Rattle.fields.specs.Block.{blocks}
 use Rattle.fields.specs.Raised.{raised}
-use Rattle.records.specs.LayoutAnswers.{place_at}
+use Rattle.records.specs.LayoutAnswers.{sent_place}
 use Rattle.records.specs.declared.layout.Layout.{Layout}
 use Rattle.records.specs.Laid.{block_at, element_end, element_at}
 
@@ -34,4 +34,4 @@ pub record WholeUpdate (m : List ℕ) (u : ℕ) : Type 0 where
 -- the updates of a list, where its layout has them
 pub record WholeUpdates (m : List ℕ) (l : Layout) : Type 0 where
   pub few : l.count ≤ 16
-  pub all : (i : ℕ) → i < l.count → WholeUpdate m (place_at l i)
+  pub all : (i : ℕ) → i < l.count → WholeUpdate m (sent_place l i)

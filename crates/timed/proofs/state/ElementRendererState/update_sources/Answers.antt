@@ -2,7 +2,7 @@
 use Prim.Native.Nat.{◌+◌}
 use mathlib.Core.Path.{ap}
 use native.Mathlib.Omega.{arith}
-use Rattle.timed.specs.Times.{Places}
+use Rattle.timed.specs.Times.{InfoPlaces}
 use Rattle.timed.specs.Slot.{updated_sources}
 use Rattle.timed.proofs.Ramps.{blocks_ramps, later}
 use Rattle.timed.proofs.state.ElementRendererState.update_sources.Goals as goal
@@ -20,5 +20,5 @@ pub returns : goal.returns
 unfolding updated_sources
 returns c =
     let b = c.apply_blocks in
-    let count = ap (λ (r : Places). r.count) c.reach.view_is in
+    let count = ap (λ (r : InfoPlaces). r.count) c.reach.view_is in
     record { updated = rw (c.ramp.ensures, count, b.ensures.slot); infos = b.ensures.infos }
