@@ -35,7 +35,6 @@ with_channels (c ∷ cs) step at out = with_channels cs step (at + step) (with_f
 -- what it asks of its arguments
 pub record Room (places : List ℕ) (n rate : ℕ) (out : List ℕ) (step to : ℕ) : Type 0 where
   pub block : length places ≡ places_bytes
-  pub samples : n ≤ row_places
   pub rates : rate ≤ 16777216
   pub channel : to + 4 * n ≤ step
   pub output : row_count * step ≤ length out

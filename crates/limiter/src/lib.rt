@@ -9,7 +9,7 @@ pub mod places;
 
 ghost use Rattle.std.specs.Prelude.{◌≡◌, ◌≤◌};
 ghost use Rattle.ieee.specs.Small.{absolute, larger};
-ghost use Rattle.formats.specs.Areas.{row_count, row_places};
+ghost use Rattle.formats.specs.Areas.{row_count};
 ghost use Rattle.limiter.specs.Level.{Level};
 ghost use Rattle.limiter.specs.Limiter.{0·0, 1·0, peak_from, peak, lowered, grown};
 ghost use Rattle.limiter.specs.Limiter.{block_peak};
@@ -17,6 +17,7 @@ ghost use Rattle.limiter.specs.ChannelPlaces.{channels, Room, Given};
 
 use formats::areas;
 use meters::Meters;
+use places::Taken;
 
 #[derive(Clone, Copy)]
 pub struct Limiter {
@@ -30,7 +31,7 @@ pub struct Limited {
     pub meters: Meters,
 }
 
-// The maximum of a level and the size of a sample: a maximum instruction, since a level is no NaN. `ieee::max` tests for one.
+// The maximum of a level and the size of a sample: one plain comparison, since a level is no NaN. `ieee::max` tests for one.
 // That `max` is one stands in the contract: a type of levels would wrap and unwrap each of the four lanes at each comparison.
 fn raise(max: f32, sample: f32) -> f32
     requires { Level max }
@@ -51,7 +52,7 @@ fn max_abs_from(max: f32, samples: &[f32]) -> f32
     m
 }
 
-// Four running maxima, which the compiler makes one vector, and then the rest.
+// Four running maxima, so that no comparison waits for the one before it, and then the rest.
 pub fn max_abs_slice(samples: &[f32]) -> f32
     ensures { (result ≡ peak samples.now) × Level result }
 {
@@ -65,15 +66,14 @@ pub fn max_abs_slice(samples: &[f32]) -> f32
     max_abs_from(max_abs_from(0.0, &lanes), &samples[4 * fours..])
 }
 
-// The peak of a block: twelve channels of 64 places, `samples` of each in use.
-fn block_peak(block: &[f32; areas::PLACE_COUNT], samples: usize) -> f32
-    requires { samples ≤ row_places }
-    ensures { result ≡ block_peak 0·0 (channels row_count samples block.now) }
+// The peak of a block: twelve channels of 64 places.
+fn block_peak(block: &[f32; areas::PLACE_COUNT], taken: Taken) -> f32
+    ensures { result ≡ block_peak 0·0 (channels row_count taken.samples block.now) }
 {
     let mut max: f32 = 0.0;
     for c in 0..areas::ROW_COUNT {
         let at = areas::ROW_PLACES * c;
-        max = raise(max, max_abs_slice(&block[at..at + samples]));
+        max = raise(max, max_abs_slice(&block[at..at + taken.samples]));
     }
     max
 }
@@ -123,21 +123,21 @@ impl Limiter {
     pub fn apply_output_limiter_block(
         self,
         places: &[u8],
-        samples: usize,
+        taken: Taken,
         rate: u32,
         out: &mut [u8],
         step: usize,
         to: usize,
     ) -> Limited
-        requires { Room places.now samples rate out.old step to }
-        ensures { Given self.gain samples rate places.now step to out.old result out.new }
+        requires { Room places.now taken.samples rate out.old step to }
+        ensures { Given self.gain taken.samples rate places.now step to out.old result out.new }
     {
         let mut block = [0.0f32; areas::PLACE_COUNT];
-        places::load_block(places, samples, &mut block);
-        let peak = block_peak(&block, samples);
+        places::load_block(places, taken, &mut block);
+        let peak = block_peak(&block, taken);
         let scaling = self.lower(peak);
-        places::store_block(&block, samples, scaling.gain, out, step, to);
-        let next = scaling.grow(samples as u32, rate);
+        places::store_block(&block, taken, scaling.gain, out, step, to);
+        let next = scaling.grow(taken.samples as u32, rate);
         Limited {
             limiter: next,
             meters: scaling.meters(peak),

@@ -9,6 +9,13 @@ ghost use Rattle.limiter.specs.ChannelPlaces.{floats_at, with_floats, channels, 
 
 use formats::areas;
 
+// How many of the 64 places of each channel are taken.
+#[derive(Clone, Copy)]
+pub struct Taken {
+    pub samples: usize,
+    ghost most: { samples ≤ row_places },
+}
+
 // The floats from `at` on, as many as `samples` has. `mixing::read_row` reads without a test for NaNs, which it asks of the bytes, and is quicker.
 pub fn load_samples(places: &[u8], at: usize, samples: &mut [f32])
     requires { at + 4 * length samples.old ≤ length places.now }
@@ -29,26 +36,26 @@ pub fn scale_slice_into(samples: &[f32], gain: f32, out: &mut [u8])
     }
 }
 
-// The places of a state block, `samples` of each channel, in a block of floats.
-pub fn load_block(places: &[u8], samples: usize, block: &mut [f32; areas::PLACE_COUNT])
-    requires { (length places.now ≡ places_bytes) × (samples ≤ row_places) }
-    ensures { block.new ≡ overlaid (channels_at row_count samples places.now 0) block.old }
+// The places of a state block that are taken, in a block of floats.
+pub fn load_block(places: &[u8], taken: Taken, block: &mut [f32; areas::PLACE_COUNT])
+    requires { length places.now ≡ places_bytes }
+    ensures { block.new ≡ overlaid (channels_at row_count taken.samples places.now 0) block.old }
 {
     for row in 0..areas::ROW_COUNT {
         let at = areas::ROW_PLACES * row;
-        load_samples(places, 4 * at, &mut block[at..at + samples]);
+        load_samples(places, 4 * at, &mut block[at..at + taken.samples]);
     }
 }
 
 // The block times the gain, channel c at `to` + c x `step`. The block is a slice: `rendering` has its rows as one, and would have to test their number.
-pub fn store_block(block: &[f32], samples: usize, gain: f32, out: &mut [u8], step: usize, to: usize)
-    requires { (length block.now ≡ place_count) × (samples ≤ row_places) × (to + 4 * samples ≤ step) × (row_count * step ≤ length out.old) }
-    ensures { out.new ≡ with_channels (scaled_block gain (channels row_count samples block.now)) step to out.old }
+pub fn store_block(block: &[f32], taken: Taken, gain: f32, out: &mut [u8], step: usize, to: usize)
+    requires { (length block.now ≡ place_count) × (to + 4 * taken.samples ≤ step) × (row_count * step ≤ length out.old) }
+    ensures { out.new ≡ with_channels (scaled_block gain (channels row_count taken.samples block.now)) step to out.old }
 {
     for c in 0..areas::ROW_COUNT {
         let at = areas::ROW_PLACES * c;
         let from = step * c + to;
-        let until = from + 4 * samples;
-        scale_slice_into(&block[at..at + samples], gain, &mut out[from..until]);
+        let until = from + 4 * taken.samples;
+        scale_slice_into(&block[at..at + taken.samples], gain, &mut out[from..until]);
     }
 }

@@ -4,6 +4,7 @@ ghost use Rattle.limiter.specs.ChannelPlaces.{with_floats, Given};
 ghost use Rattle.probes.specs.Taken.{has_room, with_gain};
 
 use limiter::Limiter;
+use limiter::places::Taken;
 
 #[unsafe(no_mangle)]
 pub extern "C" fn probe_max_abs_slice(samples: &[f32]) -> f32
@@ -42,6 +43,7 @@ pub extern "C" fn probe_apply_output_limiter_block(
     if !(known && step <= out.len() / 12 && to <= step && 4 * samples <= step - to) {
         return gain;
     }
-    let done = Limiter { gain }.apply_output_limiter_block(places, samples, rate, out, step, to);
+    let taken = Taken { samples };
+    let done = Limiter { gain }.apply_output_limiter_block(places, taken, rate, out, step, to);
     done.limiter.gain
 }

@@ -10,7 +10,7 @@ ghost use Rattle.rendering.specs.Held.{held};
 ghost use Rattle.rendering.specs.Give.{CanGive, Gave, IsDrained, CanGiveRows, GaveRows};
 
 use crate::Rendering;
-use limiter::places::store_block;
+use limiter::places::{Taken, store_block};
 
 impl Rendering {
     // The pending samples as one block, behind those that are ready.
@@ -19,7 +19,9 @@ impl Rendering {
         ensures { Gave self state.now stride out.old result out.new }
     {
         let limiter = self.renderer.limiter;
-        let pending = self.renderer.pending as usize;
+        let pending = Taken {
+            samples: self.renderer.pending as usize,
+        };
         let after = limiter.apply_output_limiter_block(
             &state[store::PLACES..],
             pending,
@@ -29,7 +31,7 @@ impl Rendering {
             4 * self.ready,
         );
         self.renderer = self.renderer.empty(after.limiter);
-        self.ready += pending;
+        self.ready += pending.samples;
         self.meters = self.meters.meet(after.meters);
         self
     }
@@ -42,7 +44,8 @@ impl Rendering {
         let peak = limiter::max_abs_slice(rows);
         let lowered = self.renderer.limiter.lower(peak);
         let met = lowered.meters(peak);
-        store_block(rows, 64, lowered.gain, out, 4 * stride, 4 * self.ready);
+        let all = Taken { samples: 64 };
+        store_block(rows, all, lowered.gain, out, 4 * stride, 4 * self.ready);
         let grown = lowered.grow(64, self.renderer.rate);
         self.renderer = self.renderer.empty(grown);
         self.ready += 64;

@@ -16,4 +16,4 @@ loop-c-preserved c =
     let l = c.loop-c in
     let p = c.max_abs_slice in
     let r = c.raise-max.ensures in
-    (r.1, peak_next l.c c.args.samples c.args.block.now l.invariant.1 p.ensures.1 p.ensures.0 r.0)
+    (r.1, peak_next l.c c.args.taken.samples c.args.block.now l.invariant.1 p.ensures.1 p.ensures.0 r.0)

@@ -6,4 +6,4 @@ use Rattle.limiter.proofs.Levels.{Level}
 use Rattle.limiter.proofs.block_peak.Given as goal
 
 abbrev pub invariant-loop-c : goal.invariant-loop-c
-invariant-loop-c l = Level l.max × (l.max ≡ block_peak 0·0 (channels l.c l.samples l.block))
+invariant-loop-c l = Level l.max × (l.max ≡ block_peak 0·0 (channels l.c l.taken.samples l.block))

@@ -1,4 +1,5 @@
 -- `limiter::Limiter::apply_output_limiter_block` meets its contract. Assumes nothing.
+use native.Mathlib.Omega.{arith}
 use mathlib.Core.Path.{◌≡◌, ap, ◌∙◌}
 use mathlib.Core.List.{List}
 use lib.Dec.{lit≤}
@@ -14,11 +15,11 @@ returns c =
     let low = c.lower-scaling in
     let top = c.block_peak-peak in
     let load = c.load_block in
-    let n = a.samples in
+    let n = a.taken.samples in
     let s = a.places.now in
     let cs = channels_at 12 n s 0 in
     let ls = channels_at_lengths 12 n s 0 in
-    let e : channels 12 n load.new.block ≡ cs = ap (channels 12 n) load.ensures ∙ channels_laid 12 n cs _ ls.0 ls.1 c.requires.samples (lit≤ tt) in
+    let e : channels 12 n load.new.block ≡ cs = ap (channels 12 n) load.ensures ∙ channels_laid 12 n cs _ ls.0 ls.1 (omega arith) (lit≤ tt) in
     let f : low.result.gain ≡ block_gain a.self.gain cs = low.ensures ∙ ap (λ (p : Float). lowered p a.self.gain) (top.ensures ∙ ap (block_peak 0·0) e) in
     record {
       gain = c.grow-next.ensures ∙ ap (grown n a.rate) f;

@@ -16,14 +16,14 @@ loop-row-preserved c =
     let a = c.args in
     let z = c.load_samples in
     let at = 64 * l.row in
-    let h : at + a.samples ≤ length l.block = omega arith in
-    let e : z.new.samples ≡ floats_at a.places.now (4 * at) a.samples = z.ensures ∙ ap (floats_at a.places.now (4 * at)) (part_length a.samples at l.block h) in
+    let h : at + a.taken.samples ≤ length l.block = omega arith in
+    let e : z.new.samples ≡ floats_at a.places.now (4 * at) a.taken.samples = z.ensures ∙ ap (floats_at a.places.now (4 * at)) (part_length a.taken.samples at l.block h) in
     let k : 12 - (l.row + 1) ≡ 12 - l.row - 1 = omega arith in
     let j : 64 * (l.row + 1) ≡ at + 64 = omega arith in
-    let n = load_next a.places.now (12 - l.row) a.samples at l.block z.new.samples (omega arith) (omega arith) (omega arith) e in
+    let n = load_next a.places.now (12 - l.row) a.taken.samples at l.block z.new.samples (omega arith) (omega arith) (omega arith) e in
     (n.0 ∙ l.invariant.0, rw (k, j) (n.1 ∙ l.invariant.1))
 
 pub returns : goal.returns
 returns c =
     let l = c.loop-row in
-    load_end c.args.places.now (12 - l.row) c.args.samples (64 * l.row) l.block (omega arith) ∙ l.invariant.1
+    load_end c.args.places.now (12 - l.row) c.args.taken.samples (64 * l.row) l.block (omega arith) ∙ l.invariant.1

@@ -8,4 +8,4 @@ use Rattle.limiter.proofs.places.load_block.Given as goal
 
 abbrev pub invariant-loop-row : goal.invariant-loop-row
 invariant-loop-row l = (length l.block ≡ 768)
-    × (take (64 * l.row) l.block ++ overlaid (channels_at (12 - l.row) l.samples l.places (4 * (64 * l.row))) (drop (64 * l.row) l.block) ≡ overlaid (channels_at 12 l.samples l.places 0) l.initial.block)
+    × (take (64 * l.row) l.block ++ overlaid (channels_at (12 - l.row) l.taken.samples l.places (4 * (64 * l.row))) (drop (64 * l.row) l.block) ≡ overlaid (channels_at 12 l.taken.samples l.places 0) l.initial.block)

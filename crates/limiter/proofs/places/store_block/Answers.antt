@@ -26,7 +26,7 @@ scale_slice_into-requires c =
     let l = c.loop-c in
     let a = c.args in
     let r = room_at l.c 12 a.step (omega arith) in
-    part_length (4 * a.samples) (a.step * l.c + a.to) l.out (omega arith) ∙ ap (λ (n : ℕ). 4 * n) (sym (part_length a.samples (64 * l.c) a.block.now (omega arith)))
+    part_length (4 * a.taken.samples) (a.step * l.c + a.to) l.out (omega arith) ∙ ap (λ (n : ℕ). 4 * n) (sym (part_length a.taken.samples (64 * l.c) a.block.now (omega arith)))
 
 pub loop-c-preserved : goal.loop-c-preserved
 loop-c-preserved c =
@@ -34,5 +34,5 @@ loop-c-preserved c =
     let a = c.args in
     let z = c.scale_slice_into in
     let r = room_at l.c 12 a.step (omega arith) in
-    store_next a.gain l.c a.samples a.step a.to a.block.now a.out.now l.invariant
-    (store_part a.gain a.samples (64 * l.c) (a.step * l.c + a.to) a.block.now l.out z.new.out (omega arith) (omega arith) z.ensures)
+    store_next a.gain l.c a.taken.samples a.step a.to a.block.now a.out.now l.invariant
+    (store_part a.gain a.taken.samples (64 * l.c) (a.step * l.c + a.to) a.block.now l.out z.new.out (omega arith) (omega arith) z.ensures)

@@ -5,4 +5,4 @@ use Rattle.limiter.specs.ChannelPlaces.{channels, with_channels}
 use Rattle.limiter.proofs.places.store_block.Given as goal
 
 abbrev pub invariant-loop-c : goal.invariant-loop-c
-invariant-loop-c l = l.out ≡ with_channels (scaled_block l.gain (channels l.c l.samples l.block)) l.step l.to l.initial.out
+invariant-loop-c l = l.out ≡ with_channels (scaled_block l.gain (channels l.c l.taken.samples l.block)) l.step l.to l.initial.out

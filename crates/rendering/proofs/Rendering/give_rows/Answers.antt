@@ -12,7 +12,7 @@ use Rattle.rendering.proofs.RowsPeak.{rows_peak}
 use Rattle.rendering.proofs.Rendering.give_rows.Goals as goal
 
 pub store_block-requires : goal.store_block-requires
-store_block-requires c = let p = c.requires in (p.whole, omega arith, omega (arith, p.room), omega (arith, p.output))
+store_block-requires c = let p = c.requires in (p.whole, omega (arith, p.room), omega (arith, p.output))
 
 pub overflow_add-self : goal.overflow_add-self
 overflow_add-self c = let p = c.requires in omega (arith, p.room, p.short)
