@@ -5,11 +5,14 @@
 // functions answer every byte, and compare unknown codes too.
 #![tactic(auto)]
 
-ghost use Rattle.std.specs.Prelude.{◌≡◌, ◌≤◌, length};
+ghost use Rattle.std.specs.Prelude.{◌≡◌};
 ghost use Rattle.beds.specs.Routes.{route_of, bass_gain};
 ghost use Rattle.beds.specs.Positions.{bed_position};
-ghost use Rattle.beds.specs.Matching.{low_frequency, matches, first_of, matching, counted};
+ghost use Rattle.beds.specs.Matching.{low_frequency, matches, first_of, matching};
 
+mod codes;
+
+pub use codes::Codes;
 use vectors::Vec3;
 
 // How a bed is put out: on the bass channel at its reduced gain, panned at its position, on one channel, or not at all.
@@ -71,7 +74,10 @@ static POSITIONS: [[f32; 3]; 18] = [
 pub fn bed_channel_position(code: u8) -> Vec3
     ensures { result ≡ bed_position code }
 {
-    let [x, y, z] = POSITIONS.get(code as usize).copied().unwrap_or([0.0; 3]);
+    let [x, y, z] = POSITIONS
+        .get(usize::from(code))
+        .copied()
+        .unwrap_or([0.0; 3]);
     Vec3 { x, y, z }
 }
 
@@ -108,15 +114,4 @@ pub fn find_matching_input_bed_channel(requested: u8, inputs: &[u8]) -> Option<u
             None
         }
     })
-}
-
-// How many of the codes match a bed: the counts of `BedChannelCountMismatch`.
-pub fn count_matching(requested: u8, codes: &[u8]) -> u32
-    requires { length codes.now ≤ 18 }
-    ensures { result ≡ counted requested codes.now }
-{
-    codes
-        .iter()
-        .filter(|provided| bed_channel_matches_input(requested, **provided))
-        .count() as u32
 }

@@ -4,7 +4,7 @@ ghost use Rattle.beds.specs.Positions.{bed_position};
 ghost use Rattle.beds.specs.Matching.{matches, matching, counted};
 ghost use Rattle.probes.specs.Beds.{route_number, found_number};
 
-use beds::Route;
+use beds::{Codes, Route};
 use vectors::Vec3;
 
 #[unsafe(no_mangle)]
@@ -56,7 +56,7 @@ pub extern "C" fn probe_count_matching(requested: u8, codes: &[u8]) -> u32
     ensures { result ≡ cond (leb (length codes.now) 18) (counted requested codes.now) 0 }
 {
     if codes.len() <= 18 {
-        beds::count_matching(requested, codes)
+        Codes { list: codes }.count_matching(requested)
     } else {
         0
     }

@@ -12,7 +12,7 @@ ghost use Rattle.refusals.specs.FirstFound.{matched, IsEleven};
 
 use crate::Refusal;
 use crate::present::Present;
-use beds::count_matching;
+use beds::Codes;
 use clock::FrameOffset;
 use fields::record::Record;
 use records::layout::Layout;
@@ -59,8 +59,10 @@ fn check_bed(beds: &[u8], codes: &[u8], code: u8) -> Result<(), Refusal>
     requires { (length beds.now ≤ 18) × (length codes.now ≤ 18) }
     ensures { found_of result ≡ bed_found beds.now codes.now code }
 {
-    if count_matching(code, codes) == 0 {
-        return Err(Refusal::BedChannelCountMismatch(count_matching(code, beds)));
+    let provided = Codes { list: codes };
+    if provided.count_matching(code) == 0 {
+        let expected = Codes { list: beds };
+        return Err(Refusal::BedChannelCountMismatch(expected.count_matching(code)));
     }
     if code == 6 {
         return Err(Refusal::UnsupportedBedChannel(u32::from(code)));

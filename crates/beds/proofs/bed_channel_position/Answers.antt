@@ -21,4 +21,5 @@ returns c =
     ap placed
     (c.unwrap_or.ensures ∙ ap (λ (r : Option (List Float)). unwrap_or r (row_of zero_vec3)) c.copied.ensures
     ∙ c.get.ensures.lookup.4 (search rules) (row_of zero_vec3)
-    ∙ get_or-map row_of positions c.args.code zero_vec3)
+    ∙ get_or-map row_of positions c.from.result zero_vec3)
+    ∙ ap bed_position c.from.ensures
