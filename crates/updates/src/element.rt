@@ -3,7 +3,7 @@
 
 // An element of an update: `apply_element`. `said` is the element's record.
 ghost use Rattle.std.specs.Prelude.{◌≡◌, not, cond, ℕ, ◌+◌, ◌-◌, ◌*◌, ◌<◌, ◌≤◌, length, replicate};
-ghost use Rattle.timed.specs.InfoSizes.{most_objects, most_blocks, element_infos, all_infos, all_bytes};
+ghost use Rattle.timed.specs.InfoSizes.{most_objects, most_blocks, element_infos, all_infos};
 ghost use Rattle.fields.specs.Block.{blocks};
 ghost use Rattle.records.specs.Laid.{object_at};
 ghost use Rattle.updates.specs.WholeRecords.{WholeBlocks, WholeElement};
@@ -15,7 +15,7 @@ ghost use Rattle.updates.specs.UpdateResults.{IsElement};
 use fields::record::Record;
 use info::put_info;
 use records::layout::{block_place, object_place};
-use timed::infos::{BLOCKS, INFO_BYTES};
+use timed::infos::{BLOCKS, Bytes, INFO_BYTES};
 use timed::state::{BlockState, ElementRendererState, Track};
 
 // How many objects an update has, the first `isf` of them beds or ISF.
@@ -35,9 +35,8 @@ impl Counts {
 }
 
 // Object o in each block; the infos are those from `first` on. `fresh` and `bed` are facts of the infos, and choose no step.
-fn put_object(infos: &mut [u8], said: Record<'_>, fresh: bool, first: usize, o: usize, bed: bool)
-    requires { (length infos.old ≡ all_bytes)
-        × (blocks said.meta.now said.place ≤ most_blocks)
+fn put_object(infos: &mut Bytes, said: Record<'_>, fresh: bool, first: usize, o: usize, bed: bool)
+    requires { (blocks said.meta.now said.place ≤ most_blocks)
         × (first + most_blocks ≤ all_infos)
         × (o ≤ most_objects)
         × ((b : ℕ) → b < blocks said.meta.now said.place → 40 * object_at said.meta.now said.place (o * blocks said.meta.now said.place + b) + 40 ≤ length said.meta.now) }
@@ -54,9 +53,8 @@ fn put_object(infos: &mut [u8], said: Record<'_>, fresh: bool, first: usize, o: 
 }
 
 // Each object in each block.
-fn put_objects(infos: &mut [u8], said: Record<'_>, fresh: bool, first: usize, counts: Counts)
-    requires { (length infos.old ≡ all_bytes)
-        × (first + element_infos ≤ all_infos)
+fn put_objects(infos: &mut Bytes, said: Record<'_>, fresh: bool, first: usize, counts: Counts)
+    requires { (first + element_infos ≤ all_infos)
         × (counts.objects ≤ most_objects)
         × WholeElement said.meta.now counts.objects said.place }
     ensures { infos.new ≡ objects_stored fresh counts.isf (element_said said.entry.meta.now said.entry.place) first counts.objects infos.old }
@@ -136,14 +134,13 @@ fn next_element(
 // An element of an update; its infos are those from `first` on.
 pub fn apply_element(
     element: ElementRendererState,
-    infos: &mut [u8],
+    infos: &mut Bytes,
     said: Record<'_>,
     first: usize,
     counts: Counts,
     same: bool,
 ) -> ElementRendererState
-    requires { (length infos.old ≡ all_bytes)
-        × (first + element_infos ≤ all_infos)
+    requires { (first + element_infos ≤ all_infos)
         × (counts.objects ≤ most_objects)
         × WholeElement said.meta.now counts.objects said.place }
     ensures { IsElement same counts (element_said said.entry.meta.now said.entry.place) first element infos.old result infos.new }

@@ -14,7 +14,7 @@ use crate::element::{Counts, apply_element};
 use clock::StreamSample;
 use fields::record::Record;
 use records::layout::element_after;
-use timed::infos::ELEMENT_INFOS;
+use timed::infos::{Bytes, ELEMENT_INFOS};
 use timed::state::{DynamicSourceState, ElementRendererState, MetadataRendererState};
 
 // An object that starts.
@@ -47,12 +47,12 @@ pub fn next_codes(codes: [u8; 18], said: Record<'_>) -> [u8; 18]
 // Each element of the update.
 fn apply_elements(
     states: [ElementRendererState; 2],
-    infos: &mut [u8],
+    infos: &mut Bytes,
     said: Record<'_>,
     counts: Counts,
     same: bool,
 ) -> [ElementRendererState; 2]
-    requires { (length infos.old ≡ all_bytes) × IsCounts counts (update_of said.meta.now said.place) × WholeUpdate said.meta.now said.place }
+    requires { IsCounts counts (update_of said.meta.now said.place) × WholeUpdate said.meta.now said.place }
     ensures { IsWork (elements_applied same (update_of said.entry.meta.now said.entry.place) states infos.old) result infos.new }
 {
     let mut next = states;
@@ -73,7 +73,7 @@ fn apply_elements(
 pub struct TimedState(pub MetadataRendererState);
 
 impl TimedState {
-    // The update, applied at a sample of the stream.
+    // The update, applied at a sample of the stream. The infos come as the range of a block that C lends: an array would ask more of who has a slice.
     pub fn apply_update(self, infos: &mut [u8], said: Record<'_>, at: StreamSample) -> TimedState
         requires { (length infos.old ≡ all_bytes) × WholeUpdate said.meta.now said.place }
         ensures { IsTimed (applied at.0 (update_of said.entry.meta.now said.entry.place) (record { state = self.0; infos = infos.old })) result.0 infos.new }
@@ -100,7 +100,7 @@ impl TimedState {
             elements: header.elements,
             codes: next_codes(s.codes, said),
             gains: kept_or(s.gains, s.beds == header.beds, 0.707),
-            states: apply_elements(s.states, infos, said, counts, same),
+            states: apply_elements(s.states, infos.as_mut_array().unwrap(), said, counts, same),
             sources: kept_or(s.sources, as_many, NEW_SOURCE),
         })
     }

@@ -6,14 +6,11 @@ use Rattle.updates.specs.Stored.{object_stored}
 use Rattle.updates.proofs.element.put_object.Goals as goal
 
 pub loop-b-init : goal.loop-b-init
-loop-b-init c = (search rules, leads)
+loop-b-init c = leads
 
 pub loop-b-preserved : goal.loop-b-preserved
-loop-b-preserved c = (
-  omega (arith, c.put_info.auto),
-  rw (c.put_info.ensures, c.info.ensures, c.object_place-place.ensures) (leads_on c.loop-b.invariant.1 (search rules)),
-)
+loop-b-preserved c = rw (c.put_info.ensures, c.info.ensures, c.object_place-place.ensures) (leads_on c.loop-b.invariant (search rules))
 
 pub returns : goal.returns
 unfolding object_stored
-returns c = leads_to c.loop-b.invariant.1 (omega arith)
+returns c = leads_to c.loop-b.invariant (omega arith)

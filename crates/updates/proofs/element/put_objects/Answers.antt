@@ -8,13 +8,12 @@ use Rattle.updates.proofs.AppliedByParts.{cell_below}
 use Rattle.updates.proofs.element.put_objects.Goals as goal
 
 pub loop-o-init : goal.loop-o-init
-loop-o-init c = (search rules, leads)
+loop-o-init c = leads
 
 pub put_object-requires : goal.put_object-requires
 put_object-requires c =
     let s = c.args in
-    let w = c.requires.3 in (
-      c.loop-o.invariant.0,
+    let w = c.requires.2 in (
       omega (arith, w.given.few),
       omega arith,
       omega arith,
@@ -22,8 +21,8 @@ put_object-requires c =
     )
 
 pub loop-o-preserved : goal.loop-o-preserved
-loop-o-preserved c = (omega (arith, c.put_object.auto), rw c.put_object.ensures (leads_on c.loop-o.invariant.1 (search rules)))
+loop-o-preserved c = rw c.put_object.ensures (leads_on c.loop-o.invariant (search rules))
 
 pub returns : goal.returns
 unfolding objects_stored
-returns c = leads_to c.loop-o.invariant.1 (omega arith)
+returns c = leads_to c.loop-o.invariant (omega arith)
