@@ -36,7 +36,7 @@ fn put_head(infos: &mut [u8], at: usize, head: u32, i: Info)
 }
 
 // The info at byte `at`: what the record says, and what is kept from update to update. `fresh` and `bed` are facts of the update and independent: a function for each pair of them
-// would be four.
+// would be four. The bytes are a slice that has room for this one info: an array of all infos would ask more of who has fewer, and `at` its clause still.
 #[tactic(auto, unfolding(crate::specs::Written::with_info, crate::specs::Written::cleared, crate::specs::Written::with_place))]
 pub fn put_info(infos: &mut [u8], at: usize, i: Info, fresh: bool, bed: bool)
     requires { at + info_bytes ≤ length infos.old }
