@@ -44,6 +44,7 @@ fn up_to(most: u32, w: u32) -> bool
 }
 
 // The code of the depth factor of the bits w, if it is listed.
+#[tactic(auto, using(crate::proofs::RangesByBits::depth_listed))]
 fn depth_of(w: u32) -> Option<u8>
     ensures code { unwrap_or result 4 ≡ depth_code (from_bits binary32 w) }
     ensures listed { is_some result ≡ nat_lt (depth_code (from_bits binary32 w)) 4 }
