@@ -15,11 +15,11 @@ use Rattle.fields.specs.Update.{offset}
 use Rattle.records.specs.Laid.{count, update_at}
 use Rattle.records.specs.LayoutAnswers.{IsLayout, offset_at}
 use Rattle.records.specs.UpdateWalk.{next_offset}
-use Rattle.records.specs.declared.layout.Layout.{Layout}
+use Rattle.records.specs.declared.sent.Layout.{Layout}
 use Rattle.records.proofs.Theorems.{next_within, next_above, next_least}
-use Rattle.updates.specs.WholeRecords.{WholeUpdates}
+use Rattle.records.specs.WholeRecords.{WholeUpdates}
 use Rattle.updates.specs.Applied.{applied}
-use Rattle.updates.proofs.Passed.{passes_all}
+use Rattle.records.proofs.Passed.{passes_all}
 use Rattle.mixing.proofs.Passes.{pass_plain}
 use Rattle.limiter.specs.Meters.{unmet, meets_all}
 use Rattle.limiter.specs.declared.meters.Meters.{Meters}

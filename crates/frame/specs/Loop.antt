@@ -2,7 +2,7 @@
 use Rattle.std.specs.Prelude.{ℕ, ◌-◌, ◌≡◌, Bool, true, cond, List, min, length}
 use Rattle.words.specs.Words.{words_at}
 use Rattle.records.specs.LayoutAnswers.{IsLayout}
-use Rattle.records.specs.declared.layout.Layout.{Layout}
+use Rattle.records.specs.declared.sent.Layout.{Layout}
 use Rattle.limiter.specs.Meters.{unmet, meets_all}
 use Rattle.rules.specs.Refusals.{Args, clear}
 use Rattle.rules.specs.Samples.{After}

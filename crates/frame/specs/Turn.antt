@@ -2,8 +2,8 @@
 use Rattle.std.specs.Prelude.{ℕ, ◌+◌, ◌≡◌, cond, List, eqb, length}
 use Rattle.timed.specs.State.{Timed}
 use Rattle.records.specs.LayoutAnswers.{IsLayout}
-use Rattle.records.specs.declared.layout.Layout as records
-use Rattle.updates.specs.WholeRecords.{WholeUpdates}
+use Rattle.records.specs.declared.sent.Layout as records
+use Rattle.records.specs.WholeRecords.{WholeUpdates}
 use Rattle.limiter.specs.Meters.{meets_all}
 use Rattle.rules.specs.Samples.{Frame, Renderer, updated, settled}
 use Rattle.store.specs.declared.renderer.Renderer714.{Renderer714}

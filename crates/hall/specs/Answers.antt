@@ -9,7 +9,7 @@ use Rattle.rules.specs.BlockCalls as block
 use Rattle.refusals.specs.RefusalNumbers.{numbers_of}
 use Rattle.refusals.specs.declared.Refusal.{Refusal}
 use Rattle.words.specs.Words.{words_at}
-use Rattle.records.specs.declared.layout.Layout.{Layout}
+use Rattle.records.specs.declared.sent.Layout.{Layout}
 use Rattle.records.specs.LayoutAnswers.{IsLayout}
 use Rattle.store.specs.declared.renderer.Renderer714.{Renderer714}
 use Rattle.store.specs.Fields.{small_of}

@@ -10,4 +10,5 @@ pub mod Placed
 pub mod RefusalSix
 pub mod Each
 pub mod SmallLists
+pub mod Passed
 pub mod Theorems

@@ -20,3 +20,5 @@ pub use Rattle.records.proofs.Times.{next_within, next_above, next_least}
 pub use Rattle.records.proofs.Times.{next_same, first_same}
 -- `each`: its length and its elements
 pub use Rattle.records.proofs.Each.{each_length, each_at}
+-- metadata that refusals 5 and 6 let pass is as an applied update asks
+pub use Rattle.records.proofs.Passed.{passes, passes_all}

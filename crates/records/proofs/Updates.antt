@@ -12,7 +12,7 @@ use borrow.Author.Tests.{eq-eqb, eqb-true}
 use Rattle.fields.specs.RecordBytes.{all}
 use Rattle.records.specs.Laid.{is_whole_update, update_end, update_at, is_updates, laid_out, count}
 use Rattle.fields.proofs.All.{and_left, and_right, not_true, all_at}
-use Rattle.records.proofs.SomeAndLast.{some_at, some_none, last_only, last_none}
+use Rattle.records.proofs.SomeAndLast.{some_at, some_none, last_only}
 use Rattle.records.proofs.Within.{updates_rise}
 
 module _ (m : List ℕ) where
@@ -56,10 +56,6 @@ module _ (m : List ℕ) where
     pub not_laid_out : laid_out m ≡ false
     unfolding laid_out
     not_laid_out = some_none (is_updates m) 17 (λ k h. not_true _ (none k h))
-
-    pub none_counted : count m ≡ 0
-    unfolding count
-    none_counted = last_none (is_updates m) 17 (λ k h. not_true _ (none k h))
 
   -- three ways to fail: a length that is no multiple of 40, a seventeenth update, an update that is not whole
   pub odd_length : (length m % 40 ≡ 0 → ⊥) → (k : ℕ) → k < 17 → is_updates m k ≡ true → ⊥

@@ -12,12 +12,12 @@ use Rattle.clock.specs.declared.FrameOffset.{FrameOffset}
 use Rattle.clock.proofs.SameCount.{offset_is}
 use Rattle.fields.specs.RecordBytes.{all}
 use Rattle.fields.specs.Update.{offset}
-use Rattle.records.specs.Laid.{is_whole_update, update_end, update_at, is_updates}
-use Rattle.records.specs.LayoutAnswers.{no_sent, no_layout, IsLayout}
-use Rattle.records.specs.declared.layout.Sent.{Sent}
+use Rattle.records.specs.Laid.{is_whole_update, update_end, update_at}
+use Rattle.records.specs.LayoutAnswers.{no_sent, IsLayout}
+use Rattle.records.specs.declared.sent.Sent.{Sent}
 use Rattle.fields.proofs.All.{all_none, all_more}
 use Rattle.records.proofs.Within.{update_within}
-use Rattle.records.proofs.Updates.{laid_out_is, counted, not_laid_out, none_counted, next_update}
+use Rattle.records.proofs.Updates.{laid_out_is, counted, next_update}
 
 module _ {A : Type 0} (d : A) where
   -- f holds g 0 .. g (n - 1)
@@ -88,27 +88,15 @@ module _ (m : List ℕ) where
       }
 
   pub walk_ends : (s : List Sent) (n r : ℕ) → length m % 40 ≡ 0 → Walked m s n r → length m / 40 ≤ r
-      → IsLayout m (record { laid = true; count = n; sent = s })
-  walk_ends s n r whole w l =
+      → (few : n ≤ 16) → IsLayout m (record { count = n; sent = s; few = few })
+  walk_ends s n r whole w l few =
       let end : 40 * update_at m n ≡ length m = rw (← w.at) (omega arith) in
       let c = counted m n w.few w.passed end in
       record {
-        fits = sym (laid_out_is m n w.few w.passed end);
+        laid = laid_out_is m n w.few w.passed end;
         counted = sym c;
         few = rw c w.few;
         places = rw c (λ i b. ap (λ (x : Sent). x.place) (w.held i b));
         offsets = rw c (λ i b. ap (λ (x : Sent). x.offset.0) (w.held i b));
         past = rw c (λ i b. (ap (λ (x : Sent). x.place) (w.rest i b), ap (λ (x : Sent). x.offset.0) (w.rest i b)));
-      }
-
-  pub walk_fails : ((k : ℕ) → k < 17 → is_updates m k ≡ true → ⊥) → IsLayout m no_layout
-  walk_fails none =
-      let c = none_counted m none in
-      record {
-        fits = sym (not_laid_out m none);
-        counted = sym c;
-        few = rw c (omega arith);
-        places = rw c (λ i b. absurd (omega arith));
-        offsets = rw c (λ i b. absurd (omega arith));
-        past = λ i b. (ap (λ (x : Sent). x.place) (none_held no_sent 16 i), ap (λ (x : Sent). x.offset.0) (none_held no_sent 16 i));
       }

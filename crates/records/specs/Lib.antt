@@ -3,4 +3,5 @@ pub mod Laid
 pub mod ValuesInRange
 pub mod UpdateWalk
 pub mod LayoutAnswers
+pub mod WholeRecords
 pub mod FaultNumbers

@@ -3,14 +3,16 @@ ghost use Rattle.std.specs.Prelude.{◌≡◌, ◌+◌, ◌*◌, ◌/◌, ◌%�
 ghost use Rattle.fields.specs.Update.{objects};
 ghost use Rattle.fields.specs.Block.{blocks};
 ghost use Rattle.records.specs.Laid.{block_at, object_at, is_whole_element, is_whole_update, element_end, element_at, update_end};
-ghost use Rattle.records.specs.LayoutAnswers.{end_if, IsLayout};
+ghost use Rattle.records.specs.LayoutAnswers.{end_if, HasLayout};
 
 use crate::run::all_pass;
-use clock::{FrameOffset, START};
+use crate::sent::{Layout, NOT_SENT, Sent};
 use fields::record::Record;
 use fields::update::Header;
 
 // How many records hold the objects in all blocks. A product of two variables: its bound is proved here once, for three callers.
+// (d) That there are at most 32 stands in four contracts of this file and in no type: the count is the update's and goes with an element's record, and a type of it would be made at each
+// call and opened at each product.
 fn cells(objects: usize, blocks: usize) -> usize
     requires { (objects ≤ 32) × (blocks ≤ 8) }
     ensures { (result ≡ objects * blocks) × (result ≤ 256) }
@@ -68,39 +70,12 @@ fn update_end(meta: &[u8], u: usize) -> Option<usize>
     Some(next)
 }
 
-// An update of a list: its record and its sample offset.
-#[derive(Clone, Copy)]
-pub struct Sent {
-    pub place: usize,
-    pub offset: FrameOffset,
-}
-
-const NOT_SENT: Sent = Sent {
-    place: 0,
-    offset: START,
-};
-
-// Up to 16 updates in the order sent. (d) `laid` and no Option: refusal 5 has its turn between 4 and 6, and the layout is read from 9 on; an Option would be opened again there, with a case that cannot be.
-// (d) `count` beside `sent`: an ArrayVec is no Copy, and `IsLayout` speaks of each of the 16 entries.
-#[derive(Clone, Copy)]
-pub struct Layout {
-    pub laid: bool,
-    pub count: usize,
-    pub sent: [Sent; 16],
-}
-
-const BROKEN: Layout = Layout {
-    laid: false,
-    count: 0,
-    sent: [NOT_SENT; 16],
-};
-
-// The layout of a list of records; not laid out is refusal 5. No range counts the records: `place` rises by what an update takes.
-pub fn layout_of(meta: &[u8]) -> Layout
-    ensures { IsLayout meta.now result }
+// The layout of a list of records; none where they are not laid out, which is refusal 5. No range counts the records: `place` rises by what an update takes.
+pub fn layout_of(meta: &[u8]) -> Option<Layout>
+    ensures { HasLayout meta.now result }
 {
     if meta.len() % 40 != 0 {
-        return BROKEN;
+        return None;
     }
     let records = meta.len() / 40;
     let mut sent = [NOT_SENT; 16];
@@ -108,21 +83,15 @@ pub fn layout_of(meta: &[u8]) -> Layout
     let mut place = 0usize;
     while place < records {
         if count == 16 {
-            return BROKEN;
+            return None;
         }
-        let Some(next) = update_end(meta, place) else {
-            return BROKEN;
-        };
+        let next = update_end(meta, place)?;
         let offset = Record { meta, place }.offset();
         sent[count] = Sent { place, offset };
         place = next;
         count += 1;
     }
-    Layout {
-        laid: true,
-        count,
-        sent,
-    }
+    Some(Layout { count, sent })
 }
 
 // ---- where a record stands, of a list that is laid out

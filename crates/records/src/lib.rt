@@ -3,6 +3,8 @@
 #![tactic(auto)]
 
 mod run; // run.rt: runs of records
+pub mod sent; // sent.rt: where each update stands
 pub mod layout; // layout.rt: where updates, elements, blocks and objects stand; refusal 5
 pub mod ranges; // ranges.rt: whether values are within their ranges; refusal 6
+pub mod metadata; // metadata.rt: what passes both, and its updates
 pub mod order; // order.rt: updates in order of time

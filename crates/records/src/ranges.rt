@@ -1,9 +1,7 @@
-// Whether the values of all records are within their ranges: refusal 6. The first fault of a list: 5 or 6.
+// Whether the values of all records are within their ranges: refusal 6.
 ghost use Rattle.std.specs.Prelude.{◌≡◌};
-ghost use Rattle.records.specs.ValuesInRange.{record_in_range, in_range, refusal};
-ghost use Rattle.records.specs.FaultNumbers.{number_of};
+ghost use Rattle.records.specs.ValuesInRange.{record_in_range, in_range};
 
-use crate::layout::layout_of;
 use crate::run::all_pass;
 use fields::record::{BLOCK, OBJECT, Record};
 
@@ -23,27 +21,4 @@ pub fn in_range(meta: &[u8]) -> bool
     ensures { result ≡ in_range meta.now }
 {
     all_pass(meta, 0, meta.len() / 40, record_in_range)
-}
-
-// Why a list of records is refused.
-#[derive(Clone, Copy, PartialEq, Eq)]
-pub enum Fault {
-    // not laid out: refusal 5
-    NotLaidOut,
-    // a value outside its range: refusal 6
-    OutOfRange,
-}
-
-// The first fault, if any.
-#[tactic(auto, unfolding(crate::specs::ValuesInRange::refusal))]
-pub fn check(meta: &[u8]) -> Result<(), Fault>
-    ensures { number_of result ≡ refusal meta.now }
-{
-    if !layout_of(meta).laid {
-        return Err(Fault::NotLaidOut);
-    }
-    if !in_range(meta) {
-        return Err(Fault::OutOfRange);
-    }
-    Ok(())
 }

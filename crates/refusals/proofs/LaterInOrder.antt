@@ -10,7 +10,7 @@ use borrow.Author.Tests.{ne_eqb}
 use Rattle.records.specs.Runs.{each}
 use Rattle.records.specs.Laid.{count}
 use Rattle.records.specs.LayoutAnswers.{IsLayout}
-use Rattle.records.specs.declared.layout.Layout.{Layout}
+use Rattle.records.specs.declared.sent.Layout.{Layout}
 use Rattle.rules.specs.Leaves.{Shape}
 use Rattle.rules.specs.Refusals.{Found, clear, stop, ◌then◌, unless, objects_match, counts_at, shape_at, walk, none_sent, later}
 use Rattle.refusals.specs.RefusalNumbers.{Checked, found_of}

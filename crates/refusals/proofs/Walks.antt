@@ -11,7 +11,7 @@ use Rattle.fields.specs.Update.{offset}
 use Rattle.records.specs.Laid.{count, update_at}
 use Rattle.records.specs.LayoutAnswers.{offset_at, IsLayout}
 use Rattle.records.specs.UpdateWalk.{next_offset}
-use Rattle.records.specs.declared.layout.Layout.{Layout}
+use Rattle.records.specs.declared.sent.Layout.{Layout}
 use Rattle.records.proofs.Theorems.{next_within, next_above, next_least}
 use Rattle.rules.specs.Leaves.{Shape}
 use Rattle.rules.specs.Refusals.{Found, clear, ◌then◌, Announced, counts_at, shape_at, mixes, walk}

@@ -3,7 +3,7 @@
 
 // 11, 13 and 14 at one moment.
 ghost use Rattle.std.specs.Prelude.{◌≡◌, cond, ◌≤◌, length};
-ghost use Rattle.updates.specs.WholeRecords.{WholeUpdates};
+ghost use Rattle.records.specs.WholeRecords.{WholeUpdates};
 ghost use Rattle.records.specs.LayoutAnswers.{IsLayout};
 ghost use Rattle.rules.specs.Refusals.{clear, bed_found, beds_found};
 ghost use Rattle.refusals.specs.RefusalNumbers.{found_of};

@@ -5,7 +5,7 @@
 // Document 01: "After 8: 9, 10, 11 for updates at offset 0, 12, 11 for the present state, then 11, 13, 14 as they arise in time."
 ghost use Rattle.std.specs.Prelude.{◌≡◌, ◌||◌, not, ◌≤◌, eqb, length};
 ghost use Rattle.records.specs.LayoutAnswers.{IsLayout};
-ghost use Rattle.updates.specs.WholeRecords.{WholeUpdates};
+ghost use Rattle.records.specs.WholeRecords.{WholeUpdates};
 ghost use Rattle.rules.specs.Refusals.{◌then◌, unless, walk, later};
 ghost use Rattle.refusals.specs.RefusalNumbers.{found_of};
 ghost use Rattle.theorem.specs.Instance.{shape_of};

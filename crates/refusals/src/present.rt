@@ -1,6 +1,6 @@
 // What 10 to 14 look at: the shape of the state or, from the first update on, that of the last update.
 ghost use Rattle.std.specs.Prelude.{◌≡◌, ◌≤◌};
-ghost use Rattle.updates.specs.WholeRecords.{WholeUpdate, WholeUpdates};
+ghost use Rattle.records.specs.WholeRecords.{WholeUpdate, WholeUpdates};
 ghost use Rattle.records.specs.LayoutAnswers.{IsLayout};
 ghost use Rattle.refusals.specs.PresentShape.{said_shape, present_shape, present_of};
 ghost use Rattle.refusals.specs.FirstFound.{IsAfter};

@@ -17,7 +17,7 @@ use Rattle.records.specs.Runs.{each}
 use Rattle.records.specs.Laid.{update_at, count}
 use Rattle.records.specs.UpdateWalk.{FirstAt}
 use Rattle.records.specs.LayoutAnswers.{IsLayout, sent_place, offset_at}
-use Rattle.records.specs.declared.layout.Layout as records
+use Rattle.records.specs.declared.sent.Layout as records
 use Rattle.updates.specs.Said.{Update, update_of}
 use Rattle.updates.specs.Applied as updates
 use Rattle.rules.specs.Samples.{Renderer, applied_at, updated, slotted}

@@ -4,7 +4,7 @@ use Rattle.timed.specs.State.{Timed, Within}
 use Rattle.timed.specs.declared.state.MetadataRendererState.{MetadataRendererState}
 use Rattle.records.specs.UpdateWalk.{FirstAt}
 use Rattle.records.specs.LayoutAnswers.{offset_at}
-use Rattle.records.specs.declared.layout.Layout as records
+use Rattle.records.specs.declared.sent.Layout as records
 use Rattle.rules.specs.Samples.{Renderer}
 use Rattle.store.specs.declared.renderer.Renderer714.{Renderer714}
 use Rattle.store.specs.Steps.{with_state, in_new_slot}

@@ -4,7 +4,7 @@
 // What happens before a chunk: the updates at its first sample, in the order sent; the slot that starts there.
 ghost use Rattle.std.specs.Prelude.{◌≡◌, not, ◌||◌, eqb, length};
 ghost use Rattle.records.specs.LayoutAnswers.{IsLayout};
-ghost use Rattle.updates.specs.WholeRecords.{WholeUpdate, WholeUpdates};
+ghost use Rattle.records.specs.WholeRecords.{WholeUpdate, WholeUpdates};
 ghost use Rattle.updates.specs.Said.{update_of};
 ghost use Rattle.rules.specs.Samples.{applied_at, updated, slotted};
 ghost use Rattle.store.specs.Layout.{size};

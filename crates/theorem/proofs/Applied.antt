@@ -28,7 +28,7 @@ use Rattle.timed.proofs.Theorems.{times_in, times_keeps, cond_keeps, set_each}
 use Rattle.updates.specs.Said.{Element, Update, update_of}
 use Rattle.updates.specs.Applied.{0·707, new_source, new_track, next_sources, next_gains, block_given, scheduled, element_next, is_kept, is_same, Work, element_given, elements_applied}
 use Rattle.updates.specs.Applied.{code_given, codes_given, applied}
-use Rattle.updates.specs.WholeRecords.{WholeUpdate}
+use Rattle.records.specs.WholeRecords.{WholeUpdate}
 use Rattle.updates.proofs.Theorems.{applied_within}
 use Rattle.updates.proofs.Elements.{flags_enough}
 use Rattle.store.specs.ValidBlocks.{head_valid, heads_valid}

@@ -27,8 +27,8 @@ use Rattle.records.specs.Laid.{laid_out, count, update_at, element_at, object_at
 use Rattle.records.specs.ValuesInRange.{in_range}
 use Rattle.records.proofs.Theorems.{whole_records, update_whole, update_is, element_whole, object_is, all_within}
 use Rattle.info.specs.Written.{head_of}
-use Rattle.updates.specs.WholeRecords.{WholeUpdate}
-use Rattle.updates.proofs.Passed.{passes}
+use Rattle.records.specs.WholeRecords.{WholeUpdate}
+use Rattle.records.proofs.Passed.{passes}
 use Rattle.store.specs.ValidBlocks.{head_valid}
 use Rattle.store.proofs.BlockTests.{and_in}
 use Rattle.theorem.specs.Instance.{Sent, sent_at, sent_of}

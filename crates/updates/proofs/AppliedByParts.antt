@@ -19,7 +19,7 @@ use Rattle.fields.specs.Update.{objects, header_of}
 use Rattle.fields.specs.declared.update.Header.{Header}
 use Rattle.records.specs.Laid.{element_at, element_end}
 use Rattle.updates.specs.declared.element.Counts.{Counts}
-use Rattle.updates.specs.WholeRecords.{WholeElement}
+use Rattle.records.specs.WholeRecords.{WholeElement}
 use Rattle.updates.specs.Said.{element_said, update_of}
 use Rattle.updates.specs.UpdateResults.{IsCounts, IsElement, IsWork}
 use Rattle.updates.specs.Applied.{Work, element_given, elements_applied, codes_given, next_gains, next_sources, applied}

@@ -8,8 +8,6 @@ pub use Rattle.updates.proofs.UpdateInRange.{applied_within}
 pub use Rattle.updates.proofs.Elements.{flags_enough}
 -- what it makes of an element, from what that element was
 pub use Rattle.updates.proofs.Elements.{turned_at, element_at}
--- metadata that refusals 5 and 6 let pass is as an applied update asks
-pub use Rattle.updates.proofs.Passed.{passes, passes_all}
 -- the format of an info reads back what an update writes of a record's words
 pub use Rattle.updates.proofs.InfoWritten.{info_written, info_words}
 -- what a written info, or those of an object or of an element, leave of the others

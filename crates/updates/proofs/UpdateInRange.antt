@@ -12,7 +12,7 @@ use Rattle.timed.specs.State.{Timed, Within, no_element}
 use Rattle.timed.specs.declared.state.BlockState.{BlockState}
 use Rattle.timed.specs.declared.state.ElementRendererState.{ElementRendererState}
 use Rattle.timed.proofs.Theorems.{times_in, cond_keeps, set_each}
-use Rattle.updates.specs.WholeRecords.{WholeElement, WholeUpdate}
+use Rattle.records.specs.WholeRecords.{WholeElement, WholeUpdate}
 use Rattle.updates.specs.Said.{Element, element_said, update_of}
 use Rattle.updates.specs.Applied.{Work, block_given, scheduled, element_next, is_kept, element_given, elements_applied, is_same, applied}
 

@@ -1,4 +1,3 @@
-pub mod WholeRecords
 pub mod Said
 pub mod Stored
 pub mod InfoAfter

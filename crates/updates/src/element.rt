@@ -6,7 +6,7 @@ ghost use Rattle.std.specs.Prelude.{◌≡◌, not, cond, ℕ, ◌+◌, ◌-◌,
 ghost use Rattle.timed.specs.InfoSizes.{most_objects, most_blocks, element_infos, all_infos};
 ghost use Rattle.fields.specs.Block.{blocks};
 ghost use Rattle.records.specs.Laid.{object_at};
-ghost use Rattle.updates.specs.WholeRecords.{WholeBlocks, WholeElement};
+ghost use Rattle.records.specs.WholeRecords.{WholeBlocks, WholeElement};
 ghost use Rattle.updates.specs.Said.{element_said};
 ghost use Rattle.updates.specs.Stored.{object_stored, objects_stored};
 ghost use Rattle.updates.specs.Applied.{is_kept, scheduled, element_next};

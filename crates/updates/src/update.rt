@@ -5,7 +5,7 @@
 ghost use Rattle.std.specs.Prelude.{◌≡◌, ◌&&◌, ◌+◌, ◌-◌, ◌*◌, ◌<◌, ◌≤◌, cond, eqb, length, replicate};
 ghost use Rattle.timed.specs.InfoSizes.{all_bytes};
 ghost use Rattle.timed.specs.TimedResults.{IsTimed};
-ghost use Rattle.updates.specs.WholeRecords.{WholeUpdate};
+ghost use Rattle.records.specs.WholeRecords.{WholeUpdate};
 ghost use Rattle.updates.specs.Said.{update_of};
 ghost use Rattle.updates.specs.Applied.{codes_given, elements_applied, applied};
 ghost use Rattle.updates.specs.UpdateResults.{IsCounts, IsWork};

@@ -13,7 +13,7 @@ use Rattle.refusals.specs.FirstFound.{args_with}
 use Rattle.store.specs.declared.renderer.Renderer714.{Renderer714}
 use Rattle.store.specs.Fields.{small_of}
 use Rattle.store.specs.Layout.{small_width, assembled, decode}
-use Rattle.updates.proofs.Passed.{passes_all}
+use Rattle.records.proofs.Passed.{passes_all}
 use Rattle.theorem.specs.Instance.{hall}
 use Rattle.refusals.proofs.Loaded.{loaded}
 use Rattle.refusals.proofs.First.{handed_on}

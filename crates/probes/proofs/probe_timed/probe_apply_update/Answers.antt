@@ -3,7 +3,7 @@ use Prim.Native.Nat.{◌<◌}
 use mathlib.Core.Path.{sym, ◌∙◌}
 use native.Mathlib.Omega.{arith}
 use Rattle.records.specs.Laid.{count}
-use Rattle.updates.proofs.Passed.{passes}
+use Rattle.records.proofs.Passed.{passes}
 use Rattle.probes.proofs.probe_timed.probe_apply_update.Goals as goal
 
 pub invariant_of-update : goal.invariant_of-update

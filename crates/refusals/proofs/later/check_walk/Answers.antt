@@ -7,7 +7,7 @@ use native.Mathlib.Omega.{arith}
 use native.Mathlib.Numerals.{unary_clauses}
 use Rattle.clock.proofs.Before.{more_left}
 use Rattle.records.specs.LayoutAnswers.{offset_at}
-use Rattle.records.specs.declared.layout.Layout.{Layout}
+use Rattle.records.specs.declared.sent.Layout.{Layout}
 use Rattle.records.proofs.Theorems.{next_within, next_above}
 use Rattle.rules.specs.Leaves.{Shape}
 use Rattle.rules.specs.Refusals.{Found, ◌then◌}

@@ -8,7 +8,7 @@ use Rattle.fields.specs.declared.update.Header.{Header}
 use Rattle.records.specs.Laid.{element_at}
 use Rattle.updates.specs.Said.{update_of}
 use Rattle.updates.specs.Applied.{Work, elements_applied}
-use Rattle.updates.specs.WholeRecords.{WholeElement}
+use Rattle.records.specs.WholeRecords.{WholeElement}
 use Rattle.updates.proofs.AppliedByParts.{whole_at, element_more, element_turn}
 use Rattle.updates.proofs.update.apply_elements.Goals as goal
 use Rattle.updates.proofs.update.apply_elements.Goals.{In-loop-e}

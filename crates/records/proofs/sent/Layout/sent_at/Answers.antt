@@ -2,10 +2,10 @@
 use mathlib.Core.Path.{sym, ◌∙◌}
 use native.Mathlib.Omega.{arith}
 use borrow.Author.Rules.{rules}
-use borrow.Author.Tests.{eqb-true, eqb-false}
+use borrow.Author.Tests.{eqb-false}
 use Rattle.records.specs.LayoutAnswers.{offset_at}
 use Rattle.records.proofs.Times.{none_more}
-use Rattle.records.proofs.layout.Layout.sent_at.Goals as goal
+use Rattle.records.proofs.sent.Layout.sent_at.Goals as goal
 
 pub loop-i-init : goal.loop-i-init
 loop-i-init c k a b = absurd (omega arith)

@@ -4,7 +4,7 @@ use native.Mathlib.Omega.{arith}
 use Rattle.records.specs.UpdateWalk.{nearer, next_offset}
 use Rattle.records.specs.LayoutAnswers.{offset_at}
 use Rattle.records.proofs.Times.{next_more}
-use Rattle.records.proofs.layout.Layout.next_offset.Goals as goal
+use Rattle.records.proofs.sent.Layout.next_offset.Goals as goal
 use Prim.Native.Nat.{ℕ}
 
 pub loop-i-init : goal.loop-i-init

@@ -5,7 +5,7 @@ use Rattle.fields.specs.Update.{objects, bed_or_isf_of, beds, elements}
 use Rattle.fields.specs.Block.{blocks}
 use Rattle.fields.specs.Raised.{raised}
 use Rattle.records.specs.LayoutAnswers.{sent_place}
-use Rattle.records.specs.declared.layout.Layout.{Layout}
+use Rattle.records.specs.declared.sent.Layout.{Layout}
 use Rattle.records.specs.Laid.{block_at, element_end, element_at}
 
 -- the blocks of the element at record p

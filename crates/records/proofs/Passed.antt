@@ -15,9 +15,11 @@ use Rattle.fields.proofs.Raised.{raised_within}
 use Rattle.records.specs.Laid.{block_at, element_at, update_at, laid_out, count}
 use Rattle.records.specs.ValuesInRange.{in_range}
 use Rattle.records.specs.LayoutAnswers.{IsLayout}
-use Rattle.records.specs.declared.layout.Layout.{Layout}
-use Rattle.records.proofs.Theorems.{element_within, whole_records, update_whole, update_is, update_place, update_counts, element_whole, blocks_few, all_within}
-use Rattle.updates.specs.WholeRecords.{WholeElement, WholeUpdate, WholeUpdates}
+use Rattle.records.specs.declared.sent.Layout.{Layout}
+use Rattle.records.proofs.Within.{element_within}
+use Rattle.records.proofs.Reached.{whole_records, update_whole, update_is, update_place, update_counts, element_whole, blocks_few}
+use Rattle.records.proofs.RefusalSix.{all_within}
+use Rattle.records.specs.WholeRecords.{WholeElement, WholeUpdate, WholeUpdates}
 
 module _ (m : List ℕ) (laid : laid_out m ≡ true) (fit : in_range m ≡ true) (bytes : Bytes m) (i : ℕ) (one : i < count m) where
   element_passes : (e : ℕ) → e < elements m (update_at m i) → WholeElement m (objects m (update_at m i)) (element_at m (update_at m i) e)
