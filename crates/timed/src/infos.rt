@@ -2,7 +2,7 @@
 // Translated from libstarmine_ad render.rs; changed.
 
 // The object infos: what an object in a block says, and what it keeps from update to update. The numbers are those of specs/InfoSizes.antt.
-ghost use Rattle.std.specs.Prelude.{◌≡◌, ◌+◌, ◌*◌, ◌<◌, ◌≤◌, length};
+ghost use Rattle.std.specs.Prelude.{◌≡◌, ◌+◌, ◌<◌, ◌≤◌, length};
 ghost use Rattle.vectors.specs.Head.{has};
 ghost use Rattle.timed.specs.InfoSizes.{all_infos, info_bytes, info_at};
 ghost use Rattle.timed.specs.Infos.{maybe_at, vec_at, send_at, with_three, with_vec, block_position};
@@ -30,27 +30,35 @@ pub fn has(head: u32, bit: u32) -> bool
     head / bit % 2 == 1
 }
 
-// All infos and the number of one (`infos`, k) are two arguments and no view of both: `update_source_state` writes an info between what it reads of it, and would make the view twice.
+// The number of an info, which is one of all. The infos stand beside it: `update_source_state` writes an info between what it reads of it, and would make a view of
+// both twice.
+#[derive(Clone, Copy)]
+pub(crate) struct InfoNumber {
+    pub(crate) k: usize,
+    ghost one: { k < all_infos },
+}
 
 // The value at a place of an info that is present with `bit`.
 #[tactic(auto, unfolding(crate::specs::Infos::maybe_at))]
-pub(crate) fn maybe_at(infos: &Bytes, k: usize, bit: u32, at: usize) -> Option<f32>
-    requires { (k < all_infos) × (at + 4 ≤ info_bytes) × (0 < bit) }
-    ensures { result ≡ maybe_at infos.now k bit at }
+pub(crate) fn maybe_at(infos: &Bytes, info: InfoNumber, bit: u32, at: usize) -> Option<f32>
+    requires { (at + 4 ≤ info_bytes) × (0 < bit) }
+    ensures { result ≡ maybe_at infos.now info.k bit at }
 {
-    let head = words::u32_at(infos, INFO_BYTES * k);
+    let head = words::u32_at(infos, INFO_BYTES * info.k);
     if has(head, bit) {
-        Some(words::f32_at(infos, INFO_BYTES * k + at))
+        Some(words::f32_at(infos, INFO_BYTES * info.k + at))
     } else {
         None
     }
 }
 
+// The position at a place of an info.
 #[tactic(auto, unfolding(crate::specs::Infos::vec_at))]
-fn vec_at(infos: &Bytes, at: usize) -> Vec3
-    requires { at + 12 ≤ length infos.now }
-    ensures { result ≡ vec_at infos.now at }
+fn vec_at(infos: &Bytes, info: InfoNumber, at: usize) -> Vec3
+    requires { at + 12 ≤ info_bytes }
+    ensures { result ≡ vec_at infos.now (info_at info.k + at) }
 {
+    let at = INFO_BYTES * info.k + at;
     Vec3 {
         x: words::f32_at(infos, at),
         y: words::f32_at(infos, at + 4),
@@ -58,22 +66,22 @@ fn vec_at(infos: &Bytes, at: usize) -> Vec3
     }
 }
 
-// Stores a position at a place.
+// Stores a position at a place of an info.
 #[tactic(auto, unfolding(crate::specs::Infos::with_vec, crate::specs::Infos::with_three, words::specs::Words::with_float))]
-pub(crate) fn put_vec(infos: &mut Bytes, at: usize, v: Vec3)
-    requires { at + 12 ≤ length infos.old }
-    ensures { infos.new ≡ with_vec infos.old at v }
+pub(crate) fn put_vec(infos: &mut Bytes, info: InfoNumber, at: usize, v: Vec3)
+    requires { at + 12 ≤ info_bytes }
+    ensures { infos.new ≡ with_vec infos.old (info_at info.k + at) v }
 {
     put_three(
         infos,
-        at,
+        INFO_BYTES * info.k + at,
         words::bits_of(v.x),
         words::bits_of(v.y),
         words::bits_of(v.z),
     );
 }
 
-// Stores three words at a place.
+// Stores three words at a place of bytes, which may be one info's alone.
 #[tactic(auto, unfolding(crate::specs::Infos::with_three))]
 pub fn put_three(infos: &mut [u8], at: usize, x: u32, y: u32, z: u32)
     requires { at + 12 ≤ length infos.old }
@@ -85,28 +93,26 @@ pub fn put_three(infos: &mut [u8], at: usize, x: u32, y: u32, z: u32)
 }
 
 // Its send, which is always there.
-pub(crate) fn send_at(infos: &Bytes, k: usize) -> f32
-    requires { k < all_infos }
-    ensures { result ≡ send_at infos.now k }
+pub(crate) fn send_at(infos: &Bytes, info: InfoNumber) -> f32
+    ensures { result ≡ send_at infos.now info.k }
 {
-    words::f32_at(infos, INFO_BYTES * k + SEND)
+    words::f32_at(infos, INFO_BYTES * info.k + SEND)
 }
 
-// What info k says of its object's position.
+// What an info says of its object's position.
 #[tactic(auto, unfolding(crate::specs::Infos::block_position))]
-pub(crate) fn block_position(infos: &Bytes, k: usize) -> BlockPosition
-    requires { k < all_infos }
-    ensures { result ≡ block_position infos.now k }
+pub(crate) fn block_position(infos: &Bytes, info: InfoNumber) -> BlockPosition
+    ensures { result ≡ block_position infos.now info.k }
 {
-    let head = words::u32_at(infos, INFO_BYTES * k);
+    let head = words::u32_at(infos, INFO_BYTES * info.k);
     BlockPosition {
         valid: has(head, 1),
         differential: has(head, 2),
         anchor: Anchor::from(head / 256 % 256),
-        position: vec_at(infos, INFO_BYTES * k + POSITION),
-        last: vec_at(infos, INFO_BYTES * k + LAST),
-        distance: maybe_at(infos, k, 16, DISTANCE),
-        screen: words::f32_at(infos, INFO_BYTES * k + SCREEN),
+        position: vec_at(infos, info, POSITION),
+        last: vec_at(infos, info, LAST),
+        distance: maybe_at(infos, info, 16, DISTANCE),
+        screen: words::f32_at(infos, INFO_BYTES * info.k + SCREEN),
         depth: Depth::from(head / 65536),
     }
 }

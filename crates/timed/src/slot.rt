@@ -2,8 +2,8 @@
 // Translated from libstarmine_ad render.rs; changed.
 
 // A slot: what an element does to beds and objects at the start of 64 samples.
-ghost use Rattle.std.specs.Prelude.{◌≡◌, ℕ, ◌+◌, ◌-◌, ◌*◌, ◌<◌, ◌≤◌, length};
-ghost use Rattle.timed.specs.InfoSizes.{most_blocks, all_bytes};
+ghost use Rattle.std.specs.Prelude.{◌≡◌, ◌<◌, ◌≤◌};
+ghost use Rattle.timed.specs.InfoSizes.{most_blocks};
 ghost use Rattle.timed.specs.Rules.{remaining_of, kept_as, due, left_after, share, active, begins};
 ghost use Rattle.timed.specs.Slot.{block_applied, blocks_applied, ramp_applied, updated_sources};
 ghost use Rattle.timed.specs.Resting.{resting};
@@ -111,9 +111,8 @@ impl Slot {
             ..block
         };
         self.remaining = left;
-        objects::bed_gains(&mut self.gains, infos, reach.beds + b, reach.channels);
-        self.moving
-            .apply_block(infos, reach.first + b, reach.count, left <= RAMP_OVER);
+        objects::bed_gains(&mut self.gains, infos, reach, b);
+        self.moving.apply_block(infos, reach, b, left <= RAMP_OVER);
     }
 
     // The first n blocks in order, each applied where it is due.
@@ -129,12 +128,12 @@ impl Slot {
     }
 
     // The ramp, where one remains; `before` has the flags of the element's previous slot.
-    fn ramp(&mut self, before: &[Track; 16], count: usize)
-        requires { (count ≤ 16) × (self.old.remaining ≤ 140737489403904) }
-        ensures { self.new ≡ ramp_applied before.now count self.old }
+    fn ramp(&mut self, before: &[Track; 16], reach: Reach)
+        requires { self.old.remaining ≤ 140737489403904 }
+        ensures { self.new ≡ ramp_applied before.now reach.count self.old }
     {
         if self.remaining > RAMP_OVER {
-            self.moving.ramp(before, count, share(self.remaining));
+            self.moving.ramp(before, reach, share(self.remaining));
             self.remaining -= 64;
         }
     }
@@ -200,7 +199,7 @@ impl ElementRendererState {
             moving,
         };
         slot.apply_blocks(infos, self.blocks, when, reach);
-        slot.ramp(&before, reach.count);
+        slot.ramp(&before, reach);
         let Slot {
             schedule,
             remaining,

@@ -1,4 +1,5 @@
 -- `timed::objects::Moving::apply_block`: the turns left lead from objects and infos now to those at the end. Assumes nothing.
+use Prim.Native.Nat.{◌+◌}
 use mathlib.Core.Path.{◌≡◌, ap}
 use native.Mathlib.Omega.{arith}
 use borrow.Author.Rules.{rules}
@@ -8,11 +9,6 @@ use Rattle.timed.proofs.objects.Moving.apply_block.Goals as goal
 
 pub loop-d-init : goal.loop-d-init
 loop-d-init c = leads
-
-pub update_source_state-moved-requires : goal.update_source_state-moved-requires
-update_source_state-moved-requires c =
-    let h = c.requires.1 c.loop-d.d (search rules) in
-    omega arith
 
 pub loop-d-preserved : goal.loop-d-preserved
 loop-d-preserved c =
@@ -24,9 +20,8 @@ unfolding moved_all
 returns c =
     let l = c.loop-d in
     let s = c.args in
-    let w : ◌≡◌ {A = ObjectsWork} (record { moving = l.self; infos = l.infos }) (moved_all s.arrived s.first s.count s.self.now s.infos.now) =
+    let r = c.reach.inside in
+    let w : ◌≡◌ {A = ObjectsWork} (record { moving = l.self; infos = l.infos }) (moved_all s.arrived (r.first + s.b) r.count s.self.now s.infos.now) =
     leads_to l.invariant (omega arith) in
-    record { objects = ap (λ (w : ObjectsWork). w.moving) w; infos = ap (λ (w : ObjectsWork). w.infos) w }
-
-pub overflow_add-first : goal.overflow_add-first
-overflow_add-first c = omega (arith, c.requires.1 c.loop-d.d (search rules))
+    rw (← c.reach.view_is)
+    (record { objects = ap (λ (w : ObjectsWork). w.moving) w; infos = ap (λ (w : ObjectsWork). w.infos) w })

@@ -13,4 +13,4 @@ loop-d-preserved c = rw c.ramp_one.ensures (leads_on c.loop-d.invariant (search 
 
 pub returns : goal.returns
 unfolding ramped_all
-returns c = leads_to c.loop-d.invariant (omega arith)
+returns c = rw (← c.reach.view_is) (leads_to c.loop-d.invariant (omega arith))

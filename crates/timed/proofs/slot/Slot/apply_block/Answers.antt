@@ -1,22 +1,13 @@
 -- `timed::slot::Slot::apply_block`: every info that is reached is one of the 512. Assumes nothing.
-use native.Mathlib.Omega.{arith}
-use borrow.Author.Rules.{rules}
 use Rattle.timed.specs.Slot.{block_applied}
 use Rattle.timed.proofs.Shifted.{left_shifted_is, left_over}
 use Rattle.timed.proofs.slot.Slot.apply_block.Goals as goal
-
-pub bed_gains-requires : goal.bed_gains-requires
-bed_gains-requires c = (search rules, λ d h. omega (arith, c.reach.invariant.beds d h))
-
-pub apply_block-requires : goal.apply_block-requires
-apply_block-requires c =
-    (search rules, λ d h. omega (arith, c.reach.invariant.objects d h))
 
 pub returns : goal.returns
 unfolding block_applied
 returns c =
     let l = c.left-left.ensures in
     record {
-      slot = rw (← c.reach.view_is, c.apply_block.ensures.objects, c.bed_gains.ensures, l, left_over, left_shifted_is);
-      infos = rw (← c.reach.view_is, c.apply_block.ensures.infos, l, left_over, left_shifted_is);
+      slot = rw (c.apply_block.ensures.objects, c.bed_gains.ensures, l, left_over, left_shifted_is);
+      infos = rw (c.apply_block.ensures.infos, l, left_over, left_shifted_is);
     }
