@@ -24,6 +24,9 @@ pub const PLACES: usize = INFOS + areas::INFOS_BYTES;
 
 pub const SIZE: usize = PLACES + areas::PLACES_BYTES;
 
+// A state block: its type says its length.
+type Block = [u8; SIZE];
+
 // What reset leaves other than zeros.
 const LIMITER_GAIN: usize = 4 * places::LIMITER_GAIN;
 

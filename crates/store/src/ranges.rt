@@ -6,12 +6,9 @@ ghost use Rattle.store.specs.FieldPlaces.{state_at, tables_at};
 ghost use Rattle.store.specs.ValidBlocks as ranges;
 ghost use Rattle.store.specs.ValidBlocks.{clock_in, counts_in, least, element_in, small_valid, valid};
 
-use crate::places;
+use crate::{Block, places};
 use formats::areas::heads_valid;
 use formats::{at_most, long, word_of};
-
-// A state block: its type says its length.
-type Block = [u8; crate::SIZE];
 
 // The longest stream; a ramp of 0, as ramps are kept; the largest offset of a block, and ramp, as they are kept.
 const LONGEST: u64 = 1 << 40;

@@ -6,8 +6,8 @@ ghost use Rattle.store.specs.FieldPlaces.{state_at, size};
 
 use crate::entry::table;
 use crate::parts::{count, flag};
-use crate::places;
 use crate::renderer::{Clock, Renderer714};
+use crate::{Block, places};
 use clock::StreamSample;
 use formats::{float, long, word_of};
 use limiter::Limiter;
@@ -39,8 +39,7 @@ fn filter(s: &[u8], at: usize) -> BiquadLowpassState
     }
 }
 
-fn state(s: &[u8]) -> MetadataRendererState
-    requires { length s.now ≡ size }
+fn state(s: &Block) -> MetadataRendererState
     ensures { result ≡ state_format.get (in_words s.now) state_at }
 {
     MetadataRendererState {
@@ -63,6 +62,7 @@ pub fn small(s: &[u8]) -> Renderer714
     requires { length s.now ≡ size }
     ensures { result ≡ small_of (in_words s.now) }
 {
+    let block: &Block = s.as_array().unwrap();
     Renderer714 {
         rate: word_of(s, places::RATE),
         clock: Clock {
@@ -75,6 +75,6 @@ pub fn small(s: &[u8]) -> Renderer714
         },
         filter: filter(s, places::LOWPASS),
         pending: word_of(s, places::PENDING),
-        state: state(s),
+        state: state(block),
     }
 }

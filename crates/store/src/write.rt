@@ -5,8 +5,8 @@ ghost use Rattle.store.specs.FieldPlaces.{state_at, size};
 ghost use Rattle.store.specs.Fields.{state_format, basics_format, basics_of, small_words};
 
 use crate::entry::put_table;
-use crate::places;
 use crate::renderer::Renderer714;
+use crate::{Block, places};
 use timed::state::MetadataRendererState;
 
 // Where the parts of the timed state start, in bytes.
@@ -20,8 +20,7 @@ const SOURCES: usize = 4 * places::SOURCES;
 
 const FIRST: usize = 4 * places::FIRST;
 
-fn put_basics(s: &mut [u8], x: &Renderer714)
-    requires { length s.old ≡ size }
+fn put_basics(s: &mut Block, x: &Renderer714)
     ensures { s.new ≡ with_words s.old 0 (basics_format.put (basics_of x.now)) }
 {
     let position = x.clock.position.0;
@@ -49,8 +48,7 @@ fn put_basics(s: &mut [u8], x: &Renderer714)
     words::put_words(s, 0, &w);
 }
 
-fn put_state(s: &mut [u8], x: &MetadataRendererState)
-    requires { length s.old ≡ size }
+fn put_state(s: &mut Block, x: &MetadataRendererState)
     ensures { s.new ≡ with_words s.old (4 * state_at) (state_format.put x.now) }
 {
     let payload = x.payload.0;
@@ -75,6 +73,7 @@ pub fn save(state: &mut [u8], x: Renderer714)
     requires { length state.old ≡ size }
     ensures { state.new ≡ with_words state.old 0 (small_words x) }
 {
-    put_basics(state, &x);
-    put_state(state, &x.state);
+    let block: &mut Block = state.as_mut_array().unwrap();
+    put_basics(block, &x);
+    put_state(block, &x.state);
 }

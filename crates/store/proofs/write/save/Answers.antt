@@ -11,5 +11,6 @@ use Rattle.store.proofs.write.save.Goals as goal
 pub returns : goal.returns
 returns c =
     let a = c.args in
-    c.put_state.ensures ∙ ap (λ (s : List ℕ). with_words s (4 * state_at) (state_format.put a.x.state)) c.put_basics.ensures
+    let same = (rw c.unwrap-block.ensures at c.as_mut_array.ensures.cases).same in
+    c.put_state.ensures ∙ ap (λ (s : List ℕ). with_words s (4 * state_at) (state_format.put a.x.state)) (rw same at c.put_basics.ensures)
     ∙ small_stored a.state.now a.x
