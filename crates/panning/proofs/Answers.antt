@@ -12,23 +12,14 @@ use Rattle.panning.specs.Terms.{up, ahead, across, part, row_weight, weighted, c
 use Rattle.panning.specs.Speakers.{hall714}
 use Rattle.panning.specs.Found.{Inside, chosen}
 use Rattle.panning.specs.Shares.{layer_coefficients, SharesOf}
-use Rattle.panning.specs.declared.Ends.{Ends}
 use Rattle.panning.specs.declared.Cube.{Cube}
-use Rattle.panning.specs.declared.LayerShares.{LayerShares}
 use Rattle.panning.specs.declared.Shares.{Shares}
 use Rattle.panning.specs.declared.Panned.{Panned}
-
--- the two ends of a row
-pub ends_of : {l h l' h' : ℕ} → l ≡ l' → h ≡ h' → ◌≡◌ {A = Ends} (record { low = l; high = h }) (record { low = l'; high = h' })
-ends_of p q = cc
 
 -- ---- the eight coefficients
 eight : {A : Type 0} {a b c d e f g h a' b' c' d' e' f' g' h' : A} → a ≡ a' → b ≡ b' → c ≡ c' → d ≡ d' → e ≡ e' → f ≡ f' → g ≡ g' → h ≡ h'
     → a ∷ b ∷ c ∷ d ∷ e ∷ f ∷ g ∷ h ∷ [] ≡ a' ∷ b' ∷ c' ∷ d' ∷ e' ∷ f' ∷ g' ∷ h' ∷ []
 eight i j k l m n o p = cc
-
-pub layer_of_shares : {a b c a' b' c' : Float} → a ≡ a' → b ≡ b' → c ≡ c' → ◌≡◌ {A = LayerShares} (record { ahead = a; front = b; rear = c }) (record { ahead = a'; front = b'; rear = c' })
-layer_of_shares h i j = cc
 
 module _ (c : Cube) (p : Vec3) (g : Float) where
   -- one of them, from the three shares that it rests on

@@ -121,6 +121,14 @@ impl Cube {
     }
 }
 
+// Speaker k.
+fn speaker(k: usize) -> Vec3
+    requires { k < 12 }
+    ensures { result ≡ hall714 k }
+{
+    SPEAKERS[k]
+}
+
 // A function and no `if`: a proof loses what an `if` chose where two of them join (tried: where two stand in one literal the proof does not close).
 fn choose<T: Copy>(test: bool, yes: T, no: T) -> T
     ensures { result ≡ cond test yes no }
@@ -134,8 +142,8 @@ fn pair_ends(left: usize, right: usize, x: f32) -> Ends
     ensures { result ≡ pair_ends left right (hall714 left).x (hall714 right).x x }
 {
     Ends {
-        low: choose(SPEAKERS[right].x <= x, right, left),
-        high: choose(SPEAKERS[left].x < x, right, left),
+        low: choose(speaker(right).x <= x, right, left),
+        high: choose(speaker(left).x < x, right, left),
     }
 }
 
@@ -262,7 +270,7 @@ fn across(row: Ends, x: f32) -> f32
     requires { (row.low < 12) × (row.high < 12) }
     ensures { result ≡ ratio (hall714 row.low).x (hall714 row.high).x x }
 {
-    ratio(SPEAKERS[row.low].x, SPEAKERS[row.high].x, x)
+    ratio(speaker(row.low).x, speaker(row.high).x, x)
 }
 
 fn layer_shares(layer: Layer, place: Vec3) -> LayerShares
@@ -271,8 +279,8 @@ fn layer_shares(layer: Layer, place: Vec3) -> LayerShares
 {
     LayerShares {
         ahead: ratio(
-            SPEAKERS[layer.rear.low].z,
-            SPEAKERS[layer.front.low].z,
+            speaker(layer.rear.low).z,
+            speaker(layer.front.low).z,
             place.z,
         ),
         front: across(layer.front, place.x),
@@ -286,8 +294,8 @@ fn shares_at(c: Cube, place: Vec3) -> Shares
 {
     Shares {
         up: ratio(
-            SPEAKERS[c.bottom.front.low].y,
-            SPEAKERS[c.top.front.low].y,
+            speaker(c.bottom.front.low).y,
+            speaker(c.top.front.low).y,
             place.y,
         ),
         bottom: layer_shares(c.bottom, place),
