@@ -26,6 +26,13 @@ module _ {S : Type 0} {f : ℕ → S → S} {n : ℕ} {s₀ : S} where
   pub leads_on : {i : ℕ} {s : S} → Leads f n s₀ i s → i < n → Leads f n s₀ (i + 1) (f i s)
   leads_on {i} {s} l h = record { same = sym (turn f n i s h) ∙ l.same }
 
+  -- the same, where the code has made t of s
+  pub leads_next : {i : ℕ} {s t : S} → Leads f n s₀ i s → i < n → t ≡ f i s → Leads f n s₀ (i + 1) t
+  leads_next l h e = rw e (leads_on l h)
+
   -- the last turn is over
   pub leads_to : {i : ℕ} {s : S} → Leads f n s₀ i s → n ≤ i → s ≡ times n 0 f s₀
   leads_to {i} {s} l h = sym (ended f n i s h) ∙ l.same
+
+-- what the goals of such a loop ask
+pub ruleset turns = (leads, leads_next, leads_to)
