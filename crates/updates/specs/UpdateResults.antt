@@ -2,14 +2,9 @@
 use Rattle.std.specs.Prelude.{ℕ, ◌-◌, ◌≡◌, Bool, not, List}
 use Rattle.timed.specs.declared.state.ElementRendererState.{ElementRendererState}
 use Rattle.updates.specs.declared.element.Counts.{Counts}
-use Rattle.updates.specs.Said.{Element, Update}
+use Rattle.updates.specs.Said.{Element}
 use Rattle.updates.specs.Stored.{objects_stored}
 use Rattle.updates.specs.Applied.{Work, is_kept, element_next}
-
--- the counts of an update
-pub record IsCounts (c : Counts) (u : Update) : Type 0 where
-  pub objects : c.objects ≡ u.objects
-  pub isf : c.isf ≡ u.isf
 
 -- what an element at `s` becomes, and the infos from `first` on
 pub record IsElement (same : Bool) (c : Counts) (x : Element) (first : ℕ) (s : ElementRendererState) (is : List ℕ) (r : ElementRendererState) (out : List ℕ) : Type 0 where

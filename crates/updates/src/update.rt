@@ -1,19 +1,19 @@
 // SPDX-License-Identifier: Apache-2.0
 // Translated from libstarmine_ad render.rs; changed.
 
-// An update: `apply_update`. `said` is the update's record.
-ghost use Rattle.std.specs.Prelude.{◌≡◌, ◌&&◌, ◌+◌, ◌-◌, ◌*◌, ◌<◌, ◌≤◌, cond, eqb, length, replicate};
+// An update: `apply_update`.
+ghost use Rattle.std.specs.Prelude.{◌≡◌, cond, length, replicate};
 ghost use Rattle.timed.specs.InfoSizes.{all_bytes};
 ghost use Rattle.timed.specs.TimedResults.{IsTimed};
-ghost use Rattle.records.specs.WholeRecords.{WholeUpdate};
 ghost use Rattle.updates.specs.Said.{update_of};
 ghost use Rattle.updates.specs.Applied.{codes_given, elements_applied, applied};
-ghost use Rattle.updates.specs.UpdateResults.{IsCounts, IsWork};
+ghost use Rattle.updates.specs.UpdateResults.{IsWork};
 
-use crate::element::{Counts, apply_element};
+use crate::element::{Counts, Element};
 use clock::StreamSample;
 use fields::record::Record;
 use records::layout::element_after;
+use records::metadata::Update;
 use timed::infos::{Bytes, ELEMENT_INFOS};
 use timed::state::{DynamicSourceState, ElementRendererState, MetadataRendererState};
 
@@ -33,7 +33,8 @@ fn kept_or<T: Copy, const N: usize>(table: [T; N], kept: bool, new: T) -> [T; N]
     if kept { table } else { [new; N] }
 }
 
-// The bed codes, written over one by one, as the definition has it.
+// The bed codes of an update's record, written over one by one, as the definition has it.
+#[tactic(auto, using(timed::proofs::LoopTurns::turns), unfolding(crate::specs::Applied::codes_given))]
 pub fn next_codes(codes: [u8; 18], said: Record<'_>) -> [u8; 18]
     ensures { result ≡ codes_given (update_of said.entry.meta.now said.entry.place) codes }
 {
@@ -45,25 +46,31 @@ pub fn next_codes(codes: [u8; 18], said: Record<'_>) -> [u8; 18]
 }
 
 // Each element of the update.
+#[tactic(auto, using(crate::proofs::WorkDone::done), unfolding(crate::specs::Applied::elements_applied, crate::specs::Applied::element_given, records::specs::Laid::element_at))]
 fn apply_elements(
     states: [ElementRendererState; 2],
     infos: &mut Bytes,
-    said: Record<'_>,
-    counts: Counts,
+    said: Update<'_>,
     same: bool,
 ) -> [ElementRendererState; 2]
-    requires { IsCounts counts (update_of said.meta.now said.place) × WholeUpdate said.meta.now said.place }
-    ensures { IsWork (elements_applied same (update_of said.entry.meta.now said.entry.place) states infos.old) result infos.new }
+    ensures { IsWork (elements_applied same (update_of said.entry.record.meta.now said.entry.record.place) states infos.old) result infos.new }
 {
+    let header = said.record.header();
+    let counts = Counts::of(header);
     let mut next = states;
-    let mut place = said.place + 1;
-    for e in 0..said.header().elements {
-        let element = Record {
-            meta: said.meta,
+    let mut place = said.record.place + 1;
+    for e in 0..header.elements {
+        let record = Record {
+            meta: said.record.meta,
             place,
         };
-        next[e] = apply_element(next[e], infos, element, e * ELEMENT_INFOS, counts, same);
-        place = element_after(element, counts.objects);
+        let element = Element {
+            record,
+            counts,
+            first: e * ELEMENT_INFOS,
+        };
+        next[e] = element.apply(next[e], infos, same);
+        place = element_after(record, counts.objects);
     }
     next
 }
@@ -74,16 +81,13 @@ pub struct TimedState(pub MetadataRendererState);
 
 impl TimedState {
     // The update, applied at a sample of the stream. The infos come as the range of a block that C lends: an array would ask more of who has a slice.
-    pub fn apply_update(self, infos: &mut [u8], said: Record<'_>, at: StreamSample) -> TimedState
-        requires { (length infos.old ≡ all_bytes) × WholeUpdate said.meta.now said.place }
-        ensures { IsTimed (applied at.0 (update_of said.entry.meta.now said.entry.place) (record { state = self.0; infos = infos.old })) result.0 infos.new }
+    pub fn apply_update(self, infos: &mut [u8], said: Update<'_>, at: StreamSample) -> TimedState
+        requires { length infos.old ≡ all_bytes }
+        ensures { IsTimed (applied at.0 (update_of said.entry.record.meta.now said.entry.record.place) (record { state = self.0; infos = infos.old })) result.0 infos.new }
     {
         let s = self.0;
-        let header = said.header();
-        let counts = Counts {
-            objects: header.objects,
-            isf: header.bed_or_isf,
-        };
+        let header = said.record.header();
+        let counts = Counts::of(header);
         let last = Counts {
             objects: s.objects,
             isf: s.isf,
@@ -98,9 +102,9 @@ impl TimedState {
             isf: header.bed_or_isf,
             beds: header.beds,
             elements: header.elements,
-            codes: next_codes(s.codes, said),
+            codes: next_codes(s.codes, said.record),
             gains: kept_or(s.gains, s.beds == header.beds, 0.707),
-            states: apply_elements(s.states, infos.as_mut_array().unwrap(), said, counts, same),
+            states: apply_elements(s.states, infos.as_mut_array().unwrap(), said, same),
             sources: kept_or(s.sources, as_many, NEW_SOURCE),
         })
     }

@@ -9,7 +9,7 @@ use Rattle.updates.proofs.update.apply_elements.Given as goal
 
 abbrev pub invariant-loop-e : goal.invariant-loop-e
 invariant-loop-e l =
-    let m = l.said.meta.now in
-    let u = l.said.place in
+    let m = l.said.record.meta.now in
+    let u = l.said.record.place in
     (l.place ≡ element_at m u l.e)
     × Leads (element_given l.same (update_of m u)) (elements m u) (record { states = l.initial.next; infos = l.initial.infos }) l.e (record { states = l.next; infos = l.infos })
