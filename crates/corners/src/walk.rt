@@ -73,6 +73,14 @@ impl Hall {
         }
     }
 
+    // The channel of speaker `i`.
+    fn channel(&self, i: usize) -> usize
+        requires { i < 12 }
+        ensures { result ≡ channel_at self.now.speakers i }
+    {
+        self.speakers[i].channel
+    }
+
     // The channels on the two sides of the row that begins at `a`.
     fn row(&self, a: usize, v: f32) -> Ends
         requires { RowRuns (along X self.now.speakers) (index_at self.now.rows) a }
@@ -80,8 +88,8 @@ impl Hall {
     {
         let sides = self.sides(a, self.rows[a], v);
         Ends {
-            low: self.speakers[sides.low].channel,
-            high: self.speakers[sides.high].channel,
+            low: self.channel(sides.low),
+            high: self.channel(sides.high),
         }
     }
 
