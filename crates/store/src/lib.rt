@@ -36,6 +36,7 @@ const SECOND_RAMP: usize = 4 * places::SECOND_RAMP;
 
 // The renderer of a block, but for what stays in it. Here, in `reset` and in `save` the block is the slice that C lends, of any length: an array would ask more of who
 // has the slice.
+#[tactic(auto, using(crate::proofs::BlockTests::small_in_block))]
 pub fn load(state: &[u8]) -> Renderer714
     requires { length state.now ≡ size }
     ensures { result ≡ small_of (words_at state.now 0 small_width) }
@@ -44,6 +45,7 @@ pub fn load(state: &[u8]) -> Renderer714
 }
 
 // A fresh block: the limiter's gain 1.0, and no ramp left in either element.
+#[tactic(auto, using(crate::proofs::Fresh::refilled))]
 pub fn reset(state: &mut [u8])
     requires { length state.old ≡ size }
     ensures { state.new ≡ encode fresh_renderer }

@@ -40,6 +40,9 @@ fn vec(s: &[u8], at: usize) -> Vec3
     }
 }
 
+// Each type says its words, in an impl of the same shape: the laws are of its own format, and a trait's constant that clauses name has no value for all. What is alike, a
+// table of them, is written once (`entry`).
+
 // The code of a bed channel.
 impl Entry for u8 {
     const WORDS: usize = 1;
@@ -201,6 +204,7 @@ impl Entry for ElementRendererState {
         }
     }
 
+    #[tactic(auto, using(crate::proofs::Stores::element_stored))]
     fn put(&self, s: &mut [u8], at: usize) {
         let head = [
             formats::count(self.blocks),

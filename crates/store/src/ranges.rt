@@ -17,8 +17,7 @@ const MIDDLE: u64 = 1 << 47;
 
 const LARGEST: u32 = 1 << 21;
 
-// ---- each field by itself. Tests that are values are joined by `&`, grouped as the formats are: by `&&` each would be a branch, of which the proofs don't close
-// (`search` stops at its limit), and in a valid block each is true.
+// ---- each field by itself
 
 fn basics_fields(s: &Block) -> bool
     ensures { result ≡ basics_format.test (in_words s.now) 0 }
@@ -52,28 +51,28 @@ fn head_fields(s: &[u8], at: usize) -> bool
 }
 
 // The element whose words start at `at`.
+#[tactic(auto, using(crate::proofs::BlockTests::blocks_test, crate::proofs::BlockTests::tracks_test))]
 fn element_fields(s: &[u8], at: usize) -> bool
     requires { 4 * (at + element_format.width) ≤ length s.now }
     ensures { result ≡ element_format.test (in_words s.now) at }
 {
     let blocks = at + places::HEAD;
     let rows = blocks + places::SCHEDULE;
-    let head = head_fields(s, at);
-    let offsets = at_most(s, blocks, 0, places::BLOCK, 8, LARGEST);
-    let ramps = at_most(s, blocks, 1, places::BLOCK, 8, LARGEST);
-    let used = at_most(s, blocks, 2, places::BLOCK, 8, 1);
-    let now = at_most(s, rows, 0, places::TRACK, 16, 1);
-    head & ((offsets & (ramps & used)) & now)
+    head_fields(s, at)
+        && at_most(s, blocks, 0, places::BLOCK, 8, LARGEST)
+        && at_most(s, blocks, 1, places::BLOCK, 8, LARGEST)
+        && at_most(s, blocks, 2, places::BLOCK, 8, 1)
+        && at_most(s, rows, 0, places::TRACK, 16, 1)
 }
 
+#[tactic(auto, using(crate::proofs::BlockTests::tables_test))]
 fn tables_fields(s: &Block) -> bool
     ensures { result ≡ tables_format.test (in_words s.now) tables_at }
 {
-    let codes = at_most(s, places::CODES, 0, 1, 18, 17);
-    let placed = at_most(s, places::SOURCES, places::PLACED, places::SOURCE, 16, 1);
-    let first = element_fields(s, places::FIRST);
-    let second = element_fields(s, places::SECOND);
-    codes & (placed & (first & second))
+    at_most(s, places::CODES, 0, 1, 18, 17)
+        && at_most(s, places::SOURCES, places::PLACED, places::SOURCE, 16, 1)
+        && element_fields(s, places::FIRST)
+        && element_fields(s, places::SECOND)
 }
 
 fn fields_valid(s: &Block) -> bool
@@ -117,38 +116,37 @@ fn element_valid(position: u64, least: u32, flags: u32, remaining: u64) -> bool
     least <= flags && MIDDLE <= remaining + (2097152 + 64 * position)
 }
 
+#[tactic(auto, using(crate::proofs::BlockTests::longs, crate::proofs::BlockTests::related_words))]
 fn related(s: &Block) -> bool
     requires { small_format.test (in_words s.now) 0 ≡ true }
     ensures { result ≡ ranges.related (small_of (in_words s.now)) }
 {
     let position = long(s, places::POSITION);
-    let start = long(s, places::START);
-    let clock = clock_valid(
-        word_of(s, places::RATE),
-        word_of(s, places::PHASE),
-        position,
-        start,
-        word_of(s, places::PENDING),
-    );
     let objects = word_of(s, places::OBJECTS);
     let isf = word_of(s, places::ISF);
     let elements = word_of(s, places::IN_USE);
-    let counts = counts_valid(objects, isf, word_of(s, places::BEDS));
-    let first = element_valid(
+    clock_valid(
+        word_of(s, places::RATE),
+        word_of(s, places::PHASE),
         position,
-        least_flags(0, elements, objects, isf),
-        word_of(s, places::FIRST_FLAGS),
-        long(s, places::FIRST_RAMP),
-    );
-    let second = element_valid(
-        position,
-        least_flags(1, elements, objects, isf),
-        word_of(s, places::SECOND_FLAGS),
-        long(s, places::SECOND_RAMP),
-    );
-    clock & (counts & (first & second))
+        long(s, places::START),
+        word_of(s, places::PENDING),
+    ) && counts_valid(objects, isf, word_of(s, places::BEDS))
+        && element_valid(
+            position,
+            least_flags(0, elements, objects, isf),
+            word_of(s, places::FIRST_FLAGS),
+            long(s, places::FIRST_RAMP),
+        )
+        && element_valid(
+            position,
+            least_flags(1, elements, objects, isf),
+            word_of(s, places::SECOND_FLAGS),
+            long(s, places::SECOND_RAMP),
+        )
 }
 
+#[tactic(auto, using(crate::proofs::BlockTests::fields_good, crate::proofs::BlockTests::fields_bad))]
 fn small_valid(s: &Block) -> bool
     ensures { result ≡ small_valid (in_words s.now) }
 {
@@ -156,6 +154,7 @@ fn small_valid(s: &Block) -> bool
 }
 
 // Whether a block has the right length and every field in its range.
+#[tactic(auto, using(crate::proofs::BlockTests::wrong_length, crate::proofs::BlockTests::good_heads, crate::proofs::BlockTests::bad_heads))]
 pub fn is_valid(state: &[u8]) -> bool
     ensures { result ≡ valid state.now }
 {

@@ -48,6 +48,7 @@ fn put_basics(s: &mut Block, x: &Renderer714)
     words::put_words(s, 0, &w);
 }
 
+#[tactic(auto, using(crate::proofs::Stores::state_stored))]
 fn put_state(s: &mut Block, x: &MetadataRendererState)
     ensures { s.new ≡ with_words s.old (4 * state_at) (state_format.put x.now) }
 {
@@ -69,6 +70,7 @@ fn put_state(s: &mut Block, x: &MetadataRendererState)
 }
 
 // The small part of a block, whole; the rest of the block is kept.
+#[tactic(auto, using(crate::proofs::Stores::small_stored))]
 pub fn save(state: &mut [u8], x: Renderer714)
     requires { length state.old ≡ size }
     ensures { state.new ≡ with_words state.old 0 (small_words x) }
