@@ -1,18 +1,14 @@
 -- What is found is `clear` of no refusal. Assumes nothing.
-use mathlib.Core.Path.{◌≡◌, refl, sym, ap, ◌∙◌, subst}
-use mathlib.Core.Bool.{true, false}
+use mathlib.Core.Path.{◌≡◌, refl, sym, ap, subst}
+use mathlib.Core.Bool.{true}
 use lib.Dec.{T}
-use Rattle.std.specs.Prelude.{Err}
 use Rattle.rules.specs.Refusals.{Found, clear, stop}
 use Rattle.refusals.specs.RefusalNumbers.{stop_of}
 use Rattle.refusals.specs.declared.Refusal.{Refusal}
-use Rattle.refusals.specs.FirstFound.{is_none, is_clear}
-
-pub told : (r : Refusal) → false ≡ is_clear (Err r)
-told r = refl
+use Rattle.refusals.specs.FirstFound.{is_none}
 
 pub not_clear : (r : Refusal) → stop_of r ≡ clear → ⊥
-not_clear r e = subst T (sym (told r ∙ ap is_none e)) tt
+not_clear r e = subst T (sym (ap is_none e)) tt
 
 pub is_none_is : (f : Found) → is_none f ≡ true → f ≡ clear
 is_none_is clear e = refl

@@ -10,12 +10,12 @@ use lib.Seq.{drop-cons}
 use native.Mathlib.Numerals.{add-one}
 use native.Mathlib.Omega.{arith}
 use borrow.Author.Tests.{ne_eqb, le-leb, leb-true}
-use Rattle.std.specs.Prelude.{EachIndex, IsTrue, IsErrAnd}
+use Rattle.std.specs.Prelude.{EachIndex, IsTrue, IsErrAnd, Result}
 use Rattle.std.proofs.lemmas.Result.{err_from_is_err_and}
 use Rattle.fields.proofs.All.{and_left, and_right}
 use Rattle.beds.specs.Matching.{counted}
 use Rattle.rules.specs.Refusals.{Found, clear, stop, ◌then◌, unless, every, bed_found, beds_found}
-use Rattle.refusals.specs.RefusalNumbers.{Checked, stop_of, numbers_of, found_of}
+use Rattle.refusals.specs.RefusalNumbers.{stop_of, numbers_of, found_of}
 use Rattle.refusals.specs.declared.Refusal.{Refusal}
 use Rattle.refusals.specs.declared.Stop.{Stop}
 
@@ -37,7 +37,7 @@ module _ (f x all : Found) (rest : (f then x) ≡ all) where
 
 -- ---- what `?` hands on is the refusal e
 
-pub handed_on : (r : Checked) (e : Refusal) {x : Found} → IsErrAnd r (λ y. y ≡ e) → stop_of e ≡ x → found_of r ≡ x
+pub handed_on : {A : Type 0} (r : Result A Refusal) (e : Refusal) {x : Found} → IsErrAnd r (λ y. y ≡ e) → stop_of e ≡ x → found_of r ≡ x
 handed_on r e h is = let p = err_from_is_err_and r h in rw (p.1, p.2) is
 
 -- ---- the beds in order

@@ -13,7 +13,9 @@ use Rattle.records.specs.LayoutAnswers.{IsLayout}
 use Rattle.records.specs.declared.sent.Layout.{Layout}
 use Rattle.rules.specs.Leaves.{Shape}
 use Rattle.rules.specs.Refusals.{Found, clear, stop, ◌then◌, unless, objects_match, counts_at, shape_at, walk, none_sent, later}
-use Rattle.refusals.specs.RefusalNumbers.{Checked, found_of}
+use Rattle.refusals.specs.RefusalNumbers.{found_of}
+use Rattle.std.specs.Prelude.{Result}
+use Rattle.refusals.specs.declared.Refusal.{Refusal}
 use Rattle.refusals.specs.declared.present.Present.{Present}
 use Rattle.refusals.specs.PresentShape.{told_of, present_shape}
 use Rattle.refusals.specs.FirstFound.{IsAfter, matched}
@@ -92,6 +94,6 @@ module _ (x : Looked) where
       ∙ ap (λ (none : Bool). nine then (ten none then (counts then twelve))) (sym (none_told g))
 
   -- 11 for the present state, as the code has it
-  pub present_is : {p q : Present} (r : Checked) → present_shape p ≡ x.shape → IsAfter x.meta 0 p q →
+  pub present_is : {p q : Present} (r : Result (Unit {0}) Refusal) → present_shape p ≡ x.shape → IsAfter x.meta 0 p q →
       found_of r ≡ cond q.started (matched q.objects x.objects) clear → found_of r ≡ present
   present_is r p_is q_is r-is = r-is ∙ ap present_at (q_is.is x.objects x.codes ∙ ap first_shape p_is)

@@ -1,7 +1,7 @@
 -- The lowest number first: what tests in a row find, and what a test's answer says. Assumes nothing.
 use Prim.Native.Nat.{ℕ, zero, suc, ◌+◌, ◌*◌, ◌/◌}
 use mathlib.Core.Path.{◌≡◌, refl, sym, ap, ◌∙◌, subst}
-use mathlib.Core.Bool.{Bool, true, false, ◌&&◌}
+use mathlib.Core.Bool.{Bool, true, false, ◌&&◌, cond}
 use mathlib.Core.List.{List, [], ◌∷◌}
 use lib.Dec.{T, eqb, leb}
 use lib.ListN.{length, get_or, take}
@@ -10,11 +10,16 @@ use borrow.Author.Tests.{eqb-true}
 use Rattle.ieee.specs.Bounds.{All}
 use Rattle.fields.proofs.All.{and_left, and_right}
 use Rattle.records.specs.Laid.{laid_out}
-use Rattle.records.specs.ValuesInRange.{in_range}
+use Rattle.records.specs.ValuesInRange.{in_range, refusal}
+use Rattle.records.specs.FaultNumbers.{number_of}
+use Rattle.records.specs.declared.metadata.Fault.{Fault}
+use Rattle.records.specs.declared.metadata.Fault.TheVariants.{NotLaidOut, OutOfRange}
 use Rattle.mixing.specs.FrameSamples.{all_pass}
 use Rattle.rules.specs.Samples.{State}
 use Rattle.rules.specs.Refusals.{Args, Found, clear, stop, unless, ◌then◌, every, room, sized, listed, early}
 use Rattle.theorem.specs.Instance.{hall}
+use Rattle.refusals.specs.RefusalNumbers.{stop_of, fault_refusal}
+use Rattle.std.specs.Prelude.{Ok, Err}
 
 -- ---- tests in a row
 
@@ -36,12 +41,6 @@ at ts k = get_or ts k (test 0 true)
 
 abbrev pub Hold : List Test → Type 0
 Hold ts = All (λ t. t.holds ≡ true) ts
-
--- k tests that hold, and one more
-pub more : (ts : List Test) (k : ℕ) → Hold (take k ts) → (at ts k).holds ≡ true → Hold (take (suc k) ts)
-more [] k h e = tt
-more (t ∷ ts) zero h e = (e, tt)
-more (t ∷ ts) (suc k) h e = (h.0, more ts k h.1 e)
 
 stops : (ts : List Test) (k : ℕ) → Hold (take k ts) → (at ts k).holds ≡ false → stop (at ts k).number 0 0 ≡ first_of ts
 stops [] k h e = absurd (subst T e tt)
@@ -70,6 +69,26 @@ tests position a =
     ∷ test 8 (all_pass a.pcm 0 ((length a.codes + a.objects) * a.samples))
     ∷ []
 
+-- the first fault of the records, as one number
+not_laid : (laid fit : Bool) → ◌≡◌ {A = ℕ} (cond laid (cond fit 0 6) 5) 5 → laid ≡ false
+not_laid true true e = absurd (omega (arith, e))
+not_laid true false e = absurd (omega (arith, e))
+not_laid false fit e = refl
+
+laid_only : (laid fit : Bool) → ◌≡◌ {A = ℕ} (cond laid (cond fit 0 6) 5) 6 → (laid ≡ true) × (fit ≡ false)
+laid_only true true e = absurd (omega (arith, e))
+laid_only true false e = (refl, refl)
+laid_only false fit e = absurd (omega (arith, e))
+
+no_fault : (laid fit : Bool) → ◌≡◌ {A = ℕ} (cond laid (cond fit 0 6) 5) 0 → (laid ≡ true) × (fit ≡ true)
+no_fault true true e = (refl, refl)
+no_fault true false e = absurd (omega (arith, e))
+no_fault false fit e = absurd (omega (arith, e))
+
+pub faultless : (m : List ℕ) → number_of {A = Unit {0}} (Ok tt) ≡ refusal m → (laid_out m ≡ true) × (in_range m ≡ true)
+unfolding refusal
+faultless m e = no_fault (laid_out m) (in_range m) (sym e)
+
 module _ (position : ℕ) (r : State hall) (p : r.clock.position ≡ position) (a : Args) where
   early_is : first_of (tests position a) ≡ early hall r a
   early_is = rw (then_none (unless (all_pass a.pcm 0 ((length a.codes + a.objects) * a.samples)) 8 0 0), p)
@@ -81,6 +100,12 @@ module _ (position : ℕ) (r : State hall) (p : r.clock.position ≡ position) (
 
   pub refuses_none : Hold (tests position a) → clear ≡ early hall r a
   refuses_none h = goes_through (tests position a) h ∙ early_is
+
+  -- where 1 to 4 are not found, a fault of the records is
+  pub faulty : (f : Fault) → Hold (take 4 (tests position a)) → number_of {A = Unit {0}} (Err f) ≡ refusal a.meta → stop_of (fault_refusal f) ≡ early hall r a
+  unfolding refusal
+  faulty NotLaidOut h e = refuses 4 h (not_laid (laid_out a.meta) (in_range a.meta) (sym e))
+  faulty OutOfRange h e = let x = laid_only (laid_out a.meta) (in_range a.meta) (sym e) in refuses 5 (h.0, (h.1.0, (h.1.1.0, (h.1.1.1.0, (x.0, tt))))) x.1
 
 -- ---- a single test
 

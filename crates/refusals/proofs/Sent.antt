@@ -98,14 +98,14 @@ module _ (m : List ℕ) (t : ℕ) (p : Present) where
       ap (shape_at (told_of m) n codes t (drop (i + 1) (told_of m))) e
       ∙ ap (λ (us : List Announced). shape_at (told_of m) n codes t us (present_shape q)) (sym (told_from m i l)) ∙ h n codes
 
-  pub shape_end : (i : ℕ) (q : Present) → count m ≤ i → q.beds ≤ 18 → ShapeFrom i q → IsAfter m t p q
-  shape_end i q l few h = record { few = few; is = λ n codes. ap (λ (us : List Announced). shape_at (told_of m) n codes t us (present_shape q)) (sym (told_end m i l)) ∙ h n codes }
+  pub shape_end : (i : ℕ) (q : Present) → count m ≤ i → ShapeFrom i q → IsAfter m t p q
+  shape_end i q l h = record { is = λ n codes. ap (λ (us : List Announced). shape_at (told_of m) n codes t us (present_shape q)) (sym (told_end m i l)) ∙ h n codes }
 
 -- ---- what is read of an update's record
 
 pub said_present : (m : List ℕ) (u d n : ℕ) (cs zs : List ℕ) →
-    d ≡ objects m u - bed_or_isf_of m u → n ≡ beds m u → n ≤ 18 → cs ≡ codes_given (update_of m u) zs → length zs ≡ 18 →
-    present_shape (record { started = true; objects = d; beds = n; codes = cs }) ≡ said_shape m u
+    d ≡ objects m u - bed_or_isf_of m u → n ≡ beds m u → (few : n ≤ 18) → cs ≡ codes_given (update_of m u) zs → length zs ≡ 18 →
+    present_shape (record { started = true; objects = d; beds = n; codes = cs; few = few }) ≡ said_shape m u
 said_present m u d n cs zs a b few e long =
     let most : beds m u ≤ 18 = rw b at few in
     rw (a, b, e)

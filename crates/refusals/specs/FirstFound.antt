@@ -1,5 +1,5 @@
 -- A reader may skip this file: that what a function answers is the first refusal that the rules find (`found`, `early`, `later` of rules/specs). Assumes nothing.
-use Rattle.std.specs.Prelude.{ℕ, ◌≤◌, ◌≡◌, Bool, true, false, List, eqb, length}
+use Rattle.std.specs.Prelude.{ℕ, ◌≡◌, Bool, true, false, List, eqb, length, Result}
 use Rattle.words.specs.Words.{words_at}
 use Rattle.rules.specs.Samples.{State}
 use Rattle.rules.specs.Refusals.{Args, Found, clear, stop, unless, args_of, early, counts_at, shape_at}
@@ -8,36 +8,39 @@ use Rattle.store.specs.declared.renderer.Renderer714.{Renderer714}
 use Rattle.store.specs.Fields.{small_of}
 use Rattle.store.specs.Layout.{small_width, decode}
 use Rattle.theorem.specs.Instance.{hall}
-use Rattle.refusals.specs.RefusalNumbers.{Checked, found_of}
+use Rattle.refusals.specs.RefusalNumbers.{found_of}
 use Rattle.refusals.specs.PresentShape.{told_of, present_shape}
-use Rattle.refusals.specs.declared.Numbers.{Numbers}
+use Rattle.refusals.specs.declared.Frame.{Frame}
+use Rattle.refusals.specs.declared.Push.{Push}
+use Rattle.refusals.specs.declared.Refusal.{Refusal}
 use Rattle.refusals.specs.declared.present.Present.{Present}
 
 abbrev pub is_none : Found → Bool
 is_none clear = true
 is_none (stop n a b) = false
 
-abbrev pub is_clear : Checked → Bool
-is_clear r = is_none (found_of r)
+-- the arguments that a push hands in, with what stands in the output
+abbrev pub args_with : Push → List ℕ → Args
+args_with p out = args_of p.pcm.now p.meta.now out p.codes.now p.n.rate p.n.samples p.n.objects p.n.stride
 
-abbrev pub args_with : List ℕ → List ℕ → List ℕ → List ℕ → Numbers → Args
-args_with pcm meta out codes n = args_of pcm meta out codes n.rate n.samples n.objects n.stride
+-- those of a frame
+abbrev pub args_in : Frame → List ℕ → Args
+args_in f out = args_of f.pcm.now f.metadata.records.now out f.codes.list.now f.n.rate f.n.samples f.n.objects f.n.stride
 
 -- r is the first of 1 to 8 at a stream position, whatever else the state has and whatever stands in an output of so many bytes
-abbrev pub IsEarly : ℕ → ℕ → (List ℕ → Args) → Checked → Type 0
+abbrev pub IsEarly : {A : Type 0} → ℕ → ℕ → (List ℕ → Args) → Result A Refusal → Type 0
 IsEarly position bytes args r = (out : List ℕ) → length out ≡ bytes → (t : State hall) → t.clock.position ≡ position → found_of r ≡ early hall t (args out)
 
 -- r is the first of 1 to 14 on each block whose small part s is
-abbrev pub IsFound : Renderer714 → ℕ → (List ℕ → Args) → Checked → Type 0
+abbrev pub IsFound : {A : Type 0} → Renderer714 → ℕ → (List ℕ → Args) → Result A Refusal → Type 0
 IsFound s bytes args r = (b out : List ℕ) → s ≡ small_of (words_at b 0 small_width) → length out ≡ bytes → found_of r ≡ found hall (decode b) (args out)
 
 -- r is p after the updates at t, whatever objects and inputs the push has
 pub record IsAfter (m : List ℕ) (t : ℕ) (p r : Present) : Type 0 where
-  pub few : r.beds ≤ 18
   pub is : (n : ℕ) (codes : List ℕ) → present_shape r ≡ shape_at (told_of m) n codes t (told_of m) (present_shape p)
 
 -- r is 11 for the updates at t, whatever inputs the push has
-pub record IsEleven (m : List ℕ) (n t : ℕ) (r : Checked) : Type 0 where
+pub record IsEleven (m : List ℕ) (n t : ℕ) (r : Result (Unit {0}) Refusal) : Type 0 where
   pub is : (codes : List ℕ) → found_of r ≡ counts_at (told_of m) n codes t (told_of m)
 
 -- 11: so many dynamic objects expected, and so many provided

@@ -1,6 +1,6 @@
 -- A reader may skip this file: what refusals 10 to 14 look at, as the code has it. The updates in the order sent are those of the instance (theorem/specs/Instance), read at
 -- their records; the present shape is a value, whose codes past the number of beds count for nothing. Assumes nothing.
-use Rattle.std.specs.Prelude.{ℕ, ◌-◌, true, List, get_or}
+use Rattle.std.specs.Prelude.{ℕ, ◌-◌, ◌≡◌, true, List, get_or}
 use Rattle.fields.specs.Update.{objects, bed_or_isf_of, beds, code}
 use Rattle.records.specs.Runs.{each}
 use Rattle.timed.specs.declared.state.MetadataRendererState.{MetadataRendererState}
@@ -22,5 +22,8 @@ abbrev pub present_shape : Present → Shape
 present_shape p = record { started = p.started; objects = p.objects; beds = each (λ k. get_or p.codes k 0) p.beds }
 
 -- the state's
-abbrev pub present_of : MetadataRendererState → Present
-present_of s = record { started = s.initialized; objects = s.objects - s.isf; beds = s.beds; codes = s.codes }
+pub record IsPresent (s : MetadataRendererState) (p : Present) : Type 0 where
+  pub started : p.started ≡ s.initialized
+  pub objects : p.objects ≡ s.objects - s.isf
+  pub beds : p.beds ≡ s.beds
+  pub codes : p.codes ≡ s.codes

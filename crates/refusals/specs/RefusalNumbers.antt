@@ -1,6 +1,8 @@
 -- The number and the counts of each case of `Refusal`. Document 01: "An answer may be an enum. If so, a definition gives this paper's number and values for each of the enum's
 -- cases, and the promises use that definition." Assumes nothing.
 use Rattle.std.specs.Prelude.{ℕ, Result, Ok, Err}
+use Rattle.records.specs.declared.metadata.Fault.{Fault}
+use Rattle.records.specs.declared.metadata.Fault.TheVariants.{NotLaidOut, OutOfRange}
 use Rattle.rules.specs.Refusals.{Found, clear, stop}
 use Rattle.refusals.specs.declared.Stop.{Stop}
 use Rattle.refusals.specs.declared.Refusal.{Refusal}
@@ -30,10 +32,12 @@ numbers_of (UnsupportedBedChannel code) = numbers 14 code 0
 abbrev pub stop_of : Refusal → Found
 stop_of r = let n = numbers_of r in stop n.number n.first n.second
 
--- what a check answers
-abbrev pub Checked : Type 0
-Checked = Result (Unit {0}) Refusal
-
-abbrev pub found_of : Checked → Found
-found_of (Ok u) = clear
+-- what a check answers, whatever it gives where it finds nothing
+abbrev pub found_of : {A : Type 0} → Result A Refusal → Found
+found_of (Ok x) = clear
 found_of (Err r) = stop_of r
+
+-- 5 and 6
+abbrev pub fault_refusal : Fault → Refusal
+fault_refusal NotLaidOut = Records
+fault_refusal OutOfRange = Ranges

@@ -1,11 +1,12 @@
 // Refusals 1 to 8 of a push: "Lowest number first among 1 to 8". Each is decided before the next is worked out.
-ghost use Rattle.std.specs.Prelude.{◌≡◌, [], ◌*◌, ◌≤◌, leb};
-ghost use Rattle.records.specs.Laid.{laid_out};
+ghost use Rattle.std.specs.Prelude.{◌≡◌, [], ◌*◌, ◌≤◌, leb, IfOk};
 ghost use Rattle.rules.specs.Refusals as rules;
-ghost use Rattle.refusals.specs.FirstFound.{args_with, IsEarly};
+ghost use Rattle.refusals.specs.FirstFound.{args_with, args_in, IsEarly};
 
-use crate::{Numbers, Refusal};
+use crate::{Frame, Push, Refusal};
+use beds::Codes;
 use clock::StreamSample;
+use records::metadata::Metadata;
 
 // Whether the stride is one of those allowed and an output of so many bytes has room for it: refusal 1.
 pub fn room(stride: u32, bytes: usize) -> bool
@@ -30,9 +31,10 @@ fn pcm_bytes(channels: usize, samples: u32) -> usize
 }
 
 // Whether samples, beds, objects, codes and the PCM's length are as allowed: refusal 2.
-fn sized(pcm: &[u8], codes: &[u8], n: Numbers) -> bool
-    ensures { result ≡ rules.sized (args_with pcm.now [] [] codes.now n) }
+fn sized(push: Push<'_>) -> bool
+    ensures { result ≡ rules.sized (args_with push.entry []) }
 {
+    let Push { pcm, codes, n, .. } = push;
     if n.samples > n.stride || codes.len() > 18 || n.objects > 16 || !codes_listed(codes) {
         return false;
     }
@@ -40,23 +42,21 @@ fn sized(pcm: &[u8], codes: &[u8], n: Numbers) -> bool
     pcm.len() == pcm_bytes(channels, n.samples) && (n.samples == 0 || channels != 0)
 }
 
-// The first of refusals 1 to 8 of a push at a stream position; the output has so many bytes, and `laid` says whether the records are as laid out.
-pub fn check(
-    position: StreamSample,
-    pcm: &[u8],
-    meta: &[u8],
-    bytes: usize,
-    codes: &[u8],
-    laid: bool,
-    n: Numbers,
-) -> Result<(), Refusal>
-    requires { laid ≡ laid_out meta.now }
-    ensures { IsEarly position.0 bytes (λ out. args_with pcm.now meta.now out codes.now n) result }
+// The frame of a push at a stream position, or the first of its refusals 1 to 8; the output has so many bytes.
+pub fn check<'a>(position: StreamSample, push: Push<'a>, bytes: usize) -> Result<Frame<'a>, Refusal>
+    ensures found { IsEarly position.0 bytes (args_with push.entry) result }
+    ensures frame { IfOk result (λ f. args_in f ≡ args_with push.entry) }
 {
+    let Push {
+        pcm,
+        meta,
+        codes,
+        n,
+    } = push;
     if !room(n.stride, bytes) {
         return Err(Refusal::Lent);
     }
-    if !sized(pcm, codes, n) {
+    if !sized(push) {
         return Err(Refusal::Sizes);
     }
     if !angles::listed(n.rate) {
@@ -65,14 +65,15 @@ pub fn check(
     if !position.has_room(n.samples) {
         return Err(Refusal::StreamEnd);
     }
-    if !laid {
-        return Err(Refusal::Records);
-    }
-    if !records::ranges::in_range(meta) {
-        return Err(Refusal::Ranges);
-    }
+    let metadata = Metadata::of(meta)?;
     if !mixing::samples_pass(pcm, 0, pcm.len() / 4) {
         return Err(Refusal::Samples);
     }
-    Ok(())
+    let codes = Codes { list: codes };
+    Ok(Frame {
+        pcm,
+        metadata,
+        codes,
+        n,
+    })
 }

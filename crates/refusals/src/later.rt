@@ -3,19 +3,17 @@
 
 // Refusals 9 to 14 of a push whose 1 to 8 found nothing: a pass over its samples that changes nothing.
 // Document 01: "After 8: 9, 10, 11 for updates at offset 0, 12, 11 for the present state, then 11, 13, 14 as they arise in time."
-ghost use Rattle.std.specs.Prelude.{◌≡◌, ◌||◌, not, ◌≤◌, eqb, length};
-ghost use Rattle.records.specs.LayoutAnswers.{IsLayout};
-ghost use Rattle.records.specs.WholeRecords.{WholeUpdates};
+ghost use Rattle.std.specs.Prelude.{◌≡◌, ◌||◌, not, ◌≤◌, eqb};
 ghost use Rattle.rules.specs.Refusals.{◌then◌, unless, walk, later};
 ghost use Rattle.refusals.specs.RefusalNumbers.{found_of};
 ghost use Rattle.theorem.specs.Instance.{shape_of};
 ghost use Rattle.refusals.specs.PresentShape.{told_of, present_shape};
 
 use crate::checks::{check_beds, check_counts, check_objects};
-use crate::present::{Present, present_after, present_of};
-use crate::{Numbers, Refusal};
+use crate::present::Present;
+use crate::shapes::{present_after, present_of};
+use crate::{Frame, Refusal};
 use clock::{FrameOffset, START};
-use records::layout::Layout;
 use timed::state::MetadataRendererState;
 
 // 9 and 10. (d) 0 before the first frame, as in `Renderer714`.
@@ -32,24 +30,24 @@ fn check_start(rate_before: u32, rate: u32, started: bool, updates: usize) -> Re
 }
 
 // 11, 13 and 14 as they arise in time. Between two offsets with updates nothing new can stop, so that t goes on by `while` to the next of these, and not by one.
-fn check_walk(
-    start: Present,
-    meta: &[u8],
-    l: Layout,
-    codes: &[u8],
-    end: FrameOffset,
-    objects: u32,
-) -> Result<(), Refusal>
-    requires { IsLayout meta.now l × WholeUpdates meta.now l × (length codes.now ≤ 18) × (start.beds ≤ 18) }
-    ensures { found_of result ≡ walk (told_of meta.now) objects codes.now end.0 0 (present_shape start) }
+fn check_walk(start: Present, frame: Frame<'_>) -> Result<(), Refusal>
+    ensures { found_of result ≡ walk (told_of frame.entry.metadata.records.now) frame.entry.n.objects frame.entry.codes.list.now frame.entry.n.samples 0
+        (present_shape start) }
 {
+    let Frame {
+        metadata,
+        codes,
+        n,
+        ..
+    } = frame;
+    let end = FrameOffset(n.samples);
     let mut present = start;
     let mut t = START;
     while t < end {
-        check_counts(meta, l, t, objects)?;
-        present = present_after(present, meta, l, t);
+        check_counts(metadata, t, n.objects)?;
+        present = present_after(present, metadata, t);
         check_beds(present, codes)?;
-        t = l.next_offset(t, end);
+        t = metadata.layout.next_offset(t, end);
     }
     Ok(())
 }
@@ -58,21 +56,25 @@ fn check_walk(
 pub fn check(
     rate_before: u32,
     state: MetadataRendererState,
-    meta: &[u8],
-    l: Layout,
-    codes: &[u8],
-    n: Numbers,
+    frame: Frame<'_>,
 ) -> Result<(), Refusal>
-    requires { IsLayout meta.now l × WholeUpdates meta.now l × (length codes.now ≤ 18) × (state.beds ≤ 18) × (state.objects ≤ 32) }
-    ensures { found_of result ≡ later (told_of meta.now) n.objects codes.now n.samples n.rate rate_before (shape_of state) }
+    requires { (state.beds ≤ 18) × (state.objects ≤ 32) }
+    ensures { found_of result ≡ later (told_of frame.entry.metadata.records.now) frame.entry.n.objects frame.entry.codes.list.now frame.entry.n.samples
+        frame.entry.n.rate rate_before (shape_of state) }
 {
-    check_start(rate_before, n.rate, state.initialized, l.count)?;
-    check_counts(meta, l, START, n.objects)?;
+    let Frame { metadata, n, .. } = frame;
+    check_start(
+        rate_before,
+        n.rate,
+        state.initialized,
+        metadata.layout.count,
+    )?;
+    check_counts(metadata, START, n.objects)?;
     if n.samples == 0 {
         return Err(Refusal::UnsupportedSampleCount);
     }
     let start = present_of(state);
-    let first = present_after(start, meta, l, START);
+    let first = present_after(start, metadata, START);
     check_objects(first, n.objects)?;
-    check_walk(start, meta, l, codes, FrameOffset(n.samples), n.objects)
+    check_walk(start, frame)
 }

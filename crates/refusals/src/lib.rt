@@ -8,13 +8,14 @@ mod checks;
 pub mod early;
 mod later;
 mod present;
+mod shapes;
 
-ghost use Rattle.std.specs.Prelude.{◌≡◌, ◌≤◌};
-ghost use Rattle.records.specs.LayoutAnswers.{IsLayout};
-ghost use Rattle.refusals.specs.RefusalNumbers.{numbers, numbers_of};
-ghost use Rattle.refusals.specs.FirstFound.{args_with, IsFound};
+ghost use Rattle.std.specs.Prelude.{◌≡◌, ◌≤◌, IfOk};
+ghost use Rattle.refusals.specs.RefusalNumbers.{numbers, numbers_of, fault_refusal};
+ghost use Rattle.refusals.specs.FirstFound.{args_with, args_in, IsFound};
 
-use records::layout::Layout;
+use beds::Codes;
+use records::metadata::{Fault, Metadata};
 use store::renderer::Renderer714;
 
 // The refusals of a push: `stop` gives document 01's number and counts of each.
@@ -80,6 +81,17 @@ impl Refusal {
     }
 }
 
+impl From<Fault> for Refusal {
+    ghost from_gives = { λ f r. r ≡ fault_refusal f };
+
+    fn from(fault: Fault) -> Refusal {
+        match fault {
+            Fault::NotLaidOut => Refusal::Records,
+            Fault::OutOfRange => Refusal::Ranges,
+        }
+    }
+}
+
 // The numbers of a push.
 #[derive(Clone, Copy)]
 pub struct Numbers {
@@ -89,19 +101,31 @@ pub struct Numbers {
     pub stride: u32,
 }
 
-// `s` is the small part of a valid block, `l` the metadata's layout; the output has `bytes` bytes.
-pub fn check_push(
-    s: Renderer714,
-    pcm: &[u8],
-    meta: &[u8],
-    bytes: usize,
-    codes: &[u8],
-    l: Layout,
-    n: Numbers,
-) -> Result<(), Refusal>
-    requires { (s.state.beds ≤ 18) × (s.state.objects ≤ 32) × IsLayout meta.now l }
-    ensures { IsFound s bytes (λ out. args_with pcm.now meta.now out codes.now n) result }
+// What a push hands in: samples, metadata and bed codes as bytes, and its numbers.
+#[derive(Clone, Copy)]
+pub struct Push<'a> {
+    pub pcm: &'a [u8],
+    pub meta: &'a [u8],
+    pub codes: &'a [u8],
+    pub n: Numbers,
+}
+
+// A push that 1 to 8 let pass: its records are metadata, and its codes at most 18.
+#[derive(Clone, Copy)]
+pub struct Frame<'a> {
+    pub pcm: &'a [u8],
+    pub metadata: Metadata<'a>,
+    pub codes: Codes<'a>,
+    pub n: Numbers,
+}
+
+// The frame of a push, or its first refusal. `s` is the small part of a valid block; the output has `bytes` bytes.
+pub fn check_push<'a>(s: Renderer714, push: Push<'a>, bytes: usize) -> Result<Frame<'a>, Refusal>
+    requires { (s.state.beds ≤ 18) × (s.state.objects ≤ 32) }
+    ensures found { IsFound s bytes (args_with push.entry) result }
+    ensures frame { IfOk result (λ f. args_in f ≡ args_with push.entry) }
 {
-    early::check(s.clock.position, pcm, meta, bytes, codes, l.laid, n)?;
-    later::check(s.rate, s.state, meta, l, codes, n)
+    let frame = early::check(s.clock.position, push, bytes)?;
+    later::check(s.rate, s.state, frame)?;
+    Ok(frame)
 }

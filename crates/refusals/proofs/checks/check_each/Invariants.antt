@@ -5,4 +5,4 @@ use Rattle.rules.specs.Refusals.{beds_found}
 use Rattle.refusals.proofs.checks.check_each.Given as goal
 
 abbrev pub invariant-loop-code : goal.invariant-loop-code
-invariant-loop-code l = beds_found l.beds l.codes (drop l.code-index l.beds) ≡ beds_found l.beds l.codes l.beds
+invariant-loop-code l = let beds = l.beds.list.now in let codes = l.codes.list.now in beds_found beds codes (drop l.code-index beds) ≡ beds_found beds codes beds

@@ -2,27 +2,26 @@
 use Prim.Native.Nat.{ℕ, suc, ◌<◌}
 use mathlib.Core.Path.{◌≡◌, sym, ap, ◌∙◌}
 use Rattle.std.specs.Prelude.{Ok}
-use mathlib.Core.List.{List}
 use native.Mathlib.Omega.{arith}
 use native.Mathlib.Numerals.{unary_clauses}
 use Rattle.clock.proofs.Before.{more_left}
 use Rattle.records.specs.LayoutAnswers.{offset_at}
-use Rattle.records.specs.declared.sent.Layout.{Layout}
 use Rattle.records.proofs.Theorems.{next_within, next_above}
 use Rattle.rules.specs.Leaves.{Shape}
 use Rattle.rules.specs.Refusals.{Found, ◌then◌}
 use Rattle.refusals.specs.FirstFound.{IsAfter, IsEleven}
 use Rattle.refusals.specs.PresentShape.{present_shape}
+use Rattle.refusals.specs.declared.Frame.{Frame}
 use Rattle.refusals.specs.declared.present.Present.{Present}
 use Rattle.refusals.proofs.First.{handed_on, chain_stops, chain_passes}
 use Rattle.refusals.proofs.Walks.{Walking, counted_at, after, mixed, from, walk_step, walk_skips}
 use Rattle.refusals.proofs.later.check_walk.Goals as goal
 
-pub loop-l-init : goal.loop-l-init
-loop-l-init c = (omega arith, c.requires.3, simp unary_clauses)
+pub loop-metadata-init : goal.loop-metadata-init
+loop-metadata-init c = (omega arith, simp unary_clauses)
 
-abbrev walking : List ℕ → Layout → ℕ → List ℕ → ℕ → Walking
-walking meta layout objects codes end = record { meta = meta; layout = layout; objects = objects; codes = codes; end = end }
+abbrev walking : Frame → Walking
+walking f = record { meta = f.metadata.records.now; layout = f.metadata.layout; objects = f.n.objects; codes = f.codes.list.now; end = f.n.samples }
 
 -- ---- one turn: the shape p before the updates at t, and what is found from there on
 
@@ -42,41 +41,40 @@ module _ (w : Walking) (t : ℕ) (p : Present) (whole : Found) (below : t < w.en
 pub returns-in_err-check_counts : goal.returns-in_err-check_counts
 returns-in_err-check_counts c =
     let a = c.args in
-    let l = c.loop-l in
-    let w = walking a.meta.now a.l a.objects a.codes.now a.end.0 in
-    let below = more_left _ _ _ c.lt.ensures c.loop-l-test.true in
-    handed_on _ _ c.from_residual.ensures.1 (chain_stops (counted_at w l.t.0) _ _ (turn w l.t.0 l.present _ below l.invariant.2) c.in_err-check_counts.field-0.0 (c.in_err-check_counts.ensures.is w.codes))
+    let l = c.loop-metadata in
+    let w = walking a.frame in
+    let below = more_left _ _ _ c.lt.ensures c.loop-metadata-test.true in
+    handed_on _ _ c.from_residual.ensures.1 (chain_stops (counted_at w l.t.0) _ _ (turn w l.t.0 l.present _ below l.invariant.1) c.in_err-check_counts.field-0.0 (c.in_err-check_counts.ensures.is w.codes))
 
 pub returns-in_err-check_beds : goal.returns-in_err-check_beds
 returns-in_err-check_beds c =
     let a = c.args in
-    let l = c.loop-l in
-    let w = walking a.meta.now a.l a.objects a.codes.now a.end.0 in
+    let l = c.loop-metadata in
+    let w = walking a.frame in
     let q = c.present_after-present in
-    let below = more_left _ _ _ c.lt.ensures c.loop-l-test.true in
-    let now = no_counts w l.t.0 l.present _ below l.invariant.2 c.in_ok-check_counts.ensures q.result q.ensures in
+    let below = more_left _ _ _ c.lt.ensures c.loop-metadata-test.true in
+    let now = no_counts w l.t.0 l.present _ below l.invariant.1 c.in_ok-check_counts.ensures q.result q.ensures in
     handed_on _ _ c.from_residual-in_err-check_beds.ensures.1 (chain_stops (mixed w (present_shape q.result)) _ _ now c.in_err-check_beds.field-0.0 c.in_err-check_beds.ensures)
 
-pub loop-l-smaller : goal.loop-l-smaller
-loop-l-smaller c =
+pub loop-metadata-smaller : goal.loop-metadata-smaller
+loop-metadata-smaller c =
     let a = c.args in
-    let t = c.loop-l.t.0 in
-    let b = more_left _ _ _ c.lt.ensures c.loop-l-test.true in
-    let n : t < c.next_offset-t.result.0 = rw c.next_offset-t.ensures (next_above (offset_at a.l) t a.end.0 a.l.count b) in
+    let t = c.loop-metadata.t.0 in
+    let b = more_left _ _ _ c.lt.ensures c.loop-metadata-test.true in
+    let n : t < c.next_offset-t.result.0 = rw c.next_offset-t.ensures (next_above (offset_at a.frame.metadata.layout) t a.frame.n.samples a.frame.metadata.layout.count b) in
     omega arith
 
-pub loop-l-preserved : goal.loop-l-preserved
-loop-l-preserved c =
+pub loop-metadata-preserved : goal.loop-metadata-preserved
+loop-metadata-preserved c =
     let a = c.args in
-    let l = c.loop-l in
+    let l = c.loop-metadata in
     let t = l.t.0 in
-    let w = walking a.meta.now a.l a.objects a.codes.now a.end.0 in
+    let w = walking a.frame in
     let q = c.present_after-present in
     let s = present_shape q.result in
-    let below = more_left _ _ _ c.lt.ensures c.loop-l-test.true in
-    let now = no_counts w t l.present _ below l.invariant.2 c.in_ok-check_counts.ensures q.result q.ensures in
+    let below = more_left _ _ _ c.lt.ensures c.loop-metadata-test.true in
+    let now = no_counts w t l.present _ below l.invariant.1 c.in_ok-check_counts.ensures q.result q.ensures in
     let clear = c.in_ok-check_beds.ensures in (
       rw c.next_offset-t.ensures (next_within (offset_at w.layout) t w.end w.layout.count),
-      q.ensures.few,
-      rw c.next_offset-t.ensures (sym (walk_skips w c.requires.0 t s below (sym clear)) ∙ chain_passes (mixed w s) (from w (suc t) s) _ now clear),
+      rw c.next_offset-t.ensures (sym (walk_skips w a.frame.metadata.laid t s below (sym clear)) ∙ chain_passes (mixed w s) (from w (suc t) s) _ now clear),
     )

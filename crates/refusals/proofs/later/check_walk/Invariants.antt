@@ -5,11 +5,12 @@ use Rattle.rules.specs.Refusals.{walk}
 use Rattle.refusals.specs.PresentShape.{told_of, present_shape}
 use Rattle.refusals.proofs.later.check_walk.Given as goal
 
-abbrev pub invariant-loop-l : goal.invariant-loop-l
-invariant-loop-l l =
-    (l.t.0 ≤ l.end.0)
-    × (l.present.beds ≤ 18)
-    × (walk (told_of l.meta) l.objects l.codes (l.end.0 - l.t.0) l.t.0 (present_shape l.present) ≡ walk (told_of l.meta) l.objects l.codes l.end.0 0 (present_shape l.initial.present))
+abbrev pub invariant-loop-metadata : goal.invariant-loop-metadata
+invariant-loop-metadata l =
+    let f = l.fn.frame in
+    (l.t.0 ≤ f.n.samples)
+    × (walk (told_of f.metadata.records.now) f.n.objects f.codes.list.now (f.n.samples - l.t.0) l.t.0 (present_shape l.present)
+    ≡ walk (told_of f.metadata.records.now) f.n.objects f.codes.list.now f.n.samples 0 (present_shape l.initial.present))
 
-abbrev pub decreases-loop-l : goal.decreases-loop-l
-decreases-loop-l l = l.end.0 - l.t.0
+abbrev pub decreases-loop-metadata : goal.decreases-loop-metadata
+decreases-loop-metadata l = l.fn.frame.n.samples - l.t.0
