@@ -71,6 +71,7 @@ pub struct Moving {
 
 impl Moving {
     // Block b, applied to the objects that the element reaches.
+    #[tactic(auto, using(crate::proofs::LoopTurns::turns), unfolding(crate::specs::Objects::moved_all))]
     pub(crate) fn apply_block(&mut self, infos: &mut Bytes, reach: Reach, b: usize, arrived: bool)
         requires { b < most_blocks }
         ensures { IsMovedAll (moved_all arrived (reach.first + b) reach.count self.old infos.old) self.new infos.new }
@@ -86,6 +87,7 @@ impl Moving {
     }
 
     // The ramp's share t for the objects that the element reaches; `before` has their flags at its previous slot.
+    #[tactic(auto, using(crate::proofs::LoopTurns::turns), unfolding(crate::specs::Objects::ramped_all))]
     pub(crate) fn ramp(&mut self, before: &[Track; 16], reach: Reach, t: f32)
         ensures { self.new ≡ ramped_all t before.now reach.count self.old }
     {
@@ -116,6 +118,7 @@ fn ramp_one(source: DynamicSourceState, track: Track, last: bool, t: f32) -> Dyn
 }
 
 // The gains after block b of the beds that the element reaches.
+#[tactic(auto, using(crate::proofs::LoopTurns::turns), unfolding(crate::specs::Objects::bed_gains))]
 pub(crate) fn bed_gains(gains: &mut [f32; 18], infos: &Bytes, reach: Reach, b: usize)
     requires { b < most_blocks }
     ensures { gains.new ≡ bed_gains infos.now (reach.beds + b) reach.channels gains.old }

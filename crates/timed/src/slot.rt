@@ -116,6 +116,7 @@ impl Slot {
     }
 
     // The first n blocks in order, each applied where it is due.
+    #[tactic(auto, using(crate::proofs::LoopTurns::turns), unfolding(crate::specs::Slot::blocks_applied))]
     fn apply_blocks(&mut self, infos: &mut Bytes, n: usize, when: Timing, reach: Reach)
         requires { (n ≤ most_blocks) }
         ensures { IsSlotWork (blocks_applied when reach n (record { slot = self.old; infos = infos.old })) self.new infos.new }
