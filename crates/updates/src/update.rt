@@ -46,7 +46,7 @@ pub fn next_codes(codes: [u8; 18], said: Record<'_>) -> [u8; 18]
 }
 
 // Each element of the update.
-#[tactic(auto, using(crate::proofs::WorkDone::done), unfolding(crate::specs::Applied::elements_applied, crate::specs::Applied::element_given, records::specs::Laid::element_at))]
+#[tactic(auto, using(timed::proofs::LoopTurns::turns), unfolding(crate::specs::Applied::elements_applied, crate::specs::Applied::element_given, records::specs::Laid::element_at))]
 fn apply_elements(
     states: [ElementRendererState; 2],
     infos: &mut Bytes,
