@@ -1,5 +1,6 @@
 // A record, update or place that is not there is answered by zeros.
-ghost use Rattle.std.specs.Prelude.{◌≡◌, cond, ◌&&◌, ◌+◌, ◌*◌, leb, ltb};
+ghost use Rattle.std.specs.Prelude.{◌≡◌, cond, ◌&&◌, ◌+◌, ◌*◌, leb, ltb, IfSome};
+ghost use Rattle.std.specs.Option.{is_some};
 ghost use Rattle.fields.specs.Update.{offset, header_of};
 ghost use Rattle.fields.specs.Block.{blocks};
 ghost use Rattle.fields.specs.ObjectInfos.{stored_info};
@@ -43,11 +44,23 @@ pub extern "C" fn probe_update_place(meta: &[u8], i: usize) -> usize
     if i < l.count { l.sent[i].place } else { 0 }
 }
 
+// The record at a place, where the list has it whole.
+fn record(meta: &[u8], place: usize) -> Option<Record<'_>>
+    ensures there { is_some result ≡ has_record meta.now place }
+    ensures same { IfSome result (λ r. (r.meta.now ≡ meta.now) × (r.place ≡ place)) }
+{
+    if place < meta.len() / 40 {
+        Some(Record { meta, place })
+    } else {
+        None
+    }
+}
+
 #[unsafe(no_mangle)]
 pub extern "C" fn probe_header(meta: &[u8], u: usize) -> Header
     ensures { result ≡ cond (has_record meta.now u) (header_of meta.now u) zero_header }
 {
-    if u >= meta.len() / 40 {
+    let Some(update) = record(meta, u) else {
         return Header {
             offset: START,
             objects: 0,
@@ -55,19 +68,18 @@ pub extern "C" fn probe_header(meta: &[u8], u: usize) -> Header
             beds: 0,
             elements: 0,
         };
-    }
-    Record { meta, place: u }.header()
+    };
+    update.header()
 }
 
 #[unsafe(no_mangle)]
 pub extern "C" fn probe_blocks(meta: &[u8], e: usize) -> usize
     ensures { result ≡ cond (has_record meta.now e) (blocks meta.now e) 0 }
 {
-    if e < meta.len() / 40 {
-        Record { meta, place: e }.blocks()
-    } else {
-        0
-    }
+    let Some(element) = record(meta, e) else {
+        return 0;
+    };
+    element.blocks()
 }
 
 // The record after the element at e.
@@ -75,8 +87,11 @@ pub extern "C" fn probe_blocks(meta: &[u8], e: usize) -> usize
 pub extern "C" fn probe_element_after(meta: &[u8], objects: usize, e: usize) -> usize
     ensures { result ≡ cond (has_record meta.now e && leb objects 32 && leb (blocks meta.now e) 8) (element_end meta.now objects e) 0 }
 {
-    if e < meta.len() / 40 && objects <= 32 && (Record { meta, place: e }).blocks() <= 8 {
-        element_after(Record { meta, place: e }, objects)
+    let Some(element) = record(meta, e) else {
+        return 0;
+    };
+    if objects <= 32 && element.blocks() <= 8 {
+        element_after(element, objects)
     } else {
         0
     }
@@ -87,8 +102,11 @@ pub extern "C" fn probe_object_place(meta: &[u8], e: usize, o: usize, b: usize) 
     ensures { result ≡ cond (has_record meta.now e && ltb o 32 && ltb b 8 && leb (blocks meta.now e) 8)
         (object_at meta.now e (o * blocks meta.now e + b)) 0 }
 {
-    if e < meta.len() / 40 && o < 32 && b < 8 && (Record { meta, place: e }).blocks() <= 8 {
-        object_place(Record { meta, place: e }, o, b)
+    let Some(element) = record(meta, e) else {
+        return 0;
+    };
+    if o < 32 && b < 8 && element.blocks() <= 8 {
+        object_place(element, o, b)
     } else {
         0
     }
@@ -106,10 +124,10 @@ pub struct BlockTimes {
 pub extern "C" fn probe_block(meta: &[u8], r: usize) -> BlockTimes
     ensures { result ≡ cond (has_record meta.now r) (times_of meta.now r) zero_times }
 {
-    if r >= meta.len() / 40 {
+    let Some(block) = record(meta, r) else {
         return BlockTimes { offset: 0, ramp: 0 };
-    }
-    let Block { offset, ramp } = Record { meta, place: r }.block();
+    };
+    let Block { offset, ramp } = block.block();
     BlockTimes { offset, ramp }
 }
 
@@ -117,7 +135,7 @@ pub extern "C" fn probe_block(meta: &[u8], r: usize) -> BlockTimes
 pub extern "C" fn probe_info(meta: &[u8], r: usize) -> Info
     ensures { result ≡ cond (has_record meta.now r) (stored_info meta.now r) zero_info }
 {
-    if r >= meta.len() / 40 {
+    let Some(object) = record(meta, r) else {
         return Info {
             head: 0,
             gain: 0,
@@ -129,8 +147,8 @@ pub extern "C" fn probe_info(meta: &[u8], r: usize) -> Info
             z: 0,
             send: 0,
         };
-    }
-    Record { meta, place: r }.info()
+    };
+    object.info()
 }
 
 #[unsafe(no_mangle)]

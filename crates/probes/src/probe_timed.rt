@@ -5,10 +5,8 @@ ghost use Rattle.probes.specs.Timed.{schedule_fits, element_fits, counts_suit, s
 
 use clock::StreamSample;
 use fields::record::Record;
-use timed::infos::{ELEMENT_INFOS, INFO_BYTES};
+use formats::areas::INFOS_BYTES;
 use timed::state::{BlockState, ElementRendererState, MetadataRendererState};
-
-const INFOS_BYTES: usize = 2 * ELEMENT_INFOS * INFO_BYTES;
 
 fn schedule_fits(schedule: [BlockState; 8]) -> bool
     ensures { result ≡ schedule_fits schedule }
