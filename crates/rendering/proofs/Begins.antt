@@ -16,7 +16,7 @@ use Rattle.timed.proofs.Theorems as timed
 use Rattle.records.specs.Runs.{each}
 use Rattle.records.specs.Laid.{update_at, count}
 use Rattle.records.specs.UpdateWalk.{FirstAt}
-use Rattle.records.specs.LayoutAnswers.{IsLayout, sent_place, offset_at}
+use Rattle.records.specs.LayoutAnswers.{IsLayout, offset_at}
 use Rattle.records.specs.declared.sent.Layout as records
 use Rattle.updates.specs.Said.{Update, update_of}
 use Rattle.updates.specs.Applied as updates
@@ -48,12 +48,11 @@ module _ (t : ℕ) (u : Update) (s : Renderer714) (b : List ℕ) where
   by_start false m e f = rw (e, f)
 
   pub one_applied :
-      (new : Bool) (at : ℕ) (m : MetadataRendererState) (is : List ℕ) (r : Renderer714) → length b ≡ size → length is ≡ infos_bytes → (not s.state.initialized || eqb t 0) ≡ new
-      → at ≡ s.clock.position.0 →
-      IsTimed (updates.applied at u before) m is → r ≡ restated new s m → IsNext (applied_at hall t (sent t u) (held s b)) b r (changed b is)
-  one_applied new at m is r whole long e here h q =
+      (new : Bool) (m : MetadataRendererState) (is : List ℕ) (r : Renderer714) → length b ≡ size → length is ≡ infos_bytes → (not s.state.initialized || eqb t 0) ≡ new →
+      IsTimed (updates.applied s.clock.position.0 u before) m is → r ≡ restated new s m → IsNext (applied_at hall t (sent t u) (held s b)) b r (changed b is)
+  one_applied new m is r whole long e h q =
       record {
-        holds = record { is = changed_held b is whole long r ∙ rw (q, h.state, h.infos, here) (by_start new _ e refl); long = changed_long b is whole long };
+        holds = record { is = changed_held b is whole long r ∙ rw (q, h.state, h.infos) (by_start new _ e refl); long = changed_long b is whole long };
         small = changed_small b is whole long;
       }
 
@@ -131,28 +130,25 @@ module _ (t : ℕ) (g : ℕ → Sent) (n : ℕ) where
 
 -- ---- along the layout
 
-module _ (m : List ℕ) (l : records.Layout) (t at : ℕ) (all : Renderer Timed) (b₀ : List ℕ) where
+module _ (m : List ℕ) (l : records.Layout) (t : ℕ) (all : Renderer Timed) (b₀ : List ℕ) where
   -- where the walk stands, from the block b₀: the updates from i on lead to `all`
   pub record Standing (i : ℕ) (s : Renderer714) (b : List ℕ) : Type 0 where
     pub long : length b ≡ size
     pub small : small_bytes b ≡ small_bytes b₀
-    pub here : at ≡ s.clock.position.0
     pub left : rest t (sent_at m) l.count i (held s b) ≡ all
 
   module _ (g : IsLayout m l) where
     -- an update more
     pub goes_on :
-        (i : ℕ) (s r : Renderer714) (b c : List ℕ) → i < l.count → offset_at l i ≡ t → Standing i s b →
-        IsNext (applied_at hall t (sent t (update_of m (sent_place l i))) (held s b)) b r c → Standing (i + 1) r c
-    goes_on i s r b c low time h next =
+        (i : ℕ) (s r : Renderer714) (b c m' : List ℕ) (u : ℕ) → i < l.count → offset_at l i ≡ t → Standing i s b → (m' ≡ m) × (u ≡ update_at m i) →
+        IsNext (applied_at hall t (sent t (update_of m' u)) (held s b)) b r c → Standing (i + 1) r c
+    goes_on i s r b c m' u low time h same next =
         let k : i < count m = omega (arith, g.counted) in
         let o : (sent_at m i).offset ≡ t = sym (g.offsets i k) ∙ time in
-        let u : update_of m (sent_place l i) ≡ update_of m (update_at m i) = ap (update_of m) (g.places i k) in
-        let one : held r c ≡ applied_at hall t (sent_at m i) (held s b) = next.holds.is ∙ rw u in
+        let one : held r c ≡ applied_at hall t (sent_at m i) (held s b) = next.holds.is ∙ rw (same.0, same.1) in
         record {
           long = next.holds.long;
           small = next.small ∙ h.small;
-          here = h.here ∙ sym (ap (λ (x : Renderer Timed). x.clock.position) next.holds.is);
           left = rw (add-one, one) (sym (rest_here t (sent_at m) l.count i (held s b) low o) ∙ h.left);
         }
 
@@ -163,7 +159,6 @@ module _ (m : List ℕ) (l : records.Layout) (t at : ℕ) (all : Renderer Timed)
         record {
           long = h.long;
           small = h.small;
-          here = h.here;
           left = rw add-one (sym (rest_past t (sent_at m) l.count i (held s b) low (λ o. off (g.offsets i k ∙ o))) ∙ h.left);
         }
 
@@ -206,5 +201,5 @@ none_applied m l g t s b long h =
     let all = updated hall t (sent_of m) (held s b) in
     let e : 0 + l.count ≡ l.count = omega arith in
     let z = skip t (sent_at m) l.count l.count 0 (held s b) (omega arith) (λ k p q o. h.none k p (omega arith) (g.offsets k (omega (arith, g.counted)) ∙ o)) in
-    ends m l t s.clock.position.0 all b g l.count s b (omega arith)
-    (record { long = long; small = refl; here = refl; left = sym (rw e at z) ∙ from_first m l g t (held s b) })
+    ends m l t all b g l.count s b (omega arith)
+    (record { long = long; small = refl; left = sym (rw e at z) ∙ from_first m l g t (held s b) })

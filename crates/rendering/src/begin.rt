@@ -3,19 +3,18 @@
 
 // What happens before a chunk: the updates at its first sample, in the order sent; the slot that starts there.
 ghost use Rattle.std.specs.Prelude.{◌≡◌, not, ◌||◌, eqb, length};
-ghost use Rattle.records.specs.LayoutAnswers.{IsLayout};
-ghost use Rattle.records.specs.WholeRecords.{WholeUpdate, WholeUpdates};
 ghost use Rattle.updates.specs.Said.{update_of};
 ghost use Rattle.rules.specs.Samples.{applied_at, updated, slotted};
 ghost use Rattle.store.specs.Layout.{size};
 ghost use Rattle.theorem.specs.Instance.{hall, sent_of};
 ghost use Rattle.rendering.specs.Held.{held, Leads};
-ghost use Rattle.rendering.specs.Begin.{CanStart, Starts};
+ghost use Rattle.rendering.specs.Begin.{restated, CanStart, Starts};
 
 use crate::Rendering;
-use clock::{FrameOffset, START, StreamSample};
-use fields::record::Record;
-use records::layout::Layout;
+use clock::{FrameOffset, START};
+use records::metadata::{Metadata, Update};
+use store::renderer::Renderer714;
+use timed::state::MetadataRendererState;
 use updates::update::TimedState;
 
 // Whether an update at offset t starts a new slot.
@@ -25,46 +24,45 @@ fn starts_slot(started: bool, t: FrameOffset) -> bool
     !started || t == START
 }
 
+// The renderer with another timed state, and in a new slot where `new`.
+fn restated(renderer: Renderer714, state: MetadataRendererState, new: bool) -> Renderer714
+    ensures { result ≡ restated new renderer state }
+{
+    let next = renderer.with_state(state);
+    if new { next.begin_slot() } else { next }
+}
+
 impl Rendering {
-    // The update at record u, whose sample offset is t.
-    fn apply_one(
-        mut self,
-        state: &mut [u8],
-        meta: &[u8],
-        u: usize,
-        t: FrameOffset,
-        at: StreamSample,
-    ) -> Rendering
-        requires { (length state.old ≡ size) × (at.0 ≡ self.renderer.clock.position.0) × WholeUpdate meta.now u }
-        ensures { Leads (applied_at hall t.0 (record { offset = t.0; said = update_of meta.now u }) (held self.renderer state.old)) self
-            state.old result state.new }
+    // An update at the present sample, which is sample t of the frame.
+    fn apply_one(self, state: &mut [u8], said: Update<'_>, t: FrameOffset) -> Rendering
+        requires { length state.old ≡ size }
+        ensures { Leads (applied_at hall t.0 (record { offset = t.0; said = update_of said.entry.record.meta.now said.entry.record.place })
+            (held self.renderer state.old)) self state.old result state.new }
     {
         let before = self.renderer.state;
-        let new = starts_slot(before.initialized, t);
         let infos = &mut state[store::INFOS..store::PLACES];
-        let after = TimedState(before).apply_update(infos, Record { meta, place: u }, at);
-        self.renderer = self.renderer.with_state(after.0);
-        if new {
-            self.renderer = self.renderer.begin_slot();
+        let after = TimedState(before).apply_update(infos, said, self.renderer.clock.position);
+        let new = starts_slot(before.initialized, t);
+        Rendering {
+            renderer: restated(self.renderer, after.0, new),
+            ..self
         }
-        self
     }
 
-    // The updates at sample offset t, in the order sent.
+    // The updates at the present sample, which is sample t of the frame, in the order sent.
     pub fn apply_sent(
         mut self,
         state: &mut [u8],
-        meta: &[u8],
-        l: Layout,
+        metadata: Metadata<'_>,
         t: FrameOffset,
-        at: StreamSample,
     ) -> Rendering
-        requires { (length state.old ≡ size) × (at.0 ≡ self.renderer.clock.position.0) × IsLayout meta.now l × WholeUpdates meta.now l }
-        ensures { Leads (updated hall t.0 (sent_of meta.now) (held self.renderer state.old)) self state.old result state.new }
+        requires { length state.old ≡ size }
+        ensures { Leads (updated hall t.0 (sent_of metadata.entry.records.now) (held self.renderer state.old)) self state.old result state.new }
     {
-        for i in 0..l.count {
-            if l.sent[i].offset == t {
-                self = self.apply_one(state, meta, l.sent[i].place, t, at);
+        for i in 0..metadata.layout.count {
+            let sent = metadata.layout.sent[i];
+            if sent.offset == t {
+                self = self.apply_one(state, metadata.update(i), t);
             }
         }
         self

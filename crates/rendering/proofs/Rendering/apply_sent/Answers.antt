@@ -12,8 +12,8 @@ use Rattle.rendering.proofs.Rendering.apply_sent.Goals.{then-eq, else-eq}
 pub loop-i-init : goal.loop-i-init
 loop-i-init c =
     let s = c.args in
-    let p = c.requires in (
-      record { long = p.0; small = refl; here = p.1; left = from_first s.meta.now s.l p.2 s.t.0 (held s.self.renderer s.state.now) },
+    let d = s.metadata in (
+      record { long = c.requires; small = refl; left = from_first d.records.now d.layout d.laid s.t.0 (held s.self.renderer s.state.now) },
       refl,
       refl,
     )
@@ -21,19 +21,20 @@ loop-i-init c =
 pub loop-i-preserved : goal.loop-i-preserved
 loop-i-preserved c =
     let s = c.args in
+    let d = s.metadata in
     let l = c.loop-i in
-    let all = updated hall s.t.0 (sent_of s.meta.now) (held s.self.renderer s.state.now) in
+    let all = updated hall s.t.0 (sent_of d.records.now) (held s.self.renderer s.state.now) in
     elim c.if-eq.branch [
       | then-eq w ↦
           let u = w.apply_one-self.ensures in
           rw (w.self-is, w.state-is) (
-            goes_on s.meta.now s.l s.t.0 s.at.0 all s.state.now c.requires.2 l.i l.self.renderer w.apply_one-self.result.renderer l.state w.apply_one-self.new.state
-                (omega (arith, c.loop-i-test.true)) (eqb-true _ _ (sym c.eq.ensures ∙ w.if-eq.true)) l.invariant.0 u.next,
+            goes_on d.records.now d.layout s.t.0 all s.state.now d.laid l.i l.self.renderer w.apply_one-self.result.renderer l.state w.apply_one-self.new.state _ _
+                (omega (arith, c.loop-i-test.true)) (eqb-true _ _ (sym c.eq.ensures ∙ w.if-eq.true)) l.invariant.0 w.update.ensures u.next,
             u.ready ∙ l.invariant.1,
             u.meters ∙ l.invariant.2,
           )
       | else-eq w ↦ rw (w.self-is, w.state-is) (
-        passes s.meta.now s.l s.t.0 s.at.0 all s.state.now c.requires.2 l.i l.self.renderer l.state (omega (arith, c.loop-i-test.true))
+        passes d.records.now d.layout s.t.0 all s.state.now d.laid l.i l.self.renderer l.state (omega (arith, c.loop-i-test.true))
             (eqb-false _ _ (sym c.eq.ensures ∙ w.if-eq.false)) l.invariant.0,
         l.invariant.1,
         l.invariant.2,
@@ -41,22 +42,19 @@ loop-i-preserved c =
     ]
 
 pub apply_one-self-requires : goal.apply_one-self-requires
-apply_one-self-requires c = (
-  c.loop-i.invariant.0.long,
-  c.loop-i.invariant.0.here,
-  c.requires.3.all c.loop-i.i (omega (arith, c.loop-i-test.true)),
-)
+apply_one-self-requires c = c.loop-i.invariant.0.long
 
 pub shape_of-state : goal.shape_of-state
-shape_of-state c = c.loop-i.invariant.0.long ∙ sym c.requires.0
+shape_of-state c = c.loop-i.invariant.0.long ∙ sym c.requires
 
 pub returns : goal.returns
 returns c =
     let s = c.args in
+    let d = s.metadata in
     let l = c.loop-i in
     record {
-      next = ends s.meta.now s.l s.t.0 s.at.0 (updated hall s.t.0 (sent_of s.meta.now) (held s.self.renderer s.state.now)) s.state.now
-          c.requires.2 l.i l.self.renderer l.state (omega (arith, c.loop-i-test.false)) l.invariant.0;
+      next = ends d.records.now d.layout s.t.0 (updated hall s.t.0 (sent_of d.records.now) (held s.self.renderer s.state.now)) s.state.now
+          d.laid l.i l.self.renderer l.state (omega (arith, c.loop-i-test.false)) l.invariant.0;
       ready = l.invariant.1;
       meters = l.invariant.2;
     }

@@ -7,5 +7,8 @@ use Rattle.rendering.proofs.Begins.{Standing}
 use Rattle.rendering.proofs.Rendering.apply_sent.Given as goal
 
 abbrev pub invariant-loop-i : goal.invariant-loop-i
-invariant-loop-i l = Standing l.meta l.l l.t.0 l.at.0 (updated hall l.t.0 (sent_of l.meta) (held l.initial.self.renderer l.initial.state)) l.initial.state l.i
-    l.self.renderer l.state × (l.self.ready ≡ l.initial.self.ready) × (l.self.meters ≡ l.initial.self.meters)
+invariant-loop-i l =
+    let m = l.metadata.records.now in
+    Standing m l.metadata.layout l.t.0 (updated hall l.t.0 (sent_of m) (held l.initial.self.renderer l.initial.state)) l.initial.state l.i l.self.renderer l.state
+    × (l.self.ready ≡ l.initial.self.ready)
+    × (l.self.meters ≡ l.initial.self.meters)
