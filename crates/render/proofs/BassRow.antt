@@ -9,7 +9,7 @@ use lib.Dec.{eqb, ltb}
 use lib.ListN.{length, get_or, take, drop}
 use lib.Ieee.{Float, nan}
 use Rattle.mixing.specs.Part.{on_part}
-use Rattle.mixing.proofs.Parts.{length_part, part_same, part_earlier, part_later, part_before, part_past}
+use Rattle.mixing.proofs.Parts.{part_same, part_earlier, part_later, part_before, part_past}
 use Rattle.lowpass.specs.Lowpass.{output, next, filtered, after_all}
 use Rattle.lowpass.specs.declared.BiquadLowpassState.{BiquadLowpassState}
 use Rattle.rules.specs.Mix.{Moment, heard, fed}
@@ -34,10 +34,10 @@ module _ (m : ℕ → Moment) where
       ap (λ (l : List Float). heard (m t) c ∷ l) (other (next low (fed (m t))) c (suc t) k e)
       ∙ ap (λ (b : Bool). cond b (output low (fed (m t)) ∷ []) (heard (m t) c ∷ []) ++ row_run m (next low (fed (m t))) c (suc t) k) (sym e)
 
-  module _ (low : BiquadLowpassState) (t k : ℕ) (rows new : List Float) (last : BiquadLowpassState) (h : Heard m t k rows) (short : k ≤ 64)
+  module _ (low : BiquadLowpassState) (t k : ℕ) (rows new : List Float) (last : BiquadLowpassState) (long : length rows ≡ 768) (h : Heard m t k rows) (short : k ≤ 64)
       (p : new ≡ on_part (filtered low) 192 k rows) (q : last ≡ after_all low (take k (drop 192 rows))) where
     room : 192 + k ≤ length rows
-    room = let w = h.whole in omega arith
+    room = omega arith
 
     column_of : (c : ℕ) → c < 12 → take k (drop (64 * c) (on_part (filtered low) 192 k rows)) ≡ row_run m low c t k
     column_of c l = go (eqb c 3) refl (ltb c 3) refl
@@ -67,7 +67,6 @@ module _ (m : ℕ → Moment) where
 
     pub passed : Passed m low t k new last
     passed = record {
-      whole = ap length p ∙ length_part (filtered low) (length_filtered low) 192 k rows room ∙ h.whole;
       columns = λ c l. ap (λ (os : List Float). take k (drop (64 * c) os)) p ∙ column_of c l;
       rest = λ c i l a b. ap (λ (os : List Float). get_or os (64 * c + i) nan) p ∙ beside (64 * c + i) (λ r. omega arith) ∙ h.rest c i l a b;
       filter = q ∙ ap (after_all low) (h.columns 3 (omega arith)) ∙ after low t k;

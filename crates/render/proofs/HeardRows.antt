@@ -47,9 +47,12 @@ silent_long = length-replicate place_count 0·0
 
 -- ---- beds and objects
 
-module _ (pcm : List ℕ) (s : Span) (short : s.count ≤ 64) where
+module _ (pcm : List ℕ) (s : Span) where
   abbrev k : ℕ
   k = s.count
+
+  short : k ≤ 64
+  short = s.short
 
   -- channel j at the run's sample i
   abbrev input : ℕ → ℕ → Float
@@ -140,8 +143,4 @@ module _ (pcm : List ℕ) (s : Span) (short : s.count ≤ 64) where
     pub run_heard : {rows : List Float} → rows ≡ mixed_objects pcm s (length codes) objects (mixed_beds pcm s codes beds silent_rows) → Heard at s.first k rows
     run_heard {rows} p =
         let g = subst (Adds k terms silent_rows) (sym p) run_adds in
-        record {
-          whole = g.whole;
-          columns = run_columns rows g;
-          rest = λ c i l m o. g.past c i l m o ∙ silent_at c i l o;
-        }
+        record { columns = run_columns rows g; rest = λ c i l m o. g.past c i l m o ∙ silent_at c i l o }

@@ -8,7 +8,5 @@ pub use Rattle.render.proofs.BassRow.{passed}
 pub use Rattle.render.proofs.SameHeard.{filter_as, run_as}
 -- the beds and the objects of a table with its count, as the hall's instance lists them
 pub use Rattle.render.proofs.ListedScenes.{beds_each, sources_each}
--- PCM that suffices for more channels suffices for fewer
-pub use Rattle.render.proofs.ChannelRows.{fewer}
 -- rows written behind the pending samples are `laid` there, and the block keeps its length
 pub use Rattle.render.proofs.Behind.{Fit, append_laid, length_channels}

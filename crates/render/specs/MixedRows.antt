@@ -1,15 +1,16 @@
 -- A reader may skip this file: what the code leaves in twelve rows of 64 places, row c from place 64 × c on, term after term. At each place that is the sum of the terms on its
 -- channel (`adds_terms`). Assumes nothing.
-use Rattle.std.specs.Prelude.{ℕ, zero, suc, ◌*◌, ◌≤◌, ◌<◌, ◌≡◌, List, [], ◌∷◌, length, get_or, Float}
-use Rattle.formats.specs.Areas.{row_places, place_count}
+use Rattle.std.specs.Prelude.{ℕ, zero, suc, ◌*◌, ◌<◌, List, [], ◌∷◌, T, length, get_or, Float}
+use Rattle.std.specs.Float.{binary32, nan}
+use Rattle.std.specs.Float.Ieee.{fits}
+use Rattle.formats.specs.Areas.{row_places}
 use Rattle.mixing.specs.Mixing.{mixed_full}
 use Rattle.mixing.specs.Part.{on_part}
 use Rattle.panning.specs.Terms.{Term}
 
--- at most a row of samples, and all rows
-pub record Sized (xs os : List Float) : Type 0 where
-  pub short : length xs ≤ row_places
-  pub whole : length os ≡ place_count
+-- each is an f32
+abbrev pub AreFloats : List Float → Type 0
+AreFloats os = (i : ℕ) → T (fits binary32 (get_or os i nan))
 
 -- the channels are among the twelve
 abbrev pub AmongTwelve : List ℕ → Type 0

@@ -1,8 +1,7 @@
 -- A reader may skip this file: how the code mixes the beds and the objects of a run into the rows, each with its samples out of the frame's PCM. Channel by channel that is
 -- `heard` of the rules (`run_heard`). Assumes nothing.
-use Rattle.std.specs.Prelude.{ℕ, suc, ◌+◌, ◌*◌, ◌≤◌, List, [], ◌∷◌, length, Float, Option, Some, None}
+use Rattle.std.specs.Prelude.{ℕ, suc, ◌+◌, ◌*◌, List, [], ◌∷◌, Float, Option, Some, None}
 use Rattle.mixing.specs.FrameSamples.{samples}
-use Rattle.mixing.specs.SampleBits.{Plain}
 use Rattle.beds.specs.declared.Route.{Route}
 use Rattle.beds.specs.declared.Route.TheVariants.{Bass, Folded, Direct, Unsupported}
 use Rattle.beds.specs.Routes.{route_of, bass_gain}
@@ -30,11 +29,6 @@ bed_terms b = route_terms (route_of b.code) b.code b.gain
 -- where the run's samples of channel i start
 abbrev pub channel_start : Span → ℕ → ℕ
 channel_start s i = 4 * (i * s.frame + s.first)
-
--- they are there, and none is a NaN
-pub record Reached (pcm : List ℕ) (s : Span) (i : ℕ) : Type 0 where
-  pub room : channel_start s i + 4 * s.count ≤ length pcm
-  pub plain : Plain pcm (channel_start s i) s.count
 
 module _ (pcm : List ℕ) (s : Span) where
   abbrev pub channel_row : ℕ → List Float

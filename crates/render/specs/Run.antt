@@ -2,7 +2,6 @@
 use Rattle.std.specs.Prelude.{ℕ, zero, suc, ◌+◌, ◌*◌, ◌≤◌, ◌<◌, ◌≡◌, List, [], ◌∷◌, ◌++◌, map, length, get_or, take, drop, replicate, Float}
 use Rattle.std.specs.Float.{nan}
 use Rattle.formats.specs.Areas.{row_count, row_places, place_count}
-use Rattle.mixing.specs.SampleBits.{Plain}
 use Rattle.lowpass.specs.Lowpass.{next}
 use Rattle.lowpass.specs.declared.BiquadLowpassState.{BiquadLowpassState}
 use Rattle.panning.specs.Setup.{built_in}
@@ -12,28 +11,17 @@ use Rattle.rules.specs.Leaves.{Source, Bed}
 use Rattle.rules.specs.Mix.{sample_at, samples_at, Moment, heard, fed}
 use Rattle.rules.specs.Samples.{row}
 use Rattle.render.specs.declared.Scene.{Scene}
-use Rattle.render.specs.declared.Span.{Span}
 
 -- ---- what is asked
-
--- PCM of m channels, none of whose samples is a NaN, of which a run takes a span of at most 64
-pub record Framed (pcm : List ℕ) (m : ℕ) (s : Span) : Type 0 where
-  pub room : 4 * (m * s.frame) ≤ length pcm
-  pub plain : Plain pcm 0 (m * s.frame)
-  pub span : s.first + s.count ≤ s.frame
-  pub short : s.count ≤ row_places
 
 -- twelve rows of +0.0
 unfoldable pub silent_rows : List Float
 silent_rows = replicate place_count 0·0
 
--- PCM for the frame's inputs and the objects that sound, rows in which nothing sounds yet, and no count above what its table holds
-pub record CanMix (pcm codes : List ℕ) (scene : Scene) (s : Span) (rows : List Float) : Type 0 where
-  pub framed : Framed pcm (length codes + scene.objects) s
+-- no more objects than the frame has, and rows in which nothing sounds yet
+pub record CanMix (objects : ℕ) (scene : Scene) (rows : List Float) : Type 0 where
+  pub sources : length scene.sources.now ≤ objects
   pub silent : rows ≡ silent_rows
-  pub inputs : length codes ≤ 18
-  pub beds : scene.beds ≤ 18
-  pub objects : scene.objects ≤ 16
 
 -- ---- the beds and the objects of a scene, as the rules list them
 
@@ -72,7 +60,7 @@ moment_of beds objects codes pcm n t =
     }
 
 abbrev pub scene_at : Scene → List ℕ → List ℕ → ℕ → ℕ → Moment
-scene_at s = moment_of (beds_of s.beds s.codes s.gains) (sources_of s.objects s.sources)
+scene_at s = moment_of (zipped s.codes.now s.gains.now) (map plain_source s.sources.now)
 
 -- ---- what is left: before the low-pass
 
@@ -83,7 +71,6 @@ column m c t (suc k) = heard (m t) c ∷ column m c (suc t) k
 
 -- Twelve rows of 64 places, row c from place 64 × c on: each starts with its column, and +0.0 follows.
 pub record Heard (m : ℕ → Moment) (t k : ℕ) (rows : List Float) : Type 0 where
-  pub whole : length rows ≡ place_count
   pub columns : (c : ℕ) → c < row_count → take k (drop (row_places * c) rows) ≡ column m c t k
   pub rest : (c i : ℕ) → c < row_count → k ≤ i → i < row_places → get_or rows (row_places * c + i) nan ≡ 0·0
 
@@ -101,7 +88,6 @@ row_run m low c t (suc k) = row (m t) low c ++ row_run m (next low (fed (m t))) 
 
 -- What a run leaves: the rows, each with +0.0 past its k samples, and the filter.
 pub record Passed (m : ℕ → Moment) (low : BiquadLowpassState) (t k : ℕ) (rows : List Float) (after : BiquadLowpassState) : Type 0 where
-  pub whole : length rows ≡ place_count
   pub columns : (c : ℕ) → c < row_count → take k (drop (row_places * c) rows) ≡ row_run m low c t k
   pub rest : (c i : ℕ) → c < row_count → k ≤ i → i < row_places → get_or rows (row_places * c + i) nan ≡ 0·0
   pub filter : after ≡ filter_after m low t k

@@ -1,12 +1,21 @@
 // One run of at most 64 samples, within which no update falls and no slot starts: the beds and the objects mixed into twelve rows of 64 places.
 #![tactic(auto)]
 
+ghost use Rattle.std.specs.Prelude.{◌≡◌, ◌+◌, ◌≤◌, length};
+ghost use Rattle.formats.specs.Areas.{row_places};
+ghost use Rattle.render.specs.Framed.{Framed};
+
 pub mod places;
 pub mod run;
 mod sources;
 mod terms;
 
+use beds::Codes;
+use formats::areas;
 use timed::state::DynamicSourceState;
+
+// Twelve rows of 64 places, row c from place 64 c on.
+pub type Rows = [f32; areas::PLACE_COUNT];
 
 // The samples of a run: of a frame with `frame` samples a channel the `count` from `first` on.
 #[derive(Clone, Copy)]
@@ -14,22 +23,26 @@ pub struct Span {
     pub frame: usize,
     pub first: usize,
     pub count: usize,
+    ghost within: { first + count ≤ frame },
+    ghost short: { count ≤ row_places },
 }
 
 // What a run is fed with: the samples of a frame's PCM, beds then objects, and the codes of its beds.
 #[derive(Clone, Copy)]
 pub struct Input<'a> {
     pub pcm: &'a [u8],
-    pub codes: &'a [u8],
+    pub codes: Codes<'a>,
+    pub objects: usize,
     pub span: Span,
+    ghost few: { objects ≤ 16 },
+    ghost framed: { Framed pcm.now (length codes.list.now + objects) span.frame },
 }
 
-// What sounds in a run: the beds' codes and gains, and the objects. Tables with counts beside them, codes and gains apart, as in the state's block: specs can make no scene of lent slices.
+// What sounds in a run: the beds' codes and gains, and the objects.
 #[derive(Clone, Copy)]
-pub struct Scene {
-    pub codes: [u8; 18],
-    pub gains: [f32; 18],
-    pub beds: usize,
-    pub sources: [DynamicSourceState; 16],
-    pub objects: usize,
+pub struct Scene<'a> {
+    pub codes: &'a [u8],
+    pub gains: &'a [f32],
+    pub sources: &'a [DynamicSourceState],
+    ghost paired: { length codes.now ≡ length gains.now },
 }

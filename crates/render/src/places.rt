@@ -1,11 +1,14 @@
 // The rows of a run in the places of a state block: a row for each channel.
 ghost use Rattle.std.specs.Prelude.{◌≡◌, ◌+◌, ◌*◌, ◌≤◌, length};
-ghost use Rattle.formats.specs.Areas.{row_count, row_places, row_bytes, place_count, places_bytes};
+ghost use Rattle.formats.specs.Areas.{row_count, row_places, row_bytes, places_bytes};
 ghost use Rattle.limiter.specs.ChannelPlaces.{channels, with_floats, with_channels};
+ghost use Rattle.render.specs.MixedRows.{AreFloats};
 
+use crate::Rows;
 use formats::areas;
 
 // The samples written from `at` on. `limiter::places::scale_slice_into` times a gain: one function for both would take a closure, and say by `post` what a sample becomes.
+#[tactic(auto, using(crate::proofs::WrittenRows::store_start, crate::proofs::WrittenRows::store_step, crate::proofs::WrittenRows::store_done))]
 fn store_samples(samples: &[f32], places: &mut [u8], at: usize)
     requires { at + 4 * length samples.now ≤ length places.old }
     ensures { places.new ≡ with_floats places.old at samples.now }
@@ -15,15 +18,17 @@ fn store_samples(samples: &[f32], places: &mut [u8], at: usize)
     }
 }
 
-// The first k places of each row behind the pending samples of its channel.
-pub fn append_rows(rows: &[f32], places: &mut [u8], pending: usize, k: usize)
-    requires { (length rows.now ≡ place_count) × (length places.old ≡ places_bytes) × (pending + k ≤ row_places) }
-    ensures { places.new ≡ with_channels (channels row_count k rows.now) row_bytes (4 * pending) places.old }
+// The first k places of each row behind the pending samples of its channel. That the rows are f32s, which a slice says and an array does not, is what lets them be read back.
+#[tactic(auto, using(crate::proofs::WrittenRows::channel_step), unfolding(limiter::specs::ChannelPlaces::channels, limiter::specs::ChannelPlaces::with_channels))]
+pub fn append_rows(rows: &Rows, places: &mut [u8], pending: usize, k: usize)
+    requires { (length places.old ≡ places_bytes) × (pending + k ≤ row_places) }
+    ensures { (places.new ≡ with_channels (channels row_count k rows.now) row_bytes (4 * pending) places.old) × AreFloats rows.now }
 {
+    let list = rows.as_slice();
     for c in 0..areas::ROW_COUNT {
         let from = areas::ROW_PLACES * c;
         store_samples(
-            &rows[from..from + k],
+            &list[from..from + k],
             places,
             areas::ROW_BYTES * c + 4 * pending,
         );

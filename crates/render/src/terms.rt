@@ -2,11 +2,13 @@
 // Translated from libstarmine_ad render.rs; changed.
 
 // The terms of one source, mixed one after another into twelve rows of 64 places.
-ghost use Rattle.std.specs.Prelude.{◌≡◌, ◌-◌, ◌<◌, ◌≤◌};
+ghost use Rattle.std.specs.Prelude.{◌≡◌, ◌-◌, ◌<◌, ◌≤◌, length};
+ghost use Rattle.formats.specs.Areas.{row_places};
 ghost use Rattle.panning.specs.Speakers.{full_range, terms714};
 ghost use Rattle.panning.specs.Terms.{term, paired, spread};
-ghost use Rattle.render.specs.MixedRows.{Sized, AmongTwelve, up_from, mixed_term, mixed_terms};
+ghost use Rattle.render.specs.MixedRows.{AmongTwelve, up_from, mixed_term, mixed_terms};
 
+use crate::Rows;
 use formats::areas;
 use panning::Panned;
 use vectors::Vec3;
@@ -14,52 +16,61 @@ use vectors::Vec3;
 // The bass channel.
 pub const BASS: usize = 3;
 
-// One term: the row's part from its start is lent.
-pub fn mix_term(rows: &mut [f32], samples: &[f32], channel: usize, gain: f32)
-    requires { Sized samples.now rows.old × (channel < 12) }
-    ensures { rows.new ≡ mixed_term samples.now (term channel gain) rows.old }
-{
-    mixing::mix_segment(samples, rows, areas::ROW_PLACES * channel, gain);
+// A source's samples in a run: at most a row of them.
+#[derive(Clone, Copy)]
+pub struct Samples<'a> {
+    pub list: &'a [f32],
+    ghost short: { length list.now ≤ row_places },
 }
 
-// The same gain on the channels of a range.
-fn mix_range(rows: &mut [f32], samples: &[f32], from: usize, to: usize, gain: f32)
-    requires { Sized samples.now rows.old × (from ≤ to) × (to ≤ 12) }
-    ensures { rows.new ≡ mixed_terms samples.now (spread (up_from from (to - from)) gain) rows.old }
-{
-    for c in from..to {
-        mix_term(rows, samples, c, gain);
+impl Samples<'_> {
+    // One term: the row's part from its start is lent.
+    #[tactic(auto, unfolding(crate::specs::MixedRows::mixed_term))]
+    pub fn mix_term(self, rows: &mut Rows, channel: usize, gain: f32)
+        requires { channel < 12 }
+        ensures { rows.new ≡ mixed_term self.entry.list.now (term channel gain) rows.old }
+    {
+        mixing::mix_segment(self.list, rows, areas::ROW_PLACES * channel, gain);
     }
-}
 
-// What the size adds: the same gain on every channel but 3.
-fn mix_spread(rows: &mut [f32], samples: &[f32], gain: f32)
-    requires { Sized samples.now rows.old }
-    ensures { rows.new ≡ mixed_terms samples.now (spread full_range gain) rows.old }
-{
-    if gain == 0.0 {
-        return;
+    // The same gain on the channels of a range.
+    fn mix_range(self, rows: &mut Rows, from: usize, to: usize, gain: f32)
+        requires { (from ≤ to) × (to ≤ 12) }
+        ensures { rows.new ≡ mixed_terms self.entry.list.now (spread (up_from from (to - from)) gain) rows.old }
+    {
+        for c in from..to {
+            self.mix_term(rows, c, gain);
+        }
     }
-    mix_range(rows, samples, 0, BASS, gain);
-    mix_range(rows, samples, BASS + 1, areas::ROW_COUNT, gain);
-}
 
-// The eight corners in order.
-fn mix_corners(rows: &mut [f32], samples: &[f32], p: &Panned)
-    requires { Sized samples.now rows.old × AmongTwelve p.now.corners }
-    ensures { rows.new ≡ mixed_terms samples.now (paired p.now.corners p.now.coefficients) rows.old }
-{
-    for j in 0..8 {
-        mix_term(rows, samples, p.corners[j], p.coefficients[j]);
+    // What the size adds: the same gain on every channel but 3.
+    #[tactic(auto, using(crate::proofs::MixedTerms::term_none))]
+    fn mix_spread(self, rows: &mut Rows, gain: f32)
+        ensures { rows.new ≡ mixed_terms self.entry.list.now (spread full_range gain) rows.old }
+    {
+        if gain == 0.0 {
+            return;
+        }
+        self.mix_range(rows, 0, BASS, gain);
+        self.mix_range(rows, BASS + 1, areas::ROW_COUNT, gain);
     }
-}
 
-// A source at a place: panned once, then the size's part and the corners.
-pub fn mix_object(rows: &mut [f32], samples: &[f32], place: Vec3, gain: f32, size: f32)
-    requires { Sized samples.now rows.old }
-    ensures { rows.new ≡ mixed_terms samples.now (terms714 place gain size) rows.old }
-{
-    let p = panning::pan(place, gain, size);
-    mix_spread(rows, samples, p.extra);
-    mix_corners(rows, samples, &p);
+    // The eight corners in order.
+    fn mix_corners(self, rows: &mut Rows, p: &Panned)
+        requires { AmongTwelve p.now.corners }
+        ensures { rows.new ≡ mixed_terms self.entry.list.now (paired p.now.corners p.now.coefficients) rows.old }
+    {
+        for j in 0..8 {
+            self.mix_term(rows, p.corners[j], p.coefficients[j]);
+        }
+    }
+
+    // A source at a place: panned once, then the size's part and the corners.
+    pub fn mix_object(self, rows: &mut Rows, place: Vec3, gain: f32, size: f32)
+        ensures { rows.new ≡ mixed_terms self.entry.list.now (terms714 place gain size) rows.old }
+    {
+        let p = panning::pan(place, gain, size);
+        self.mix_spread(rows, p.extra);
+        self.mix_corners(rows, &p);
+    }
 }

@@ -3,12 +3,9 @@ use Rattle.render.specs.Run.{scene_at}
 use Rattle.render.proofs.BassRow.{passed}
 use Rattle.render.proofs.run.pass_run.Goals as goal
 
-pub filter_bass-requires : goal.filter_bass-requires
-filter_bass-requires c = (c.mix_run.ensures.whole, c.requires.framed.short)
-
 pub returns : goal.returns
 returns c =
-    let a = c.args in
+    let i = c.args.input in
     let f = c.filter_bass in
-    passed (scene_at a.scene.now a.input.codes.now a.input.pcm.now a.input.span.frame) a.filter.now a.input.span.first a.input.span.count
-    c.mix_run.new.rows f.new.rows f.new.filter c.mix_run.ensures c.requires.framed.short f.ensures.1 f.ensures.0
+    passed (scene_at c.args.scene.now i.codes.list.now i.pcm.now i.span.frame) c.args.filter.now i.span.first i.span.count
+    c.mix_run.new.rows f.new.rows f.new.filter c.mix_run.array_long c.mix_run.ensures i.span.short f.ensures.1 f.ensures.0
