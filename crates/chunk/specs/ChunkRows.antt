@@ -3,12 +3,12 @@ use Rattle.std.specs.Prelude.{ℕ, ◌*◌, ◌≡◌, cond, List, length, take,
 use Rattle.timed.specs.declared.state.MetadataRendererState.{MetadataRendererState}
 use Rattle.rules.specs.Parts.{laid}
 use Rattle.store.specs.Layout.{infos_at, size, infos_of, places_of}
-use Rattle.render.specs.declared.Scene.{Scene}
+use Rattle.rules.specs.Mix.{Moment}
+use Rattle.render.specs.Run.{beds_of, sources_of, moment_of}
 
 -- "Samples before the first update are silent": what sounds of a timed state, of whose objects the first are those of the frame
-abbrev pub scene_of : MetadataRendererState → ℕ → Scene
-scene_of m objects =
-    record { codes = m.codes; gains = m.gains; beds = cond m.initialized m.beds 0; sources = m.sources; objects = cond m.initialized objects 0 }
+abbrev pub sounding : MetadataRendererState → ℕ → List ℕ → List ℕ → ℕ → ℕ → Moment
+sounding m objects = moment_of (beds_of (cond m.initialized m.beds 0) m.codes m.gains) (sources_of (cond m.initialized objects 0) m.sources)
 
 -- the first bytes of a block, where its small part stands between calls
 abbrev pub small_bytes : List ℕ → List ℕ

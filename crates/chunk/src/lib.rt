@@ -5,13 +5,13 @@
 #![tactic(auto)]
 
 ghost use Rattle.std.specs.Prelude.{◌≡◌, cond, ◌+◌, ◌≤◌, length};
-ghost use Rattle.formats.specs.Areas.{row_places, place_count};
-ghost use Rattle.render.specs.Run.{Framed, silent_rows, scene_at, Passed};
+ghost use Rattle.formats.specs.Areas.{row_places};
+ghost use Rattle.render.specs.Run.{silent_rows, Passed};
 ghost use Rattle.store.specs.Layout.{size};
-ghost use Rattle.chunk.specs.ChunkRows.{scene_of, Laid};
+ghost use Rattle.chunk.specs.ChunkRows.{sounding, Laid};
 
 use lowpass::BiquadLowpassState;
-use render::{Input, Scene};
+use render::{Input, Rows, Scene};
 use timed::state::MetadataRendererState;
 
 // A count, or none before the first update: the flag chooses a number and no step.
@@ -25,27 +25,26 @@ fn audible(started: bool, count: usize) -> usize
 pub fn mix(
     m: &MetadataRendererState,
     filter: &mut BiquadLowpassState,
-    rows: &mut [f32],
+    rows: &mut Rows,
     input: Input,
-    objects: usize,
 )
-    requires { Framed input.pcm.now (length input.codes.now + objects) input.span × (rows.old ≡ silent_rows) × (length input.codes.now ≤ 18) × (m.now.beds ≤ 18) × (objects ≤ 16) }
-    ensures { Passed (scene_at (scene_of m.now objects) input.entry.codes.now input.entry.pcm.now input.entry.span.frame) filter.old
+    requires { (rows.old ≡ silent_rows) × (m.now.beds ≤ 18) }
+    ensures { Passed (sounding m.now input.entry.objects input.entry.codes.list.now input.entry.pcm.now input.entry.span.frame) filter.old
         input.entry.span.first input.entry.span.count rows.new filter.new }
 {
+    let beds = audible(m.initialized, m.beds);
+    let objects = audible(m.initialized, input.objects);
     let scene = Scene {
-        codes: m.codes,
-        gains: m.gains,
-        beds: audible(m.initialized, m.beds),
-        sources: m.sources,
-        objects: audible(m.initialized, objects),
+        codes: &m.codes[..beds],
+        gains: &m.gains[..beds],
+        sources: &m.sources[..objects],
     };
     render::run::pass_run(rows, input, &scene, filter);
 }
 
 // The rows' first k places behind the pending samples of the block.
-pub fn lay(state: &mut [u8], rows: &[f32], pending: usize, k: usize)
-    requires { (length state.old ≡ size) × (length rows.now ≡ place_count) × (pending + k ≤ row_places) }
+pub fn lay(state: &mut [u8], rows: &Rows, pending: usize, k: usize)
+    requires { (length state.old ≡ size) × (pending + k ≤ row_places) }
     ensures { Laid rows.now pending k state.old state.new }
 {
     render::places::append_rows(rows, &mut state[store::PLACES..], pending, k);
