@@ -3,7 +3,7 @@
 
 // The limiter over bytes: from the places of a state block to the output.
 ghost use Rattle.std.specs.Prelude.{◌≡◌, ◌+◌, ◌*◌, ◌≤◌, length};
-ghost use Rattle.formats.specs.Areas.{row_count, row_places, place_count, places_bytes};
+ghost use Rattle.formats.specs.Areas.{row_count, row_places, places_bytes};
 ghost use Rattle.limiter.specs.Limiter.{scaled, scaled_block};
 ghost use Rattle.limiter.specs.ChannelPlaces.{floats_at, with_floats, channels, overlaid, channels_at, with_channels};
 
@@ -47,9 +47,16 @@ pub fn load_block(places: &[u8], taken: Taken, block: &mut [f32; areas::PLACE_CO
     }
 }
 
-// The block times the gain, channel c at `to` + c x `step`. The block is a slice: `rendering` has its rows as one, and would have to test their number.
-pub fn store_block(block: &[f32], taken: Taken, gain: f32, out: &mut [u8], step: usize, to: usize)
-    requires { (length block.now ≡ place_count) × (to + 4 * taken.samples ≤ step) × (row_count * step ≤ length out.old) }
+// The block times the gain, channel c at `to` + c x `step`.
+pub fn store_block(
+    block: &[f32; areas::PLACE_COUNT],
+    taken: Taken,
+    gain: f32,
+    out: &mut [u8],
+    step: usize,
+    to: usize,
+)
+    requires { (to + 4 * taken.samples ≤ step) × (row_count * step ≤ length out.old) }
     ensures { out.new ≡ with_channels (scaled_block gain (channels row_count taken.samples block.now)) step to out.old }
 {
     for c in 0..areas::ROW_COUNT {

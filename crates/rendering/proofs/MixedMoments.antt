@@ -17,9 +17,9 @@ use Rattle.theorem.specs.Instance.{Sent, hall}
 use Rattle.store.specs.declared.renderer.Renderer714.{Renderer714}
 use Rattle.store.specs.Layout.{infos_of}
 use Rattle.store.specs.Steps.{settled_by}
-use Rattle.render.specs.Run.{bed_with, beds_of, plain_source, sources_of, moment_of, scene_at, Passed}
+use Rattle.render.specs.Run.{bed_with, beds_of, plain_source, sources_of, moment_of, Passed}
 use Rattle.render.proofs.Theorems.{beds_each, sources_each, filter_as, run_as}
-use Rattle.chunk.specs.ChunkRows.{scene_of}
+use Rattle.chunk.specs.ChunkRows.{sounding}
 use Rattle.rendering.specs.declared.Rendering.{Rendering}
 use Rattle.rendering.specs.Pass as pass
 use Rattle.rendering.specs.Pass.{frame_with, Waits}
@@ -29,10 +29,6 @@ pub record Full (m : MetadataRendererState) (objects : ℕ) : Type 0 where
   pub codes : m.beds ≤ length m.codes
   pub gains : m.beds ≤ length m.gains
   pub sources : objects ≤ length m.sources
-
--- what is mixed: nothing before the first update
-abbrev pub mixed : MetadataRendererState → List ℕ → ℕ → List ℕ → ℕ → ℕ → Moment
-mixed m codes objects = scene_at (scene_of m objects) codes
 
 module _ (codes pcm : List ℕ) (objects n t c : ℕ) where
   -- the same beds and objects, each with its own sample
@@ -65,7 +61,7 @@ module _ (codes pcm : List ℕ) (objects n t c : ℕ) where
 -- the moments that `mix` hears
 pub same_heard : (rate : ℕ) (us : List Sent) (codes pcm : List ℕ) (objects n : ℕ) (s : Renderer714) (b : List ℕ) → Full s.state objects
     → (s.state.initialized ≡ true → s.state.objects - s.state.isf ≡ objects)
-    → (t c : ℕ) → heard (mixed s.state codes objects pcm n t) c
+    → (t c : ℕ) → heard (sounding s.state objects codes pcm n t) c
     ≡ heard (moment hall (frame_with rate us codes objects pcm n) t built_in (record { state = s.state; infos = infos_of b })) c
 same_heard rate us codes pcm objects n s b h d t c = mixed_heard codes pcm objects n t c s.state.initialized s.state h d
 
@@ -76,7 +72,6 @@ pub waits : (f : Frame Sent) (t k : ℕ) (w : Rendering) (b : List ℕ) (m : ℕ
 waits f t k w b m same ys low p e =
     let here = pass.moment_here f t k w.renderer b in
     record {
-      whole = p.whole;
       columns = λ c l. p.columns c l ∙ run_as m here same w.renderer.filter c t k;
       rest = p.rest;
       renderer = e ∙ ap (λ (f : BiquadLowpassState). settled_by w.renderer f k) (p.filter ∙ filter_as m here same w.renderer.filter t k);

@@ -2,7 +2,7 @@
 use Rattle.std.specs.Prelude.{ℕ, ◌+◌, ◌*◌, ◌≤◌, ◌≡◌, List, T, length, get_or, Float}
 use Rattle.std.specs.Float.{binary32, nan}
 use Rattle.std.specs.Float.Ieee.{fits}
-use Rattle.formats.specs.Areas.{row_count, row_places, place_count}
+use Rattle.formats.specs.Areas.{row_count, row_places}
 use Rattle.limiter.specs.Limiter.{block_gain, scaled_block, grown}
 use Rattle.limiter.specs.ChannelPlaces.{channels, with_channels}
 use Rattle.limiter.specs.Meters.{unmet, block_meters, meets, meets_all}
@@ -40,9 +40,8 @@ pub record IsDrained (d : After hall) (n stride : ℕ) (state out : List ℕ) (r
 
 -- ---- a whole block that is still in rows
 
--- what is asked: the rows, and room for their samples behind those that are ready
-pub record CanGiveRows (w : Rendering) (rows : List Float) (out : List ℕ) (stride : ℕ) : Type 0 where
-  pub whole : length rows ≡ place_count
+-- what is asked: room for the rows' samples behind those that are ready
+pub record CanGiveRows (w : Rendering) (out : List ℕ) (stride : ℕ) : Type 0 where
   pub rate : w.renderer.rate ≤ 16777216
   pub room : w.ready + 64 ≤ stride
   pub short : stride ≤ 4096

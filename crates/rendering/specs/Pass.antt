@@ -1,7 +1,7 @@
 -- A reader may skip this file: a chunk of a frame on a state block: what it asks and what it leaves. Assumes nothing.
 use Rattle.std.specs.Prelude.{ℕ, ◌+◌, ◌-◌, ◌*◌, ◌≤◌, ◌<◌, ◌≡◌, true, List, length, get_or, take, drop, Float}
 use Rattle.std.specs.Float.{nan}
-use Rattle.formats.specs.Areas.{row_count, row_places, place_count}
+use Rattle.formats.specs.Areas.{row_count, row_places}
 use Rattle.rules.specs.Parts.{0·0}
 use Rattle.rules.specs.Mix.{Moment}
 use Rattle.rules.specs.Samples.{built_in, Frame, moment}
@@ -9,14 +9,11 @@ use Rattle.theorem.specs.Instance.{Sent, hall}
 use Rattle.store.specs.declared.renderer.Renderer714.{Renderer714}
 use Rattle.store.specs.Layout.{infos_of}
 use Rattle.store.specs.Steps.{settled_by}
-use Rattle.render.specs.Run.{Framed, filter_after, row_run}
+use Rattle.render.specs.Run.{filter_after, row_run}
 use Rattle.rendering.specs.declared.Rendering.{Rendering}
 
--- what is asked: the k samples from t on of a frame of n samples a channel; the frame's objects are the state's dynamic ones
-pub record CanPass (s : Renderer714) (pcm codes : List ℕ) (objects n t k : ℕ) : Type 0 where
-  pub framed : Framed pcm (length codes + objects) (record { frame = n; first = t; count = k })
-  pub inputs : length codes ≤ 18
-  pub few : objects ≤ 16
+-- what is asked: k samples of a frame whose objects are the state's dynamic ones
+pub record CanPass (s : Renderer714) (objects k : ℕ) : Type 0 where
   pub beds : s.state.beds ≤ 18
   pub dynamic : s.state.initialized ≡ true → s.state.objects - s.state.isf ≡ objects
   pub pending : s.pending + k ≤ 64
@@ -34,7 +31,6 @@ module _ (f : Frame Sent) (t k : ℕ) (s : Renderer714) (b : List ℕ) where
 
 -- the k samples from t on of the moments m, in the rows, each with +0.0 past them: they wait on r, which was w
 pub record Waits (m : ℕ → Moment) (w : Rendering) (t k : ℕ) (rows : List Float) (r : Rendering) : Type 0 where
-  pub whole : length rows ≡ place_count
   pub columns : (c : ℕ) → c < row_count → take k (drop (row_places * c) rows) ≡ row_run m w.renderer.filter c t k
   pub rest : (c i : ℕ) → c < row_count → k ≤ i → i < row_places → get_or rows (row_places * c + i) nan ≡ 0·0
   pub renderer : r.renderer ≡ settled_by w.renderer (filter_after m w.renderer.filter t k) k

@@ -11,6 +11,7 @@ ghost use Rattle.rendering.specs.Give.{CanGive, Gave, IsDrained, CanGiveRows, Ga
 
 use crate::Rendering;
 use limiter::places::{Taken, store_block};
+use render::Rows;
 
 impl Rendering {
     // The pending samples as one block, behind those that are ready.
@@ -37,11 +38,12 @@ impl Rendering {
     }
 
     // A whole block that is still in rows: the one peak is that of all channels.
-    pub fn give_rows(mut self, rows: &[f32], out: &mut [u8], stride: usize) -> Rendering
-        requires { CanGiveRows self rows.now out.old stride }
+    pub fn give_rows(mut self, rows: &Rows, out: &mut [u8], stride: usize) -> Rendering
+        requires { CanGiveRows self out.old stride }
         ensures { GaveRows self rows.now stride out.old result out.new }
     {
-        let peak = limiter::max_abs_slice(rows);
+        let samples = rows.as_slice();
+        let peak = limiter::max_abs_slice(samples);
         let lowered = self.renderer.limiter.lower(peak);
         let met = lowered.meters(peak);
         let all = Taken { samples: 64 };

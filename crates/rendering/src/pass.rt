@@ -9,35 +9,19 @@ ghost use Rattle.rendering.specs.Pass.{CanPass, frame_with, moment_here, Waits};
 
 use crate::Rendering;
 use chunk::mix;
-use clock::FrameOffset;
-use render::{Input, Span};
+use render::{Input, Rows};
 
 impl Rendering {
-    // The k samples from t on of a frame of n samples, mixed into the rows; they wait then.
-    pub fn pass(
-        mut self,
-        rows: &mut [f32],
-        pcm: &[u8],
-        codes: &[u8],
-        objects: usize,
-        n: usize,
-        t: FrameOffset,
-        k: usize,
-    ) -> Rendering
-        requires { CanPass self.renderer pcm.now codes.now objects n t.0 k × (rows.old ≡ silent_rows) }
+    // The input's span of a frame, mixed into the rows; its samples wait then.
+    pub fn pass(mut self, rows: &mut Rows, input: Input) -> Rendering
+        requires { CanPass self.renderer input.objects input.span.count × (rows.old ≡ silent_rows) }
         ensures { (rate : ℕ) (us : List Sent) (b : List ℕ)
-            → Waits (moment_here (frame_with rate us codes.now objects pcm.now n) t.0 k self.renderer b) self t.0 k rows.new result }
+            → Waits (moment_here (frame_with rate us input.entry.codes.list.now input.entry.objects input.entry.pcm.now input.entry.span.frame)
+            input.entry.span.first input.entry.span.count self.renderer b) self input.entry.span.first input.entry.span.count rows.new result }
     {
-        let first = t.index();
-        let span = Span {
-            frame: n,
-            first,
-            count: k,
-        };
-        let input = Input { pcm, codes, span };
         let mut filter = self.renderer.filter;
-        mix(&self.renderer.state, &mut filter, rows, input, objects);
-        self.renderer = self.renderer.settle(filter, k as u32);
+        mix(&self.renderer.state, &mut filter, rows, input);
+        self.renderer = self.renderer.settle(filter, input.span.count as u32);
         self
     }
 }

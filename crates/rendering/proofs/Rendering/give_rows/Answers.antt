@@ -1,18 +1,23 @@
 -- `give_rows`: the limiter over the rows. Assumes nothing.
-use Prim.Native.Nat.{◌*◌}
+use Prim.Native.Nat.{ℕ, ◌*◌}
 use mathlib.Core.Path.{◌≡◌, refl, ap, ◌∙◌}
 use native.Mathlib.Omega.{arith}
-use lib.Ieee.{Float}
-use Rattle.limiter.specs.Limiter.{0·0, lowered, grown, block_peak, block_gain, scaled_block}
+use lib.Dec.{T}
+use lib.ListN.{get_or}
+use lib.Ieee.{Float, nan, binary32, fits}
+use borrow.Author.Rules.{rules}
+use Rattle.limiter.specs.Limiter.{0·0, peak, lowered, grown, block_peak, block_gain, scaled_block}
 use Rattle.limiter.specs.Meters.{meets}
 use Rattle.limiter.specs.ChannelPlaces.{with_channels}
 use Rattle.store.specs.Steps.{emptied_by}
 use Rattle.rendering.specs.Give.{row_channels}
 use Rattle.rendering.proofs.RowsPeak.{rows_peak}
 use Rattle.rendering.proofs.Rendering.give_rows.Goals as goal
+use Rattle.rendering.proofs.Rendering.give_rows.Goals.{After-as_slice-samples}
 
-pub store_block-requires : goal.store_block-requires
-store_block-requires c = let p = c.requires in (p.whole, omega (arith, p.room), omega (arith, p.output))
+-- the rows are f32s, as each slice is
+fit : (r : After-as_slice-samples) → (i : ℕ) → T (fits binary32 (get_or r.args.rows.now i nan))
+fit r = search rules
 
 pub overflow_add-self : goal.overflow_add-self
 overflow_add-self c = let p = c.requires in omega (arith, p.room, p.short)
@@ -22,11 +27,11 @@ returns c =
     let a = c.args in
     let g = a.self.renderer.limiter.gain in
     let cs = row_channels a.rows.now in
-    let fit = c.type_inv.rows in
+    let fit = fit (goal.at.returns c).After-as_slice-samples in
     let top = c.max_abs_slice-peak in
     let low = c.lower-lowered in
     let met = c.meters-met in
-    let e : top.result ≡ block_peak 0·0 cs = top.ensures.0 ∙ rows_peak a.rows.now c.requires.whole fit in
+    let e : top.result ≡ block_peak 0·0 cs = top.ensures.0 ∙ ap peak c.as_slice-samples.ensures ∙ rows_peak a.rows.now c.told-rows fit in
     let f : low.result.gain ≡ block_gain g cs = low.ensures ∙ ap (λ (p : Float). lowered p g) e in
     record {
       fit = fit;
