@@ -19,6 +19,7 @@ use Rattle.store.specs.declared.renderer.Renderer714.{Renderer714}
 use Rattle.store.specs.Layout.{places_at, size, assembled, places_of}
 use Rattle.store.specs.Steps.{settled_by}
 use Rattle.store.proofs.Theorems.{places_row, no_places, words_long}
+use Rattle.render.specs.Framed.{Framed}
 use Rattle.render.specs.Run.{filter_after, row_run}
 use Rattle.render.proofs.Theorems.{Fit}
 use Rattle.rendering.specs.declared.Rendering.{Rendering}
@@ -122,7 +123,11 @@ adds_ready ready e = rw e refl
 -- what a turn of the frame's loop may do: pass its samples, and where a block gets whole, give it out behind those that are ready
 pub record Passable (w : Rendering) (b pcm out codes : List ℕ) (objects n t k stride : ℕ) : Type 0 where
   pub block : length b ≡ size
-  pub passes : CanPass w.renderer pcm codes objects n t k
+  pub framed : Framed pcm (length codes + objects) n
+  pub span : t + k ≤ n
+  pub inputs : length codes ≤ 18
+  pub few : objects ≤ 16
+  pub passes : CanPass w.renderer objects k
   pub some : 0 < k
   pub rate : w.renderer.rate ≤ 16777216
   pub room : w.renderer.pending + k ≡ 64 → w.ready + 64 ≤ stride
@@ -136,13 +141,12 @@ Fits x = T (fits binary32 x)
 module _ (f : Frame Sent) {w v : Rendering} {b pcm out codes : List ℕ} {objects n t k stride : ℕ} (h : Passable w b pcm out codes objects n t k stride) {ys : List Float}
     (y : Waits (moment_here f t k w.renderer b) w t k ys v) where
   -- a block of rows can be given out
-  pub can_give_rows : k ≡ 64 → CanGiveRows v ys out stride
+  pub can_give_rows : k ≡ 64 → CanGiveRows v out stride
   can_give_rows e =
       let p = h.passes.pending in
       let q = h.room (omega arith) in
       let i = y.ready in
       record {
-        whole = y.whole;
         rate = rw (ap (λ (x : Renderer714). x.rate) y.renderer) h.rate;
         room = omega arith;
         short = h.short;
@@ -207,18 +211,18 @@ module _ (f : Frame Sent) {w v : Rendering} {b pcm out codes : List ℕ} {object
       }
 
   -- the same out of the rows, where they are all of it
-  pub passes_whole : {r : Rendering} {out' : List ℕ} → k ≡ 64 → GaveRows v ys stride out r out' → Passes f t k stride w b out r b' out'
-  passes_whole e g =
+  pub passes_whole : {r : Rendering} {out' : List ℕ} → length ys ≡ 768 → k ≡ 64 → GaveRows v ys stride out r out' → Passes f t k stride w b out r b' out'
+  passes_whole long e g =
       let p = h.passes.pending in
       let none : s.pending ≡ 0 = omega arith in
       let all : v.renderer.pending ≡ 64 = pending_after ∙ (omega arith) in
-      passes_given all (gave_rows v b' ys out stride all (λ c m. sym (row_read e none all (fit_all ys g.fit) c m)) g)
+      passes_given all (gave_rows v b' ys out stride all (λ c m. sym (row_read long e none all (fit_all ys g.fit) c m)) g)
     where
-      row_read : k ≡ 64 → s.pending ≡ 0 → v.renderer.pending ≡ 64 → Fit ys → (c : ℕ) → c < 12
+      row_read : length ys ≡ 768 → k ≡ 64 → s.pending ≡ 0 → v.renderer.pending ≡ 64 → Fit ys → (c : ℕ) → c < 12
           → take v.renderer.pending (floats (places_of b') c) ≡ take 64 (drop (64 * c) ys)
-      row_read e none all fit c m =
+      row_read long e none all fit c m =
           let xs = take 64 (drop (64 * c) ys) in
-          let d : 64 ≤ length (drop (64 * c) ys) = rw length-drop (omega (arith, y.whole)) in
+          let d : 64 ≤ length (drop (64 * c) ys) = rw length-drop (omega arith) in
           let i : length xs ≡ 64 = length-take-le 64 (drop (64 * c) ys) d in
           let j = places_long b c m in
           ap₂ (λ (n : ℕ) (ws : List ℕ). take n (map (of_bits binary32) ws)) all

@@ -1,12 +1,8 @@
 -- The length of a turn. Assumes nothing.
-use borrow.Author.Rules.{rules}
-use Rattle.std.specs.Ordering.{is_lt, nat_cmp}
 use Prim.Native.Nat.{ℕ, ◌+◌, ◌-◌, ◌≤◌, ◌<◌}
 use native.Mathlib.Omega.{arith}
-use mathlib.Core.Path.{◌≡◌, refl, ap, ◌∙◌}
-use mathlib.Core.Bool.{Bool, true, false, cond}
-use lib.Dec.{ltb}
-use borrow.Author.Tests.{ltb-true, ltb-false}
+use mathlib.Core.Path.{◌≡◌}
+use mathlib.Core.Bool.{Bool, true, false}
 use Rattle.frame.specs.Loop.{run_length}
 use Rattle.std.specs.Prelude.{min}
 

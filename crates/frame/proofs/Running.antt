@@ -185,15 +185,11 @@ module _ (b : List ℕ) (a : Args) (l : Layout) (k : Taken b a l) (t : ℕ) (w :
             let y = g.long in
             record {
               block = e.next.holds.long;
+              framed = record { room = omega arith; plain = pass_plain a.pcm 0 ((length a.codes + a.objects) * a.samples) p.early.pass };
+              span = turn_fits;
+              inputs = z.codes;
+              few = z.objects;
               passes = record {
-                framed = record {
-                  room = omega arith;
-                  plain = pass_plain a.pcm 0 ((length a.codes + a.objects) * a.samples) p.early.pass;
-                  span = turn_fits;
-                  short = let x = len.room in omega arith;
-                };
-                inputs = z.codes;
-                few = z.objects;
                 beds = r.meta.state.within.beds;
                 dynamic = subst (λ (x : State hall). started hall x.meta ≡ true → (hall.shape x.meta).objects ≡ a.objects) (sym e.next.holds.is) here.fits;
                 pending = len.room;

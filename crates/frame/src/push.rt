@@ -12,11 +12,13 @@ ghost use Rattle.rendering.specs.Begin.{NoneSent};
 ghost use Rattle.refusals.specs.FirstFound.{args_with};
 ghost use Rattle.frame.specs.Loop.{run_length, Accepted, IsRendered};
 
+use beds::Codes;
 use chunk::lay;
 use clock::{FrameOffset, START};
 use formats::areas;
 use records::layout::Layout;
 use refusals::Numbers;
+use render::{Input, Span};
 use rendering::Rendering;
 
 // How many samples a turn takes, of those from t up to `end`, the next update or the frame's end.
@@ -56,13 +58,13 @@ fn is_kept(k: usize, left: usize) -> bool
 }
 
 // Infos and places are left in `state`, the rest is answered: its bytes in `state` stay.
-pub fn render(
+pub fn render<'a>(
     idle: Rendering,
     state: &mut [u8],
-    pcm: &[u8],
+    pcm: &'a [u8],
     meta: &[u8],
     out: &mut [u8],
-    codes: &[u8],
+    codes: &'a [u8],
     l: Layout,
     n: Numbers,
 ) -> Rendering
@@ -98,9 +100,20 @@ pub fn render(
             t,
             next,
         );
+        let span = Span {
+            frame: samples,
+            first: t.index(),
+            count: k,
+        };
+        let input = Input {
+            pcm,
+            codes: Codes { list: codes },
+            objects,
+            span,
+        };
         let mut rows = [0.0f32; areas::PLACE_COUNT];
         let pending = work.renderer.pending as usize;
-        work = work.pass(&mut rows, pcm, codes, objects, samples, t, k);
+        work = work.pass(&mut rows, input);
         if is_kept(k, t.up_to(end)) {
             lay(state, &rows, pending, k);
         }

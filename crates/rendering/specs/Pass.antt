@@ -1,5 +1,5 @@
 -- A reader may skip this file: a chunk of a frame on a state block: what it asks and what it leaves. Assumes nothing.
-use Rattle.std.specs.Prelude.{ℕ, ◌+◌, ◌-◌, ◌*◌, ◌≤◌, ◌<◌, ◌≡◌, true, List, length, get_or, take, drop, Float}
+use Rattle.std.specs.Prelude.{ℕ, ◌+◌, ◌-◌, ◌*◌, ◌≤◌, ◌<◌, ◌≡◌, true, List, get_or, take, drop, Float}
 use Rattle.std.specs.Float.{nan}
 use Rattle.formats.specs.Areas.{row_count, row_places}
 use Rattle.rules.specs.Parts.{0·0}

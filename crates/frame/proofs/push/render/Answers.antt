@@ -21,6 +21,7 @@ use Rattle.rendering.specs.Held.{held, IsNext, Leads}
 use Rattle.rendering.specs.declared.Rendering.{Rendering}
 use Rattle.rendering.specs.Begin.{CanStart}
 use Rattle.rendering.specs.Give.{GaveRows}
+use Rattle.rendering.specs.Pass.{moment_here, Waits}
 use Rattle.chunk.specs.ChunkRows.{Laid}
 use Rattle.frame.specs.Turn.{CanBegin}
 use Rattle.rendering.proofs.Theorems.{can_start, slotted_after, none_applied, slot_rests, slot_changes_nothing}
@@ -30,7 +31,7 @@ use Rattle.frame.proofs.Running.{turn_runs, turn_skips, rendered}
 use Rattle.frame.proofs.ChunkOnBlock.{can_give_rows, can_give, passes_on, passes_given, passes_whole}
 use Rattle.chunk.proofs.Theorems.{fit_all, as_laid}
 use Rattle.frame.proofs.push.render.Goals as goal
-use Rattle.frame.proofs.push.render.Goals.{After-at-at, After-run_length-k, After-start-1, Joined-is_kept, Joined-is_sent, Joined-slot_starts, then-is_sent, else-is_sent, then-slot_starts+then-not-rests, else-slot_starts, else-slot_starts-via-then-slot_starts+else-not-rests, else-slot_starts-via-else-slot_starts, then-is_kept, else-is_kept, then-k-eq64, else-k-eq64+then-work-eq64, else-k-eq64+else-work-eq64}
+use Rattle.frame.proofs.push.render.Goals.{After-at-at, After-pass-work, After-run_length-k, After-start-1, Joined-is_kept, Joined-is_sent, Joined-slot_starts, then-is_sent, else-is_sent, then-slot_starts+then-not-rests, else-slot_starts, else-slot_starts-via-then-slot_starts+else-not-rests, else-slot_starts-via-else-slot_starts, then-is_kept, else-is_kept, then-k-eq64, else-k-eq64+then-work-eq64, else-k-eq64+else-work-eq64}
 
 -- ---- at the start
 
@@ -177,12 +178,33 @@ turning c k b =
       count = c.run_length-k.ensures;
     }
 
+-- the turn's span lies in the frame, and PCM for the beds and the objects is there
+pub invariant_of-span : goal.invariant_of-span
+invariant_of-span c =
+    let p = goal.at.invariant_of-span c in
+    let k = taken p.After-start-1 in
+    let q = turn_passes (turning p.After-run_length-k k (begun p.Joined-slot_starts (updates_done p.Joined-is_sent k))) in
+    record { within = rw c.index.ensures q.span; short = omega (arith, q.passes.pending) }
+
+pub invariant_of-input-in-loop-l : goal.invariant_of-input-in-loop-l
+invariant_of-input-in-loop-l c =
+    let p = goal.at.invariant_of-input-in-loop-l c in
+    let k = taken p.After-start-1 in
+    let q = turn_passes (turning p.After-run_length-k k (begun p.Joined-slot_starts (updates_done p.Joined-is_sent k))) in
+    record { few = q.few; framed = q.framed }
+
 pub pass-work-requires : goal.pass-work-requires
 unfolding of_bits silent_rows
 pass-work-requires c =
     let p = goal.at.pass-work-requires c in
     let k = taken p.After-start-1 in
     ((turn_passes (turning p.After-run_length-k k (begun p.Joined-slot_starts (updates_done p.Joined-is_sent k)))).passes, search rules)
+
+-- what it leaves, by the offset
+passed_at : (c : After-pass-work) → let s = c.args in let v = c.if-slot_starts in
+    Waits (moment_here (frame_of hall (args_with s.pcm.now s.meta.now s.out.now s.codes.now s.n)) c.loop-l.t.0 c.run_length-k.result v.work.renderer v.state)
+    v.work c.loop-l.t.0 c.run_length-k.result c.pass-work.new.rows c.pass-work.result
+passed_at c = rw c.index.ensures at (c.pass-work.ensures c.args.n.rate (sent_of c.args.meta.now) c.if-slot_starts.state)
 
 pub up_to-requires : goal.up_to-requires
 up_to-requires c =
@@ -193,9 +215,8 @@ pub lay-requires : goal.lay-requires
 lay-requires c =
     let p = goal.at.lay-requires c in
     let k = taken p.After-start-1 in
-    let y = c.pass-work.ensures c.args.n.rate (sent_of c.args.meta.now) c.if-slot_starts.state in
     let q = turn_passes (turning p.After-run_length-k k (begun p.Joined-slot_starts (updates_done p.Joined-is_sent k))) in
-    (q.block, y.whole, q.passes.pending)
+    (q.block, q.passes.pending)
 
 neither : (a b : Bool) → (a || b) ≡ false → (a ≡ false) × (b ≡ false)
 neither true b e = absurd (subst T e tt)
@@ -223,7 +244,7 @@ give_rows-work-requires c =
     let k = taken p.After-start-1 in
     can_give_rows (frame_of hall (args_with s.pcm.now s.meta.now s.out.now s.codes.now s.n))
     (turn_passes (turning p.After-run_length-k k (begun p.Joined-slot_starts (updates_done p.Joined-is_sent k))))
-    (c.pass-work.ensures s.n.rate (sent_of s.meta.now) c.if-slot_starts.state)
+    (passed_at p.After-pass-work)
     c.if-k-eq64.true
 
 pub give-work-requires : goal.give-work-requires
@@ -233,7 +254,7 @@ give-work-requires c =
     let k = taken p.After-start-1 in
     let q = turning p.After-run_length-k k (begun p.Joined-slot_starts (updates_done p.Joined-is_sent k)) in
     can_give (frame_of hall (args_with s.pcm.now s.meta.now s.out.now s.codes.now s.n)) (turn_passes q)
-    (c.pass-work.ensures s.n.rate (sent_of s.meta.now) c.if-slot_starts.state)
+    (passed_at p.After-pass-work)
     (laid_part p.Joined-is_kept q c.if-k-eq64.false) c.if-work-eq64.true
 
 pub overflow_cast-k : goal.overflow_cast-k
@@ -267,25 +288,26 @@ loop-l-smaller c =
 whole_runs : (c : Joined-is_kept) (r : Rendering) (o : List ℕ) → let s = c.args in let x = c.loop-l in let v = c.if-slot_starts in
     Turning s.state.now (args_with s.pcm.now s.meta.now s.out.now s.codes.now s.n) s.l x.t.0 x.work x.state x.out c.next_offset-next.result.0
     v.work v.state c.run_length-k.result
+    → Waits (moment_here (frame_of hall (args_with s.pcm.now s.meta.now s.out.now s.codes.now s.n)) x.t.0 c.run_length-k.result v.work.renderer v.state)
+    v.work x.t.0 c.run_length-k.result c.pass-work.new.rows c.pass-work.result
     → c.run_length-k.result ≡ 64
     → GaveRows c.pass-work.result c.pass-work.new.rows s.n.stride x.out r o
     → Running s.state.now (args_with s.pcm.now s.meta.now s.out.now s.codes.now s.n) (x.t.0 + c.run_length-k.result) r c.if-is_kept.state o
-whole_runs c r o q e g =
+whole_runs c r o q y e g =
     let s = c.args in
     let v = c.if-slot_starts in
     let ys = c.pass-work.new.rows in
     let f = frame_of hall (args_with s.pcm.now s.meta.now s.out.now s.codes.now s.n) in
     let p = turn_passes q in
-    let y = c.pass-work.ensures s.n.rate (sent_of s.meta.now) v.state in
     elim c.if-is_kept.branch [
-      | then-is_kept w ↦ rw w.state-is (turn_runs q r _ o (passes_whole f p y w.lay.ensures e g))
+      | then-is_kept w ↦ rw w.state-is (turn_runs q r _ o (passes_whole f p y w.lay.ensures c.pass-work.array_long e g))
       | else-is_kept w ↦
           let k = c.run_length-k.result in
           let left = c.up_to.result in
           let x = ltb-false left 128 (neither (ltb k 64) (ltb left 128) (sym c.is_kept.ensures ∙ w.if-is_kept.false)).1 in
-          let l = as_laid ys v.work.renderer.pending k p.passes.pending v.state (fit_all ys g.fit) y.whole p.block in
+          let l = as_laid ys v.work.renderer.pending k p.passes.pending v.state (fit_all ys g.fit) c.pass-work.array_long p.block in
           rw w.state-is
-          (turn_skips q r l.0 o (passes_whole f p y l.1 e g) l.1.infos (ap (λ (s : Renderer714). s.pending) g.renderer)
+          (turn_skips q r l.0 o (passes_whole f p y l.1 c.pass-work.array_long e g) l.1.infos (ap (λ (s : Renderer714). s.pending) g.renderer)
           (omega (arith, x, c.up_to.ensures, c.loop-l.invariant.1)))
     ]
 
@@ -299,10 +321,10 @@ loop-l-preserved c =
     let q = turning at.After-run_length-k k (begun at.Joined-slot_starts (updates_done at.Joined-is_sent k)) in
     let p = turn_passes q in
     let f = frame_of hall a in
-    let y = c.pass-work.ensures s.n.rate (sent_of s.meta.now) c.if-slot_starts.state in (
+    let y = passed_at at.After-pass-work in (
       subst (λ (t : ℕ). Running s.state.now a t z.work c.if-is_kept.state z.out) (sym c.plus-t.ensures)
           (elim z.branch [
-            | then-k-eq64 w ↦ rw (w.work-is, w.out-is) (whole_runs at.Joined-is_kept _ _ q w.if-k-eq64.true w.give_rows-work.ensures)
+            | then-k-eq64 w ↦ rw (w.work-is, w.out-is) (whole_runs at.Joined-is_kept _ _ q y w.if-k-eq64.true w.give_rows-work.ensures)
             | else-k-eq64+then-work-eq64 w ↦ rw (w.work-is, w.out-is)
                 (turn_runs q _ _ _ (passes_given f p y (laid_part at.Joined-is_kept q w.if-k-eq64.false) w.if-work-eq64.true w.give-work.ensures))
             | else-k-eq64+else-work-eq64 w ↦ rw (w.work-is, w.out-is)
