@@ -5,7 +5,7 @@ use mathlib.Core.Bool.{Bool, true, false, cond, not, ◌&&◌, ◌||◌}
 use mathlib.Core.List.{List}
 use native.Mathlib.Nat.{not-suc-le-zero}
 use native.Mathlib.Omega.{arith}
-use borrow.Author.Tests.{eq-eqb, ne_eqb, eqb-true, eqb-false, le-leb, lt-leb}
+use borrow.Author.Tests.{eqb-true, eqb-false, le-leb, lt-leb}
 use lib.Dec.{eqb}
 use lib.ListN.{get_or, length, take}
 use Rattle.std.specs.List.{list_all}
@@ -17,7 +17,6 @@ use Rattle.timed.specs.State.{Timed, element_taken, timing_of, reach_of, slot_of
 use Rattle.timed.specs.Resting.{none_due, resting, rests_at}
 use Rattle.timed.specs.declared.state.BlockState.{BlockState}
 use Rattle.timed.specs.declared.state.ElementRendererState.{ElementRendererState}
-use Rattle.timed.specs.declared.state.MetadataRendererState.{MetadataRendererState}
 use Rattle.timed.specs.declared.slot.Timing.{Timing}
 use Rattle.timed.specs.declared.slot.Reach.{Reach}
 use Rattle.timed.proofs.Invariants.{times_in}
@@ -96,17 +95,3 @@ slot_rests start t h =
     by true on still after e f = refl
     by false true still after e f = f e
     by false false still after e f = refl
-
--- the code's ways to `rests_at`
-pub rests_empty : (start : ℕ) (s : MetadataRendererState) → s.elements ≡ 0 → rests_at start s ≡ true
-unfolding rests_at
-rests_empty start s e = rw (eq-eqb s.elements 0 e)
-
-module _ (start : ℕ) (s : MetadataRendererState) (i : ℕ) (some : s.elements ≡ 0 → ⊥) (found : i ≡ element_taken (timing_of start s) s.states s.elements) where
-  pub rests_idle : active (element_of s i) ≡ false → rests_at start s ≡ true
-  unfolding rests_at
-  rests_idle a = rw (ne_eqb s.elements 0 some, ← found, a)
-
-  pub rests_element : active (element_of s i) ≡ true → rests_at start s ≡ resting (timing_of start s) (element_of s i)
-  unfolding rests_at
-  rests_element a = rw (ne_eqb s.elements 0 some, ← found, a)

@@ -13,7 +13,7 @@ pub use Rattle.timed.proofs.InfoFields.{gain_said_is, size_said_is, position_sai
 -- an applied block sets the send, and a ramp leaves it
 pub use Rattle.timed.proofs.SendSet.{block_sets_send, ramp_keeps_send}
 -- a loop of n turns: those that are left lead from the value now to that at the end
-pub use Rattle.timed.proofs.LoopTurns.{Leads, leads, leads_on, leads_to}
+pub use Rattle.timed.proofs.LoopTurns.{Leads, leads, leads_on, leads_to, turns}
 -- what every turn keeps, what both ways of a test keep, what holds of every entry of a table
 pub use Rattle.timed.proofs.Invariants.{times_in, times_keeps, cond_keeps, set_each, set_keeps}
 -- a slot that rests changes nothing

@@ -29,6 +29,7 @@ pub struct Moved {
 }
 
 // `update_source_state` of an info; where no ramp remains (`arrived`, a fact of the block and no choice of a step), the object is put at its target.
+#[tactic(auto, unfolding(crate::specs::Objects::object_moved))]
 fn update_source_state(
     infos: &mut Bytes,
     info: InfoNumber,

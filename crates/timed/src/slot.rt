@@ -70,6 +70,7 @@ impl BlockState {
     }
 
     // The ramp that remains after the block, plus 2^47.
+    #[tactic(auto, using(crate::proofs::Shifted::left_shifted_is))]
     fn left(self, when: Timing) -> u64
         ensures { result ≡ kept_as (left_after when self) }
     {
@@ -82,6 +83,7 @@ impl BlockState {
 const RAMP_OVER: u64 = 140737488355328;
 
 // The share of a ramp that one slot takes.
+#[tactic(auto, using(crate::proofs::Shifted::remaining_shifted), unfolding(crate::specs::Rules::share))]
 fn share(remaining: u64) -> f32
     requires { (140737488355328 ≤ remaining) × (remaining ≤ 140737489403904) }
     ensures { result ≡ share (remaining_of remaining) }
@@ -100,6 +102,7 @@ pub struct Slot {
 
 impl Slot {
     // Block b, applied.
+    #[tactic(auto, using(crate::proofs::Shifted::left_over, crate::proofs::Shifted::left_shifted_is), unfolding(crate::specs::Slot::block_applied))]
     fn apply_block(&mut self, infos: &mut Bytes, b: usize, when: Timing, reach: Reach)
         requires { (b < most_blocks) }
         ensures { IsSlotWork (block_applied when reach b (record { slot = self.old; infos = infos.old })) self.new infos.new }
@@ -129,6 +132,7 @@ impl Slot {
     }
 
     // The ramp, where one remains; `before` has the flags of the element's previous slot.
+    #[tactic(auto, using(crate::proofs::Shifted::over_shifted, crate::proofs::Shifted::less_shifted), unfolding(crate::specs::Slot::ramp_applied))]
     fn ramp(&mut self, before: &[Track; 16], reach: Reach)
         requires { self.old.remaining ≤ 140737489403904 }
         ensures { self.new ≡ ramp_applied before.now reach.count self.old }
@@ -150,6 +154,7 @@ pub struct Updated {
 
 impl ElementRendererState {
     // Whether the first block's offset is from 0 up to the timecode.
+    #[tactic(auto, using(crate::proofs::Shifted::active_shifted_is, crate::proofs::Shifted::begins_shifted_is))]
     pub fn begins(self, when: Timing) -> bool
         ensures { result ≡ begins when self }
     {
@@ -165,6 +170,7 @@ impl ElementRendererState {
     }
 
     // Whether a slot of this element changes nothing: no ramp remains, and no block is due.
+    #[tactic(auto, using(crate::proofs::Resting::ramp_left))]
     pub fn rests(self, when: Timing) -> bool
         requires { self.blocks ≤ most_blocks }
         ensures { result ≡ resting when self }
@@ -176,6 +182,7 @@ impl ElementRendererState {
     }
 
     // A slot of this element.
+    #[tactic(auto, unfolding(crate::specs::Slot::updated_sources))]
     pub fn update_sources(
         self,
         infos: &mut Bytes,

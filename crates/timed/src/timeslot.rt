@@ -17,6 +17,7 @@ use clock::StreamSample;
 // `Within` is asked where a slot is worked out, and is no invariant: C may hold any state, also where it is only kept.
 impl MetadataRendererState {
     // The last element whose first block offset is from 0 up to the timecode, else element 0. (01: a downward search whose loop yields the index by `break`.)
+    #[tactic(auto, using(crate::proofs::Slots::taken_more), unfolding(crate::specs::State::element_taken))]
     fn element_at(self, when: Timing) -> usize
         requires { self.elements ≤ most_elements }
         ensures taken { result ≡ element_taken when self.states self.elements }
@@ -49,6 +50,7 @@ impl MetadataRendererState {
     }
 
     // A slot of element `index`.
+    #[tactic(auto, unfolding(crate::specs::State::slot_of))]
     fn slot_of(self, infos: &mut Bytes, index: usize, when: Timing) -> MetadataRendererState
         requires { (index < most_elements) × Within 1099511627776 self }
         ensures { IsTimed (slot_of when index (record { state = self; infos = infos.old })) result infos.new }
@@ -69,6 +71,7 @@ impl MetadataRendererState {
     }
 
     // Whether the slot that starts at a sample of the stream changes nothing.
+    #[tactic(auto, unfolding(crate::specs::Resting::rests_at))]
     pub fn rests(self, start: StreamSample) -> bool
         requires { (start.0 ≤ 1099511627776) × Within 1099511627776 self }
         ensures { result ≡ rests_at start.0 self }
@@ -85,6 +88,7 @@ impl MetadataRendererState {
     }
 
     // The slot that starts at a sample of the stream. The infos come as the range of a block that C lends: an array would ask more of who has a slice.
+    #[tactic(auto, using(crate::proofs::Slots::slot_empty, crate::proofs::Slots::slot_idle))]
     pub fn update_timeslot(self, infos: &mut [u8], start: StreamSample) -> MetadataRendererState
         requires { (length infos.old ≡ all_bytes) × (start.0 ≤ 1099511627776) × Within 1099511627776 self }
         ensures { IsTimed (slot_at start.0 (record { state = self; infos = infos.old })) result infos.new }

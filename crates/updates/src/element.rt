@@ -72,7 +72,7 @@ pub struct Element<'a> {
 
 impl Element<'_> {
     // Object o in each block. `fresh` is a fact of the infos, and chooses no step.
-    #[tactic(auto, using(timed::proofs::LoopTurns::turns), unfolding(crate::specs::Stored::object_stored))]
+    #[tactic(auto, using(timed::proofs::Theorems::turns), unfolding(crate::specs::Stored::object_stored))]
     fn put_object(self, infos: &mut Bytes, fresh: bool, o: usize)
         requires { o < self.counts.objects }
         ensures { let s = self.entry in infos.new ≡ object_given fresh s.counts.isf (element_said s.record.meta.now s.record.place) s.first o infos.old }
@@ -95,7 +95,7 @@ impl Element<'_> {
     }
 
     // Each object in each block.
-    #[tactic(auto, using(timed::proofs::LoopTurns::turns), unfolding(crate::specs::Stored::objects_stored))]
+    #[tactic(auto, using(timed::proofs::Theorems::turns), unfolding(crate::specs::Stored::objects_stored))]
     fn put_objects(self, infos: &mut Bytes, fresh: bool)
         ensures { let s = self.entry in infos.new ≡ objects_stored fresh s.counts.isf (element_said s.record.meta.now s.record.place) s.first s.counts.objects infos.old }
     {
@@ -105,7 +105,7 @@ impl Element<'_> {
     }
 
     // Offsets and ramps of the blocks, none of them applied.
-    #[tactic(auto, using(timed::proofs::LoopTurns::turns), unfolding(crate::specs::Applied::scheduled))]
+    #[tactic(auto, using(timed::proofs::Theorems::turns), unfolding(crate::specs::Applied::scheduled))]
     fn schedule(self, schedule: [BlockState; 8]) -> [BlockState; 8]
         ensures { let r = self.entry.record in result ≡ scheduled (element_said r.meta.now r.place) schedule }
     {

@@ -34,7 +34,7 @@ fn kept_or<T: Copy, const N: usize>(table: [T; N], kept: bool, new: T) -> [T; N]
 }
 
 // The bed codes of an update's record, written over one by one, as the definition has it.
-#[tactic(auto, using(timed::proofs::LoopTurns::turns), unfolding(crate::specs::Applied::codes_given))]
+#[tactic(auto, using(timed::proofs::Theorems::turns), unfolding(crate::specs::Applied::codes_given))]
 pub fn next_codes(codes: [u8; 18], said: Record<'_>) -> [u8; 18]
     ensures { result ≡ codes_given (update_of said.entry.meta.now said.entry.place) codes }
 {
@@ -46,7 +46,7 @@ pub fn next_codes(codes: [u8; 18], said: Record<'_>) -> [u8; 18]
 }
 
 // Each element of the update.
-#[tactic(auto, using(timed::proofs::LoopTurns::turns), unfolding(crate::specs::Applied::elements_applied, crate::specs::Applied::element_given, records::specs::Laid::element_at))]
+#[tactic(auto, using(timed::proofs::Theorems::turns), unfolding(crate::specs::Applied::elements_applied, crate::specs::Applied::element_given, records::specs::Laid::element_at))]
 fn apply_elements(
     states: [ElementRendererState; 2],
     infos: &mut Bytes,

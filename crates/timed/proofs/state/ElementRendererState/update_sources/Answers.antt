@@ -1,7 +1,6 @@
 -- `timed::state::ElementRendererState::update_sources`: the blocks keep the remaining ramp within its range. Assumes nothing.
 use Prim.Native.Nat.{◌+◌}
 use native.Mathlib.Omega.{arith}
-use Rattle.timed.specs.Slot.{updated_sources}
 use Rattle.timed.proofs.Ramps.{blocks_ramps, later}
 use Rattle.timed.proofs.state.ElementRendererState.update_sources.Goals as goal
 
@@ -11,9 +10,3 @@ ramp-requires c =
     let p = 1099511627776 + w.start.0 in
     let h = later 1099511627776 p c.args.self (omega arith) c.requires in
     rw c.apply_blocks.ensures.slot (blocks_ramps p w c.args.reach (omega arith) c.args.self.blocks _ h.blocks h.ramps).most
-
-pub returns : goal.returns
-unfolding updated_sources
-returns c =
-    let b = c.apply_blocks in
-    record { updated = rw (c.ramp.ensures, b.ensures.slot); infos = b.ensures.infos }

@@ -1,14 +1,7 @@
 -- `timed::state::MetadataRendererState::update_timeslot`: by whether there is an element, and whether it does anything. Assumes nothing.
 use mathlib.Core.Path.{sym, ◌∙◌}
-use Rattle.timed.proofs.Slots.{slot_empty, slot_idle, slot_moves}
+use Rattle.timed.proofs.Slots.{slot_moves}
 use Rattle.timed.proofs.state.MetadataRendererState.update_timeslot.Goals as goal
-
-pub returns-then-self-eq0 : goal.returns-then-self-eq0
-returns-then-self-eq0 c = slot_empty c.args.start.0 (record { state = c.args.self; infos = c.args.infos.now }) c.if-self-eq0.true
-
-pub slot_of-requires : goal.slot_of-requires
-slot_of-requires c =
-    (c.element_at-index.ensures.low, c.requires.2)
 
 pub returns-then-active : goal.returns-then-active
 returns-then-active c =
@@ -17,8 +10,3 @@ returns-then-active c =
     slot_moves s.start.0 (record { state = s.self; infos = s.infos.now }) c.element_at-index.result c.if-self-eq0.false c.element_at-index.ensures.taken c.slot_of.result
     c.slot_of.new.infos
     (sym c.active.ensures ∙ c.if-active.true) (rw whole at c.slot_of.ensures)
-
-pub returns : goal.returns
-returns c =
-    slot_idle c.args.start.0 (record { state = c.args.self; infos = c.args.infos.now }) c.element_at-index.result c.if-self-eq0.false c.element_at-index.ensures.taken
-    (sym c.active.ensures ∙ c.if-active.false)
