@@ -56,6 +56,7 @@ impl Rendering {
     }
 
     // Flush: the remainder as one shorter block.
+    #[tactic(auto, using(crate::proofs::Given::behind_written))]
     pub fn drain(self, state: &[u8], out: &mut [u8], stride: usize) -> Rendering
         requires { CanGive self state.now out.old stride × (self.ready ≡ 0) × (self.meters ≡ unmet) }
         ensures { IsDrained (flushed hall (held self.renderer state.now)) self.renderer.pending stride state.now out.old result

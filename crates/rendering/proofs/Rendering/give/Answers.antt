@@ -1,11 +1,7 @@
 -- `give`: the limiter over the pending samples. Assumes nothing.
 use mathlib.Core.Path.{refl}
-use native.Mathlib.Omega.{arith}
 use Rattle.rendering.proofs.Given.{gave}
 use Rattle.rendering.proofs.Rendering.give.Goals as goal
-
-pub overflow_add-self : goal.overflow_add-self
-overflow_add-self c = let p = c.requires in omega (arith, p.room, p.short)
 
 pub returns : goal.returns
 returns c =

@@ -1,7 +1,6 @@
 -- `give_rows`: the limiter over the rows. Assumes nothing.
 use Prim.Native.Nat.{ℕ, ◌*◌}
 use mathlib.Core.Path.{◌≡◌, refl, ap, ◌∙◌}
-use native.Mathlib.Omega.{arith}
 use lib.Dec.{T}
 use lib.ListN.{get_or}
 use lib.Ieee.{Float, nan, binary32, fits}
@@ -18,9 +17,6 @@ use Rattle.rendering.proofs.Rendering.give_rows.Goals.{After-as_slice-samples}
 -- the rows are f32s, as each slice is
 fit : (r : After-as_slice-samples) → (i : ℕ) → T (fits binary32 (get_or r.args.rows.now i nan))
 fit r = search rules
-
-pub overflow_add-self : goal.overflow_add-self
-overflow_add-self c = let p = c.requires in omega (arith, p.room, p.short)
 
 pub returns : goal.returns
 returns c =
