@@ -1,15 +1,16 @@
 -- Ranges and depth factors by bits. Assumes nothing.
-use Rattle.std.proofs.Common.{◌≡◌, ℕ, ◌^◌, ◌<◌, Bool, true, false, cond, not, ◌||◌, eqb, List, pos, negsuc, sym, refl, ap, ◌∙◌, lit<}
+use Rattle.std.proofs.Common.{◌≡◌, ℕ, ◌^◌, ◌<◌, Bool, true, false, cond, not, ◌||◌, ◌&&◌, ◌+◌, ◌*◌, eqb, ltb, List, pos, negsuc, sym, refl, ap, ◌∙◌, lit<}
 use lib.Ieee.{Float, fin, binary32, fits, eq, of_bits, to_bits}
 use Rattle.std.specs.Prelude.{Some, None}
 use Rattle.words.specs.Words.{word, float_at}
 use Rattle.ieee.specs.Units.{One, mag}
-use Rattle.ieee.specs.Numbers.{8·0}
-use Rattle.ieee.proofs.Theorems.{bits_same}
+use Rattle.ieee.specs.Numbers.{1·0, 8·0}
+use Rattle.ieee.proofs.Theorems.{bits_same, one_bits}
 use Rattle.vectors.specs.Head.{has}
-use Rattle.fields.specs.Object.{depth_code, maybe_of, from_zero_to, absent_or}
+use Rattle.fields.specs.RecordBytes.{byte}
+use Rattle.fields.specs.Object.{depth_code, maybe_of, from_zero_to, absent_or, object_of, object_in_range}
 
-pub eight_bits : of_bits binary32 0x41000000 ≡ 8·0
+eight_bits : of_bits binary32 0x41000000 ≡ 8·0
 unfolding of_bits
 eight_bits = refl
 
@@ -18,7 +19,7 @@ unfolding float_at
 float_bits m at = refl
 
 -- absent, or from 0 to the float y of the bits `most`
-pub range_by_bits : (most : ℕ) (y : Float) → of_bits binary32 most ≡ y → (m : List ℕ) (flags bit at : ℕ)
+range_by_bits : (most : ℕ) (y : Float) → of_bits binary32 most ≡ y → (m : List ℕ) (flags bit at : ℕ)
     → (not (has flags bit) || from_zero_to (of_bits binary32 most) (of_bits binary32 (word m at))) ≡ absent_or y (maybe_of m flags bit at)
 unfolding maybe_of float_at
 range_by_bits most y e m flags bit at =
@@ -28,6 +29,20 @@ range_by_bits most y e m flags bit at =
     present : (h : Bool) (most x : Float) → (not h || from_zero_to most x) ≡ absent_or most (cond h (Some x) None)
     present true most x = refl
     present false most x = refl
+
+-- the object of record r is in its ranges, by its words
+pub object_by_bits : (m : List ℕ) (r : ℕ) →
+    let up_to : ℕ → ℕ → Bool = λ most at. from_zero_to (of_bits binary32 most) (of_bits binary32 (word m at)) in
+    ((not (has (byte m r 2) 4) || up_to 0x41000000 (40 * r + 4)) && (not (has (byte m r 2) 32) || up_to 0x3f800000 (40 * r + 24))
+    && ltb (depth_code (of_bits binary32 (word m (40 * r + 32)))) 4 && up_to 0x3f800000 (40 * r + 36))
+    ≡ object_in_range (object_of m r)
+object_by_bits m r =
+    let flags = byte m r 2 in
+    λ i.
+    range_by_bits 0x41000000 8·0 eight_bits m flags 4 (40 * r + 4) i
+    && range_by_bits 0x3f800000 1·0 one_bits m flags 32 (40 * r + 24) i
+    && ltb (depth_code (float_bits m (40 * r + 32) i)) 4
+    && from_zero_to (one_bits i) (float_bits m (40 * r + 36) i)
 
 -- each of the four factors is one pattern
 module _ (w : ℕ) (less : w < 2 ^ 32) where

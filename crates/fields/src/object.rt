@@ -27,6 +27,7 @@ const ONE: u32 = 0x3f80_0000;
 const EIGHT: u32 = 0x4100_0000;
 
 // Whether the four bytes from `at` on are an object's kind, anchor and flags and a zero, by their word.
+#[tactic(auto, using(crate::proofs::HeadWord::head_word_is))]
 fn is_object_head(meta: &[u8], at: usize) -> bool
     requires { at + 4 ≤ length meta.now }
     ensures { result ≡ (slice_index meta.now at == 4 && nat_le (slice_index meta.now (at + 1)) 2 && nat_le (slice_index meta.now (at + 2)) 63 && slice_index meta.now (at + 3) == 0) }
@@ -36,6 +37,7 @@ fn is_object_head(meta: &[u8], at: usize) -> bool
 }
 
 // Whether the float of the bits w is from 0 to the one of the bits `most`: from 0 on floats are in the order of their bits, and -0.0 is no less than 0.
+#[tactic(auto, using(ieee::proofs::Theorems::bits_up_to))]
 fn up_to(most: u32, w: u32) -> bool
     requires { most < 2139095040 }
     ensures { result ≡ from_zero_to (from_bits binary32 most) (from_bits binary32 w) }
@@ -90,6 +92,7 @@ impl Record<'_> {
     }
 
     // Whether the value of four bytes at byte k is present or zero.
+    #[tactic(auto, using(crate::proofs::Zeros::number_zero))]
     fn value_fits(self, bit: u8, k: usize) -> bool
         requires { (0 < bit) × (k + 4 ≤ 40) }
         ensures { result ≡ value_fits self.entry.meta.now (byte self.entry.meta.now self.entry.place 2) bit (40 * self.entry.place + k) 4 }
@@ -98,6 +101,7 @@ impl Record<'_> {
     }
 
     // Whether the position, three values, is present or zero.
+    #[tactic(auto, using(crate::proofs::Zeros::zero_position))]
     fn position_fits(self) -> bool
         ensures { result ≡ value_fits self.entry.meta.now (byte self.entry.meta.now self.entry.place 2) 8 (40 * self.entry.place + 8) 12 }
     {
@@ -124,6 +128,7 @@ impl Record<'_> {
     }
 
     // Whether gain, size, depth factor and send of the object are within their ranges, with no branch.
+    #[tactic(auto, using(crate::proofs::RangesByBits::object_by_bits))]
     pub fn object_in_range(self) -> bool
         ensures { result ≡ object_in_range (object_of self.entry.meta.now self.entry.place) }
     {
@@ -135,6 +140,7 @@ impl Record<'_> {
     }
 
     // What the object says.
+    #[tactic(auto, using(crate::proofs::RangesByBits::float_bits))]
     pub fn info(self) -> Info
         ensures { result ≡ stored_info self.entry.meta.now self.entry.place }
     {

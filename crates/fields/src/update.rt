@@ -43,6 +43,7 @@ fn most_at(k: usize, beds: usize) -> u8
 }
 
 // Whether the 18 places from `at` on hold a listed code for each bed and zero past them, with no branch.
+#[tactic(auto, using(crate::proofs::All::all_none), unfolding(crate::specs::Update::codes_fit))]
 fn codes_fit(meta: &[u8], at: usize, beds: usize) -> bool
     requires { at + 18 ≤ length meta.now }
     ensures { result ≡ codes_fit meta.now at beds }
@@ -63,6 +64,7 @@ impl Record<'_> {
     }
 
     // What the update says, but for the codes.
+    #[tactic(auto, using(clock::proofs::SameCount::offset_is))]
     pub fn header(self) -> Header
         ensures { result ≡ header_of self.entry.meta.now self.entry.place }
     {
@@ -76,6 +78,7 @@ impl Record<'_> {
     }
 
     // Whether it is an update as laid out.
+    #[tactic(auto, unfolding(crate::specs::Update::is_update))]
     pub fn is_update(self) -> bool
         ensures { result ≡ is_update self.entry.meta.now self.entry.place }
     {
