@@ -33,6 +33,7 @@ pub struct Limited {
 
 // The maximum of a level and the size of a sample: one plain comparison, since a level is no NaN. `ieee::max` tests for one.
 // That `max` is one stands in the contract: a type of levels would wrap and unwrap each of the four lanes at each comparison.
+#[tactic(auto, using(crate::proofs::Levels::raise_left))]
 fn raise(max: f32, sample: f32) -> f32
     requires { Level max }
     ensures { (result ≡ larger max (absolute sample)) × Level result }
@@ -67,6 +68,7 @@ pub fn max_abs_slice(samples: &[f32]) -> f32
 }
 
 // The peak of a block: twelve channels of 64 places.
+#[tactic(auto, using(crate::proofs::Blocks::peak_next))]
 fn block_peak(block: &[f32; areas::PLACE_COUNT], taken: Taken) -> f32
     ensures { result ≡ block_peak 0·0 (channels row_count taken.samples block.now) }
 {
@@ -107,6 +109,7 @@ impl Limiter {
     }
 
     // The limiter after a block of this length.
+    #[tactic(auto, using(ieee::proofs::Constants::in_float_is), unfolding(crate::specs::Limiter::grown))]
     pub fn grow(self, samples: u32, rate: u32) -> Self
         requires { (samples ≤ 16777216) × (rate ≤ 16777216) }
         ensures { result.gain ≡ grown samples rate self.gain }

@@ -33,6 +33,7 @@ impl Meters {
     }
 
     // As a call answers them: with no gain but NaNs, 1.
+    #[tactic(auto, unfolding(crate::specs::Meters::shown))]
     pub fn shown(self) -> Self
         ensures { result ≡ shown self }
     {

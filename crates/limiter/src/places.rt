@@ -27,6 +27,7 @@ pub fn load_samples(places: &[u8], at: usize, samples: &mut [f32])
 }
 
 // The samples times the gain, into a part of the output. The Rust passes over a gain of 1.0, which changes no float.
+#[tactic(auto, using(crate::proofs::Scaled::write_more, crate::proofs::Scaled::write_end))]
 pub fn scale_slice_into(samples: &[f32], gain: f32, out: &mut [u8])
     requires { length out.old ≡ 4 * length samples.now }
     ensures { out.new ≡ with_floats out.old 0 (scaled gain samples.now) }
@@ -37,6 +38,7 @@ pub fn scale_slice_into(samples: &[f32], gain: f32, out: &mut [u8])
 }
 
 // The places of a state block that are taken, in a block of floats.
+#[tactic(auto, using(crate::proofs::Blocks::load_end))]
 pub fn load_block(places: &[u8], taken: Taken, block: &mut [f32; areas::PLACE_COUNT])
     requires { length places.now ≡ places_bytes }
     ensures { block.new ≡ overlaid (channels_at row_count taken.samples places.now 0) block.old }
@@ -48,6 +50,7 @@ pub fn load_block(places: &[u8], taken: Taken, block: &mut [f32; areas::PLACE_CO
 }
 
 // The block times the gain, channel c at `to` + c x `step`.
+#[tactic(auto, using(crate::proofs::Blocks::room_at))]
 pub fn store_block(
     block: &[f32; areas::PLACE_COUNT],
     taken: Taken,

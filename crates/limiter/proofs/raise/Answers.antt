@@ -2,7 +2,7 @@
 use mathlib.Core.Path.{sym, subst}
 use lib.Dec.{T}
 use lib.Ieee.{binary32, fits}
-use Rattle.limiter.proofs.Levels.{raise_taken, raise_left, raised_by}
+use Rattle.limiter.proofs.Levels.{raise_taken, raised_by}
 use Rattle.limiter.proofs.raise.Goals as goal
 use Rattle.limiter.proofs.raise.Goals.{Start}
 
@@ -15,9 +15,3 @@ returns-then-max-size c =
     let p = c.requires in
     let e = raise_taken a.max a.sample c.abs-size.result p c.abs-size.ensures c.if-max-size.true in
     (e, (raised_by a.max a.sample c.abs-size.result p (fit (goal.at.returns-then-max-size c).Start) e).level)
-
-pub returns-else-max-size : goal.returns-else-max-size
-returns-else-max-size c =
-    let a = c.args in
-    let p = c.requires in
-    (raise_left a.max a.sample c.abs-size.result p c.abs-size.ensures c.if-max-size.false, p)

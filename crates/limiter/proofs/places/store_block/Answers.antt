@@ -1,5 +1,4 @@
 -- `limiter::places::store_block` meets its contract. Assumes nothing.
-use borrow.Author.Rules.{rules}
 use native.Mathlib.Omega.{arith}
 use mathlib.Core.Path.{refl, sym, ap, ◌∙◌}
 use Prim.Native.Nat.{ℕ, ◌+◌, ◌*◌}
@@ -11,15 +10,6 @@ use Rattle.limiter.proofs.places.store_block.Goals as goal
 pub loop-c-init : goal.loop-c-init
 unfolding with_channels scaled_block channels
 loop-c-init c = refl
-
-pub overflow_mul-from : goal.overflow_mul-from
-overflow_mul-from c = search (rules, room_at c.loop-c.c 12 c.args.step (omega arith))
-
-pub overflow_add-from : goal.overflow_add-from
-overflow_add-from c = search (rules, room_at c.loop-c.c 12 c.args.step (omega arith))
-
-pub overflow_add-until : goal.overflow_add-until
-overflow_add-until c = search (rules, room_at c.loop-c.c 12 c.args.step (omega arith))
 
 pub scale_slice_into-requires : goal.scale_slice_into-requires
 scale_slice_into-requires c =
