@@ -1,5 +1,6 @@
 // Metadata that neither refusal 5 nor 6 turns away, and each of its updates: their types say so.
 ghost use Rattle.std.specs.Prelude.{◌≡◌, ◌<◌, IfOk};
+ghost use Rattle.words.specs.Words.{Bytes};
 ghost use Rattle.records.specs.FaultNumbers.{number_of};
 ghost use Rattle.records.specs.Laid.{update_at};
 ghost use Rattle.records.specs.LayoutAnswers.{IsLayout};
@@ -32,6 +33,8 @@ pub struct Update<'a> {
 pub struct Metadata<'a> {
     pub records: &'a [u8],
     pub layout: Layout,
+    // what the type of a slice says of itself, and not of a slice in a struct
+    ghost bytes: { Bytes records.now },
     ghost laid: { IsLayout records.now layout },
     ghost whole: { WholeUpdates records.now layout },
 }

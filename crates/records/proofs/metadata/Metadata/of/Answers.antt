@@ -1,6 +1,7 @@
 -- `records::metadata::Metadata::of` meets its contract. Assumes nothing.
 use mathlib.Core.Path.{refl, sym, ◌∙◌}
 use native.Mathlib.Omega.{arith}
+use Rattle.words.specs.Words.{Bytes}
 use Rattle.records.specs.ValuesInRange.{refusal}
 use Rattle.records.proofs.Passed.{passes_all}
 use Rattle.records.proofs.metadata.Metadata.of.Goals as goal
@@ -16,7 +17,12 @@ returns-then-not-in_range-clause-number c = rw (c.in-Some.ensures.laid, sym c.in
 pub invariant_of-result : goal.invariant_of-result
 invariant_of-result c =
     let laid = c.in-Some.ensures in
-    record { laid = laid; whole = passes_all c.args.records.now laid.laid (sym c.in_range.ensures ∙ c.if-not-in_range.false) (λ i. omega (arith, c.type_inv.records i)) c.in-Some.layout laid }
+    let bytes : Bytes c.args.records.now = λ i. omega (arith, c.type_inv.records i) in
+    record {
+      bytes = bytes;
+      laid = laid;
+      whole = passes_all c.args.records.now laid.laid (sym c.in_range.ensures ∙ c.if-not-in_range.false) bytes c.in-Some.layout laid;
+    }
 
 pub returns-clause-number : goal.returns-clause-number
 unfolding refusal
