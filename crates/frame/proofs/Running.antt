@@ -17,9 +17,7 @@ use Rattle.records.specs.LayoutAnswers.{IsLayout, offset_at}
 use Rattle.records.specs.UpdateWalk.{next_offset}
 use Rattle.records.specs.declared.sent.Layout.{Layout}
 use Rattle.records.proofs.Theorems.{next_within, next_above, next_least}
-use Rattle.records.specs.WholeRecords.{WholeUpdates}
 use Rattle.updates.specs.Applied.{applied}
-use Rattle.records.proofs.Passed.{passes_all}
 use Rattle.mixing.proofs.Passes.{pass_plain}
 use Rattle.limiter.specs.Meters.{unmet, meets_all}
 use Rattle.limiter.specs.declared.meters.Meters.{Meters}
@@ -71,12 +69,11 @@ pub record Taken (b : List ℕ) (a : Args) (l : Layout) : Type 0 where
   pub ranged : R hall block facts (decode b)
   pub checked : All facts.Checked (sent_of a.meta)
   pub layout : IsLayout a.meta l
-  pub whole : WholeUpdates a.meta l
   pub samples : a.samples ≤ 1536
   pub long : length b ≡ size
 
-pub takes : (w : Rendering) (b : List ℕ) (a : Args) (l : Layout) → Accepted w b l a → Bytes b → Bytes a.meta → Taken b a l
-takes w b a l h bytes meta =
+pub takes : (w : Rendering) (b : List ℕ) (a : Args) (l : Layout) → Accepted w b a → IsLayout a.meta l → Bytes b → Bytes a.meta → Taken b a l
+takes w b a l h g bytes meta =
     let p = is_passed hall (decode b) a h.clear in
     let x = (is_roomy a.stride (length a.out) p.early.room).most in
     let y = samples_fit a p.early.sized in
@@ -84,15 +81,10 @@ takes w b a l h bytes meta =
       passed = p;
       ranged = facts.decoded b bytes h.valid;
       checked = facts.checked a.meta meta p.early.laid_out p.early.in_range;
-      layout = h.layout;
-      whole = passes_all a.meta p.early.laid_out p.early.in_range meta l h.layout;
+      layout = g;
       samples = omega arith;
       long = valid_long b h.valid;
     }
-
-pub starts_at : (w : Rendering) (b : List ℕ) (a : Args) (l : Layout) → Accepted w b l a → w.renderer.clock.position.0 ≡ (decode b).clock.position
-unfolding decode
-starts_at w b a l h = ap (λ (s : Renderer714). s.clock.position.0) h.small
 
 pub is_rate : (b : List ℕ) (a : Args) (l : Layout) → Taken b a l → Listed a.rate
 is_rate b a l k = is_listed a.rate k.passed.early.listed
@@ -103,7 +95,7 @@ pub record Running (b : List ℕ) (a : Args) (t : ℕ) (w : Rendering) (state ou
   pub small : small_bytes state ≡ small_bytes b
   pub going : Going hall block facts (decode b) a t (held w.renderer state) w.ready w.meters out
 
-pub opens : (w v : Rendering) (b : List ℕ) (a : Args) (l : Layout) → Accepted w b l a → Taken b a l
+pub opens : (w v : Rendering) (b : List ℕ) (a : Args) (l : Layout) → Accepted w b a → Taken b a l
     → v ≡ record { renderer = opened_by w.renderer a.rate; ready = 0; meters = unmet } → Running b a 0 v b a.out
 unfolding decode
 opens w v b a l h k e =
@@ -124,14 +116,11 @@ module _ (b : List ℕ) (a : Args) (l : Layout) (k : Taken b a l) (t : ℕ) (w :
   here = begun hall block facts (decode b) a shapes k.passed k.checked t (held w.renderer state) w.ready w.meters out h.going more
 
   -- the updates at t, and the slot
-  pub can_begin : (at : ℕ) → at ≡ (decode b).clock.position + t → CanBegin w.renderer state a.meta l t at
+  pub can_begin : CanBegin w.renderer state a.meta t
   unfolding facts
-  can_begin at e =
+  can_begin =
       record {
         long = h.long;
-        here = e ∙ sym h.going.position;
-        layout = k.layout;
-        whole = k.whole;
         slot = ranged_starts (updated hall t (sent_of a.meta) (held w.renderer state)) here.updates;
       }
 

@@ -1,8 +1,6 @@
 -- A reader may skip this file: the frame's loop: the samples of a turn, what a push that no refusal turned away hands to it, and what it leaves. Assumes nothing.
 use Rattle.std.specs.Prelude.{ℕ, ◌-◌, ◌≡◌, Bool, true, cond, List, min, length}
 use Rattle.words.specs.Words.{words_at}
-use Rattle.records.specs.LayoutAnswers.{IsLayout}
-use Rattle.records.specs.declared.sent.Layout.{Layout}
 use Rattle.limiter.specs.Meters.{unmet, meets_all}
 use Rattle.rules.specs.Refusals.{Args, clear}
 use Rattle.rules.specs.Samples.{After}
@@ -23,13 +21,12 @@ run_length started phase pending left = cond started (min (64 - phase) (min (64 
 
 -- ---- a push
 
--- w has the small part of the valid block b and nothing in the output, l is the metadata's layout, and the push is not refused
-pub record Accepted (w : Rendering) (b : List ℕ) (l : Layout) (a : Args) : Type 0 where
+-- w has the small part of the valid block b and nothing in the output, and the push is not refused
+pub record Accepted (w : Rendering) (b : List ℕ) (a : Args) : Type 0 where
   pub small : w.renderer ≡ small_of (words_at b 0 small_width)
   pub none : w.ready ≡ 0
   pub valid : valid b ≡ true
   pub clear : found hall (decode b) a ≡ clear
-  pub layout : IsLayout a.meta l
 
 -- r is answered, with the block b and the output o' at exit, where b₀ was the block and o the output: p is what the rules say that the push leaves and gives out
 pub record IsRendered (p : After hall) (stride : ℕ) (b₀ o : List ℕ) (r : Rendering) (b o' : List ℕ) : Type 0 where

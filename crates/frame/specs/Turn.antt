@@ -1,9 +1,6 @@
 -- A reader may skip this file: a turn of the frame's loop on a state block: what it asks and what it leaves. Assumes nothing.
 use Rattle.std.specs.Prelude.{ℕ, ◌+◌, ◌≡◌, cond, List, eqb, length}
 use Rattle.timed.specs.State.{Timed}
-use Rattle.records.specs.LayoutAnswers.{IsLayout}
-use Rattle.records.specs.declared.sent.Layout as records
-use Rattle.records.specs.WholeRecords.{WholeUpdates}
 use Rattle.limiter.specs.Meters.{meets_all}
 use Rattle.rules.specs.Samples.{Frame, Renderer, updated, settled}
 use Rattle.store.specs.declared.renderer.Renderer714.{Renderer714}
@@ -17,12 +14,9 @@ use Rattle.rendering.specs.Begin.{CanStart}
 use Rattle.rendering.specs.Pass.{moment_here}
 use Rattle.frame.specs.Chunk.{chunk}
 
--- the sample at offset t of a frame with metadata m, laid out as l, may begin; `at` is the stream's sample there
-pub record CanBegin (s : Renderer714) (b m : List ℕ) (l : records.Layout) (t at : ℕ) : Type 0 where
+-- the sample at offset t of a frame with metadata m may begin
+pub record CanBegin (s : Renderer714) (b m : List ℕ) (t : ℕ) : Type 0 where
   pub long : length b ≡ size
-  pub here : at ≡ s.clock.position.0
-  pub layout : IsLayout m l
-  pub whole : WholeUpdates m l
   pub slot : CanStart (updated hall t (sent_of m) (held s b))
 
 -- where nothing is pending a block was given out

@@ -9,15 +9,14 @@ ghost use Rattle.rules.specs.Calls.{frame_of};
 ghost use Rattle.store.specs.Layout.{decode};
 ghost use Rattle.theorem.specs.Instance.{hall};
 ghost use Rattle.rendering.specs.Begin.{NoneSent};
-ghost use Rattle.refusals.specs.FirstFound.{args_with};
+ghost use Rattle.refusals.specs.FirstFound.{args_in};
 ghost use Rattle.frame.specs.Loop.{run_length, Accepted, IsRendered};
 
-use beds::Codes;
 use chunk::lay;
 use clock::{FrameOffset, START};
 use formats::areas;
-use records::layout::Layout;
-use refusals::Numbers;
+use records::sent::Layout;
+use refusals::Frame;
 use render::{Input, Span};
 use rendering::Rendering;
 
@@ -36,7 +35,6 @@ fn run_length(started: bool, phase: u32, pending: u32, t: FrameOffset, end: Fram
 
 // Whether an update is sent for sample offset t.
 fn is_sent(l: Layout, t: FrameOffset) -> bool
-    requires { l.count ≤ 16 }
     ensures { cond result (NoneSent l t.0 → ⊥) (NoneSent l t.0) }
 {
     l.sent_at(t, 0) < l.count
@@ -58,41 +56,33 @@ fn is_kept(k: usize, left: usize) -> bool
 }
 
 // Infos and places are left in `state`, the rest is answered: its bytes in `state` stay.
-pub fn render<'a>(
-    idle: Rendering,
-    state: &mut [u8],
-    pcm: &'a [u8],
-    meta: &[u8],
-    out: &mut [u8],
-    codes: &'a [u8],
-    l: Layout,
-    n: Numbers,
-) -> Rendering
-    requires { Accepted idle state.old l (args_with pcm.now meta.now out.old codes.now n) }
-    ensures { IsRendered
-        (pushed hall (frame_of hall (args_with pcm.now meta.now out.old codes.now n)) (decode state.old)) n.stride
-        state.old out.old result state.new out.new }
+pub fn render(idle: Rendering, state: &mut [u8], frame: Frame<'_>, out: &mut [u8]) -> Rendering
+    requires { Accepted idle state.old (args_in frame out.old) }
+    ensures { IsRendered (pushed hall (frame_of hall (args_in frame.entry out.old)) (decode state.old)) frame.entry.n.stride state.old out.old result state.new out.new }
 {
-    let rate = n.rate;
+    let Frame {
+        pcm,
+        metadata,
+        codes,
+        n,
+    } = frame;
     let samples = n.samples as usize;
     let objects = n.objects as usize;
     let stride = n.stride as usize;
     let end = FrameOffset(n.samples);
-    let start = idle.renderer.clock.position;
-    let mut work = Rendering::of(idle.renderer.open(rate));
+    let mut work = Rendering::of(idle.renderer.open(n.rate));
     let mut t = START;
     // By `while`: how many samples a turn takes is found as it goes.
     while t < end {
-        let at = start.at(t);
-        if is_sent(l, t) {
-            work = work.apply_sent(state, meta, l, t, at);
+        if is_sent(metadata.layout, t) {
+            work = work.apply_sent(state, metadata, t);
         }
         if slot_starts(work.renderer.state.initialized, work.renderer.clock.phase)
             && !work.renderer.state.rests(work.renderer.clock.start)
         {
             work = work.start_slot(state);
         }
-        let next = l.next_offset(t, end);
+        let next = metadata.layout.next_offset(t, end);
         let k = run_length(
             work.renderer.state.initialized,
             work.renderer.clock.phase,
@@ -107,7 +97,7 @@ pub fn render<'a>(
         };
         let input = Input {
             pcm,
-            codes: Codes { list: codes },
+            codes,
             objects,
             span,
         };

@@ -9,8 +9,6 @@ use Rattle.rules.specs.BlockCalls as block
 use Rattle.refusals.specs.RefusalNumbers.{numbers_of}
 use Rattle.refusals.specs.declared.Refusal.{Refusal}
 use Rattle.words.specs.Words.{words_at}
-use Rattle.records.specs.declared.sent.Layout.{Layout}
-use Rattle.records.specs.LayoutAnswers.{IsLayout}
 use Rattle.store.specs.declared.renderer.Renderer714.{Renderer714}
 use Rattle.store.specs.Fields.{small_of}
 use Rattle.store.specs.Layout.{small_width, decode}
@@ -63,11 +61,10 @@ pub record Loaded (s : Renderer714) (b : List ℕ) : Type 0 where
   pub small : s ≡ small_of (words_at b 0 small_width)
   pub valid : valid b ≡ true
 
--- no refusal turned the push away, and l is the metadata's layout
-pub record Cleared (s : Renderer714) (b : List ℕ) (l : Layout) (a : Args) : Type 0 where
+-- no refusal turned the push away
+pub record Cleared (s : Renderer714) (b : List ℕ) (a : Args) : Type 0 where
   pub loaded : Loaded s b
   pub clear : found hall (decode b) a ≡ clear
-  pub layout : IsLayout a.meta l
 
 -- samples wait, and the output has room
 pub record Waiting (s : Renderer714) (b out : List ℕ) (stride : ℕ) : Type 0 where

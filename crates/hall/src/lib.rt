@@ -12,8 +12,7 @@ ghost use Rattle.hall.specs.Answers.{Left, code_of, coded, version};
 ghost use Rattle.rules.specs.Refusals.{args_of};
 
 use answer::Outcome;
-use records::layout::layout_of;
-use refusals::{Numbers, Refusal};
+use refusals::{Numbers, Push, Refusal};
 
 pub mod answer;
 mod work;
@@ -46,16 +45,19 @@ pub fn push(
         return Err(Refusal::Lent);
     }
     let s = store::load(state);
-    let l = layout_of(meta);
-    let n = Numbers {
-        rate,
-        samples,
-        objects,
-        stride,
+    let push = Push {
+        pcm,
+        meta,
+        codes,
+        n: Numbers {
+            rate,
+            samples,
+            objects,
+            stride,
+        },
     };
-    refusals::check_push(s, pcm, meta, out.len(), codes, l, n)?;
-    let given = work::render(s, state, pcm, meta, out, codes, l, n);
-    Ok(Outcome::Ready(given))
+    let frame = refusals::check_push(s, push, out.len())?;
+    Ok(Outcome::Ready(work::render(s, state, frame, out)))
 }
 
 // Gives out the samples that wait.

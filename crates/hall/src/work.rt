@@ -3,31 +3,20 @@ ghost use Rattle.rules.specs.Calls.{push, flush};
 ghost use Rattle.rules.specs.BlockCalls.{made};
 ghost use Rattle.theorem.specs.Instance.{hall, block};
 ghost use Rattle.hall.specs.Answers.{Waiting, Cleared, Left, given_as};
-ghost use Rattle.refusals.specs.FirstFound.{args_with};
+ghost use Rattle.refusals.specs.FirstFound.{args_in};
 
 use crate::answer::Given;
-use records::layout::Layout;
-use refusals::Numbers;
+use refusals::Frame;
 use rendering::Rendering;
 use store::renderer::Renderer714;
 
 // A push that no refusal turned away.
-pub fn render(
-    s: Renderer714,
-    state: &mut [u8],
-    pcm: &[u8],
-    meta: &[u8],
-    out: &mut [u8],
-    codes: &[u8],
-    l: Layout,
-    n: Numbers,
-) -> Given
-    requires { Cleared s state.old l (args_with pcm.now meta.now out.old codes.now n) }
-    ensures { Left (made hall block (push (args_with pcm.now meta.now out.old codes.now n)) state.old) (given_as result)
-        state.new out.new }
+pub fn render(s: Renderer714, state: &mut [u8], frame: Frame<'_>, out: &mut [u8]) -> Given
+    requires { Cleared s state.old (args_in frame out.old) }
+    ensures { Left (made hall block (push (args_in frame.entry out.old)) state.old) (given_as result) state.new out.new }
 {
     let work = Rendering::of(s);
-    let done = frame::push::render(work, state, pcm, meta, out, codes, l, n);
+    let done = frame::push::render(work, state, frame, out);
     store::write::save(state, done.renderer);
     Given {
         samples: done.ready,

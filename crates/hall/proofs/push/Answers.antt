@@ -1,10 +1,16 @@
 -- `push`: each way out by its law.
-use mathlib.Core.Path.{refl, sym, ◌∙◌}
+use Prim.Native.Nat.{ℕ}
+use mathlib.Core.List.{List}
+use mathlib.Core.Path.{refl, sym, ap, subst, ◌∙◌}
 use native.Mathlib.Omega.{arith}
 use Rattle.std.proofs.lemmas.Result.{err_from_is_err_and}
 use Rattle.words.specs.Words.{Bytes}
-use Rattle.rules.specs.Calls.{push}
-use Rattle.rules.specs.Refusals.{args_of}
+use Rattle.rules.specs.Calls.{push, found}
+use Rattle.rules.specs.BlockCalls.{made}
+use Rattle.rules.specs.Refusals.{Args, args_of}
+use Rattle.store.specs.Layout.{decode}
+use Rattle.theorem.specs.Instance.{hall, block}
+use Rattle.hall.specs.Answers.{Left, given_as}
 use Rattle.hall.proofs.Appending.{appended}
 use Rattle.hall.proofs.WaysOut.{leaves_as, wrong, refused_push}
 use Rattle.hall.proofs.Known.{valid_long, loaded_ranged}
@@ -31,24 +37,24 @@ pub check_push-requires : goal.check_push-requires
 check_push-requires c =
     let valid = sym c.is_valid.ensures ∙ c.if-not-is_valid.false in
     let w = (loaded_ranged c.args.state.now c.load-s.result c.load-s.ensures (λ i. omega (arith, c.slice_known-1.given i)) valid).meta.state.within in
-    (w.beds, w.objects, c.layout_of-l.ensures)
+    (w.beds, w.objects)
 
-pub returns-in_err-check_push : goal.returns-in_err-check_push
-returns-in_err-check_push c =
+pub returns-in_err-frame : goal.returns-in_err-frame
+returns-in_err-frame c =
     let s = c.args in
     let a = args_of s.pcm.now s.meta.now s.out.now s.codes.now s.rate s.samples s.objects s.stride in
-    let r = c.in_err-check_push.field-0.0 in
-    let found = c.in_err-check_push.ensures s.state.now s.out.now c.load-s.ensures refl in
+    let r = c.in_err-frame.field-0.0 in
+    let found = c.in_err-frame.ensures.found s.state.now s.out.now c.load-s.ensures refl in
     let p = err_from_is_err_and c.from_residual.result c.from_residual.ensures.1 in
     record { left = rw (p.1, p.2) (refused_push a s.state.now r (sym c.is_valid.ensures ∙ c.if-not-is_valid.false) found); appends = rw (p.1) tt }
 
-pub render-given-requires : goal.render-given-requires
-render-given-requires c =
+pub render-requires : goal.render-requires
+render-requires c =
     let a = c.args in
+    let k = c.in_ok-frame.ensures in
     record {
       loaded = record { small = c.load-s.ensures; valid = sym c.is_valid.ensures ∙ c.if-not-is_valid.false };
-      clear = sym (c.in_ok-check_push.ensures a.state.now a.out.now c.load-s.ensures refl);
-      layout = c.layout_of-l.ensures;
+      clear = ap (λ (g : List ℕ → Args). found hall (decode a.state.now) (g a.out.now)) k.frame ∙ sym (k.found a.state.now a.out.now c.load-s.ensures refl);
     }
 
 pub returns : goal.returns
@@ -56,4 +62,7 @@ returns c =
     let s = c.args in
     let a = args_of s.pcm.now s.meta.now s.out.now s.codes.now s.rate s.samples s.objects s.stride in
     let h = lent (goal.at.returns c).After-is_valid in
-    record { left = c.render-given.ensures; appends = appended a s.state.now h c.render-given.result c.render-given.ensures }
+    let e : Left (made hall block (push a) s.state.now) (given_as c.render.result) c.render.new.state c.render.new.out =
+    subst (λ (g : List ℕ → Args). Left (made hall block (push (g s.out.now)) s.state.now) (given_as c.render.result) c.render.new.state c.render.new.out)
+    c.in_ok-frame.ensures.frame c.render.ensures in
+    record { left = e; appends = appended a s.state.now h c.render.result e }

@@ -14,7 +14,7 @@ use Rattle.rules.specs.Calls.{frame_of}
 use Rattle.rules.specs.Samples.{Renderer, updated, slotted}
 use Rattle.timed.specs.State.{Timed}
 use Rattle.theorem.specs.Instance.{sent_of, hall}
-use Rattle.refusals.specs.FirstFound.{args_with}
+use Rattle.refusals.specs.FirstFound.{args_in}
 use Rattle.render.specs.Run.{silent_rows}
 use Rattle.store.specs.declared.renderer.Renderer714.{Renderer714}
 use Rattle.rendering.specs.Held.{held, IsNext, Leads}
@@ -25,113 +25,96 @@ use Rattle.rendering.specs.Pass.{moment_here, Waits}
 use Rattle.chunk.specs.ChunkRows.{Laid}
 use Rattle.frame.specs.Turn.{CanBegin}
 use Rattle.rendering.proofs.Theorems.{can_start, slotted_after, none_applied, slot_rests, slot_changes_nothing}
-use Rattle.frame.proofs.Running.{Taken, takes, starts_at, is_rate, Running, opens, can_begin, end_above, few, Turning, turn_some, turn_within, turn_passes}
+use Rattle.frame.proofs.Running.{Taken, takes, is_rate, Running, opens, can_begin, end_above, few, Turning, turn_some, turn_within, turn_passes}
 use Rattle.clock.proofs.Before.{more_left, none_left}
 use Rattle.frame.proofs.Running.{turn_runs, turn_skips, rendered}
 use Rattle.frame.proofs.ChunkOnBlock.{can_give_rows, can_give, passes_on, passes_given, passes_whole}
 use Rattle.chunk.proofs.Theorems.{fit_all, as_laid}
 use Rattle.frame.proofs.push.render.Goals as goal
-use Rattle.frame.proofs.push.render.Goals.{After-at-at, After-pass-work, After-run_length-k, After-start-1, Joined-is_kept, Joined-is_sent, Joined-slot_starts, then-is_sent, else-is_sent, then-slot_starts+then-not-rests, else-slot_starts, else-slot_starts-via-then-slot_starts+else-not-rests, else-slot_starts-via-else-slot_starts, then-is_kept, else-is_kept, then-k-eq64, else-k-eq64+then-work-eq64, else-k-eq64+else-work-eq64}
+use Rattle.frame.proofs.push.render.Goals.{In-loop-pcm, After-pass-work, After-run_length-k, After-open-arg-1, Joined-is_kept, Joined-is_sent, Joined-slot_starts, then-is_sent, else-is_sent, then-slot_starts+then-not-rests, else-slot_starts, else-slot_starts-via-then-slot_starts+else-not-rests, else-slot_starts-via-else-slot_starts, then-is_kept, else-is_kept, then-k-eq64, else-k-eq64+then-work-eq64, else-k-eq64+else-work-eq64}
 
 -- ---- at the start
 
 -- what is lent was accepted
-taken : (c : After-start-1) → let s = c.args in Taken s.state.now (args_with s.pcm.now s.meta.now s.out.now s.codes.now s.n) s.l
+taken : (c : After-open-arg-1) → let s = c.args in Taken s.state.now (args_in s.frame s.out.now) s.frame.metadata.layout
 taken c =
     let s = c.args in
-    takes s.idle s.state.now (args_with s.pcm.now s.meta.now s.out.now s.codes.now s.n) s.l c.requires
+    takes s.idle s.state.now (args_in s.frame s.out.now) s.frame.metadata.layout c.requires s.frame.metadata.laid
     (λ i. omega (arith, c.type_inv.state i))
-    (λ i. omega (arith, c.type_inv.meta i))
+    s.frame.metadata.bytes
 
 pub open-requires : goal.open-requires
 open-requires c =
     let s = c.args in
-    is_rate s.state.now (args_with s.pcm.now s.meta.now s.out.now s.codes.now s.n) s.l (taken (goal.at.open-requires c).After-start-1)
+    is_rate s.state.now (args_in s.frame s.out.now) s.frame.metadata.layout (taken (goal.at.open-requires c).After-open-arg-1)
 
-pub loop-l-init : goal.loop-l-init
-loop-l-init c =
+pub loop-pcm-init : goal.loop-pcm-init
+loop-pcm-init c =
     let s = c.args in (
-      opens s.idle c.of-work.result s.state.now (args_with s.pcm.now s.meta.now s.out.now s.codes.now s.n) s.l c.requires
-          (taken (goal.at.loop-l-init c).After-start-1)
+      opens s.idle c.of-work.result s.state.now (args_in s.frame s.out.now) s.frame.metadata.layout c.requires
+          (taken (goal.at.loop-pcm-init c).After-open-arg-1)
           (c.of-work.ensures ∙ ap (λ (r : Renderer714). record { renderer = r; ready = 0; meters = unmet }) c.«open».ensures),
       refl,
     )
 
 -- ---- a turn
 
-pub at-at-requires : goal.at-at-requires
-at-at-requires c =
-    let s = c.args in
-    let a = args_with s.pcm.now s.meta.now s.out.now s.codes.now s.n in
-    let k = taken (goal.at.at-at-requires c).After-start-1 in
-    let p = k.ranged.position in
-    let e = starts_at s.idle s.state.now a s.l c.requires in
-    omega arith
-
-pub is_sent-requires : goal.is_sent-requires
-is_sent-requires c = (taken (goal.at.is_sent-requires c).After-start-1).whole.few
-
 -- what may begin at t
-may_begin : (c : After-at-at) → let s = c.args in let x = c.loop-l in
-    Taken s.state.now (args_with s.pcm.now s.meta.now s.out.now s.codes.now s.n) s.l → CanBegin x.work.renderer x.state s.meta.now s.l x.t.0 c.at-at.result.0
+may_begin : (c : In-loop-pcm) → let s = c.args in let x = c.loop-pcm in
+    Taken s.state.now (args_in s.frame s.out.now) s.frame.metadata.layout → CanBegin x.work.renderer x.state s.frame.metadata.records.now x.t.0
 may_begin c k =
     let s = c.args in
-    let x = c.loop-l in
-    let a = args_with s.pcm.now s.meta.now s.out.now s.codes.now s.n in
-    can_begin s.state.now a s.l k x.t.0 x.work x.state x.out x.invariant.0 (more_left _ _ _ c.lt.ensures c.loop-l-test.true)
-    c.at-at.result.0 (c.at-at.ensures ∙ ap (λ (p : ℕ). p + x.t.0) (starts_at s.idle s.state.now a s.l c.requires))
+    let x = c.loop-pcm in
+    can_begin s.state.now (args_in s.frame s.out.now) s.frame.metadata.layout k x.t.0 x.work x.state x.out x.invariant.0 (more_left _ _ _ c.lt.ensures c.loop-pcm-test.true)
 
 pub apply_sent-work-requires : goal.apply_sent-work-requires
-apply_sent-work-requires c =
-    let p = goal.at.apply_sent-work-requires c in
-    let b = may_begin p.After-at-at (taken p.After-start-1) in
-    (b.long, b.here, b.layout, b.whole)
+apply_sent-work-requires c = c.loop-pcm.invariant.0.long
 
-updates_done : (c : Joined-is_sent) → let s = c.args in let x = c.loop-l in
-    Taken s.state.now (args_with s.pcm.now s.meta.now s.out.now s.codes.now s.n) s.l
-    → Leads (updated hall x.t.0 (sent_of s.meta.now) (held x.work.renderer x.state)) x.work x.state c.if-is_sent.work c.if-is_sent.state
+updates_done : (c : Joined-is_sent) → let s = c.args in let x = c.loop-pcm in
+    Taken s.state.now (args_in s.frame s.out.now) s.frame.metadata.layout
+    → Leads (updated hall x.t.0 (sent_of s.frame.metadata.records.now) (held x.work.renderer x.state)) x.work x.state c.if-is_sent.work c.if-is_sent.state
 updates_done c k =
     let s = c.args in
-    let x = c.loop-l in
+    let x = c.loop-pcm in
     elim c.if-is_sent.branch [
       | then-is_sent w ↦ rw (w.work-is, w.state-is) w.apply_sent-work.ensures
       | else-is_sent w ↦ rw (w.work-is, w.state-is)
           (record {
-            next = none_applied s.meta.now s.l k.layout x.t.0 x.work.renderer x.state x.invariant.0.long (rw w.if-is_sent.false at c.is_sent.ensures);
+            next = none_applied s.frame.metadata.records.now s.frame.metadata.layout k.layout x.t.0 x.work.renderer x.state x.invariant.0.long (rw w.if-is_sent.false at c.is_sent.ensures);
             ready = refl;
             meters = refl;
           })
     ]
 
 -- the slot that starts may
-slot_at : (c : Joined-is_sent) → let s = c.args in let x = c.loop-l in
-    CanBegin x.work.renderer x.state s.meta.now s.l x.t.0 c.at-at.result.0
-    → Leads (updated hall x.t.0 (sent_of s.meta.now) (held x.work.renderer x.state)) x.work x.state c.if-is_sent.work c.if-is_sent.state
+slot_at : (c : Joined-is_sent) → let s = c.args in let x = c.loop-pcm in
+    CanBegin x.work.renderer x.state s.frame.metadata.records.now x.t.0
+    → Leads (updated hall x.t.0 (sent_of s.frame.metadata.records.now) (held x.work.renderer x.state)) x.work x.state c.if-is_sent.work c.if-is_sent.state
     → CanStart (held c.if-is_sent.work.renderer c.if-is_sent.state)
 slot_at c b a = can_start a.next.holds b.slot
 
 pub rests-requires : goal.rests-requires
 rests-requires c =
     let p = goal.at.rests-requires c in
-    let k = taken p.After-start-1 in
-    let s = slot_at p.Joined-is_sent (may_begin p.After-at-at k) (updates_done p.Joined-is_sent k) in
+    let k = taken p.After-open-arg-1 in
+    let s = slot_at p.Joined-is_sent (may_begin p.In-loop-pcm k) (updates_done p.Joined-is_sent k) in
     (s.start, s.within)
 
 pub start_slot-work-requires : goal.start_slot-work-requires
 start_slot-work-requires c =
     let p = goal.at.start_slot-work-requires c in
-    let k = taken p.After-start-1 in
+    let k = taken p.After-open-arg-1 in
     let a = updates_done p.Joined-is_sent k in
-    (a.next.holds.long, slot_at p.Joined-is_sent (may_begin p.After-at-at k) a, sym c.slot_starts.ensures ∙ c.if-slot_starts.true)
+    (a.next.holds.long, slot_at p.Joined-is_sent (may_begin p.In-loop-pcm k) a, sym c.slot_starts.ensures ∙ c.if-slot_starts.true)
 
 -- with no slot, or one that changes nothing, what the updates left goes on
 leads_on : {r : Renderer Timed} {w w' : Rendering} {b b' : List ℕ} → Leads r w b w' b' → IsNext (slotted hall (held w'.renderer b')) b' w'.renderer b'
     → Leads (slotted hall r) w b w' b'
 leads_on a n = record { next = slotted_after a.next n; ready = a.ready; meters = a.meters }
 
-begun : (c : Joined-slot_starts) → let s = c.args in let x = c.loop-l in
-    Leads (updated hall x.t.0 (sent_of s.meta.now) (held x.work.renderer x.state)) x.work x.state c.if-is_sent.work c.if-is_sent.state
-    → Leads (slotted hall (updated hall x.t.0 (sent_of s.meta.now) (held x.work.renderer x.state))) x.work x.state c.if-slot_starts.work c.if-slot_starts.state
+begun : (c : Joined-slot_starts) → let s = c.args in let x = c.loop-pcm in
+    Leads (updated hall x.t.0 (sent_of s.frame.metadata.records.now) (held x.work.renderer x.state)) x.work x.state c.if-is_sent.work c.if-is_sent.state
+    → Leads (slotted hall (updated hall x.t.0 (sent_of s.frame.metadata.records.now) (held x.work.renderer x.state))) x.work x.state c.if-slot_starts.work c.if-slot_starts.state
 begun c a =
     let slot = sym c.slot_starts.ensures in
     elim c.if-slot_starts.branch [
@@ -146,34 +129,31 @@ begun c a =
           ]))
     ]
 
-pub next_offset-next-requires : goal.next_offset-next-requires
-next_offset-next-requires c = (taken (goal.at.next_offset-next-requires c).After-start-1).whole.few
-
 pub run_length-k-requires : goal.run_length-k-requires
 run_length-k-requires c =
     let p = goal.at.run_length-k-requires c in
     let s = c.args in
-    let x = c.loop-l in
-    let a = args_with s.pcm.now s.meta.now s.out.now s.codes.now s.n in
-    let k = taken p.After-start-1 in
+    let x = c.loop-pcm in
+    let a = args_in s.frame s.out.now in
+    let k = taken p.After-open-arg-1 in
     let e = c.next_offset-next.result.0 in
-    let l : c.loop-l.t.0 < c.args.n.samples = more_left _ _ _ c.lt.ensures c.loop-l-test.true in
+    let l : c.loop-pcm.t.0 < c.args.frame.n.samples = more_left _ _ _ c.lt.ensures c.loop-pcm-test.true in
     let n = rw x.invariant.1 at c.next_offset-next.ensures in
-    let f = few s.state.now a s.l k x.t.0 x.work x.state x.out x.invariant.0 l e n c.if-slot_starts.work c.if-slot_starts.state
+    let f = few s.state.now a s.frame.metadata.layout k x.t.0 x.work x.state x.out x.invariant.0 l e n c.if-slot_starts.work c.if-slot_starts.state
     (begun p.Joined-slot_starts (updates_done p.Joined-is_sent k)) in
-    (f.0, f.1, le_of_lt (end_above s.state.now a s.l k x.t.0 x.work x.state x.out x.invariant.0 l e n))
+    (f.0, f.1, le_of_lt (end_above s.state.now a s.frame.metadata.layout k x.t.0 x.work x.state x.out x.invariant.0 l e n))
 
-turning : (c : After-run_length-k) → let s = c.args in let x = c.loop-l in
-    Taken s.state.now (args_with s.pcm.now s.meta.now s.out.now s.codes.now s.n) s.l
-    → Leads (slotted hall (updated hall x.t.0 (sent_of s.meta.now) (held x.work.renderer x.state))) x.work x.state c.if-slot_starts.work c.if-slot_starts.state
-    → Turning s.state.now (args_with s.pcm.now s.meta.now s.out.now s.codes.now s.n) s.l x.t.0 x.work x.state x.out c.next_offset-next.result.0
+turning : (c : After-run_length-k) → let s = c.args in let x = c.loop-pcm in
+    Taken s.state.now (args_in s.frame s.out.now) s.frame.metadata.layout
+    → Leads (slotted hall (updated hall x.t.0 (sent_of s.frame.metadata.records.now) (held x.work.renderer x.state))) x.work x.state c.if-slot_starts.work c.if-slot_starts.state
+    → Turning s.state.now (args_in s.frame s.out.now) s.frame.metadata.layout x.t.0 x.work x.state x.out c.next_offset-next.result.0
     c.if-slot_starts.work c.if-slot_starts.state c.run_length-k.result
 turning c k b =
     record {
       taken = k;
-      running = c.loop-l.invariant.0;
-      more = more_left _ _ _ c.lt.ensures c.loop-l-test.true;
-      ends = rw c.loop-l.invariant.1 at c.next_offset-next.ensures;
+      running = c.loop-pcm.invariant.0;
+      more = more_left _ _ _ c.lt.ensures c.loop-pcm-test.true;
+      ends = rw c.loop-pcm.invariant.1 at c.next_offset-next.ensures;
       begun = b;
       count = c.run_length-k.ensures;
     }
@@ -182,14 +162,14 @@ turning c k b =
 pub invariant_of-span : goal.invariant_of-span
 invariant_of-span c =
     let p = goal.at.invariant_of-span c in
-    let k = taken p.After-start-1 in
+    let k = taken p.After-open-arg-1 in
     let q = turn_passes (turning p.After-run_length-k k (begun p.Joined-slot_starts (updates_done p.Joined-is_sent k))) in
     record { within = rw c.index.ensures q.span; short = omega (arith, q.passes.pending) }
 
-pub invariant_of-input-in-loop-l : goal.invariant_of-input-in-loop-l
-invariant_of-input-in-loop-l c =
-    let p = goal.at.invariant_of-input-in-loop-l c in
-    let k = taken p.After-start-1 in
+pub invariant_of-input : goal.invariant_of-input
+invariant_of-input c =
+    let p = goal.at.invariant_of-input c in
+    let k = taken p.After-open-arg-1 in
     let q = turn_passes (turning p.After-run_length-k k (begun p.Joined-slot_starts (updates_done p.Joined-is_sent k))) in
     record { few = q.few; framed = q.framed }
 
@@ -197,24 +177,24 @@ pub pass-work-requires : goal.pass-work-requires
 unfolding of_bits silent_rows
 pass-work-requires c =
     let p = goal.at.pass-work-requires c in
-    let k = taken p.After-start-1 in
+    let k = taken p.After-open-arg-1 in
     ((turn_passes (turning p.After-run_length-k k (begun p.Joined-slot_starts (updates_done p.Joined-is_sent k)))).passes, search rules)
 
 -- what it leaves, by the offset
 passed_at : (c : After-pass-work) → let s = c.args in let v = c.if-slot_starts in
-    Waits (moment_here (frame_of hall (args_with s.pcm.now s.meta.now s.out.now s.codes.now s.n)) c.loop-l.t.0 c.run_length-k.result v.work.renderer v.state)
-    v.work c.loop-l.t.0 c.run_length-k.result c.pass-work.new.rows c.pass-work.result
-passed_at c = rw c.index.ensures at (c.pass-work.ensures c.args.n.rate (sent_of c.args.meta.now) c.if-slot_starts.state)
+    Waits (moment_here (frame_of hall (args_in s.frame s.out.now)) c.loop-pcm.t.0 c.run_length-k.result v.work.renderer v.state)
+    v.work c.loop-pcm.t.0 c.run_length-k.result c.pass-work.new.rows c.pass-work.result
+passed_at c = rw c.index.ensures at (c.pass-work.ensures c.args.frame.n.rate (sent_of c.args.frame.metadata.records.now) c.if-slot_starts.state)
 
 pub up_to-requires : goal.up_to-requires
 up_to-requires c =
-    let l : c.loop-l.t.0 < c.args.n.samples = more_left _ _ _ c.lt.ensures c.loop-l-test.true in
-    omega (arith, l, c.loop-l.invariant.1)
+    let l : c.loop-pcm.t.0 < c.args.frame.n.samples = more_left _ _ _ c.lt.ensures c.loop-pcm-test.true in
+    omega (arith, l, c.loop-pcm.invariant.1)
 
 pub lay-requires : goal.lay-requires
 lay-requires c =
     let p = goal.at.lay-requires c in
-    let k = taken p.After-start-1 in
+    let k = taken p.After-open-arg-1 in
     let q = turn_passes (turning p.After-run_length-k k (begun p.Joined-slot_starts (updates_done p.Joined-is_sent k))) in
     (q.block, q.passes.pending)
 
@@ -223,8 +203,8 @@ neither true b e = absurd (subst T e tt)
 neither false b e = (refl, e)
 
 -- where it is no whole block, it was laid
-laid_part : (c : Joined-is_kept) → let s = c.args in let x = c.loop-l in let v = c.if-slot_starts in
-    Turning s.state.now (args_with s.pcm.now s.meta.now s.out.now s.codes.now s.n) s.l x.t.0 x.work x.state x.out c.next_offset-next.result.0
+laid_part : (c : Joined-is_kept) → let s = c.args in let x = c.loop-pcm in let v = c.if-slot_starts in
+    Turning s.state.now (args_in s.frame s.out.now) s.frame.metadata.layout x.t.0 x.work x.state x.out c.next_offset-next.result.0
     v.work v.state c.run_length-k.result
     → (c.run_length-k.result ≡ 64 → ⊥)
     → Laid c.pass-work.new.rows v.work.renderer.pending c.run_length-k.result v.state c.if-is_kept.state
@@ -241,8 +221,8 @@ pub give_rows-work-requires : goal.give_rows-work-requires
 give_rows-work-requires c =
     let p = goal.at.give_rows-work-requires c in
     let s = c.args in
-    let k = taken p.After-start-1 in
-    can_give_rows (frame_of hall (args_with s.pcm.now s.meta.now s.out.now s.codes.now s.n))
+    let k = taken p.After-open-arg-1 in
+    can_give_rows (frame_of hall (args_in s.frame s.out.now))
     (turn_passes (turning p.After-run_length-k k (begun p.Joined-slot_starts (updates_done p.Joined-is_sent k))))
     (passed_at p.After-pass-work)
     c.if-k-eq64.true
@@ -251,16 +231,16 @@ pub give-work-requires : goal.give-work-requires
 give-work-requires c =
     let p = goal.at.give-work-requires c in
     let s = c.args in
-    let k = taken p.After-start-1 in
+    let k = taken p.After-open-arg-1 in
     let q = turning p.After-run_length-k k (begun p.Joined-slot_starts (updates_done p.Joined-is_sent k)) in
-    can_give (frame_of hall (args_with s.pcm.now s.meta.now s.out.now s.codes.now s.n)) (turn_passes q)
+    can_give (frame_of hall (args_in s.frame s.out.now)) (turn_passes q)
     (passed_at p.After-pass-work)
     (laid_part p.Joined-is_kept q c.if-k-eq64.false) c.if-work-eq64.true
 
 pub overflow_cast-k : goal.overflow_cast-k
 overflow_cast-k c =
     let p = goal.at.overflow_cast-k c in
-    let k = taken p.After-start-1 in
+    let k = taken p.After-open-arg-1 in
     let q = turning p.After-run_length-k k (begun p.Joined-slot_starts (updates_done p.Joined-is_sent k)) in
     let m = k.samples in
     let n = turn_within q in
@@ -269,35 +249,35 @@ overflow_cast-k c =
 pub plus-t-requires : goal.plus-t-requires
 plus-t-requires c =
     let p = goal.at.plus-t-requires c in
-    let k = taken p.After-start-1 in
+    let k = taken p.After-open-arg-1 in
     let q = turning p.After-run_length-k k (begun p.Joined-slot_starts (updates_done p.Joined-is_sent k)) in
     let m = k.samples in
     let n = turn_within q in
     omega arith
 
-pub loop-l-smaller : goal.loop-l-smaller
-loop-l-smaller c =
-    let p = goal.at.loop-l-smaller c in
-    let k = taken p.After-start-1 in
+pub loop-pcm-smaller : goal.loop-pcm-smaller
+loop-pcm-smaller c =
+    let p = goal.at.loop-pcm-smaller c in
+    let k = taken p.After-open-arg-1 in
     let q = turning p.After-run_length-k k (begun p.Joined-slot_starts (updates_done p.Joined-is_sent k)) in
     let m = turn_some q in
     let n = turn_within q in
     omega (arith, c.plus-t.ensures)
 
 -- a whole block: laid, or as much follows
-whole_runs : (c : Joined-is_kept) (r : Rendering) (o : List ℕ) → let s = c.args in let x = c.loop-l in let v = c.if-slot_starts in
-    Turning s.state.now (args_with s.pcm.now s.meta.now s.out.now s.codes.now s.n) s.l x.t.0 x.work x.state x.out c.next_offset-next.result.0
+whole_runs : (c : Joined-is_kept) (r : Rendering) (o : List ℕ) → let s = c.args in let x = c.loop-pcm in let v = c.if-slot_starts in
+    Turning s.state.now (args_in s.frame s.out.now) s.frame.metadata.layout x.t.0 x.work x.state x.out c.next_offset-next.result.0
     v.work v.state c.run_length-k.result
-    → Waits (moment_here (frame_of hall (args_with s.pcm.now s.meta.now s.out.now s.codes.now s.n)) x.t.0 c.run_length-k.result v.work.renderer v.state)
+    → Waits (moment_here (frame_of hall (args_in s.frame s.out.now)) x.t.0 c.run_length-k.result v.work.renderer v.state)
     v.work x.t.0 c.run_length-k.result c.pass-work.new.rows c.pass-work.result
     → c.run_length-k.result ≡ 64
-    → GaveRows c.pass-work.result c.pass-work.new.rows s.n.stride x.out r o
-    → Running s.state.now (args_with s.pcm.now s.meta.now s.out.now s.codes.now s.n) (x.t.0 + c.run_length-k.result) r c.if-is_kept.state o
+    → GaveRows c.pass-work.result c.pass-work.new.rows s.frame.n.stride x.out r o
+    → Running s.state.now (args_in s.frame s.out.now) (x.t.0 + c.run_length-k.result) r c.if-is_kept.state o
 whole_runs c r o q y e g =
     let s = c.args in
     let v = c.if-slot_starts in
     let ys = c.pass-work.new.rows in
-    let f = frame_of hall (args_with s.pcm.now s.meta.now s.out.now s.codes.now s.n) in
+    let f = frame_of hall (args_in s.frame s.out.now) in
     let p = turn_passes q in
     elim c.if-is_kept.branch [
       | then-is_kept w ↦ rw w.state-is (turn_runs q r _ o (passes_whole f p y w.lay.ensures c.pass-work.array_long e g))
@@ -308,16 +288,16 @@ whole_runs c r o q y e g =
           let l = as_laid ys v.work.renderer.pending k p.passes.pending v.state (fit_all ys g.fit) c.pass-work.array_long p.block in
           rw w.state-is
           (turn_skips q r l.0 o (passes_whole f p y l.1 c.pass-work.array_long e g) l.1.infos (ap (λ (s : Renderer714). s.pending) g.renderer)
-          (omega (arith, x, c.up_to.ensures, c.loop-l.invariant.1)))
+          (omega (arith, x, c.up_to.ensures, c.loop-pcm.invariant.1)))
     ]
 
-pub loop-l-preserved : goal.loop-l-preserved
-loop-l-preserved c =
+pub loop-pcm-preserved : goal.loop-pcm-preserved
+loop-pcm-preserved c =
     let s = c.args in
     let z = c.if-k-eq64 in
-    let at = goal.at.loop-l-preserved c in
-    let a = args_with s.pcm.now s.meta.now s.out.now s.codes.now s.n in
-    let k = taken at.After-start-1 in
+    let at = goal.at.loop-pcm-preserved c in
+    let a = args_in s.frame s.out.now in
+    let k = taken at.After-open-arg-1 in
     let q = turning at.After-run_length-k k (begun at.Joined-slot_starts (updates_done at.Joined-is_sent k)) in
     let p = turn_passes q in
     let f = frame_of hall a in
@@ -330,7 +310,7 @@ loop-l-preserved c =
             | else-k-eq64+else-work-eq64 w ↦ rw (w.work-is, w.out-is)
                 (turn_runs q _ _ _ (passes_on f p y (laid_part at.Joined-is_kept q w.if-k-eq64.false) w.if-work-eq64.false))
           ]),
-      c.loop-l.invariant.1,
+      c.loop-pcm.invariant.1,
     )
 
 -- ---- at the end
@@ -338,6 +318,6 @@ loop-l-preserved c =
 pub returns : goal.returns
 returns c =
     let s = c.args in
-    let x = c.loop-l in
-    rendered s.state.now (args_with s.pcm.now s.meta.now s.out.now s.codes.now s.n) x.t.0 x.work x.state x.out x.invariant.0
-    (none_left _ _ _ c.lt.ensures c.loop-l-test.false)
+    let x = c.loop-pcm in
+    rendered s.state.now (args_in s.frame s.out.now) x.t.0 x.work x.state x.out x.invariant.0
+    (none_left _ _ _ c.lt.ensures c.loop-pcm-test.false)

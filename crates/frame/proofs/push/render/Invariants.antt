@@ -1,13 +1,12 @@
 -- `render` meets its contract: the loop keeps `Running`, and what is left of the frame falls at each turn. Assumes nothing.
 use Prim.Native.Nat.{◌-◌}
 use mathlib.Core.Path.{◌≡◌}
-use Rattle.rules.specs.Refusals.{args_of}
+use Rattle.refusals.specs.FirstFound.{args_in}
 use Rattle.frame.proofs.Running.{Running}
 use Rattle.frame.proofs.push.render.Given as goal
 
-abbrev pub invariant-loop-l : goal.invariant-loop-l
-invariant-loop-l l =
-    Running l.initial.state (args_of l.pcm l.meta l.initial.out l.codes l.rate l.samples l.objects l.stride) l.t.0 l.work l.state l.out × (l.end.0 ≡ l.samples)
+abbrev pub invariant-loop-pcm : goal.invariant-loop-pcm
+invariant-loop-pcm l = Running l.initial.state (args_in l.fn.frame l.initial.out) l.t.0 l.work l.state l.out × (l.end.0 ≡ l.fn.frame.n.samples)
 
-abbrev pub decreases-loop-l : goal.decreases-loop-l
-decreases-loop-l l = l.samples - l.t.0
+abbrev pub decreases-loop-pcm : goal.decreases-loop-pcm
+decreases-loop-pcm l = l.fn.frame.n.samples - l.t.0

@@ -1,7 +1,7 @@
 -- `render`: the push of the rules, saved.
 use mathlib.Core.Path.{refl, ap, ◌∙◌}
 use native.Mathlib.Omega.{arith}
-use Rattle.refusals.specs.FirstFound.{args_with}
+use Rattle.refusals.specs.FirstFound.{args_in}
 use Rattle.limiter.specs.Meters.{shown}
 use Rattle.hall.proofs.Done.{rendered_left}
 use Rattle.hall.proofs.work.render.Goals as goal
@@ -9,7 +9,7 @@ use Rattle.hall.proofs.work.render.Goals as goal
 pub render-done-requires : goal.render-done-requires
 render-done-requires c =
     let w = c.requires in
-    rw c.of-work.ensures (record { small = w.loaded.small; none = refl; valid = w.loaded.valid; clear = w.clear; layout = w.layout })
+    rw c.of-work.ensures (record { small = w.loaded.small; none = refl; valid = w.loaded.valid; clear = w.clear })
 
 pub save-requires : goal.save-requires
 save-requires c = c.render-done.ensures.next.holds.long
@@ -19,9 +19,9 @@ returns c =
     let a = c.args in
     let w = c.requires in
     let d = c.render-done.ensures in
-    rendered_left (args_with a.pcm.now a.meta.now a.out.now a.codes.now a.n) a.state.now
+    rendered_left (args_in a.frame a.out.now) a.state.now
     (λ i. omega (arith, c.slice_known-1.given i))
-    (λ i. omega (arith, c.type_inv.meta i)) w.loaded.valid w.clear
+    a.frame.metadata.bytes w.loaded.valid w.clear
     c.render-done.result.renderer c.render-done.result.ready c.shown.result c.render-done.new.state
     (λ i. omega (arith, c.slice_known-3-1.given i)) d.next.holds d.ready
     (c.shown.ensures ∙ ap shown d.meters)
