@@ -4,7 +4,7 @@ use Rattle.std.proofs.lemmas.List.{length-replicate}
 use Prim.Native.Nat.{ℕ}
 use mathlib.Core.Path.{◌≡◌, refl, sym, ap, subst, ◌∙◌}
 use mathlib.Core.Bool.{Bool, true, false, cond, ◌&&◌, ◌||◌}
-use mathlib.Core.List.{List, [], ◌∷◌, ◌++◌}
+use mathlib.Core.List.{List, ◌∷◌, ◌++◌}
 use native.Mathlib.Omega.{arith}
 use lib.Dec.{eqb}
 use lib.ListN.{get_or, length, take, drop}
@@ -24,7 +24,7 @@ use Rattle.calls.specs.CallResults.{Called}
 use Rattle.hallrender.specs.declared.End.{End}
 use Rattle.hallrender.specs.declared.Program.{Program}
 use Rattle.hallrender.specs.ProgramRun.{calls_of, out_on, Ran}
-use Rattle.hallrender.specs.RunResults.{Kept, NotAlone, Pushed, FrameTaken, Answered, Handled, Took}
+use Rattle.hallrender.specs.RunResults.{NotAlone, Pushed, FrameTaken, Answered, Handled, Took}
 
 -- ---- a frame
 
@@ -105,9 +105,6 @@ module _ (r : List ℕ) where
 
 abbrev pub From : Program → Program → Type 0
 From p q = (u v : List ℕ) → Ran q.state q.out u v → Ran p.state p.out u v
-
-pub stops : (p q s : Program) → From p q → Kept q s → Ran p.state p.out s.state s.out
-stops p q s f k = f s.state s.out (record { inputs = []; block = k.block; output = k.output })
 
 pub goes : (p q s : Program) (text : List ℕ) → From p q → Took q s text → From p s
 goes p q s text f t u v ran =
