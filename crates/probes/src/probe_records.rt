@@ -15,14 +15,14 @@ use fields::object::Info;
 use fields::record::Record;
 use fields::update::Header;
 use records::layout::{element_after, layout_of, object_place};
-use records::ranges::{Fault, check};
+use records::metadata::{Fault, Metadata};
 
 #[unsafe(no_mangle)]
 pub extern "C" fn probe_refusal(meta: &[u8]) -> u32
     ensures { result ≡ refusal meta.now }
 {
-    match check(meta) {
-        Ok(()) => 0,
+    match Metadata::of(meta) {
+        Ok(_) => 0,
         Err(Fault::NotLaidOut) => 5,
         Err(Fault::OutOfRange) => 6,
     }
@@ -32,7 +32,10 @@ pub extern "C" fn probe_refusal(meta: &[u8]) -> u32
 pub extern "C" fn probe_updates(meta: &[u8]) -> usize
     ensures { result ≡ count meta.now }
 {
-    layout_of(meta).count
+    match layout_of(meta) {
+        Some(l) => l.count,
+        None => 0,
+    }
 }
 
 // The record of update i.
@@ -40,8 +43,10 @@ pub extern "C" fn probe_updates(meta: &[u8]) -> usize
 pub extern "C" fn probe_update_place(meta: &[u8], i: usize) -> usize
     ensures { result ≡ cond (ltb i (count meta.now)) (update_at meta.now i) 0 }
 {
-    let l = layout_of(meta);
-    if i < l.count { l.sent[i].place } else { 0 }
+    match layout_of(meta) {
+        Some(l) if i < l.count => l.sent[i].place,
+        _ => 0,
+    }
 }
 
 // The record at a place, where the list has it whole.
@@ -155,7 +160,10 @@ pub extern "C" fn probe_info(meta: &[u8], r: usize) -> Info
 pub extern "C" fn probe_next_offset(meta: &[u8], t: FrameOffset, end: FrameOffset) -> FrameOffset
     ensures { result.0 ≡ next_offset (λ i. offset meta.now (update_at meta.now i)) (count meta.now) t.0 end.0 }
 {
-    layout_of(meta).next_offset(t, end)
+    match layout_of(meta) {
+        Some(l) => l.next_offset(t, end),
+        None => end,
+    }
 }
 
 #[unsafe(no_mangle)]
@@ -163,10 +171,8 @@ pub extern "C" fn probe_sent_at(meta: &[u8], t: FrameOffset, from: usize) -> usi
     ensures { cond (leb from (count meta.now))
         (FirstAt (λ i. offset meta.now (update_at meta.now i)) (count meta.now) t.0 from result) (result ≡ 0) }
 {
-    let l = layout_of(meta);
-    if from <= l.count {
-        l.sent_at(t, from)
-    } else {
-        0
+    match layout_of(meta) {
+        Some(l) if from <= l.count => l.sent_at(t, from),
+        _ => 0,
     }
 }

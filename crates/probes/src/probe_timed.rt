@@ -4,8 +4,8 @@ ghost use Rattle.timed.specs.TimedResults.{IsTimed};
 ghost use Rattle.probes.specs.Timed.{schedule_fits, element_fits, counts_suit, state_fits, slot_if, update_if};
 
 use clock::StreamSample;
-use fields::record::Record;
 use formats::areas::INFOS_BYTES;
+use records::metadata::Metadata;
 use timed::state::{BlockState, ElementRendererState, MetadataRendererState};
 
 fn schedule_fits(schedule: [BlockState; 8]) -> bool
@@ -75,16 +75,12 @@ pub extern "C" fn probe_apply_update(
 ) -> MetadataRendererState
     ensures { IsTimed (update_if meta.now i at (record { state = s; infos = infos.old })) result infos.new }
 {
-    let l = records::layout::layout_of(meta);
-    if infos.len() == INFOS_BYTES && l.laid && records::ranges::in_range(meta) && i < l.count {
-        let update = Record {
-            meta,
-            place: l.sent[i].place,
-        };
-        updates::update::TimedState(s)
-            .apply_update(infos, update, StreamSample(at))
-            .0
-    } else {
-        s
+    match Metadata::of(meta) {
+        Ok(metadata) if infos.len() == INFOS_BYTES && i < metadata.layout.count => {
+            updates::update::TimedState(s)
+                .apply_update(infos, metadata.update(i), StreamSample(at))
+                .0
+        }
+        _ => s,
     }
 }

@@ -11,4 +11,5 @@ pub mod RefusalSix
 pub mod Each
 pub mod SmallLists
 pub mod Passed
+pub mod Faults
 pub mod Theorems

@@ -1,6 +1,7 @@
 -- Laws of `some` and `last`. Assumes nothing.
 use Prim.Native.Nat.{ℕ, zero, suc, ◌<◌, ◌≤◌}
-use mathlib.Core.Path.{◌≡◌, refl, sym, ap, ◌∙◌}
+use mathlib.Core.Path.{◌≡◌, refl, sym, ap, subst, ◌∙◌}
+use lib.Dec.{T}
 use mathlib.Core.Bool.{Bool, true, false, ◌||◌, cond}
 use mathlib.Core.Logic.{⊎_elim}
 use native.Mathlib.Nat.{eq-or-lt_of_le}
@@ -39,11 +40,6 @@ module _ (p : ℕ → Bool) where
       ap (λ (b : Bool). cond b n (last p n)) no ∙ last_only n i l e (λ k b. f k (omega arith)))
       (eq-or-lt_of_le (let l : i ≤ n = omega arith in l))
 
-  pub last_none : (n : ℕ) → ((i : ℕ) → i < n → p i ≡ false) → last p n ≡ 0
-  unfolding last
-  last_none zero f = refl
-  last_none (suc n) f = rw (f n (omega arith)) (last_none n (λ i h. f i (omega arith)))
-
   pub some_last : (n : ℕ) → some p n ≡ true → p (last p n) ≡ true
   unfolding some last
   some_last zero e = absurd (let z : ◌≡◌ {A = ℕ} 0 1 = cc in omega arith)
@@ -52,3 +48,13 @@ module _ (p : ℕ → Bool) where
       by : (b : Bool) → p n ≡ b → (p n ≡ false → p (last p n) ≡ true) → p (cond (p n) n (last p n)) ≡ true
       by true q f = rw (q, q)
       by false q f = rw q (f q)
+
+-- where p holds of none the last is 0
+pub last_unheld : (p : ℕ → Bool) (n : ℕ) → some p n ≡ false → last p n ≡ 0
+unfolding some last
+last_unheld p zero e = refl
+last_unheld p (suc n) e = step (p n) (some p n) e (last_unheld p n)
+  where
+    step : (a b : Bool) → (a || b) ≡ false → (b ≡ false → last p n ≡ 0) → cond a n (last p n) ≡ 0
+    step true b e h = absurd (subst T e tt)
+    step false b e h = h e

@@ -3,6 +3,8 @@
 -- where a list is laid out it is whole records, so many updates and no more
 pub use Rattle.records.proofs.Reached.{whole_records, found}
 pub use Rattle.records.proofs.Updates.{whole_list}
+-- else it has no updates
+pub use Rattle.records.proofs.Updates.{unlaid_counts}
 -- there, each update, element, block and object is one as laid out
 pub use Rattle.records.proofs.Reached.{update_whole, update_is, element_whole, element_is, block_is, object_is}
 -- and stands within the list
@@ -20,5 +22,7 @@ pub use Rattle.records.proofs.Times.{next_within, next_above, next_least}
 pub use Rattle.records.proofs.Times.{next_same, first_same}
 -- `each`: its length and its elements
 pub use Rattle.records.proofs.Each.{each_length, each_at}
+-- what the first fault of a list, or none, says of it
+pub use Rattle.records.proofs.Faults.{not_laid, not_in_range, faultless}
 -- metadata that refusals 5 and 6 let pass is as an applied update asks
 pub use Rattle.records.proofs.Passed.{passes, passes_all}

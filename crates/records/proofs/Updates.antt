@@ -12,7 +12,7 @@ use borrow.Author.Tests.{eq-eqb, eqb-true}
 use Rattle.fields.specs.RecordBytes.{all}
 use Rattle.records.specs.Laid.{is_whole_update, update_end, update_at, is_updates, laid_out, count}
 use Rattle.fields.proofs.All.{and_left, and_right, not_true, all_at}
-use Rattle.records.proofs.SomeAndLast.{some_at, some_none, last_only}
+use Rattle.records.proofs.SomeAndLast.{some_at, some_none, last_only, last_unheld}
 use Rattle.records.proofs.Within.{updates_rise}
 
 module _ (m : List ℕ) where
@@ -82,3 +82,8 @@ module _ (m : List ℕ) where
   pub next_update : (n r : ℕ) → r ≡ update_at m n → update_end m r ≡ update_at m (n + 1)
   unfolding update_at
   next_update n r q = rw (add-one n, q)
+
+-- a list that is not laid out has no updates
+pub unlaid_counts : (m : List ℕ) → laid_out m ≡ false → count m ≡ 0
+unfolding laid_out count
+unlaid_counts m e = last_unheld (is_updates m) 17 e

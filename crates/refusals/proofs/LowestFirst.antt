@@ -1,7 +1,7 @@
 -- The lowest number first: what tests in a row find, and what a test's answer says. Assumes nothing.
 use Prim.Native.Nat.{ℕ, zero, suc, ◌+◌, ◌*◌, ◌/◌}
 use mathlib.Core.Path.{◌≡◌, refl, sym, ap, ◌∙◌, subst}
-use mathlib.Core.Bool.{Bool, true, false, ◌&&◌, cond}
+use mathlib.Core.Bool.{Bool, true, false, ◌&&◌}
 use mathlib.Core.List.{List, [], ◌∷◌}
 use lib.Dec.{T, eqb, leb}
 use lib.ListN.{length, get_or, take}
@@ -12,6 +12,7 @@ use Rattle.fields.proofs.All.{and_left, and_right}
 use Rattle.records.specs.Laid.{laid_out}
 use Rattle.records.specs.ValuesInRange.{in_range, refusal}
 use Rattle.records.specs.FaultNumbers.{number_of}
+use Rattle.records.proofs.Theorems.{not_laid, not_in_range}
 use Rattle.records.specs.declared.metadata.Fault.{Fault}
 use Rattle.records.specs.declared.metadata.Fault.TheVariants.{NotLaidOut, OutOfRange}
 use Rattle.mixing.specs.FrameSamples.{all_pass}
@@ -19,7 +20,7 @@ use Rattle.rules.specs.Samples.{State}
 use Rattle.rules.specs.Refusals.{Args, Found, clear, stop, unless, ◌then◌, every, room, sized, listed, early}
 use Rattle.theorem.specs.Instance.{hall}
 use Rattle.refusals.specs.RefusalNumbers.{stop_of, fault_refusal}
-use Rattle.std.specs.Prelude.{Ok, Err}
+use Rattle.std.specs.Prelude.{Err}
 
 -- ---- tests in a row
 
@@ -69,26 +70,6 @@ tests position a =
     ∷ test 8 (all_pass a.pcm 0 ((length a.codes + a.objects) * a.samples))
     ∷ []
 
--- the first fault of the records, as one number
-not_laid : (laid fit : Bool) → ◌≡◌ {A = ℕ} (cond laid (cond fit 0 6) 5) 5 → laid ≡ false
-not_laid true true e = absurd (omega (arith, e))
-not_laid true false e = absurd (omega (arith, e))
-not_laid false fit e = refl
-
-laid_only : (laid fit : Bool) → ◌≡◌ {A = ℕ} (cond laid (cond fit 0 6) 5) 6 → (laid ≡ true) × (fit ≡ false)
-laid_only true true e = absurd (omega (arith, e))
-laid_only true false e = (refl, refl)
-laid_only false fit e = absurd (omega (arith, e))
-
-no_fault : (laid fit : Bool) → ◌≡◌ {A = ℕ} (cond laid (cond fit 0 6) 5) 0 → (laid ≡ true) × (fit ≡ true)
-no_fault true true e = (refl, refl)
-no_fault true false e = absurd (omega (arith, e))
-no_fault false fit e = absurd (omega (arith, e))
-
-pub faultless : (m : List ℕ) → number_of {A = Unit {0}} (Ok tt) ≡ refusal m → (laid_out m ≡ true) × (in_range m ≡ true)
-unfolding refusal
-faultless m e = no_fault (laid_out m) (in_range m) (sym e)
-
 module _ (position : ℕ) (r : State hall) (p : r.clock.position ≡ position) (a : Args) where
   early_is : first_of (tests position a) ≡ early hall r a
   early_is = rw (then_none (unless (all_pass a.pcm 0 ((length a.codes + a.objects) * a.samples)) 8 0 0), p)
@@ -103,9 +84,8 @@ module _ (position : ℕ) (r : State hall) (p : r.clock.position ≡ position) (
 
   -- where 1 to 4 are not found, a fault of the records is
   pub faulty : (f : Fault) → Hold (take 4 (tests position a)) → number_of {A = Unit {0}} (Err f) ≡ refusal a.meta → stop_of (fault_refusal f) ≡ early hall r a
-  unfolding refusal
-  faulty NotLaidOut h e = refuses 4 h (not_laid (laid_out a.meta) (in_range a.meta) (sym e))
-  faulty OutOfRange h e = let x = laid_only (laid_out a.meta) (in_range a.meta) (sym e) in refuses 5 (h.0, (h.1.0, (h.1.1.0, (h.1.1.1.0, (x.0, tt))))) x.1
+  faulty NotLaidOut h e = refuses 4 h (not_laid a.meta e)
+  faulty OutOfRange h e = let x = not_in_range a.meta e in refuses 5 (h.0, (h.1.0, (h.1.1.0, (h.1.1.1.0, (x.0, tt))))) x.1
 
 -- ---- a single test
 

@@ -9,7 +9,8 @@ use Rattle.rules.proofs.Judged.{is_sized}
 use Rattle.refusals.specs.FirstFound.{args_with}
 use Rattle.refusals.specs.declared.Push.{Push}
 use Rattle.refusals.proofs.First.{failed, passed, handed_on}
-use Rattle.refusals.proofs.LowestFirst.{refuses, refuses_none, faulty, faultless, pcm_samples}
+use Rattle.refusals.proofs.LowestFirst.{refuses, refuses_none, faulty, pcm_samples}
+use Rattle.records.proofs.Theorems.{faultless}
 use Rattle.refusals.proofs.early.check.Goals as goal
 
 -- the output has the room that the code asks its length for
