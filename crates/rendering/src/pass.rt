@@ -13,7 +13,7 @@ use render::{Input, Rows};
 
 impl Rendering {
     // The input's span of a frame, mixed into the rows; its samples wait then.
-    pub fn pass(mut self, rows: &mut Rows, input: Input) -> Rendering
+    pub fn pass(self, rows: &mut Rows, input: Input) -> Rendering
         requires { CanPass self.renderer input.objects input.span.count × (rows.old ≡ silent_rows) }
         ensures { (rate : ℕ) (us : List Sent) (b : List ℕ)
             → Waits (moment_here (frame_with rate us input.entry.codes.list.now input.entry.objects input.entry.pcm.now input.entry.span.frame)
@@ -21,7 +21,9 @@ impl Rendering {
     {
         let mut filter = self.renderer.filter;
         mix(&self.renderer.state, &mut filter, rows, input);
-        self.renderer = self.renderer.settle(filter, input.span.count as u32);
-        self
+        Rendering {
+            renderer: self.renderer.settle(filter, input.span.count as u32),
+            ..self
+        }
     }
 }

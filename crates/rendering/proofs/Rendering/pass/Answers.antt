@@ -23,4 +23,4 @@ returns c =
     λ rate us b. waits (frame_with rate us i.codes.list.now i.objects i.pcm.now i.span.frame) i.span.first i.span.count w b
     (sounding m i.objects i.codes.list.now i.pcm.now i.span.frame)
     (same_heard rate us i.codes.list.now i.pcm.now i.objects i.span.frame w.renderer b full p.dynamic) mx.new.rows mx.new.filter
-    mx.ensures c.settle-self.ensures
+    mx.ensures c.settle.ensures
