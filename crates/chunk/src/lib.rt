@@ -42,7 +42,7 @@ pub fn mix(
     render::run::pass_run(rows, input, &scene, filter);
 }
 
-// The rows' first k places behind the pending samples of the block.
+// The rows' first k places behind the pending samples of the block: the slice that C lends, as `store::load` takes it.
 pub fn lay(state: &mut [u8], rows: &Rows, pending: usize, k: usize)
     requires { (length state.old ≡ size) × (pending + k ≤ row_places) }
     ensures { Laid rows.now pending k state.old state.new }
