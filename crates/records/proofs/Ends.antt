@@ -28,3 +28,6 @@ pub end_broken : (b : Bool) (x : ℕ) → end_if b x ≡ None → b ≡ false
 unfolding end_if
 end_broken true x e = absurd (let z : ◌≡◌ {A = ℕ} 0 1 = cc in omega arith)
 end_broken false x e = refl
+
+-- what the goals of a function that answers an end ask
+pub ruleset ends = (broken_if, at_if, end_whole, end_at, end_broken)

@@ -1,6 +1,6 @@
 -- Laws of a record's kind: nothing stands past the end, and a record that is laid out has its own. Assumes nothing.
 use Prim.Native.Nat.{ℕ, ◌*◌, ◌/◌, ◌%◌, ◌<◌, ◌≤◌}
-use mathlib.Core.Path.{◌≡◌}
+use mathlib.Core.Path.{◌≡◌, ap, ◌∙◌}
 use mathlib.Core.Bool.{Bool, true, false, ◌&&◌}
 use mathlib.Core.List.{List}
 use native.Mathlib.Nat.{lt_of_not-le}
@@ -8,6 +8,7 @@ use native.Mathlib.Omega.{arith}
 use lib.Dec.{eqb, leb}
 use lib.ListN.{length, get_or-eq_default}
 use borrow.Author.Tests.{ne_eqb, leb-true, eqb-true}
+use Rattle.fields.specs.declared.record.Record.{Record}
 use Rattle.fields.specs.RecordBytes.{kind}
 use Rattle.fields.specs.Block.{blocks, is_element, is_block}
 use Rattle.fields.specs.Update.{is_update}
@@ -71,3 +72,7 @@ module _ (m : List ℕ) (whole : length m % 40 ≡ 0) (r : ℕ) where
   pub object_kind : is_object m r ≡ true → kind m r ≡ 4
   unfolding is_object
   object_kind e = eqb-true (kind m r) 4 (and_left _ _ (and_left _ _ (and_left _ _ (and_left _ _ e))))
+
+-- what a test of a record says, of a record of the list m
+pub told : (test : List ℕ → ℕ → Bool) (m : List ℕ) (x : Record) (b : Bool) → x.meta.now ≡ m → Record × (b ≡ test x.meta.now x.place) → b ≡ test m x.place
+told test m x b q h = h.1 ∙ ap (λ (l : List ℕ). test l x.place) q

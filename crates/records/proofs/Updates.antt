@@ -87,3 +87,6 @@ module _ (m : List ℕ) where
 pub unlaid_counts : (m : List ℕ) → laid_out m ≡ false → count m ≡ 0
 unfolding laid_out count
 unlaid_counts m e = last_unheld (is_updates m) 17 e
+
+-- what is no list of updates
+pub ruleset refused = (not_laid_out, odd_length, too_many, not_whole)

@@ -13,7 +13,7 @@ use Rattle.fields.specs.Block.{blocks, is_element, is_block}
 use Rattle.fields.specs.Update.{objects, elements, is_update}
 use Rattle.fields.specs.Object.{is_object}
 use Rattle.records.specs.Laid.{is_whole_element, is_whole_update, element_end, element_at, object_at, update_end, update_at}
-use Rattle.fields.proofs.All.{and_left, and_right, not_true, all_fails}
+use Rattle.fields.proofs.All.{and_left, and_right, not_true, all_none, all_more, all_fails}
 use Rattle.records.proofs.RecordKinds.{there_update, there_element, there_block, there_object}
 
 -- a run of records that are each below R ends at R at most
@@ -93,6 +93,10 @@ module _ (m : List ℕ) where
   unfolding element_at
   next_element u n e r p q = rw (add-one e, p, q)
 
+  pub no_update : (u : ℕ) → is_update m u ≡ false → is_whole_update m u ≡ false
+  unfolding is_whole_update
+  no_update u h = simp h
+
   pub broken_element : (u e : ℕ) → is_update m u ≡ true → e < elements m u → is_whole_element m (objects m u) (element_at m u e) ≡ false → is_whole_update m u ≡ false
   unfolding is_whole_update
   broken_element u e h l b = simp (h, all_fails (λ k. is_whole_element m (objects m u) (element_at m u k)) (elements m u) e l b)
@@ -100,3 +104,6 @@ module _ (m : List ℕ) where
   pub whole_update : (u : ℕ) → is_update m u ≡ true → all (λ e. is_whole_element m (objects m u) (element_at m u e)) (elements m u) ≡ true → is_whole_update m u ≡ true
   unfolding is_whole_update
   whole_update u h e = simp (h, e)
+
+-- what the goals of the walk of an element and of an update ask
+pub ruleset parts = (element_within, too_long, no_element, end_is, next_element, no_update, broken_element, whole_update, all_none, all_more)

@@ -11,8 +11,8 @@ use fields::record::Record;
 use fields::update::Header;
 
 // How many records hold the objects in all blocks. A product of two variables: its bound is proved here once, for three callers.
-// (d) That there are at most 32 stands in four contracts of this file and in no type: the count is the update's and goes with an element's record, and a type of it would be made at each
-// call and opened at each product.
+// (d) That there are at most 32 stands in four contracts of this file and in no type: the count is the update's and goes with an element's record, and a type of it would be made
+// at each call and opened at each product.
 fn cells(objects: usize, blocks: usize) -> usize
     requires { (objects ≤ 32) × (blocks ≤ 8) }
     ensures { (result ≡ objects * blocks) × (result ≤ 256) }
@@ -21,6 +21,7 @@ fn cells(objects: usize, blocks: usize) -> usize
 }
 
 // Where the element at e ends, of an update of so many objects.
+#[tactic(auto, using(crate::proofs::Ends::ends, crate::proofs::Within::parts, crate::proofs::RecordKinds::few_blocks))]
 fn element_end(meta: &[u8], objects: usize, e: usize) -> Option<usize>
     requires { (length meta.now % 40 ≡ 0) × (objects ≤ 32) × (e ≤ length meta.now / 40) }
     ensures { result ≡ end_if (is_whole_element meta.now objects e) (element_end meta.now objects e) }
@@ -50,6 +51,7 @@ fn element_end(meta: &[u8], objects: usize, e: usize) -> Option<usize>
 }
 
 // Where the update at u ends.
+#[tactic(auto, using(crate::proofs::Ends::ends, crate::proofs::Within::parts, crate::proofs::Reached::update_counts), unfolding(crate::specs::Laid::element_at))]
 fn update_end(meta: &[u8], u: usize) -> Option<usize>
     requires { (length meta.now % 40 ≡ 0) × (u < length meta.now / 40) }
     ensures { result ≡ end_if (is_whole_update meta.now u) (update_end meta.now u) }
@@ -71,6 +73,7 @@ fn update_end(meta: &[u8], u: usize) -> Option<usize>
 }
 
 // The layout of a list of records; none where they are not laid out, which is refusal 5. No range counts the records: `place` rises by what an update takes.
+#[tactic(auto, using(crate::proofs::Ends::ends, crate::proofs::Updates::refused))]
 pub fn layout_of(meta: &[u8]) -> Option<Layout>
     ensures { HasLayout meta.now result }
 {
@@ -97,6 +100,7 @@ pub fn layout_of(meta: &[u8]) -> Option<Layout>
 // ---- where a record stands, of a list that is laid out
 
 // The record after an element, of an update of so many objects.
+#[tactic(auto, unfolding(crate::specs::Laid::element_end))]
 pub fn element_after(element: Record<'_>, objects: usize) -> usize
     requires { (objects ≤ 32) × (blocks element.meta.now element.place ≤ 8) }
     ensures { result ≡ element_end element.entry.meta.now objects element.entry.place }
@@ -114,6 +118,7 @@ pub fn block_place(e: usize, b: usize) -> usize
 }
 
 // The record of object o in block b of an element.
+#[tactic(auto, unfolding(crate::specs::Laid::object_at))]
 pub fn object_place(element: Record<'_>, o: usize, b: usize) -> usize
     requires { (o ≤ 32) × (blocks element.meta.now element.place ≤ 8) × (b < 8) }
     ensures { result ≡ object_at element.entry.meta.now element.entry.place (o * blocks element.entry.meta.now element.entry.place + b) }

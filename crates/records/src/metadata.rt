@@ -41,6 +41,7 @@ pub struct Metadata<'a> {
 
 impl<'a> Metadata<'a> {
     // The metadata that these records are, or their first fault.
+    #[tactic(auto, unfolding(crate::specs::ValuesInRange::refusal))]
     pub fn of(records: &'a [u8]) -> Result<Metadata<'a>, Fault>
         ensures number { number_of result ≡ refusal records.now }
         ensures same { IfOk result (λ m. m.records.now ≡ records.now) }

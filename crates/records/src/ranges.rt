@@ -6,6 +6,7 @@ use crate::run::all_pass;
 use fields::record::{BLOCK, OBJECT, Record};
 
 // Whether each value of a record is within its range.
+#[tactic(auto, unfolding(crate::specs::ValuesInRange::record_in_range))]
 fn record_in_range(r: Record<'_>) -> bool
     ensures { result ≡ record_in_range r.entry.meta.now r.entry.place }
 {

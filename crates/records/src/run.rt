@@ -4,7 +4,7 @@ ghost use Rattle.fields.specs.RecordBytes.{all};
 
 use fields::record::Record;
 
-// Whether the n records from r on pass a test.
+// Whether the n records from r on pass a test. By `for`: the closure of a chain would say in clauses of its own that each record is there and what the test gives.
 pub fn all_pass<'a, F: Fn(Record<'a>) -> bool>(meta: &'a [u8], r: usize, n: usize, test: F) -> bool
     requires room { 40 * (r + n) ≤ length meta.now }
     requires callable { F.IsAlwaysCallable test }
