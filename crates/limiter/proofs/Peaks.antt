@@ -6,7 +6,7 @@ use Prim.Native.Nat.{ℕ, zero, suc, ◌+◌, ◌-◌, ◌≤◌, ◌<◌, zero-
 use native.Mathlib.Numerals.{add-one}
 use native.Mathlib.Omega.{arith}
 use native.Mathlib.Nat.{le_refl, le_trans, le_of_eq, le_antisymm, le_of_suc-le-suc, not-suc-le-zero}
-use lib.ListN.{length, length-set, get_or, set, take, drop, length-drop, drop_of_length-le}
+use lib.ListN.{length, length-set, get_or, set, take, drop, length-drop}
 use lib.Seq.{drop-cons, take_all, get_or-drop}
 use lib.Ieee.{Float, nan, fits}
 use Rattle.ieee.specs.Units.{mag}
@@ -61,13 +61,6 @@ peak_from_is m (x ∷ xs) p f =
 pub all_fit : (xs : List Float) → ((k : ℕ) → Fit (get_or xs k nan)) → All Fit xs
 all_fit [] f = tt
 all_fit (x ∷ xs) f = (f 0, all_fit xs (λ k. f (suc k)))
-
-pub from_next : (m r : Float) (xs : List Float) (i : ℕ) → i < length xs → r ≡ larger m (absolute (get_or xs i nan)) → peak_from r (drop (i + 1) xs) ≡ peak_from m (drop i xs)
-from_next m r xs i h e = ap (λ (v : Float). peak_from v (drop (i + 1) xs)) e ∙ ap (λ (n : ℕ). peak_from (larger m (absolute (get_or xs i nan))) (drop n xs)) (add-one i)
-    ∙ sym (ap (peak_from m) (drop-cons xs i nan h))
-
-pub from_end : (m : Float) (xs : List Float) (i : ℕ) → length xs ≤ i → m ≡ peak_from m (drop i xs)
-from_end m xs i h = sym (ap (peak_from m) (drop_of_length-le xs h))
 
 -- ---- several running maxima
 -- bounds of lists joined

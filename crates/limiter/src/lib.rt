@@ -108,7 +108,7 @@ impl Limiter {
         }
     }
 
-    // The limiter after a block of this length.
+    // The limiter after a block of this length. The rate is asked as a fact of a number, as in `angles`: it is C's and the block's, and a type of its own would ask more.
     #[tactic(auto, using(ieee::proofs::Constants::in_float_is), unfolding(crate::specs::Limiter::grown))]
     pub fn grow(self, samples: u32, rate: u32) -> Self
         requires { (samples ≤ 16777216) × (rate ≤ 16777216) }
@@ -136,7 +136,7 @@ impl Limiter {
         ensures { Given self.gain taken.samples rate places.now step to out.old result out.new }
     {
         let mut block = [0.0f32; areas::PLACE_COUNT];
-        places::load_block(places, taken, &mut block);
+        places::load_block(places.as_array().unwrap(), taken, &mut block);
         let peak = block_peak(&block, taken);
         let scaling = self.lower(peak);
         places::store_block(&block, taken, scaling.gain, out, step, to);

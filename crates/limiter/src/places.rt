@@ -3,7 +3,7 @@
 
 // The limiter over bytes: from the places of a state block to the output.
 ghost use Rattle.std.specs.Prelude.{◌≡◌, ◌+◌, ◌*◌, ◌≤◌, length};
-ghost use Rattle.formats.specs.Areas.{row_count, row_places, places_bytes};
+ghost use Rattle.formats.specs.Areas.{row_count, row_places};
 ghost use Rattle.limiter.specs.Limiter.{scaled, scaled_block};
 ghost use Rattle.limiter.specs.ChannelPlaces.{floats_at, with_floats, channels, overlaid, channels_at, with_channels};
 
@@ -39,8 +39,11 @@ pub fn scale_slice_into(samples: &[f32], gain: f32, out: &mut [u8])
 
 // The places of a state block that are taken, in a block of floats.
 #[tactic(auto, using(crate::proofs::Blocks::load_end))]
-pub fn load_block(places: &[u8], taken: Taken, block: &mut [f32; areas::PLACE_COUNT])
-    requires { length places.now ≡ places_bytes }
+pub fn load_block(
+    places: &[u8; areas::PLACES_BYTES],
+    taken: Taken,
+    block: &mut [f32; areas::PLACE_COUNT],
+)
     ensures { block.new ≡ overlaid (channels_at row_count taken.samples places.now 0) block.old }
 {
     for row in 0..areas::ROW_COUNT {

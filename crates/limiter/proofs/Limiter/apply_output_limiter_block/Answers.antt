@@ -19,7 +19,8 @@ returns c =
     let s = a.places.now in
     let cs = channels_at 12 n s 0 in
     let ls = channels_at_lengths 12 n s 0 in
-    let e : channels 12 n load.new.block ≡ cs = ap (channels 12 n) load.ensures ∙ channels_laid 12 n cs _ ls.0 ls.1 (omega arith) (lit≤ tt) in
+    let whole = (rw c.unwrap.ensures at c.as_array.ensures.cases).same in
+    let e : channels 12 n load.new.block ≡ cs = ap (channels 12 n) (rw whole at load.ensures) ∙ channels_laid 12 n cs _ ls.0 ls.1 (omega arith) (lit≤ tt) in
     let f : low.result.gain ≡ block_gain a.self.gain cs = low.ensures ∙ ap (λ (p : Float). lowered p a.self.gain) (top.ensures ∙ ap (block_peak 0·0) e) in
     record {
       gain = c.grow-next.ensures ∙ ap (grown n a.rate) f;
