@@ -10,7 +10,7 @@ ghost use Rattle.corners.specs.Sorted.{Sorted};
 use crate::{Axis, Hall, Speaker};
 use vectors::Vec3;
 
-// Whether a speaker at `v` comes before one at `w`.
+// Whether a speaker at `v` comes before one at `w`. No order of `Vec3` that a derive writes: that would be (x, y, z).
 fn precedes(v: Vec3, w: Vec3) -> bool
     ensures { result ≡ precedes v w }
 {
@@ -25,7 +25,7 @@ struct Line {
 }
 
 impl Line {
-    // Channel `k` is put in its place.
+    // Channel `k` is put in its place, behind its equals: document 01's "stable order of its own", since the library's stable sort is of the heap.
     fn insert(&mut self, places: &[Vec3; 12], k: usize)
         requires { (self.old.count < 12) × (k < 12) × ((i : ℕ) → i < self.old.count → index_at self.old.channels i < 12) }
         ensures at { Inserted (place_among places.now) (index_at self.old.channels) self.old.count k (index_at self.new.channels) }
@@ -114,7 +114,7 @@ fn run_ends(axis: Axis, speakers: &[Speaker; 12], bound: &[usize; 12], n: usize)
 }
 
 impl Hall {
-    // The hall of the marked speakers, channel k standing at `places[k]`.
+    // The hall of the marked speakers, channel k standing at `places[k]`. Places and marks are two arrays: that of `panning` has a place for the bass too, which is unmarked.
     pub fn of(places: &[Vec3; 12], present: &[bool; 12]) -> Hall
         requires { Table (place_among places.now) (speakers_of present.now) }
         ensures { Sorted (place_among places.now) (speakers_of present.now) result }

@@ -27,7 +27,8 @@ impl Hall {
         }
     }
 
-    // The walk over the runs from `a` up to `b` (two numbers, as the tables have the ends: a pair of them would be made for each walk, and taken apart in it): where the last that is not beyond `v` begins, and where the walk stops. A `while`, since each step is as long as its run.
+    // The walk over the runs from `a` up to `b`: where the last that is not beyond `v` begins, and where the walk stops. A `while`, since each step is as long as its run.
+    // Two numbers, as the tables have the ends: a pair of them, with `RunsIn` as its fact, would be made for each walk, and taken apart in it.
     fn walk(&self, axis: Axis, a: usize, b: usize, v: f32) -> Ends
         requires { RunsIn axis self.now a b }
         ensures { StopsAt (along axis self.now.speakers) (run_after axis self.now) a b v result }
