@@ -48,7 +48,7 @@ pub fn bass_gain(gain: f32) -> f32
     gain * 0.316_227_76
 }
 
-// Where the beds stand, by code.
+// Where the beds stand, by code: three numbers each, a line a bed; a `Vec3` would be five lines.
 static POSITIONS: [[f32; 3]; 18] = [
     [-1.0, 0.0, 1.0],
     [1.0, 0.0, 1.0],

@@ -121,7 +121,8 @@ impl Cube {
     }
 }
 
-// Speaker k.
+// Speaker k. That a speaker is one of twelve is asked of plain numbers: a type of it would be wrapped at each literal below and taken off each of the eight corners, and the
+// high end of a walk of `corners`, whose sides are `Ends` too, may be none.
 fn speaker(k: usize) -> Vec3
     requires { k < 12 }
     ensures { result ≡ hall714 k }
