@@ -1,4 +1,5 @@
-// What stands in the words of a block: a value, as its format says, and a table of them.
+// What stands in the words of a block: a value, as its format says, and a table of them. Bytes and a place go side by side, with the room for the words that are read there:
+// how many differs from value to value, and a slice cut at the place would be tested once more for each.
 ghost use Rattle.std.specs.Prelude.{◌≡◌, ℕ, ◌+◌, ◌*◌, ◌<◌, ◌≤◌, length};
 ghost use Rattle.words.specs.Words.{with_words};
 ghost use Rattle.formats.specs.NumberWords.{in_words};

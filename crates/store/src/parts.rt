@@ -27,17 +27,13 @@ pub(crate) fn flag(s: &[u8], at: usize) -> bool
     word_of(s, at) == 1
 }
 
+#[tactic(auto, unfolding(formats::specs::Format::gets))]
 fn vec(s: &[u8], at: usize) -> Vec3
     requires { 4 * (at + vec_format.width) ≤ length s.now }
     ensures { result ≡ vec_format.get (in_words s.now) at }
 {
-    let y = at + 1;
-    let z = y + 1;
-    Vec3 {
-        x: float(s, at),
-        y: float(s, y),
-        z: float(s, z),
-    }
+    let [x, y, z]: [f32; 3] = table(s, at);
+    Vec3 { x, y, z }
 }
 
 // Each type says its words, in an impl of the same shape: the laws are of its own format, and a trait's constant that clauses name has no value for all. What is alike, a
@@ -60,7 +56,7 @@ impl Entry for u8 {
     }
 
     fn put(&self, s: &mut [u8], at: usize) {
-        words::put_u32(s, at, *self as u32);
+        words::put_u32(s, at, u32::from(*self));
     }
 }
 

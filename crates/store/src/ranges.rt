@@ -88,7 +88,7 @@ fn clock_valid(rate: u32, phase: u32, position: u64, start: u64, pending: u32) -
     requires { start ≤ longest }
     ensures { result ≡ clock_in rate phase position start pending }
 {
-    start + phase as u64 <= position && (rate != 0 || pending == 0)
+    start + u64::from(phase) <= position && (rate != 0 || pending == 0)
 }
 
 fn counts_valid(objects: u32, isf: u32, beds: u32) -> bool

@@ -14,28 +14,22 @@ use limiter::Limiter;
 use lowpass::BiquadLowpassState;
 use timed::state::MetadataRendererState;
 
+#[tactic(auto, unfolding(formats::specs::Format::gets))]
 fn filter(s: &[u8], at: usize) -> BiquadLowpassState
     requires { 4 * (at + filter_format.width) ≤ length s.now }
     ensures { result ≡ filter_format.get (in_words s.now) at }
 {
-    let a2 = at + 1;
-    let b0 = a2 + 1;
-    let b1 = b0 + 1;
-    let b2 = b1 + 1;
-    let x1 = b2 + 1;
-    let x2 = x1 + 1;
-    let y1 = x2 + 1;
-    let y2 = y1 + 1;
+    let [a1, a2, b0, b1, b2, x1, x2, y1, y2]: [f32; 9] = table(s, at);
     BiquadLowpassState {
-        a1: float(s, at),
-        a2: float(s, a2),
-        b0: float(s, b0),
-        b1: float(s, b1),
-        b2: float(s, b2),
-        x1: float(s, x1),
-        x2: float(s, x2),
-        y1: float(s, y1),
-        y2: float(s, y2),
+        a1,
+        a2,
+        b0,
+        b1,
+        b2,
+        x1,
+        x2,
+        y1,
+        y2,
     }
 }
 

@@ -1,7 +1,8 @@
 // SPDX-License-Identifier: Apache-2.0
 // Translated from libstarmine_ad render.rs; changed.
 
-// The renderer by value. Infos and the samples that wait stay in the state block.
+// The renderer by value. Infos and the samples that wait stay in the state block. No type here bounds its numbers (positions, phase, counts of beds and objects), and clauses do:
+// `load` reads a renderer out of any block of the right length, and `is_valid` alone finds that they are in range.
 ghost use Rattle.std.specs.Prelude.{◌≡◌, ◌+◌, ◌≤◌};
 ghost use Rattle.angles.specs.Angle.{Listed};
 ghost use Rattle.rules.specs.Samples.{ticked};
@@ -45,7 +46,7 @@ impl Clock {
         }
     }
 
-    // k samples later. The slots go on where an update was applied; else the first one rests.
+    // k samples later. The slots go on where an update was applied; else the first one rests: a flag, as the rules' `ticked` has it.
     pub fn tick(self, started: bool, k: u32) -> Clock
         requires { (self.phase + k ≤ 128) × (self.start.0 ≤ 1099511627776) × (self.position.0 ≤ 1099511627776) × (k ≤ 64) }
         ensures { clock_of result ≡ ticked started k (clock_of self) }
