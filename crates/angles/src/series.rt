@@ -48,7 +48,6 @@ pub fn angle_of(rate: u64) -> u64
 
 // The upper half of a product.
 fn high_product(a: u64, b: u64) -> u64
-    requires { (a < 2 ^ 58) × (b ≤ 2 ^ 60) }
     ensures { result ≡ a * b / 2 ^ 64 }
 {
     (u128::from(a) * u128::from(b) >> 64) as u64
@@ -56,7 +55,7 @@ fn high_product(a: u64, b: u64) -> u64
 
 // The term after t: times the angle's square y, by n.
 fn next_term(y: u64, t: u64, n: u64) -> u64
-    requires { (y < 2 ^ 58) × (t ≤ 2 ^ 60) × (0 < n) }
+    requires { 0 < n }
     ensures { (result ≡ next_term y t n) × (result ≤ t) }
 {
     high_product(y, t) / n
@@ -65,7 +64,7 @@ fn next_term(y: u64, t: u64, n: u64) -> u64
 // Five terms from t on, the signs taking turns. The four divisors are told one by one, as the definition has them: in an array each would be named by a place.
 #[tactic(auto, using(crate::proofs::Terms::five_is))]
 pub fn five_terms(y: u64, t: u64, n1: u64, n2: u64, n3: u64, n4: u64) -> u64
-    requires { (y < 2 ^ 58) × (t ≤ 2 ^ 60) × (0 < n1) × (0 < n2) × (0 < n3) × (0 < n4) }
+    requires { (0 < n1) × (0 < n2) × (0 < n3) × (0 < n4) }
     ensures { result ≡ five y t n1 n2 n3 n4 }
 {
     let t1 = next_term(y, t, n1);

@@ -26,16 +26,8 @@ module _ (c : After-angle_of-w) where
 pub overflow_mul-y : goal.overflow_mul-y
 overflow_mul-y c = let f = few (goal.at.overflow_mul-y c).After-angle_of-w in record { fits = omega (arith, f.1) }
 
-pub five_terms-cos-requires : goal.five_terms-cos-requires
-five_terms-cos-requires c =
-    let f = few (goal.at.five_terms-cos-requires c).After-angle_of-w in (f.1, omega arith, omega arith, omega arith, omega arith, omega arith)
-
 pub overflow_mul-w : goal.overflow_mul-w
 overflow_mul-w c = let f = few (goal.at.overflow_mul-w c).After-angle_of-w in record { fits = omega (arith, f.0) }
-
-pub five_terms-sin-requires : goal.five_terms-sin-requires
-five_terms-sin-requires c =
-    let f = few (goal.at.five_terms-sin-requires c).After-angle_of-w in (f.1, omega (arith, f.0), omega arith, omega arith, omega arith, omega arith)
 
 pub nearest-requires : goal.nearest-requires
 nearest-requires c = (cosine_of (goal.at.nearest-requires c).After-angle_of-w c.five_terms-cos.ensures).0
