@@ -30,6 +30,7 @@ fn head_valid(h: u32) -> bool
 
 // Each head, with no branch a head: an OR is below a power of two where every term is.
 // The anchors go in plus 1, in the second byte: all are below 3 where those are below 4.
+#[tactic(auto, using(crate::proofs::HeadsTested::heads_more, crate::proofs::HeadsTested::heads_all))]
 fn each_valid(infos: &[u8]) -> bool
     requires { length infos.now ≡ infos_bytes }
     ensures { result ≡ heads_valid infos.now 0 info_count }
@@ -46,6 +47,7 @@ fn each_valid(infos: &[u8]) -> bool
 
 // The heads of the infos. No field of a head is above that of the OR of all: where that is a head in range, each is.
 // Its loop is not that of `each_valid`, which takes the anchors too: they are needed only where anchors 1 and 2 are both in use.
+#[tactic(auto, using(crate::proofs::HeadsTested::joined_more, crate::proofs::HeadsTested::joined_all))]
 pub fn heads_valid(infos: &[u8]) -> bool
     requires { length infos.now ≡ infos_bytes }
     ensures { result ≡ heads_valid infos.now 0 info_count }
