@@ -80,7 +80,7 @@ impl BlockState {
 }
 
 // The remaining ramp 0, as it is kept: 2^47.
-const RAMP_OVER: u64 = 140737488355328;
+pub const RAMP_OVER: u64 = 140737488355328;
 
 // The share of a ramp that one slot takes.
 #[tactic(auto, using(crate::proofs::Shifted::remaining_shifted), unfolding(crate::specs::Rules::share))]
@@ -101,10 +101,10 @@ pub struct Slot {
 }
 
 impl Slot {
-    // Block b, applied.
+    // Block b, applied. That it is one of the element's is asked here and of what it does to beds and objects, and is no type: b is the counter of the one loop below.
     #[tactic(auto, using(crate::proofs::Shifted::left_over, crate::proofs::Shifted::left_shifted_is), unfolding(crate::specs::Slot::block_applied))]
     fn apply_block(&mut self, infos: &mut Bytes, b: usize, when: Timing, reach: Reach)
-        requires { (b < most_blocks) }
+        requires { b < most_blocks }
         ensures { IsSlotWork (block_applied when reach b (record { slot = self.old; infos = infos.old })) self.new infos.new }
     {
         let block = self.schedule[b];
@@ -121,7 +121,7 @@ impl Slot {
     // The first n blocks in order, each applied where it is due.
     #[tactic(auto, using(crate::proofs::LoopTurns::turns), unfolding(crate::specs::Slot::blocks_applied))]
     fn apply_blocks(&mut self, infos: &mut Bytes, n: usize, when: Timing, reach: Reach)
-        requires { (n ≤ most_blocks) }
+        requires { n ≤ most_blocks }
         ensures { IsSlotWork (blocks_applied when reach n (record { slot = self.old; infos = infos.old })) self.new infos.new }
     {
         for b in 0..n {

@@ -15,6 +15,7 @@ use fields::update::Header;
 use info::put_info;
 use records::layout::{block_place, object_place};
 use timed::infos::{BLOCKS, Bytes, INFO_BYTES};
+use timed::slot::RAMP_OVER;
 use timed::state::{BlockState, ElementRendererState, Track};
 
 // How many objects an update has, the first `isf` of them beds or ISF.
@@ -48,9 +49,6 @@ const NEW_TRACK: Track = Track {
     now: false,
     future: vectors::ORIGIN,
 };
-
-// 2^47, which stands for no ramp.
-const NO_RAMP: u64 = 1 << 47;
 
 // Whether an element is kept, with no branch; `same` is a fact, of all counts but the blocks.
 fn is_kept(same: bool, blocks: usize, next: usize) -> bool
@@ -144,7 +142,7 @@ impl Element<'_> {
         ElementRendererState {
             blocks,
             flags,
-            remaining: NO_RAMP,
+            remaining: RAMP_OVER,
             schedule,
             tracks: [NEW_TRACK; 16],
         }
