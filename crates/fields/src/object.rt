@@ -9,7 +9,7 @@ ghost use Rattle.fields.specs.ObjectInfos.{stored_info};
 
 use crate::record::{OBJECT, Record};
 
-// The kind, as the low byte of a word.
+// The kind, as the low byte of a word. By `as`: a constant cannot call `u32::from`.
 const KIND: u32 = OBJECT as u32;
 
 // The flags that a value is present.
@@ -83,7 +83,7 @@ pub struct Info {
 }
 
 impl Record<'_> {
-    // Whether the flag that stands for `bit` is set.
+    // Whether the flag that stands for `bit` is set. That it is not 0 is asked here, of a value, and of heads in timed, and is no type: each caller names a constant.
     fn has(self, bit: u8) -> bool
         requires { 0 < bit }
         ensures { result ≡ has (byte self.entry.meta.now self.entry.place 2) bit }
