@@ -102,7 +102,7 @@ impl Element<'_> {
         }
     }
 
-    // Offsets and ramps of the blocks, none of them applied.
+    // Offsets and ramps of the blocks, none of them applied. `as` cuts nothing: an element's type says that they are in range, so a `try_from` would be unwrapped.
     #[tactic(auto, using(timed::proofs::Theorems::turns), unfolding(crate::specs::Applied::scheduled))]
     fn schedule(self, schedule: [BlockState; 8]) -> [BlockState; 8]
         ensures { let r = self.entry.record in result ≡ scheduled (element_said r.meta.now r.place) schedule }
