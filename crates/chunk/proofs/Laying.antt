@@ -2,7 +2,7 @@
 use mathlib.Core.Path.{◌≡◌, refl, sym, ap, ap₂, fun_ext, ◌∙◌}
 use mathlib.Core.Bool.{Bool, true, false}
 use mathlib.Core.List.{List, [], ◌∷◌, ◌++◌, map, append-nil}
-use Prim.Native.Nat.{ℕ, zero, suc, ◌+◌, ◌-◌, ◌*◌, ◌≤◌}
+use Prim.Native.Nat.{ℕ, zero, suc, ◌+◌, ◌*◌, ◌≤◌}
 use native.Mathlib.Nat.{suc-ne-zero, suc_inj}
 use native.Mathlib.Omega.{arith}
 use borrow.Author.Tests.{ltb-true, ltb-false}
@@ -18,7 +18,7 @@ use Rattle.rules.specs.Parts.{laid}
 use Rattle.store.specs.Layout.{infos_at, places_at, size, infos_of, places_of}
 use Rattle.store.proofs.Theorems.{places_row, no_places, words_drop}
 use Rattle.render.proofs.Theorems.{Fit, append_laid, length_channels}
-use Rattle.formats.specs.Areas.{infos_bytes}
+use Rattle.formats.specs.Areas.{infos_bytes, places_bytes}
 use Rattle.chunk.specs.ChunkRows.{small_bytes, Laid}
 
 -- ---- laid
@@ -61,7 +61,7 @@ words_back : (p x : List ℕ) (at n : ℕ) → length p ≡ places_at → words_
 words_back p x at n l = words_drop (p ++ x) places_at at n ∙ ap (λ (s : List ℕ). words_at s at n) (drop_at p x places_at l)
 
 module _ (rows : List Float) (pending k : ℕ) (short : pending + k ≤ 64) (b new : List ℕ) (fit : Fit rows) (lr : length rows ≡ 768) (l : length b ≡ size)
-    (p : new ≡ with_channels (channels 12 k rows) 256 (4 * pending) (take (length b - places_at) (drop places_at b))) where
+    (p : new ≡ with_channels (channels 12 k rows) 256 (4 * pending) (take places_bytes (drop places_at b))) where
   front : List ℕ
   front = take places_at b
 
@@ -75,14 +75,14 @@ module _ (rows : List Float) (pending k : ℕ) (short : pending + k ≤ 64) (b n
   rest_long : length (drop places_at b) ≡ 3072
   rest_long = length-drop places_at b ∙ omega arith
 
-  put : put_mid places_at (length b - places_at) b new ≡ front ++ back
+  put : put_mid places_at places_bytes b new ≡ front ++ back
   unfolding front back
   put =
       let d = rest_long in
-      let o : length (drop places_at b) ≤ length b - places_at = omega arith in
+      let o : length (drop places_at b) ≤ places_bytes = omega arith in
       ap (λ (t : List ℕ). take places_at b ++ (new ++ t)) (drop_of_length-le (drop places_at b) o)
       ∙ ap (λ (t : List ℕ). take places_at b ++ t)
-      (append-nil new ∙ p ∙ ap (with_channels (channels 12 k rows) 256 (4 * pending)) (take_all (length b - places_at) (drop places_at b) o))
+      (append-nil new ∙ p ∙ ap (with_channels (channels 12 k rows) 256 (4 * pending)) (take_all places_bytes (drop places_at b) o))
 
   put_long : length (front ++ back) ≡ size
   unfolding front back
@@ -115,7 +115,7 @@ module _ (rows : List Float) (pending k : ℕ) (short : pending + k ≤ 64) (b n
       no_places (front ++ back) c l
       ∙ sym (laid_nil pending (take k (drop (64 * c) rows))) ∙ ap (laid pending (take k (drop (64 * c) rows))) (sym (no_places b c l))
 
-  pub lay_laid : Laid rows pending k b (put_mid places_at (length b - places_at) b new)
+  pub lay_laid : Laid rows pending k b (put_mid places_at places_bytes b new)
   lay_laid = rw put (record { long = put_long; small = put_small; infos = put_infos; places = fun_ext (λ c. put_place c (ltb c 12) refl) })
 
 -- the block as it would be with the rows laid

@@ -4,14 +4,14 @@
 // The rows of a chunk, samples of a frame within which no update falls and no slot starts: mixed, and laid behind the samples that wait.
 #![tactic(auto)]
 
-ghost use Rattle.std.specs.Prelude.{◌≡◌, cond, ◌+◌, ◌≤◌, length};
+ghost use Rattle.std.specs.Prelude.{◌≡◌, cond, ◌+◌, ◌≤◌};
 ghost use Rattle.formats.specs.Areas.{row_places};
 ghost use Rattle.render.specs.Run.{silent_rows, Passed};
-ghost use Rattle.store.specs.Layout.{size};
 ghost use Rattle.chunk.specs.ChunkRows.{sounding, Laid};
 
 use lowpass::BiquadLowpassState;
 use render::{Input, Rows, Scene};
+use store::Block;
 use timed::state::MetadataRendererState;
 
 // A count, or none before the first update: the flag chooses a number and no step.
@@ -42,9 +42,9 @@ pub fn mix(
     render::run::pass_run(rows, input, &scene, filter);
 }
 
-// The rows' first k places behind the pending samples of the block: the slice that C lends, as `store::load` takes it.
-pub fn lay(state: &mut [u8], rows: &Rows, pending: usize, k: usize)
-    requires { (length state.old ≡ size) × (pending + k ≤ row_places) }
+// The rows' first k places behind the pending samples of the block.
+pub fn lay(state: &mut Block, rows: &Rows, pending: usize, k: usize)
+    requires { pending + k ≤ row_places }
     ensures { Laid rows.now pending k state.old state.new }
 {
     render::places::append_rows(rows, &mut state[store::PLACES..], pending, k);

@@ -165,13 +165,12 @@ module _ (f : Frame Sent) {w v : Rendering} {b pcm out codes : List ℕ} {object
   pending_after = ap (λ (x : Renderer714). x.pending) y.renderer
 
   -- a whole block can be given out
-  pub can_give : v.renderer.pending ≡ 64 → CanGive v b' out stride
+  pub can_give : v.renderer.pending ≡ 64 → CanGive v out stride
   can_give z =
       let p = pending_after in
       let q = h.room (sym p ∙ z) in
       let j = y.ready in
       record {
-        block = l.long;
         pending = omega arith;
         rate = rw (ap (λ (x : Renderer Timed). x.rate) is_settled) h.rate;
         room = omega arith;

@@ -19,6 +19,7 @@ use records::sent::Layout;
 use refusals::Frame;
 use render::{Input, Span};
 use rendering::Rendering;
+use store::Block;
 
 // How many samples a turn takes, of those from t up to `end`, the next update or the frame's end.
 fn run_length(started: bool, phase: u32, pending: u32, t: FrameOffset, end: FrameOffset) -> usize
@@ -56,7 +57,7 @@ fn is_kept(k: usize, left: usize) -> bool
 }
 
 // Infos and places are left in `state`, the rest is answered: its bytes in `state` stay.
-pub fn render(idle: Rendering, state: &mut [u8], frame: Frame<'_>, out: &mut [u8]) -> Rendering
+pub fn render(idle: Rendering, state: &mut Block, frame: Frame<'_>, out: &mut [u8]) -> Rendering
     requires { Accepted idle state.old (args_in frame out.old) }
     ensures { IsRendered (pushed hall (frame_of hall (args_in frame.entry out.old)) (decode state.old)) frame.entry.n.stride state.old out.old result state.new out.new }
 {

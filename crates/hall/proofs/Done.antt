@@ -2,7 +2,7 @@
 use Prim.Native.Nat.{ℕ, ◌≤◌, ◌<◌}
 use native.Mathlib.Nat.{le_of_lt}
 use native.Mathlib.Omega.{arith}
-use mathlib.Core.Path.{◌≡◌, sym, ap, ap₂, ◌∙◌, subst}
+use mathlib.Core.Path.{◌≡◌, sym, ap, ap₂, ◌∙◌}
 use mathlib.Core.Logic.{◌⊎◌, inl, inr}
 use mathlib.Core.Bool.{true, false}
 use mathlib.Core.List.{List}
@@ -11,7 +11,7 @@ use lib.ListN.{length, take, length-map}
 use lib.Seq.{length-take-le}
 use lib.Ieee.{binary32, of_bits}
 use borrow.Author.Tests.{ne_eqb}
-use Rattle.words.specs.Words.{Bytes, words_at, with_words}
+use Rattle.words.specs.Words.{Bytes, words_at}
 use Rattle.timed.specs.State.{Timed}
 use Rattle.rules.specs.Parts.{floats}
 use Rattle.limiter.specs.Meters.{unmet, call_meters}
@@ -21,31 +21,30 @@ use Rattle.rules.specs.Samples.{Renderer, pushed, flushed}
 use Rattle.rules.specs.Ranges.{Ranged}
 use Rattle.rules.specs.Calls.{push, flush, frame_of, found}
 use Rattle.rules.specs.BlockCalls.{written, made}
-use Rattle.rules.proofs.Theorems.{is_passed, is_listed, rate_high, is_roomy, length_limited}
+use Rattle.rules.proofs.Theorems.{is_listed, rate_high, is_roomy, length_limited}
 use Rattle.store.specs.declared.renderer.Renderer714.{Renderer714}
-use Rattle.store.specs.Fields.{small_words, small_of}
-use Rattle.store.specs.Layout.{small_width, decode}
+use Rattle.store.specs.Fields.{small_of}
+use Rattle.store.specs.Layout.{small_width, decode, encode}
 use Rattle.store.specs.ValidBlocks.{valid}
 use Rattle.theorem.specs.Instance.{hall, block}
-use Rattle.theorem.proofs.Theorems.{Within, decoded_of, pushed_within, flushed_within}
+use Rattle.theorem.proofs.Theorems.{Within}
 use Rattle.rendering.specs.Held.{held, IsHeld}
 use Rattle.hall.specs.Answers.{Left, ready_of}
 use Rattle.rendering.specs.Give.{CanGive}
 use Rattle.hall.proofs.WaysOut.{leaves_as, accepted, flushes}
 use Rattle.refusals.proofs.Theorems.{loaded}
-use Rattle.hall.proofs.Known.{valid_long, loaded_pending, loaded_ranged, saved}
+use Rattle.hall.proofs.Known.{loaded_pending, loaded_ranged}
 
 -- ---- push
 
-module _ (a : Args) (b : List ℕ) (bytes : Bytes b) (meta : Bytes a.meta) (v : valid b ≡ true) (e : found hall (decode b) a ≡ clear) where
-  pub rendered_left : (s : Renderer714) (ready : ℕ) (m : Meters) (c : List ℕ) → Bytes c → IsHeld (pushed hall (frame_of hall a) (decode b)).next s c
+module _ (a : Args) (b : List ℕ) (v : valid b ≡ true) (e : found hall (decode b) a ≡ clear) where
+  pub rendered_left : (s : Renderer714) (ready : ℕ) (m : Meters) (c : List ℕ) → IsHeld (pushed hall (frame_of hall a) (decode b)).next s c
       → ready ≡ length ((pushed hall (frame_of hall a) (decode b)).given 0) → m ≡ call_meters (pushed hall (frame_of hall a) (decode b)).meters
-      → (state out : List ℕ) → state ≡ with_words c 0 (small_words s)
+      → (state out : List ℕ) → state ≡ encode (held s c)
       → out ≡ written (pushed hall (frame_of hall a) (decode b)).given a.stride a.out
       → Left (made hall block (push a) b) (ready_of ready m) state out
-  rendered_left s ready m c k h n l state out j o =
-      let g = pushed_within (decode b) a meta (is_passed hall (decode b) a e) (decoded_of b bytes v) in
-      leaves_as (accepted a b v e) (record { answer = ap₂ ready_of n l; block = j ∙ saved c (pushed hall (frame_of hall a) (decode b)).next s k h g; output = o })
+  rendered_left s ready m c h n l state out j o =
+      leaves_as (accepted a b v e) (record { answer = ap₂ ready_of n l; block = j ∙ ap encode h.is; output = o })
 
 -- ---- flush
 
@@ -63,14 +62,13 @@ flushed_long r g =
 
 module _ (b : List ℕ) (s : Renderer714) (e : s ≡ small_of (words_at b 0 small_width)) (bytes : Bytes b) (v : valid b ≡ true) (out : List ℕ) (stride : ℕ)
     (k : room stride (length out) ≡ true) where
-  pub can_give : CanGive (record { renderer = s; ready = 0; meters = unmet }) b out stride
+  pub can_give : CanGive (record { renderer = s; ready = 0; meters = unmet }) out stride
   can_give =
       let g = loaded_ranged b s e bytes v in
       let q = is_roomy stride (length out) k in
       let p = g.pending in
       let w = q.some in
       record {
-        block = valid_long b v;
         pending = le_of_lt g.pending;
         rate = rate_small s.rate g.rate;
         room = omega arith;
@@ -79,7 +77,7 @@ module _ (b : List ℕ) (s : Renderer714) (e : s ≡ small_of (words_at b 0 smal
       }
 
   pub flushed_left : 0 < s.pending → (t : Renderer714) (m : Meters) → held t b ≡ (flushed hall (held s b)).next → m ≡ call_meters (flushed hall (held s b)).meters
-      → (ready : ℕ) (state to : List ℕ) → ready ≡ s.pending → state ≡ with_words b 0 (small_words t)
+      → (ready : ℕ) (state to : List ℕ) → ready ≡ s.pending → state ≡ encode (held t b)
       → to ≡ written (flushed hall (held s b)).given stride out → Left (made hall block (flush out stride) b) (ready_of ready m) state to
   flushed_left p t m h q ready state to i j o =
       let l = loaded b s e in
@@ -87,11 +85,10 @@ module _ (b : List ℕ) (s : Renderer714) (e : s ≡ small_of (words_at b 0 smal
       let n : (decode b).pending.count ≡ s.pending = loaded_pending b s e in
       let some : eqb (decode b).pending.count 0 ≡ false = ne_eqb (decode b).pending.count 0 (λ z. omega (arith, sym n ∙ z)) in
       let next = h ∙ ap (λ (x : Renderer Timed). (flushed hall x).next) l in
-      let d = flushed_within (decode b) (subst (Ranged hall Within) l g) in
       leaves_as (flushes out stride b v k some)
       (record {
         answer = ap₂ ready_of (i ∙ sym (flushed_long (held s b) g) ∙ ap (λ (x : Renderer Timed). length ((flushed hall x).given 0)) l)
             (q ∙ ap (λ (x : Renderer Timed). call_meters (flushed hall x).meters) l);
-        block = j ∙ saved b (flushed hall (decode b)).next t bytes (record { is = next; long = valid_long b v }) d;
+        block = j ∙ ap encode next;
         output = o ∙ ap (λ (x : Renderer Timed). written (flushed hall x).given stride out) l;
       })

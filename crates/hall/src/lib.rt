@@ -13,6 +13,7 @@ ghost use Rattle.rules.specs.Refusals.{args_of};
 
 use answer::Outcome;
 use refusals::{Numbers, Push, Refusal};
+use store::Block;
 
 pub mod answer;
 mod work;
@@ -24,6 +25,7 @@ pub const STATE_BYTES: usize = store::SIZE;
 
 // Renders a frame: beds (one code each), then objects, `samples` of each channel in `pcm`. What is ready goes to `out`, channel c from place c x `stride` on.
 // Its parameters are document 01's: "calls push, flush and reset over numbers and byte slices".
+#[tactic(auto, using(crate::proofs::Known::valid_long))]
 pub fn push(
     state: &mut [u8],
     pcm: &[u8],
@@ -44,7 +46,8 @@ pub fn push(
     if !store::ranges::is_valid(state) {
         return Err(Refusal::Lent);
     }
-    let s = store::load(state);
+    let block: &mut Block = state.as_mut_array().unwrap();
+    let s = store::load(block);
     let push = Push {
         pcm,
         meta,
@@ -57,10 +60,11 @@ pub fn push(
         },
     };
     let frame = refusals::check_push(s, push, out.len())?;
-    Ok(Outcome::Ready(work::render(s, state, frame, out)))
+    Ok(Outcome::Ready(work::render(s, block, frame, out)))
 }
 
 // Gives out the samples that wait.
+#[tactic(auto, using(crate::proofs::Known::valid_long))]
 pub fn flush(state: &mut [u8], out: &mut [u8], stride: u32) -> Result<Outcome, Refusal>
     ensures { Left (made hall block (flush out.old stride) state.old) (coded result) state.new out.new }
 {
@@ -70,11 +74,12 @@ pub fn flush(state: &mut [u8], out: &mut [u8], stride: u32) -> Result<Outcome, R
     if !refusals::early::room(stride, out.len()) {
         return Err(Refusal::Lent);
     }
-    let s = store::load(state);
+    let block: &mut Block = state.as_mut_array().unwrap();
+    let s = store::load(block);
     if s.pending == 0 {
         return Ok(Outcome::Nothing);
     }
-    Ok(Outcome::Ready(work::drain(s, state, out, stride)))
+    Ok(Outcome::Ready(work::drain(s, block, out, stride)))
 }
 
 // Makes a block of the right length a new renderer.
@@ -84,7 +89,7 @@ pub fn reset(state: &mut [u8]) -> Result<Outcome, Refusal>
     if state.len() != store::SIZE {
         return Err(Refusal::Lent);
     }
-    store::reset(state);
+    store::reset(state.as_mut_array().unwrap());
     Ok(Outcome::Fresh)
 }
 

@@ -8,10 +8,11 @@ ghost use Rattle.refusals.specs.FirstFound.{args_in};
 use crate::answer::Given;
 use refusals::Frame;
 use rendering::Rendering;
+use store::Block;
 use store::renderer::Renderer714;
 
 // A push that no refusal turned away.
-pub fn render(s: Renderer714, state: &mut [u8], frame: Frame<'_>, out: &mut [u8]) -> Given
+pub fn render(s: Renderer714, state: &mut Block, frame: Frame<'_>, out: &mut [u8]) -> Given
     requires { Cleared s state.old (args_in frame out.old) }
     ensures { Left (made hall block (push (args_in frame.entry out.old)) state.old) (given_as result) state.new out.new }
 {
@@ -25,7 +26,7 @@ pub fn render(s: Renderer714, state: &mut [u8], frame: Frame<'_>, out: &mut [u8]
 }
 
 // A flush with samples waiting.
-pub fn drain(s: Renderer714, state: &mut [u8], out: &mut [u8], stride: u32) -> Given
+pub fn drain(s: Renderer714, state: &mut Block, out: &mut [u8], stride: u32) -> Given
     requires { Waiting s state.old out.old stride }
     ensures { Left (made hall block (flush out.old stride) state.old) (given_as result) state.new out.new }
 {

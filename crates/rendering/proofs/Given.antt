@@ -1,7 +1,7 @@
 -- A block that the limiter gave out is what the rules give, behind the samples that are ready. Assumes nothing.
 use mathlib.Core.Path.{◌≡◌, refl, sym, ap, ap₂, ◌∙◌}
 use mathlib.Core.List.{List, [], ◌∷◌, map}
-use Prim.Native.Nat.{ℕ, zero, suc, ◌+◌, ◌-◌, ◌*◌, ◌<◌, ◌≤◌}
+use Prim.Native.Nat.{ℕ, zero, suc, ◌+◌, ◌*◌, ◌<◌, ◌≤◌}
 use native.Mathlib.Nat.{not-suc-le-zero, le_of_suc-le-suc}
 use native.Mathlib.Omega.{arith}
 use lib.ListN.{length, take, drop, length-drop}
@@ -16,6 +16,7 @@ use Rattle.limiter.specs.ChannelPlaces.{floats_at, with_floats, channels, channe
 use Rattle.rules.specs.Parts.{Channels, none, twelve, floats}
 use Rattle.rules.specs.Samples.{limited, metered, gain_after, flushed}
 use Rattle.rules.specs.BlockCalls.{written_from, written}
+use Rattle.formats.specs.Areas.{places_bytes}
 use Rattle.store.specs.declared.renderer.Renderer714.{Renderer714}
 use Rattle.store.specs.Layout.{places_at, size, places_of}
 use Rattle.store.specs.Steps.{emptied_by}
@@ -120,11 +121,11 @@ module _ (f : Channels) (ys : List Float) (e : (c : ℕ) → c < 12 → take 64 
 waiting : ℕ → List ℕ → Channels
 waiting n b c = take n (floats (places_of b) c)
 
-waiting_at : (n : ℕ) (b : List ℕ) → n ≤ 64 → length b ≡ size → (c : ℕ) → c < 12 → floats_at (take (length b - places_at) (drop places_at b)) (256 * c) n ≡ waiting n b c
+waiting_at : (n : ℕ) (b : List ℕ) → n ≤ 64 → length b ≡ size → (c : ℕ) → c < 12 → floats_at (take places_bytes (drop places_at b)) (256 * c) n ≡ waiting n b c
 unfolding waiting
 waiting_at n b h l c m =
-    let d : length (drop places_at b) ≤ length b - places_at = rw length-drop (omega arith) in
-    ap (λ (s : List ℕ). floats_at s (256 * c) n) (take_all (length b - places_at) (drop places_at b) d)
+    let d : length (drop places_at b) ≤ places_bytes = rw length-drop (omega arith) in
+    ap (λ (s : List ℕ). floats_at s (256 * c) n) (take_all places_bytes (drop places_at b) d)
     ∙ floats_words (drop places_at b) (256 * c) n
     ∙ ap (map (of_bits binary32)) (sym (words_drop b places_at (256 * c) n))
     ∙ sym (floats_take b (places_at + 256 * c) n 64 h)
@@ -133,14 +134,14 @@ waiting_at n b h l c m =
 -- what `give` leaves
 pub gave : (w : Rendering) (b out : List ℕ) (stride : ℕ) {l : Limited} {r : Rendering} {out' : List ℕ} → length b ≡ size → w.renderer.pending ≤ 64
     → r.renderer ≡ emptied_by w.renderer l.limiter → r.ready ≡ w.ready + w.renderer.pending → r.meters ≡ meets w.meters l.meters
-    → Given w.renderer.limiter.gain w.renderer.pending w.renderer.rate (take (length b - places_at) (drop places_at b)) (4 * stride) (4 * w.ready) out l out'
+    → Given w.renderer.limiter.gain w.renderer.pending w.renderer.rate (take places_bytes (drop places_at b)) (4 * stride) (4 * w.ready) out l out'
     → Gave w b stride out r out'
 unfolding flushed waiting
 gave w b out stride l m p n o given =
     let s = w.renderer in
     let e = waiting_at s.pending b m l in
     let f = waiting s.pending b in
-    let part = take (length b - places_at) (drop places_at b) in
+    let part = take places_bytes (drop places_at b) in
     record {
       next = ap (λ (r : Renderer714). held r b) (p ∙ ap (λ (g : Float). emptied_by s (record { gain = g })) (gain_after_is f part s.pending e stride w.ready given));
       given = given_behind f part s.pending e stride w.ready given;

@@ -9,15 +9,13 @@ use Rattle.limiter.specs.Meters.{unmet, block_meters, meets, meets_all}
 use Rattle.rules.specs.Samples.{After, flushed}
 use Rattle.rules.specs.BlockCalls.{written}
 use Rattle.theorem.specs.Instance.{hall}
-use Rattle.store.specs.Layout.{size}
 use Rattle.store.specs.Steps.{emptied_by}
 use Rattle.rendering.specs.declared.Rendering.{Rendering}
 use Rattle.rendering.specs.Held.{held}
 use Rattle.rendering.specs.Out.{behind}
 
--- what is asked: the whole block, and room for the pending samples behind those that are ready
-pub record CanGive (w : Rendering) (state out : List ℕ) (stride : ℕ) : Type 0 where
-  pub block : length state ≡ size
+-- what is asked: room for the pending samples behind those that are ready
+pub record CanGive (w : Rendering) (out : List ℕ) (stride : ℕ) : Type 0 where
   pub pending : w.renderer.pending ≤ 64
   pub rate : w.renderer.rate ≤ 16777216
   pub room : w.ready + w.renderer.pending ≤ stride

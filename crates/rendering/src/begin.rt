@@ -2,10 +2,9 @@
 // Translated from libstarmine_ad render.rs; changed.
 
 // What happens before a chunk: the updates at its first sample, in the order sent; the slot that starts there.
-ghost use Rattle.std.specs.Prelude.{◌≡◌, not, ◌||◌, eqb, length};
+ghost use Rattle.std.specs.Prelude.{◌≡◌, not, ◌||◌, eqb};
 ghost use Rattle.updates.specs.Said.{update_of};
 ghost use Rattle.rules.specs.Samples.{applied_at, updated, slotted};
-ghost use Rattle.store.specs.Layout.{size};
 ghost use Rattle.theorem.specs.Instance.{hall, sent_of};
 ghost use Rattle.rendering.specs.Held.{held, Leads};
 ghost use Rattle.rendering.specs.Begin.{restated, CanStart, Starts};
@@ -13,6 +12,7 @@ ghost use Rattle.rendering.specs.Begin.{restated, CanStart, Starts};
 use crate::Rendering;
 use clock::{FrameOffset, START};
 use records::metadata::{Metadata, Update};
+use store::Block;
 use store::renderer::Renderer714;
 use timed::state::MetadataRendererState;
 use updates::update::TimedState;
@@ -34,8 +34,7 @@ fn restated(renderer: Renderer714, state: MetadataRendererState, new: bool) -> R
 
 impl Rendering {
     // An update at the present sample, which is sample t of the frame.
-    fn apply_one(self, state: &mut [u8], said: Update<'_>, t: FrameOffset) -> Rendering
-        requires { length state.old ≡ size }
+    fn apply_one(self, state: &mut Block, said: Update<'_>, t: FrameOffset) -> Rendering
         ensures { Leads (applied_at hall t.0 (record { offset = t.0; said = update_of said.entry.record.meta.now said.entry.record.place })
             (held self.renderer state.old)) self state.old result state.new }
     {
@@ -52,11 +51,10 @@ impl Rendering {
     // The updates at the present sample, which is sample t of the frame, in the order sent.
     pub fn apply_sent(
         mut self,
-        state: &mut [u8],
+        state: &mut Block,
         metadata: Metadata<'_>,
         t: FrameOffset,
     ) -> Rendering
-        requires { length state.old ≡ size }
         ensures { Leads (updated hall t.0 (sent_of metadata.entry.records.now) (held self.renderer state.old)) self state.old result state.new }
     {
         for i in 0..metadata.layout.count {
@@ -69,8 +67,8 @@ impl Rendering {
     }
 
     // The slot that starts.
-    pub fn start_slot(mut self, state: &mut [u8]) -> Rendering
-        requires { (length state.old ≡ size) × CanStart (held self.renderer state.old) × Starts self.renderer }
+    pub fn start_slot(mut self, state: &mut Block) -> Rendering
+        requires { CanStart (held self.renderer state.old) × Starts self.renderer }
         ensures { Leads (slotted hall (held self.renderer state.old)) self state.old result state.new }
     {
         let start = self.renderer.clock.start;

@@ -12,11 +12,12 @@ ghost use Rattle.rendering.specs.Give.{CanGive, Gave, IsDrained, CanGiveRows, Ga
 use crate::Rendering;
 use limiter::places::{Taken, store_block};
 use render::Rows;
+use store::Block;
 
 impl Rendering {
     // The pending samples as one block, behind those that are ready.
-    pub fn give(mut self, state: &[u8], out: &mut [u8], stride: usize) -> Rendering
-        requires { CanGive self state.now out.old stride }
+    pub fn give(mut self, state: &Block, out: &mut [u8], stride: usize) -> Rendering
+        requires { CanGive self out.old stride }
         ensures { Gave self state.now stride out.old result out.new }
     {
         let limiter = self.renderer.limiter;
@@ -57,8 +58,8 @@ impl Rendering {
 
     // Flush: the remainder as one shorter block.
     #[tactic(auto, using(crate::proofs::Given::behind_written))]
-    pub fn drain(self, state: &[u8], out: &mut [u8], stride: usize) -> Rendering
-        requires { CanGive self state.now out.old stride × (self.ready ≡ 0) × (self.meters ≡ unmet) }
+    pub fn drain(self, state: &Block, out: &mut [u8], stride: usize) -> Rendering
+        requires { CanGive self out.old stride × (self.ready ≡ 0) × (self.meters ≡ unmet) }
         ensures { IsDrained (flushed hall (held self.renderer state.now)) self.renderer.pending stride state.now out.old result
             out.new }
     {

@@ -12,7 +12,7 @@ mod flush;
 mod pass;
 
 // A renderer at work: its value, how many samples of each channel are in the output, and what the limiter met in them. Infos and the samples that wait stay in the
-// lent block: the slice that C lends, as `store::load` takes it.
+// lent block.
 #[derive(Clone, Copy)]
 pub struct Rendering {
     pub renderer: Renderer714,

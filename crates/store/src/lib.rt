@@ -1,10 +1,10 @@
 // The state block between calls: the renderer that it holds, its ranges, a fresh block.
 #![tactic(auto)]
 
-ghost use Rattle.std.specs.Prelude.{◌≡◌, length};
+ghost use Rattle.std.specs.Prelude.{◌≡◌};
 ghost use Rattle.words.specs.Words.{words_at};
 ghost use Rattle.store.specs.Fields.{small_of};
-ghost use Rattle.store.specs.Layout.{small_width, size, encode, fresh_renderer};
+ghost use Rattle.store.specs.Layout.{small_width, encode, fresh_renderer};
 
 use formats::areas;
 use renderer::Renderer714;
@@ -25,7 +25,7 @@ pub const PLACES: usize = INFOS + areas::INFOS_BYTES;
 pub const SIZE: usize = PLACES + areas::PLACES_BYTES;
 
 // A state block: its type says its length.
-type Block = [u8; SIZE];
+pub type Block = [u8; SIZE];
 
 // What reset leaves other than zeros.
 const LIMITER_GAIN: usize = 4 * places::LIMITER_GAIN;
@@ -34,11 +34,9 @@ const FIRST_RAMP: usize = 4 * places::FIRST_RAMP;
 
 const SECOND_RAMP: usize = 4 * places::SECOND_RAMP;
 
-// The renderer of a block, but for what stays in it. Here, in `reset` and in `save` the block is the slice that C lends, of any length: an array would ask more of who
-// has the slice.
+// The renderer of a block, but for what stays in it.
 #[tactic(auto, using(crate::proofs::BlockTests::small_in_block))]
-pub fn load(state: &[u8]) -> Renderer714
-    requires { length state.now ≡ size }
+pub fn load(state: &Block) -> Renderer714
     ensures { result ≡ small_of (words_at state.now 0 small_width) }
 {
     read::small(state)
@@ -46,8 +44,7 @@ pub fn load(state: &[u8]) -> Renderer714
 
 // A fresh block: the limiter's gain 1.0, and no ramp left in either element.
 #[tactic(auto, using(crate::proofs::Fresh::refilled))]
-pub fn reset(state: &mut [u8])
-    requires { length state.old ≡ size }
+pub fn reset(state: &mut Block)
     ensures { state.new ≡ encode fresh_renderer }
 {
     state.fill(0);

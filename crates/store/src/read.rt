@@ -2,7 +2,7 @@
 ghost use Rattle.std.specs.Prelude.{◌≡◌, ◌+◌, ◌*◌, ◌≤◌, length};
 ghost use Rattle.formats.specs.NumberWords.{in_words};
 ghost use Rattle.store.specs.Fields.{filter_format, state_format, small_of};
-ghost use Rattle.store.specs.FieldPlaces.{state_at, size};
+ghost use Rattle.store.specs.FieldPlaces.{state_at};
 
 use crate::entry::table;
 use crate::parts::{count, flag};
@@ -52,11 +52,9 @@ fn state(s: &Block) -> MetadataRendererState
 
 // The small part.
 #[tactic(auto, unfolding(crate::specs::Fields::small_of))]
-pub fn small(s: &[u8]) -> Renderer714
-    requires { length s.now ≡ size }
+pub fn small(s: &Block) -> Renderer714
     ensures { result ≡ small_of (in_words s.now) }
 {
-    let block: &Block = s.as_array().unwrap();
     Renderer714 {
         rate: word_of(s, places::RATE),
         clock: Clock {
@@ -69,6 +67,6 @@ pub fn small(s: &[u8]) -> Renderer714
         },
         filter: filter(s, places::LOWPASS),
         pending: word_of(s, places::PENDING),
-        state: state(block),
+        state: state(s),
     }
 }

@@ -1,8 +1,9 @@
 // The small part's fields as words in a block.
-ghost use Rattle.std.specs.Prelude.{◌≡◌, ◌*◌, length};
+ghost use Rattle.std.specs.Prelude.{◌≡◌, ◌*◌};
 ghost use Rattle.words.specs.Words.{with_words};
-ghost use Rattle.store.specs.FieldPlaces.{state_at, size};
+ghost use Rattle.store.specs.FieldPlaces.{state_at};
 ghost use Rattle.store.specs.Fields.{state_format, basics_format, basics_of, small_words};
+ghost use Rattle.store.specs.Layout.{assembled, infos_of, places_of, encode};
 
 use crate::entry::put_table;
 use crate::renderer::Renderer714;
@@ -69,13 +70,11 @@ fn put_state(s: &mut Block, x: &MetadataRendererState)
     put_table(s, FIRST, &x.states);
 }
 
-// The small part of a block, whole; the rest of the block is kept.
-#[tactic(auto, using(crate::proofs::Stores::small_stored))]
-pub fn save(state: &mut [u8], x: Renderer714)
-    requires { length state.old ≡ size }
-    ensures { state.new ≡ with_words state.old 0 (small_words x) }
+// The small part of a block, whole; the rest of the block is kept, and so it is the block of a renderer with x for its small part.
+#[tactic(auto, using(crate::proofs::Stores::small_stored, crate::proofs::Saved::whole_stored))]
+pub fn save(state: &mut Block, x: Renderer714)
+    ensures { (state.new ≡ with_words state.old 0 (small_words x)) × (state.new ≡ encode (assembled x (infos_of state.old) (places_of state.old))) }
 {
-    let block: &mut Block = state.as_mut_array().unwrap();
-    put_basics(block, &x);
-    put_state(block, &x.state);
+    put_basics(state, &x);
+    put_state(state, &x.state);
 }

@@ -13,7 +13,7 @@ use Rattle.theorem.specs.Instance.{hall, block}
 use Rattle.hall.specs.Answers.{Left, given_as}
 use Rattle.hall.proofs.Appending.{appended}
 use Rattle.hall.proofs.WaysOut.{leaves_as, wrong, refused_push}
-use Rattle.hall.proofs.Known.{valid_long, loaded_ranged}
+use Rattle.hall.proofs.Known.{loaded_ranged}
 use Rattle.hall.proofs.push.Goals as goal
 use Rattle.hall.proofs.push.Goals.{After-is_valid}
 
@@ -30,39 +30,40 @@ returns-then-not-is_valid c =
       appends = tt;
     }
 
-pub load-s-requires : goal.load-s-requires
-load-s-requires c = valid_long c.args.state.now (sym c.is_valid.ensures ∙ c.if-not-is_valid.false)
-
 pub check_push-requires : goal.check_push-requires
 check_push-requires c =
+    let whole = (rw c.unwrap-block.ensures at c.as_mut_array.ensures.cases).same in
     let valid = sym c.is_valid.ensures ∙ c.if-not-is_valid.false in
-    let w = (loaded_ranged c.args.state.now c.load-s.result c.load-s.ensures (λ i. omega (arith, c.slice_known-1.given i)) valid).meta.state.within in
+    let w = (loaded_ranged c.args.state.now c.load-s.result (rw whole at c.load-s.ensures) (λ i. omega (arith, c.slice_known-1.given i)) valid).meta.state.within in
     (w.beds, w.objects)
 
 pub returns-in_err-frame : goal.returns-in_err-frame
 returns-in_err-frame c =
+    let whole = (rw c.unwrap-block.ensures at c.as_mut_array.ensures.cases).same in
     let s = c.args in
     let a = args_of s.pcm.now s.meta.now s.out.now s.codes.now s.rate s.samples s.objects s.stride in
     let r = c.in_err-frame.field-0.0 in
-    let found = c.in_err-frame.ensures.found s.state.now s.out.now c.load-s.ensures refl in
+    let found = c.in_err-frame.ensures.found s.state.now s.out.now (rw whole at c.load-s.ensures) refl in
     let p = err_from_is_err_and c.from_residual.result c.from_residual.ensures.1 in
-    record { left = rw (p.1, p.2) (refused_push a s.state.now r (sym c.is_valid.ensures ∙ c.if-not-is_valid.false) found); appends = rw (p.1) tt }
+    record { left = rw (p.1, p.2, whole) (refused_push a s.state.now r (sym c.is_valid.ensures ∙ c.if-not-is_valid.false) found); appends = rw (p.1) tt }
 
 pub render-requires : goal.render-requires
 render-requires c =
+    let whole = (rw c.unwrap-block.ensures at c.as_mut_array.ensures.cases).same in
     let a = c.args in
     let k = c.in_ok-frame.ensures in
     record {
-      loaded = record { small = c.load-s.ensures; valid = sym c.is_valid.ensures ∙ c.if-not-is_valid.false };
-      clear = ap (λ (g : List ℕ → Args). found hall (decode a.state.now) (g a.out.now)) k.frame ∙ sym (k.found a.state.now a.out.now c.load-s.ensures refl);
+      loaded = record { small = c.load-s.ensures; valid = rw whole (sym c.is_valid.ensures ∙ c.if-not-is_valid.false) };
+      clear = ap (λ (g : List ℕ → Args). found hall (decode c.unwrap-block.result.now) (g a.out.now)) k.frame ∙ sym (k.found c.unwrap-block.result.now a.out.now c.load-s.ensures refl);
     }
 
 pub returns : goal.returns
 returns c =
+    let whole = (rw c.unwrap-block.ensures at c.as_mut_array.ensures.cases).same in
     let s = c.args in
     let a = args_of s.pcm.now s.meta.now s.out.now s.codes.now s.rate s.samples s.objects s.stride in
     let h = lent (goal.at.returns c).After-is_valid in
     let e : Left (made hall block (push a) s.state.now) (given_as c.render.result) c.render.new.state c.render.new.out =
     subst (λ (g : List ℕ → Args). Left (made hall block (push (g s.out.now)) s.state.now) (given_as c.render.result) c.render.new.state c.render.new.out)
-    c.in_ok-frame.ensures.frame c.render.ensures in
+    c.in_ok-frame.ensures.frame (rw whole at c.render.ensures) in
     record { left = e; appends = appended a s.state.now h c.render.result e }

@@ -40,7 +40,7 @@ taken : (c : After-open-arg-1) → let s = c.args in Taken s.state.now (args_in 
 taken c =
     let s = c.args in
     takes s.idle s.state.now (args_in s.frame s.out.now) s.frame.metadata.layout c.requires s.frame.metadata.laid
-    (λ i. omega (arith, c.type_inv.state i))
+    (λ i. search rules)
     s.frame.metadata.bytes
 
 pub open-requires : goal.open-requires
@@ -66,9 +66,6 @@ may_begin c k =
     let s = c.args in
     let x = c.loop-pcm in
     can_begin s.state.now (args_in s.frame s.out.now) s.frame.metadata.layout k x.t.0 x.work x.state x.out x.invariant.0 (more_left _ _ _ c.lt.ensures c.loop-pcm-test.true)
-
-pub apply_sent-work-requires : goal.apply_sent-work-requires
-apply_sent-work-requires c = c.loop-pcm.invariant.0.long
 
 updates_done : (c : Joined-is_sent) → let s = c.args in let x = c.loop-pcm in
     Taken s.state.now (args_in s.frame s.out.now) s.frame.metadata.layout
@@ -105,7 +102,7 @@ start_slot-work-requires c =
     let p = goal.at.start_slot-work-requires c in
     let k = taken p.After-open-arg-1 in
     let a = updates_done p.Joined-is_sent k in
-    (a.next.holds.long, slot_at p.Joined-is_sent (may_begin p.In-loop-pcm k) a, sym c.slot_starts.ensures ∙ c.if-slot_starts.true)
+    (slot_at p.Joined-is_sent (may_begin p.In-loop-pcm k) a, sym c.slot_starts.ensures ∙ c.if-slot_starts.true)
 
 -- with no slot, or one that changes nothing, what the updates left goes on
 leads_on : {r : Renderer Timed} {w w' : Rendering} {b b' : List ℕ} → Leads r w b w' b' → IsNext (slotted hall (held w'.renderer b')) b' w'.renderer b'
@@ -196,7 +193,7 @@ lay-requires c =
     let p = goal.at.lay-requires c in
     let k = taken p.After-open-arg-1 in
     let q = turn_passes (turning p.After-run_length-k k (begun p.Joined-slot_starts (updates_done p.Joined-is_sent k))) in
-    (q.block, q.passes.pending)
+    q.passes.pending
 
 neither : (a b : Bool) → (a || b) ≡ false → (a ≡ false) × (b ≡ false)
 neither true b e = absurd (subst T e tt)

@@ -1,7 +1,5 @@
 -- `drain`: the flush of the rules, saved.
 use mathlib.Core.Path.{refl, ap, ◌∙◌}
-use native.Mathlib.Omega.{arith}
-use Rattle.hall.proofs.Known.{valid_long}
 use Rattle.limiter.specs.Meters.{shown}
 use Rattle.hall.proofs.Done.{can_give, flushed_left}
 use Rattle.hall.proofs.work.drain.Goals as goal
@@ -11,14 +9,11 @@ drain-last-requires c =
     let a = c.args in
     let w = c.requires in
     rw c.of-work.ensures (
-      can_give a.state.now a.s w.loaded.small (λ k. omega (arith, c.slice_known-1.given k)) w.loaded.valid a.out.now a.stride
+      can_give a.state.now a.s w.loaded.small c.fits-state w.loaded.valid a.out.now a.stride
           w.room,
       refl,
       refl,
     )
-
-pub save-requires : goal.save-requires
-save-requires c = valid_long c.args.state.now c.requires.loaded.valid
 
 pub returns : goal.returns
 returns c =
@@ -26,8 +21,8 @@ returns c =
     let w = c.requires in
     let d = rw c.of-work.ensures at c.drain-last.ensures in
     flushed_left a.state.now a.s w.loaded.small
-    (λ k. omega (arith, c.slice_known-1.given k))
+    c.fits-state
     w.loaded.valid a.out.now a.stride w.room
     w.some c.drain-last.result.renderer c.shown.result d.next (c.shown.ensures ∙ ap shown d.meters) c.drain-last.result.ready
     c.save.new.state c.drain-last.new.out d.ready
-    c.save.ensures d.given
+    c.save.ensures.1 d.given

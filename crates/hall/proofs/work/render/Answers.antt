@@ -1,6 +1,5 @@
 -- `render`: the push of the rules, saved.
 use mathlib.Core.Path.{refl, ap, ◌∙◌}
-use native.Mathlib.Omega.{arith}
 use Rattle.refusals.specs.FirstFound.{args_in}
 use Rattle.limiter.specs.Meters.{shown}
 use Rattle.hall.proofs.Done.{rendered_left}
@@ -11,18 +10,12 @@ render-done-requires c =
     let w = c.requires in
     rw c.of-work.ensures (record { small = w.loaded.small; none = refl; valid = w.loaded.valid; clear = w.clear })
 
-pub save-requires : goal.save-requires
-save-requires c = c.render-done.ensures.next.holds.long
-
 pub returns : goal.returns
 returns c =
     let a = c.args in
     let w = c.requires in
     let d = c.render-done.ensures in
-    rendered_left (args_in a.frame a.out.now) a.state.now
-    (λ i. omega (arith, c.slice_known-1.given i))
-    a.frame.metadata.bytes w.loaded.valid w.clear
-    c.render-done.result.renderer c.render-done.result.ready c.shown.result c.render-done.new.state
-    (λ i. omega (arith, c.slice_known-3-1.given i)) d.next.holds d.ready
+    rendered_left (args_in a.frame a.out.now) a.state.now w.loaded.valid w.clear
+    c.render-done.result.renderer c.render-done.result.ready c.shown.result c.render-done.new.state d.next.holds d.ready
     (c.shown.ensures ∙ ap shown d.meters)
-    c.save.new.state c.render-done.new.out c.save.ensures d.given
+    c.save.new.state c.render-done.new.out c.save.ensures.1 d.given

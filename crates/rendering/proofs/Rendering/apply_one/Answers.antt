@@ -11,7 +11,7 @@ returns c =
     let u = c.apply_update-after in
     record {
       next = one_applied s.t.0 (update_of s.said.«record».meta.now s.said.«record».place) s.self.renderer s.state.now c.starts_slot-new.result
-          u.result.0 u.new.infos c.restated.result c.requires (search rules) (sym c.starts_slot-new.ensures) u.ensures c.restated.ensures;
+          u.result.0 u.new.infos c.restated.result c.told-state (search rules) (sym c.starts_slot-new.ensures) u.ensures c.restated.ensures;
       ready = refl;
       meters = refl;
     }

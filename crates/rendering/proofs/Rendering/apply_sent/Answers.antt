@@ -13,7 +13,7 @@ pub loop-i-init : goal.loop-i-init
 loop-i-init c =
     let s = c.args in
     let d = s.metadata in (
-      record { long = c.requires; small = refl; left = from_first d.records.now d.layout d.laid s.t.0 (held s.self.renderer s.state.now) },
+      record { long = c.told-state; small = refl; left = from_first d.records.now d.layout d.laid s.t.0 (held s.self.renderer s.state.now) },
       refl,
       refl,
     )
@@ -40,12 +40,6 @@ loop-i-preserved c =
         l.invariant.2,
       )
     ]
-
-pub apply_one-self-requires : goal.apply_one-self-requires
-apply_one-self-requires c = c.loop-i.invariant.0.long
-
-pub shape_of-state : goal.shape_of-state
-shape_of-state c = c.loop-i.invariant.0.long ∙ sym c.requires
 
 pub returns : goal.returns
 returns c =

@@ -13,8 +13,8 @@ returns c =
     let u = c.update_timeslot-after in
     let r = c.with_state-self in
     record {
-      next = slot_starts s.self.renderer s.state.now u.result u.new.infos r.result c.requires.0
-          (search (rules, u.auto)) c.requires.2 u.ensures r.ensures;
+      next = slot_starts s.self.renderer s.state.now u.result u.new.infos r.result c.told-state
+          (search (rules, u.auto)) c.requires.1 u.ensures r.ensures;
       ready = refl;
       meters = refl;
     }
