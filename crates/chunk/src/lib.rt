@@ -10,7 +10,7 @@ ghost use Rattle.render.specs.Run.{silent_rows, Passed};
 ghost use Rattle.chunk.specs.ChunkRows.{sounding, Laid};
 
 use lowpass::BiquadLowpassState;
-use render::{Input, Rows, Scene};
+use render::{Input, Rows, Run, Scene};
 use store::Block;
 use timed::state::MetadataRendererState;
 
@@ -21,7 +21,8 @@ fn audible(started: bool, count: usize) -> usize
     if started { count } else { 0 }
 }
 
-// The rows of the chunk, in which nothing sounds yet, and the filter after it. Before the first update nothing is heard.
+// The rows of the chunk, in which nothing sounds yet, and the filter after it. Before the first update nothing is heard. That the state has at most 18 beds is asked, since its
+// type doesn't say so (`store::renderer`).
 pub fn mix(
     m: &MetadataRendererState,
     filter: &mut BiquadLowpassState,
@@ -39,7 +40,7 @@ pub fn mix(
         gains: &m.gains[..beds],
         sources: &m.sources[..objects],
     };
-    render::run::pass_run(rows, input, &scene, filter);
+    Run { input, scene }.pass(rows, filter);
 }
 
 // The rows' first k places behind the pending samples of the block.

@@ -6,13 +6,13 @@ use lib.ListN.{length}
 use lib.Ieee.{Float}
 use Rattle.beds.specs.declared.Route.{Route}
 use Rattle.beds.specs.declared.Route.TheVariants.{Bass, Folded, Direct, Unsupported}
-use Rattle.std.specs.Prelude.{Option, Some}
+use Rattle.std.specs.Prelude.{Some}
 use Rattle.beds.specs.Routes.{route_of}
 use Rattle.beds.specs.Positions.{bed_position}
 use Rattle.beds.specs.BedTerms.{routed, bed_adds}
 use Rattle.beds.specs.Matching.{matching}
 use Rattle.beds.proofs.Matches.{Judged, judged}
-use Rattle.panning.specs.Terms.{Term, on_channel}
+use Rattle.panning.specs.Terms.{on_channel}
 use Rattle.panning.specs.Setup.{built_in, pan_in}
 use Rattle.panning.proofs.Theorems.{pan_built_in}
 use Rattle.rules.specs.Parts.{0·0}
@@ -20,19 +20,13 @@ use Rattle.rules.specs.Leaves.{Bed}
 use Rattle.rules.specs.Mix.{adds_of}
 use Rattle.rules.proofs.Theorems.{route_built_in}
 use Rattle.render.specs.MixedRows.{mixed_terms}
-use Rattle.render.specs.declared.Span.{Span}
 use Rattle.render.specs.Run.{bed_with}
-use Rattle.render.specs.MixedSources.{route_terms, bed_terms, mixed_found}
+use Rattle.render.specs.MixedSources.{route_terms, bed_terms}
 
 pub by_route : (xs os : List Float) (code : ℕ) (gain : Float) {r : Route} {new : List Float} → route_of code ≡ r
     → new ≡ mixed_terms xs (route_terms r code gain) os
     → new ≡ mixed_terms xs (bed_terms (bed_with code gain)) os
 by_route xs os code gain e p = p ∙ ap (λ (s : Route). mixed_terms xs (route_terms s code gain) os) (sym e)
-
-pub by_found : (pcm : List ℕ) (s : Span) (ts : List Term) (os : List Float) {found f : Option ℕ} {new : List Float} → found ≡ f
-    → new ≡ mixed_found pcm s ts f os
-    → new ≡ mixed_found pcm s ts found os
-by_found pcm s ts os e p = p ∙ ap (λ (g : Option ℕ). mixed_found pcm s ts g os) (sym e)
 
 -- what is found is one of the inputs
 pub found_inside : (code : ℕ) (codes : List ℕ) {i : ℕ} → matching code codes ≡ Some i → i < length codes

@@ -29,10 +29,6 @@ module _ (pcm : List ℕ) (s : Span) where
       → mixed_beds pcm s codes (zipped (drop j cs) (drop j gs)) os ≡ end → os ≡ end
   beds_done codes j cs gs os h q = rw (drop_of_length-le cs h) at q
 
-  pub objects_start : (i : ℕ) (ds : List DynamicSourceState) (os : List Float)
-      → mixed_objects pcm s (i + 0) (map plain_source ds) os ≡ mixed_objects pcm s i (map plain_source ds) os
-  objects_start i ds os = let f : i + 0 ≡ i = omega arith in rw f
-
   pub object_step : (first j : ℕ) (d : DynamicSourceState) (ds : List DynamicSourceState) (os : List Float) {new end : List Float} → j < length ds
       → new ≡ mixed_terms (channel_row pcm s (first + j)) (added_terms built_in (plain_source (get_or ds j d))) os
       → mixed_objects pcm s (first + j) (map plain_source (drop j ds)) os ≡ end

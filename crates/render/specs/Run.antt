@@ -11,17 +11,13 @@ use Rattle.rules.specs.Leaves.{Source, Bed}
 use Rattle.rules.specs.Mix.{sample_at, samples_at, Moment, heard, fed}
 use Rattle.rules.specs.Samples.{row}
 use Rattle.render.specs.declared.Scene.{Scene}
+use Rattle.render.specs.declared.Run.{Run}
 
--- ---- what is asked
+-- ---- the rows that go in
 
 -- twelve rows of +0.0
 unfoldable pub silent_rows : List Float
 silent_rows = replicate place_count 0·0
-
--- no more objects than the frame has, and rows in which nothing sounds yet
-pub record CanMix (objects : ℕ) (scene : Scene) (rows : List Float) : Type 0 where
-  pub sources : length scene.sources.now ≤ objects
-  pub silent : rows ≡ silent_rows
 
 -- ---- the beds and the objects of a scene, as the rules list them
 
@@ -61,6 +57,9 @@ moment_of beds objects codes pcm n t =
 
 abbrev pub scene_at : Scene → List ℕ → List ℕ → ℕ → ℕ → Moment
 scene_at s = moment_of (zipped s.codes.now s.gains.now) (map plain_source s.sources.now)
+
+abbrev pub moments_in : Run → ℕ → Moment
+moments_in r = scene_at r.scene r.input.codes.list.now r.input.pcm.now r.input.span.frame
 
 -- ---- what is left: before the low-pass
 

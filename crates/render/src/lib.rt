@@ -5,8 +5,8 @@ ghost use Rattle.std.specs.Prelude.{◌≡◌, ◌+◌, ◌≤◌, length};
 ghost use Rattle.formats.specs.Areas.{row_places};
 ghost use Rattle.render.specs.Framed.{Framed};
 
+mod pass;
 pub mod places;
-pub mod run;
 mod sources;
 mod terms;
 
@@ -38,11 +38,19 @@ pub struct Input<'a> {
     ghost framed: { Framed pcm.now (length codes.list.now + objects) span.frame },
 }
 
-// What sounds in a run: the beds' codes and gains, and the objects.
+// What sounds in a run: the beds' codes and gains, two slices, since they are two tables of the block; and the objects.
 #[derive(Clone, Copy)]
 pub struct Scene<'a> {
     pub codes: &'a [u8],
     pub gains: &'a [f32],
     pub sources: &'a [DynamicSourceState],
     ghost paired: { length codes.now ≡ length gains.now },
+}
+
+// What a run is fed with, and what sounds in it: no more objects than it is fed with.
+#[derive(Clone, Copy)]
+pub struct Run<'a, 'b> {
+    pub input: Input<'a>,
+    pub scene: Scene<'b>,
+    ghost fed: { length scene.sources.now ≤ input.objects },
 }

@@ -11,7 +11,7 @@ ghost use Rattle.render.specs.MixedRows.{mixed_terms};
 ghost use Rattle.render.specs.MixedSources.{bed_terms, channel_row, mixed_found, mixed_beds, mixed_objects};
 
 use crate::terms::Samples;
-use crate::{Input, Rows, Scene, Span, terms};
+use crate::{Input, Rows, Run, Span, terms};
 use beds::Route;
 use formats::areas;
 use timed::state::DynamicSourceState;
@@ -76,25 +76,31 @@ impl Input<'_> {
         let list = &row[..self.span.count];
         mix_added(rows, Samples { list }, source);
     }
+}
 
+impl Run<'_, '_> {
     // The beds in order.
     #[tactic(auto, using(crate::proofs::MixedInOrder::beds_done))]
-    pub(crate) fn mix_beds(self, rows: &mut Rows, scene: &Scene)
-        ensures { rows.new ≡ mixed_beds self.entry.pcm.now self.entry.span self.entry.codes.list.now (zipped scene.now.codes.now scene.now.gains.now) rows.old }
+    pub(crate) fn mix_beds(self, rows: &mut Rows)
+        ensures { rows.new ≡ mixed_beds self.entry.input.pcm.now self.entry.input.span self.entry.input.codes.list.now
+            (zipped self.entry.scene.codes.now self.entry.scene.gains.now) rows.old }
     {
-        for j in 0..scene.codes.len() {
-            self.mix_bed(rows, scene.codes[j], scene.gains[j]);
+        for j in 0..self.scene.codes.len() {
+            self.input
+                .mix_bed(rows, self.scene.codes[j], self.scene.gains[j]);
         }
     }
 
     // The objects in order, fed by the channels behind those of the beds.
     #[tactic(auto, using(crate::proofs::MixedInOrder::object_step, crate::proofs::MixedInOrder::objects_done))]
-    pub(crate) fn mix_sources(self, rows: &mut Rows, scene: &Scene)
-        requires { length scene.now.sources.now ≤ self.objects }
-        ensures { rows.new ≡ mixed_objects self.entry.pcm.now self.entry.span (length self.entry.codes.list.now) (map plain_source scene.now.sources.now) rows.old }
+    pub(crate) fn mix_sources(self, rows: &mut Rows)
+        ensures { rows.new ≡ mixed_objects self.entry.input.pcm.now self.entry.input.span (length self.entry.input.codes.list.now)
+            (map plain_source self.entry.scene.sources.now) rows.old }
     {
-        for j in 0..scene.sources.len() {
-            self.mix_source(rows, self.codes.list.len() + j, scene.sources[j]);
+        let first = self.input.codes.list.len();
+        for j in 0..self.scene.sources.len() {
+            self.input
+                .mix_source(rows, first + j, self.scene.sources[j]);
         }
     }
 }

@@ -5,7 +5,7 @@ use Prim.Native.Nat.{ℕ, ◌+◌, ◌-◌}
 use lib.ListN.{take, drop}
 use Rattle.mixing.proofs.Parts.{part_back}
 use Rattle.lowpass.specs.Lowpass.{filtered, after_all}
-use Rattle.render.proofs.run.filter_bass.Goals as goal
+use Rattle.render.proofs.pass.filter_bass.Goals as goal
 
 pub returns : goal.returns
 returns c =

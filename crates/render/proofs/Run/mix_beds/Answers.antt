@@ -1,11 +1,11 @@
 -- `mix_beds`: one bed more.
 use native.Mathlib.Omega.{arith}
 use Rattle.render.proofs.MixedInOrder.{bed_step}
-use Rattle.render.proofs.Input.mix_beds.Goals as goal
+use Rattle.render.proofs.Run.mix_beds.Goals as goal
 
 pub loop-j-preserved : goal.loop-j-preserved
 loop-j-preserved c =
-    let i = c.args.self in
-    let s = c.args.scene.now in
+    let i = c.args.self.input in
+    let s = c.args.self.scene in
     let l = c.loop-j in
     bed_step i.pcm.now i.span i.codes.list.now l.j s.codes.now s.gains.now l.rows (omega arith) (omega (arith, s.paired)) c.mix_bed.ensures l.invariant
