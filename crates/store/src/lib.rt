@@ -8,6 +8,7 @@ ghost use Rattle.store.specs.Layout.{small_width, encode, fresh_renderer};
 
 use formats::areas;
 use renderer::Renderer714;
+use timed::slot::RAMP_OVER;
 
 mod entry;
 mod parts;
@@ -49,6 +50,6 @@ pub fn reset(state: &mut Block)
 {
     state.fill(0);
     words::put_u32(state, LIMITER_GAIN, 0x3f80_0000);
-    words::put_u64(state, FIRST_RAMP, 140737488355328);
-    words::put_u64(state, SECOND_RAMP, 140737488355328);
+    words::put_u64(state, FIRST_RAMP, RAMP_OVER);
+    words::put_u64(state, SECOND_RAMP, RAMP_OVER);
 }

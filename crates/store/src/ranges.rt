@@ -9,11 +9,10 @@ ghost use Rattle.store.specs.ValidBlocks.{clock_in, counts_in, least, element_in
 use crate::{Block, places};
 use formats::areas::heads_valid;
 use formats::{at_most, long, word_of};
+use timed::slot::RAMP_OVER;
 
-// The longest stream; a ramp of 0, as ramps are kept; the largest offset of a block, and ramp, as they are kept.
+// The longest stream; the largest offset of a block, and ramp, as they are kept.
 const LONGEST: u64 = 1 << 40;
-
-const MIDDLE: u64 = 1 << 47;
 
 const LARGEST: u32 = 1 << 21;
 
@@ -47,7 +46,7 @@ fn head_fields(s: &[u8], at: usize) -> bool
 {
     let flags = at + 1;
     let remaining = flags + 1;
-    word_of(s, at) <= 8 && word_of(s, flags) <= 16 && long(s, remaining) <= MIDDLE + (1 << 20)
+    word_of(s, at) <= 8 && word_of(s, flags) <= 16 && long(s, remaining) <= RAMP_OVER + (1 << 20)
 }
 
 // The element whose words start at `at`.
@@ -113,7 +112,7 @@ fn element_valid(position: u64, least: u32, flags: u32, remaining: u64) -> bool
     requires { (position ≤ longest) × (remaining ≤ 140737489403904) }
     ensures { result ≡ element_in position least flags remaining }
 {
-    least <= flags && MIDDLE <= remaining + (2097152 + 64 * position)
+    least <= flags && RAMP_OVER <= remaining + (2097152 + 64 * position)
 }
 
 #[tactic(auto, using(crate::proofs::BlockTests::longs, crate::proofs::BlockTests::related_words))]
