@@ -8,7 +8,7 @@ use native.Mathlib.Omega.{arith}
 use borrow.Author.Tests.{ltb-true, ltb-false}
 use borrow.Rule.Slice.PartMut.{put_mid}
 use lib.Dec.{T, ltb}
-use lib.ListN.{length, get_or, set, take, drop, length-set, length-drop, length-append, take-append-drop, drop_of_length-le}
+use lib.ListN.{length, get_or, set, take, drop, length-set, length-drop, take-append-drop, drop_of_length-le}
 use lib.Seq.{take_all, length-take-le, take-append-le, drop-append-le, drop_at}
 use lib.Ieee.{Float, nan, binary32, fits, of_bits, to_bits}
 use lib.Ieee.Bits.{of_bits-to_bits}
@@ -17,7 +17,7 @@ use Rattle.limiter.specs.ChannelPlaces.{channels, with_channels}
 use Rattle.rules.specs.Parts.{laid}
 use Rattle.store.specs.Layout.{infos_at, places_at, size, infos_of, places_of}
 use Rattle.store.proofs.Theorems.{places_row, no_places, words_drop}
-use Rattle.render.proofs.Theorems.{Fit, append_laid, length_channels}
+use Rattle.render.proofs.Theorems.{Fit, append_laid}
 use Rattle.formats.specs.Areas.{infos_bytes, places_bytes}
 use Rattle.chunk.specs.ChunkRows.{small_bytes, Laid}
 
@@ -84,14 +84,6 @@ module _ (rows : List Float) (pending k : ℕ) (short : pending + k ≤ 64) (b n
       ∙ ap (λ (t : List ℕ). take places_at b ++ t)
       (append-nil new ∙ p ∙ ap (with_channels (channels 12 k rows) 256 (4 * pending)) (take_all places_bytes (drop places_at b) o))
 
-  put_long : length (front ++ back) ≡ size
-  unfolding front back
-  put_long =
-      let d = rest_long in
-      let f = front_long in
-      let e = length_channels (channels 12 k rows) (4 * pending) (drop places_at b) in
-      length-append (take places_at b) (with_channels (channels 12 k rows) 256 (4 * pending) (drop places_at b)) ∙ omega arith
-
   put_small : small_bytes (front ++ back) ≡ small_bytes b
   unfolding front
   put_small =
@@ -116,7 +108,7 @@ module _ (rows : List Float) (pending k : ℕ) (short : pending + k ≤ 64) (b n
       ∙ sym (laid_nil pending (take k (drop (64 * c) rows))) ∙ ap (laid pending (take k (drop (64 * c) rows))) (sym (no_places b c l))
 
   pub lay_laid : Laid rows pending k b (put_mid places_at places_bytes b new)
-  lay_laid = rw put (record { long = put_long; small = put_small; infos = put_infos; places = fun_ext (λ c. put_place c (ltb c 12) refl) })
+  lay_laid = rw put (record { small = put_small; infos = put_infos; places = fun_ext (λ c. put_place c (ltb c 12) refl) })
 
 -- the block as it would be with the rows laid
 pub as_laid : (rows : List Float) (pending k : ℕ) → pending + k ≤ 64 → (b : List ℕ) → Fit rows → length rows ≡ 768 → length b ≡ size → (c : List ℕ) × Laid rows pending k b c

@@ -1,8 +1,8 @@
 -- A reader may skip this file: the rows of a chunk: what sounds in them, and where they are laid in a state block. Assumes nothing.
-use Rattle.std.specs.Prelude.{ℕ, ◌*◌, ◌≡◌, cond, List, length, take, drop, Float}
+use Rattle.std.specs.Prelude.{ℕ, ◌*◌, ◌≡◌, cond, List, take, drop, Float}
 use Rattle.timed.specs.declared.state.MetadataRendererState.{MetadataRendererState}
 use Rattle.rules.specs.Parts.{laid}
-use Rattle.store.specs.Layout.{infos_at, size, infos_of, places_of}
+use Rattle.store.specs.Layout.{infos_at, infos_of, places_of}
 use Rattle.rules.specs.Mix.{Moment}
 use Rattle.render.specs.Run.{beds_of, sources_of, moment_of}
 
@@ -16,7 +16,6 @@ small_bytes b = take infos_at b
 
 -- the first k places of each row behind the pending samples of its channel; the small part's bytes and the infos stay
 pub record Laid (placesAfter : List Float) (pending k : ℕ) (state state' : List ℕ) : Type 0 where
-  pub long : length state' ≡ size
   pub small : small_bytes state' ≡ small_bytes state
   pub infos : infos_of state' ≡ infos_of state
   pub places : places_of state' ≡ (λ c. laid pending (take k (drop (64 * c) placesAfter)) (places_of state c))

@@ -16,7 +16,7 @@ use Rattle.rules.specs.Samples.{Frame, Renderer, metered, flushed, gain_after}
 use Rattle.timed.specs.State.{Timed}
 use Rattle.theorem.specs.Instance.{Sent, hall}
 use Rattle.store.specs.declared.renderer.Renderer714.{Renderer714}
-use Rattle.store.specs.Layout.{places_at, size, assembled, places_of}
+use Rattle.store.specs.Layout.{places_at, assembled, places_of}
 use Rattle.store.specs.Steps.{settled_by}
 use Rattle.store.proofs.Theorems.{places_row, no_places, words_long}
 use Rattle.render.specs.Framed.{Framed}
@@ -122,7 +122,6 @@ adds_ready ready e = rw e refl
 
 -- what a turn of the frame's loop may do: pass its samples, and where a block gets whole, give it out behind those that are ready
 pub record Passable (w : Rendering) (b pcm out codes : List ℕ) (objects n t k stride : ℕ) : Type 0 where
-  pub block : length b ≡ size
   pub framed : Framed pcm (length codes + objects) n
   pub span : t + k ≤ n
   pub inputs : length codes ≤ 18
@@ -186,7 +185,7 @@ module _ (f : Frame Sent) {w v : Rendering} {b pcm out codes : List ℕ} {object
       let o = lt-leb 64 (s.pending + k) (omega arith) in
       let some = h.some in
       record {
-        next = record { holds = record { is = is_settled ∙ sym (chunk_waits f t k s b o); long = l.long }; small = l.small };
+        next = record { holds = is_settled ∙ sym (chunk_waits f t k s b o); small = l.small };
         given = sym (none_behind w.ready stride out) ∙ ap (λ (g : Channels). behind w.ready g stride out) (sym (chunk_none f t k s b o));
         ready = y.ready ∙ stays_ready w.ready v.renderer.pending (omega arith);
         meters = y.meters ∙ ap (meets_all w.meters) (sym (chunk_unmet f t k s b o));
@@ -200,7 +199,7 @@ module _ (f : Frame Sent) {w v : Rendering} {b pcm out codes : List ℕ} {object
       let c : r.ready ≡ w.ready + 64 = g.ready ∙ (let i = j in let m = z in omega arith) in
       record {
         next = record {
-          holds = record { is = g.next ∙ ap (λ (x : Renderer Timed). (flushed hall x).next) is_settled ∙ sym (chunk_whole f t k s b o); long = l.long };
+          holds = g.next ∙ ap (λ (x : Renderer Timed). (flushed hall x).next) is_settled ∙ sym (chunk_whole f t k s b o);
           small = l.small;
         };
         given = g.given

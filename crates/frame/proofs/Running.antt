@@ -3,13 +3,13 @@ use Prim.Native.Nat.{ℕ, zero, suc, ◌+◌, ◌-◌, ◌*◌, ◌%◌, ◌≤�
 use native.Mathlib.Nat.{le_of_lt}
 use native.Mathlib.Omega.{arith}
 use mathlib.Core.Path.{◌≡◌, refl, sym, ap, ◌∙◌, subst}
-use mathlib.Core.Bool.{true, false, ◌&&◌}
+use mathlib.Core.Bool.{true, false}
 use mathlib.Core.List.{List}
 use lib.Dec.{eqb}
 use lib.ListN.{length}
-use borrow.Author.Tests.{eqb-true, ne_eqb}
+use borrow.Author.Tests.{ne_eqb}
 use Rattle.ieee.specs.Bounds.{All}
-use Rattle.words.specs.Words.{Bytes, words_at}
+use Rattle.words.specs.Words.{Bytes}
 use Rattle.angles.specs.Angle.{Listed}
 use Rattle.fields.specs.Update.{offset}
 use Rattle.records.specs.Laid.{count, update_at}
@@ -25,19 +25,19 @@ use Rattle.rules.specs.Leaves.{started}
 use Rattle.rules.specs.Samples.{State, After, updated, slotted, pushed}
 use Rattle.rules.specs.Refusals.{Args, listed}
 use Rattle.rules.specs.Calls.{frame_of}
-use Rattle.rules.proofs.Theorems.{Passed, is_passed, and_true, is_roomy, is_listed, rate_high, is_sized, samples_fit, R}
+use Rattle.rules.proofs.Theorems.{Passed, is_passed, is_roomy, is_listed, rate_high, is_sized, samples_fit, R}
 use Rattle.store.specs.declared.renderer.Renderer714.{Renderer714}
 use Rattle.store.specs.Steps.{opened_by}
-use Rattle.store.specs.Layout.{small_width, size, assembled, infos_of, places_of, decode}
-use Rattle.store.specs.ValidBlocks.{small_valid, heads_valid, valid}
+use Rattle.store.specs.Layout.{assembled, infos_of, places_of, decode}
 use Rattle.theorem.specs.Instance.{hall, block, sent_at, sent_of}
 use Rattle.theorem.proofs.Theorems.{each_all, codes_long, shape_apply, shape_slot, facts}
 use Rattle.rendering.specs.declared.Rendering.{Rendering}
 use Rattle.chunk.specs.ChunkRows.{small_bytes}
+use Rattle.rendering.specs.Begin.{CanStart}
 use Rattle.rendering.specs.Held.{held, Leads}
 use Rattle.frame.specs.Chunk.{chunk}
 use Rattle.rendering.specs.Out.{behind}
-use Rattle.frame.specs.Turn.{CanBegin, ready_after, Passes}
+use Rattle.frame.specs.Turn.{ready_after, Passes}
 use Rattle.frame.proofs.ChunkOnBlock.{Passable}
 use Rattle.frame.specs.Loop.{run_length, Accepted, IsRendered}
 use Rattle.rendering.proofs.Theorems.{ranged_starts}
@@ -58,19 +58,12 @@ shapes =
       rests = shape_slot;
     }
 
-valid_long : (b : List ℕ) → valid b ≡ true → length b ≡ size
-unfolding valid
-valid_long b e =
-    let x = and_true (eqb (length b) size && small_valid (words_at b 0 small_width)) (heads_valid (infos_of b) 0 512) e in
-    eqb-true (length b) size (and_true (eqb (length b) size) (small_valid (words_at b 0 small_width)) x.0).0
-
 pub record Taken (b : List ℕ) (a : Args) (l : Layout) : Type 0 where
   pub passed : Passed hall (decode b) a
   pub ranged : R hall block facts (decode b)
   pub checked : All facts.Checked (sent_of a.meta)
   pub layout : IsLayout a.meta l
   pub samples : a.samples ≤ 1536
-  pub long : length b ≡ size
 
 pub takes : (w : Rendering) (b : List ℕ) (a : Args) (l : Layout) → Accepted w b a → IsLayout a.meta l → Bytes b → Bytes a.meta → Taken b a l
 takes w b a l h g bytes meta =
@@ -83,7 +76,6 @@ takes w b a l h g bytes meta =
       checked = facts.checked a.meta meta p.early.laid_out p.early.in_range;
       layout = g;
       samples = omega arith;
-      long = valid_long b h.valid;
     }
 
 pub is_rate : (b : List ℕ) (a : Args) (l : Layout) → Taken b a l → Listed a.rate
@@ -91,7 +83,6 @@ is_rate b a l k = is_listed a.rate k.passed.early.listed
 
 -- before sample t
 pub record Running (b : List ℕ) (a : Args) (t : ℕ) (w : Rendering) (state out : List ℕ) : Type 0 where
-  pub long : length state ≡ size
   pub small : small_bytes state ≡ small_bytes b
   pub going : Going hall block facts (decode b) a t (held w.renderer state) w.ready w.meters out
 
@@ -100,7 +91,6 @@ pub opens : (w v : Rendering) (b : List ℕ) (a : Args) (l : Layout) → Accepte
 unfolding decode
 opens w v b a l h k e =
     record {
-      long = k.long;
       small = refl;
       going = subst (λ (v : Rendering). Going hall block facts (decode b) a 0 (held v.renderer b) v.ready v.meters a.out)
           (sym (e ∙ ap (λ (s : Renderer714). record { renderer = opened_by s a.rate; ready = 0; meters = unmet }) h.small))
@@ -116,13 +106,9 @@ module _ (b : List ℕ) (a : Args) (l : Layout) (k : Taken b a l) (t : ℕ) (w :
   here = begun hall block facts (decode b) a shapes k.passed k.checked t (held w.renderer state) w.ready w.meters out h.going more
 
   -- the updates at t, and the slot
-  pub can_begin : CanBegin w.renderer state a.meta t
+  pub can_begin : CanStart (updated hall t (sent_of a.meta) (held w.renderer state))
   unfolding facts
-  can_begin =
-      record {
-        long = h.long;
-        slot = ranged_starts (updated hall t (sent_of a.meta) (held w.renderer state)) here.updates;
-      }
+  can_begin = ranged_starts (updated hall t (sent_of a.meta) (held w.renderer state)) here.updates
 
   -- the next update or the frame's end
   module _ (end : ℕ) (is-end : end ≡ next_offset (offset_at l) l.count t a.samples) where
@@ -149,7 +135,7 @@ module _ (b : List ℕ) (a : Args) (l : Layout) (k : Taken b a l) (t : ℕ) (w :
       s' = w'.renderer
 
       now_ranged : R hall block facts (held s' state')
-      now_ranged = subst (R hall block facts) (sym e.next.holds.is) here.ranged
+      now_ranged = subst (R hall block facts) (sym e.next.holds) here.ranged
 
       pub few : (s'.clock.phase < 64) × (s'.pending < 64)
       few = (now_ranged.phase, now_ranged.pending)
@@ -173,23 +159,22 @@ module _ (b : List ℕ) (a : Args) (l : Layout) (k : Taken b a l) (t : ℕ) (w :
             let o = w₁.long in
             let y = g.long in
             record {
-              block = e.next.holds.long;
               framed = record { room = omega arith; plain = pass_plain a.pcm 0 ((length a.codes + a.objects) * a.samples) p.early.pass };
               span = turn_fits;
               inputs = z.codes;
               few = z.objects;
               passes = record {
                 beds = r.meta.state.within.beds;
-                dynamic = subst (λ (x : State hall). started hall x.meta ≡ true → (hall.shape x.meta).objects ≡ a.objects) (sym e.next.holds.is) here.fits;
+                dynamic = subst (λ (x : State hall). started hall x.meta ≡ true → (hall.shape x.meta).objects ≡ a.objects) (sym e.next.holds) here.fits;
                 pending = len.room;
                 phase = le_of_lt r.phase;
                 position = r.position;
                 start = omega arith;
               };
               some = len.some;
-              rate = le_of_lt (rate_high (is_listed s'.rate (ap (λ (x : State hall). listed x.rate) e.next.holds.is ∙ here.listed)));
+              rate = le_of_lt (rate_high (is_listed s'.rate (ap (λ (x : State hall). listed x.rate) e.next.holds ∙ here.listed)));
               room = λ x. roomy e.ready g.whole w₁.whole k.ranged.pending z.samples turn_fits g.pending
-                  (ap (λ (x : State hall). x.pending.count) e.next.holds.is ∙ here.pending) x;
+                  (ap (λ (x : State hall). x.pending.count) e.next.holds ∙ here.pending) x;
               short = let m = w₁.most in omega arith;
               output = omega arith;
             }
@@ -204,9 +189,9 @@ module _ (b : List ℕ) (a : Args) (l : Layout) (k : Taken b a l) (t : ℕ) (w :
             let o = len.room in
             record {
               quiet = λ j x y. none_before j x (omega arith);
-              slot = subst (λ (x : State hall). started hall x.meta ≡ true → x.clock.phase + suc i ≤ 64) e.next.holds.is
+              slot = subst (λ (x : State hall). started hall x.meta ≡ true → x.clock.phase + suc i ≤ 64) e.next.holds
                   (subst (λ (m : ℕ). s'.state.initialized ≡ true → s'.clock.phase + m ≤ 64) q len.slot);
-              room = subst (λ (x : State hall). x.pending.count + suc i ≤ 64) e.next.holds.is (omega arith);
+              room = subst (λ (x : State hall). x.pending.count + suc i ≤ 64) e.next.holds (omega arith);
             }
 
         -- what the turn leaves
@@ -224,16 +209,15 @@ module _ (b : List ℕ) (a : Args) (l : Layout) (k : Taken b a l) (t : ℕ) (w :
                 let C : State hall → After hall = chunk hall f (suc i) t in
                 let o₁ : ℕ → State hall → List ℕ = λ n x. behind n (C x).given a.stride out in
                 let d₁ = subst (λ (x : State hall). G (C x).next (ready_after w.ready (C x).next.pending.count) (meets_all w.meters (C x).meters) (o₁ w.ready x))
-                (sym e.next.holds.is) d in
+                (sym e.next.holds) d in
                 let y = held s' state' in
                 let d₂ = subst (λ (x : State hall). G x (ready_after w.ready x.pending.count) (meets_all w.meters (C y).meters) (o₁ w.ready y))
-                (sym p.next.holds.is) d₁ in
+                (sym p.next.holds) d₁ in
                 let d₃ = subst (λ (x : ℕ). G (held r.renderer c) (ready_after x r.renderer.pending) (meets_all w.meters (C y).meters) (o₁ x y)) (sym e.ready) d₂ in
                 let d₄ = subst (λ (x : ℕ). G (held r.renderer c) x (meets_all w.meters (C y).meters) (o₁ w'.ready y)) (sym p.ready) d₃ in
                 let m : meets_all w.meters (C y).meters ≡ r.meters = sym (p.meters ∙ ap (λ (x : Meters). meets_all x (C y).meters) e.meters) in
                 let d₅ = subst (λ (x : Meters). G (held r.renderer c) r.ready x (o₁ w'.ready y)) m d₄ in
                 record {
-                  long = p.next.holds.long;
                   small = p.next.small ∙ e.next.small
                       ∙ h.small;
                   going = subst (G (held r.renderer c) r.ready r.meters) (sym p.given) d₅;
@@ -280,7 +264,6 @@ module _ {b : List ℕ} {a : Args} {l : Layout} {t : ℕ} {w : Rendering} {state
       let g = x.going.ranged in
       let h = now_ranged b a l u.taken t w state out u.running u.more end u.ends w' state' u.begun in
       record {
-        long = u.begun.next.holds.long;
         small = u.begun.next.small ∙ u.running.small;
         going = subst (λ (y : State hall). Going hall block facts (decode b) a (t + n) y r.ready r.meters o)
             (ap (λ (is : List ℕ). assembled r.renderer is (places_of state')) i)
@@ -307,4 +290,4 @@ pub rendered : (b : List ℕ) (a : Args) (t : ℕ) (w : Rendering) (state out : 
     → IsRendered (pushed hall (frame_of hall a) (decode b)) a.stride b a.out w state out
 rendered b a t w state out h last =
     let e = ends hall block facts (decode b) a t (held w.renderer state) w.ready w.meters out h.going last in
-    record { next = record { holds = record { is = e.0; long = h.long }; small = h.small }; given = e.1; ready = e.2; meters = e.3 }
+    record { next = record { holds = e.0; small = h.small }; given = e.1; ready = e.2; meters = e.3 }

@@ -1,23 +1,16 @@
 -- A reader may skip this file: a turn of the frame's loop on a state block: what it asks and what it leaves. Assumes nothing.
-use Rattle.std.specs.Prelude.{ℕ, ◌+◌, ◌≡◌, cond, List, eqb, length}
+use Rattle.std.specs.Prelude.{ℕ, ◌+◌, ◌≡◌, cond, List, eqb}
 use Rattle.timed.specs.State.{Timed}
 use Rattle.limiter.specs.Meters.{meets_all}
-use Rattle.rules.specs.Samples.{Frame, Renderer, updated, settled}
+use Rattle.rules.specs.Samples.{Frame, Renderer, settled}
 use Rattle.store.specs.declared.renderer.Renderer714.{Renderer714}
-use Rattle.store.specs.Layout.{size}
-use Rattle.theorem.specs.Instance.{Sent, hall, sent_of}
+use Rattle.theorem.specs.Instance.{Sent, hall}
 use Rattle.render.specs.Run.{filter_after, row_run}
 use Rattle.rendering.specs.declared.Rendering.{Rendering}
 use Rattle.rendering.specs.Held.{held, IsNext}
 use Rattle.rendering.specs.Out.{behind}
-use Rattle.rendering.specs.Begin.{CanStart}
 use Rattle.rendering.specs.Pass.{moment_here}
 use Rattle.frame.specs.Chunk.{chunk}
-
--- the sample at offset t of a frame with metadata m may begin
-pub record CanBegin (s : Renderer714) (b m : List ℕ) (t : ℕ) : Type 0 where
-  pub long : length b ≡ size
-  pub slot : CanStart (updated hall t (sent_of m) (held s b))
 
 -- where nothing is pending a block was given out
 abbrev pub ready_after : ℕ → ℕ → ℕ

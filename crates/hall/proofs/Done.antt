@@ -28,7 +28,7 @@ use Rattle.store.specs.Layout.{small_width, decode, encode}
 use Rattle.store.specs.ValidBlocks.{valid}
 use Rattle.theorem.specs.Instance.{hall, block}
 use Rattle.theorem.proofs.Theorems.{Within}
-use Rattle.rendering.specs.Held.{held, IsHeld}
+use Rattle.rendering.specs.Held.{held}
 use Rattle.hall.specs.Answers.{Left, ready_of}
 use Rattle.rendering.specs.Give.{CanGive}
 use Rattle.hall.proofs.WaysOut.{leaves_as, accepted, flushes}
@@ -38,13 +38,13 @@ use Rattle.hall.proofs.Known.{loaded_pending, loaded_ranged}
 -- ---- push
 
 module _ (a : Args) (b : List ℕ) (v : valid b ≡ true) (e : found hall (decode b) a ≡ clear) where
-  pub rendered_left : (s : Renderer714) (ready : ℕ) (m : Meters) (c : List ℕ) → IsHeld (pushed hall (frame_of hall a) (decode b)).next s c
+  pub rendered_left : (s : Renderer714) (ready : ℕ) (m : Meters) (c : List ℕ) → held s c ≡ (pushed hall (frame_of hall a) (decode b)).next
       → ready ≡ length ((pushed hall (frame_of hall a) (decode b)).given 0) → m ≡ call_meters (pushed hall (frame_of hall a) (decode b)).meters
       → (state out : List ℕ) → state ≡ encode (held s c)
       → out ≡ written (pushed hall (frame_of hall a) (decode b)).given a.stride a.out
       → Left (made hall block (push a) b) (ready_of ready m) state out
   rendered_left s ready m c h n l state out j o =
-      leaves_as (accepted a b v e) (record { answer = ap₂ ready_of n l; block = j ∙ ap encode h.is; output = o })
+      leaves_as (accepted a b v e) (record { answer = ap₂ ready_of n l; block = j ∙ ap encode h; output = o })
 
 -- ---- flush
 

@@ -29,9 +29,9 @@ use Rattle.theorem.proofs.Theorems.{Within}
 use Rattle.formats.specs.Areas.{infos_bytes}
 use Rattle.store.specs.Steps.{with_state}
 use Rattle.chunk.specs.ChunkRows.{small_bytes}
-use Rattle.rendering.specs.Held.{held, IsHeld, IsNext}
+use Rattle.rendering.specs.Held.{held, IsNext}
 use Rattle.rendering.specs.Begin.{restated, CanStart, NoneSent, Starts}
-use Rattle.rendering.proofs.Changed.{changed, changed_long, changed_small, changed_held}
+use Rattle.rendering.proofs.Changed.{changed, changed_small, changed_held}
 
 -- ---- one update
 
@@ -52,7 +52,7 @@ module _ (t : ℕ) (u : Update) (s : Renderer714) (b : List ℕ) where
       IsTimed (updates.applied s.clock.position.0 u before) m is → r ≡ restated new s m → IsNext (applied_at hall t (sent t u) (held s b)) b r (changed b is)
   one_applied new m is r whole long e h q =
       record {
-        holds = record { is = changed_held b is whole long r ∙ rw (q, h.state, h.infos) (by_start new _ e refl); long = changed_long b is whole long };
+        holds = changed_held b is whole long r ∙ rw (q, h.state, h.infos) (by_start new _ e refl);
         small = changed_small b is whole long;
       }
 
@@ -66,23 +66,19 @@ module _ (s : Renderer714) (b : List ℕ) where
   by_slot false m e f = rw (e, f)
 
   -- no slot starts
-  pub slot_rests : length b ≡ size → (s.state.initialized && eqb s.clock.phase 0) ≡ false → IsNext (slotted hall (held s b)) b s b
-  slot_rests whole e = record { holds = record { is = by_slot false _ e refl; long = whole }; small = refl }
+  pub slot_rests : (s.state.initialized && eqb s.clock.phase 0) ≡ false → IsNext (slotted hall (held s b)) b s b
+  slot_rests e = record { holds = by_slot false _ e refl; small = refl }
 
   -- a slot starts that changes nothing
-  pub slot_changes_nothing : length b ≡ size → Starts s → rests_at s.clock.start.0 s.state ≡ true → IsNext (slotted hall (held s b)) b s b
-  slot_changes_nothing whole e h =
-      record { holds = record { is = by_slot true (record { state = s.state; infos = infos_of b }) e (timed.slot_rests _ _ h); long = whole }; small = refl }
+  pub slot_changes_nothing : Starts s → rests_at s.clock.start.0 s.state ≡ true → IsNext (slotted hall (held s b)) b s b
+  slot_changes_nothing e h = record { holds = by_slot true (record { state = s.state; infos = infos_of b }) e (timed.slot_rests _ _ h); small = refl }
 
   pub slot_starts :
       (m : MetadataRendererState) (is : List ℕ) (r : Renderer714) → length b ≡ size → length is ≡ infos_bytes → Starts s →
       IsTimed (slot_at s.clock.start.0 (record { state = s.state; infos = infos_of b })) m is → r ≡ with_state s m → IsNext (slotted hall (held s b)) b r (changed b is)
   slot_starts m is r whole long e h q =
       record {
-        holds = record {
-          is = changed_held b is whole long r ∙ rw (q, h.state, h.infos) (by_slot true _ e refl);
-          long = changed_long b is whole long;
-        };
+        holds = changed_held b is whole long r ∙ rw (q, h.state, h.infos) (by_slot true _ e refl);
         small = changed_small b is whole long;
       }
 
@@ -133,7 +129,6 @@ module _ (t : ℕ) (g : ℕ → Sent) (n : ℕ) where
 module _ (m : List ℕ) (l : records.Layout) (t : ℕ) (all : Renderer Timed) (b₀ : List ℕ) where
   -- where the walk stands, from the block b₀: the updates from i on lead to `all`
   pub record Standing (i : ℕ) (s : Renderer714) (b : List ℕ) : Type 0 where
-    pub long : length b ≡ size
     pub small : small_bytes b ≡ small_bytes b₀
     pub left : rest t (sent_at m) l.count i (held s b) ≡ all
 
@@ -145,9 +140,8 @@ module _ (m : List ℕ) (l : records.Layout) (t : ℕ) (all : Renderer Timed) (b
     goes_on i s r b c m' u low time h same next =
         let k : i < count m = omega (arith, g.counted) in
         let o : (sent_at m i).offset ≡ t = sym (g.offsets i k) ∙ time in
-        let one : held r c ≡ applied_at hall t (sent_at m i) (held s b) = next.holds.is ∙ rw (same.0, same.1) in
+        let one : held r c ≡ applied_at hall t (sent_at m i) (held s b) = next.holds ∙ rw (same.0, same.1) in
         record {
-          long = next.holds.long;
           small = next.small ∙ h.small;
           left = rw (add-one, one) (sym (rest_here t (sent_at m) l.count i (held s b) low o) ∙ h.left);
         }
@@ -157,13 +151,12 @@ module _ (m : List ℕ) (l : records.Layout) (t : ℕ) (all : Renderer Timed) (b
     passes i s b low off h =
         let k : i < count m = omega (arith, g.counted) in
         record {
-          long = h.long;
           small = h.small;
           left = rw add-one (sym (rest_past t (sent_at m) l.count i (held s b) low (λ o. off (g.offsets i k ∙ o))) ∙ h.left);
         }
 
     pub ends : (i : ℕ) (s : Renderer714) (b : List ℕ) → l.count ≤ i → Standing i s b → IsNext all b₀ s b
-    ends i s b low h = record { holds = record { is = sym (rest_none t (sent_at m) l.count i (held s b) low) ∙ h.left; long = h.long }; small = h.small }
+    ends i s b low h = record { holds = sym (rest_none t (sent_at m) l.count i (held s b) low) ∙ h.left; small = h.small }
 
 -- all of them
 pub from_first : (m : List ℕ) (l : records.Layout) → IsLayout m l → (t : ℕ) (r : Renderer Timed) → rest t (sent_at m) l.count 0 r ≡ updated hall t (sent_of m) r
@@ -174,11 +167,8 @@ from_first m l g t r =
 
 -- ---- the slot after them
 
-pub can_start : {x : Renderer Timed} {s : Renderer714} {b : List ℕ} → IsHeld x s b → CanStart x → CanStart (held s b)
-can_start h c = rw h.is c
-
 pub slotted_after : {x : Renderer Timed} {s r : Renderer714} {b₀ b c : List ℕ} → IsNext x b₀ s b → IsNext (slotted hall (held s b)) b r c → IsNext (slotted hall x) b₀ r c
-slotted_after h g = record { holds = record { is = g.holds.is ∙ ap (slotted hall) h.holds.is; long = g.holds.long }; small = g.small ∙ h.small }
+slotted_after h g = record { holds = g.holds ∙ ap (slotted hall) h.holds; small = g.small ∙ h.small }
 
 -- a renderer within document 01's ranges
 pub ranged_starts : (r : Renderer Timed) → Ranged hall Within r → CanStart r
@@ -195,11 +185,11 @@ past {f} {n} {t} {from} {i} h l =
     subst (λ (j : ℕ). FirstAt f n t from j) e h
 
 -- nothing is applied
-pub none_applied : (m : List ℕ) (l : records.Layout) → IsLayout m l → (t : ℕ) (s : Renderer714) (b : List ℕ) → length b ≡ size → NoneSent l t
+pub none_applied : (m : List ℕ) (l : records.Layout) → IsLayout m l → (t : ℕ) (s : Renderer714) (b : List ℕ) → NoneSent l t
     → IsNext (updated hall t (sent_of m) (held s b)) b s b
-none_applied m l g t s b long h =
+none_applied m l g t s b h =
     let all = updated hall t (sent_of m) (held s b) in
     let e : 0 + l.count ≡ l.count = omega arith in
     let z = skip t (sent_at m) l.count l.count 0 (held s b) (omega arith) (λ k p q o. h.none k p (omega arith) (g.offsets k (omega (arith, g.counted)) ∙ o)) in
     ends m l t all b g l.count s b (omega arith)
-    (record { long = long; small = refl; left = sym (rw e at z) ∙ from_first m l g t (held s b) })
+    (record { small = refl; left = sym (rw e at z) ∙ from_first m l g t (held s b) })

@@ -1,9 +1,9 @@
 -- A reader may skip this file: the renderer that a call works on: its small part by value, infos and places still in the state block. Assumes nothing.
-use Rattle.std.specs.Prelude.{ℕ, ◌≡◌, List, length}
+use Rattle.std.specs.Prelude.{ℕ, ◌≡◌, List}
 use Rattle.timed.specs.State.{Timed}
 use Rattle.rules.specs.Samples.{Renderer}
 use Rattle.store.specs.declared.renderer.Renderer714.{Renderer714}
-use Rattle.store.specs.Layout.{size, assembled, infos_of, places_of}
+use Rattle.store.specs.Layout.{assembled, infos_of, places_of}
 use Rattle.chunk.specs.ChunkRows.{small_bytes}
 use Rattle.rendering.specs.declared.Rendering.{Rendering}
 
@@ -11,14 +11,9 @@ use Rattle.rendering.specs.declared.Rendering.{Rendering}
 abbrev pub held : Renderer714 → List ℕ → Renderer Timed
 held s b = assembled s (infos_of b) (places_of b)
 
--- the small part s and the block b hold the renderer r
-pub record IsHeld (r : Renderer Timed) (s : Renderer714) (b : List ℕ) : Type 0 where
-  pub is : held s b ≡ r
-  pub long : length b ≡ size
-
 -- the block b₀ became b: s and b hold r, and the small part's bytes are as they were. With r's infos and places that is all of b
 pub record IsNext (r : Renderer Timed) (b₀ : List ℕ) (s : Renderer714) (b : List ℕ) : Type 0 where
-  pub holds : IsHeld r s b
+  pub holds : held s b ≡ r
   pub small : small_bytes b ≡ small_bytes b₀
 
 -- the rendering w and the block b₀ became w' and b, which hold r; as many samples are in the output, with the same meters

@@ -23,8 +23,7 @@ use Rattle.rendering.specs.Begin.{CanStart}
 use Rattle.rendering.specs.Give.{GaveRows}
 use Rattle.rendering.specs.Pass.{moment_here, Waits}
 use Rattle.chunk.specs.ChunkRows.{Laid}
-use Rattle.frame.specs.Turn.{CanBegin}
-use Rattle.rendering.proofs.Theorems.{can_start, slotted_after, none_applied, slot_rests, slot_changes_nothing}
+use Rattle.rendering.proofs.Theorems.{slotted_after, none_applied, slot_rests, slot_changes_nothing}
 use Rattle.frame.proofs.Running.{Taken, takes, is_rate, Running, opens, can_begin, end_above, few, Turning, turn_some, turn_within, turn_passes}
 use Rattle.clock.proofs.Before.{more_left, none_left}
 use Rattle.frame.proofs.Running.{turn_runs, turn_skips, rendered}
@@ -61,7 +60,7 @@ loop-pcm-init c =
 
 -- what may begin at t
 may_begin : (c : In-loop-pcm) → let s = c.args in let x = c.loop-pcm in
-    Taken s.state.now (args_in s.frame s.out.now) s.frame.metadata.layout → CanBegin x.work.renderer x.state s.frame.metadata.records.now x.t.0
+    Taken s.state.now (args_in s.frame s.out.now) s.frame.metadata.layout → CanStart (updated hall x.t.0 (sent_of s.frame.metadata.records.now) (held x.work.renderer x.state))
 may_begin c k =
     let s = c.args in
     let x = c.loop-pcm in
@@ -77,7 +76,7 @@ updates_done c k =
       | then-is_sent w ↦ rw (w.work-is, w.state-is) w.apply_sent-work.ensures
       | else-is_sent w ↦ rw (w.work-is, w.state-is)
           (record {
-            next = none_applied s.frame.metadata.records.now s.frame.metadata.layout k.layout x.t.0 x.work.renderer x.state x.invariant.0.long (rw w.if-is_sent.false at c.is_sent.ensures);
+            next = none_applied s.frame.metadata.records.now s.frame.metadata.layout k.layout x.t.0 x.work.renderer x.state (rw w.if-is_sent.false at c.is_sent.ensures);
             ready = refl;
             meters = refl;
           })
@@ -85,10 +84,10 @@ updates_done c k =
 
 -- the slot that starts may
 slot_at : (c : Joined-is_sent) → let s = c.args in let x = c.loop-pcm in
-    CanBegin x.work.renderer x.state s.frame.metadata.records.now x.t.0
+    CanStart (updated hall x.t.0 (sent_of s.frame.metadata.records.now) (held x.work.renderer x.state))
     → Leads (updated hall x.t.0 (sent_of s.frame.metadata.records.now) (held x.work.renderer x.state)) x.work x.state c.if-is_sent.work c.if-is_sent.state
     → CanStart (held c.if-is_sent.work.renderer c.if-is_sent.state)
-slot_at c b a = can_start a.next.holds b.slot
+slot_at c b a = rw a.next.holds b
 
 pub rests-requires : goal.rests-requires
 rests-requires c =
@@ -121,8 +120,8 @@ begun c a =
       | else-slot_starts w ↦ rw (w.work-is, w.state-is)
           (leads_on a (elim w.else-slot_starts.branch [
             | else-slot_starts-via-then-slot_starts+else-not-rests v ↦
-                slot_changes_nothing _ _ a.next.holds.long (slot ∙ v.if-slot_starts.true) (sym v.rests.ensures ∙ v.if-not-rests.false)
-            | else-slot_starts-via-else-slot_starts v ↦ slot_rests _ _ a.next.holds.long (slot ∙ v.if-slot_starts.false)
+                slot_changes_nothing _ _ (slot ∙ v.if-slot_starts.true) (sym v.rests.ensures ∙ v.if-not-rests.false)
+            | else-slot_starts-via-else-slot_starts v ↦ slot_rests _ _ (slot ∙ v.if-slot_starts.false)
           ]))
     ]
 
@@ -282,7 +281,7 @@ whole_runs c r o q y e g =
           let k = c.run_length-k.result in
           let left = c.up_to.result in
           let x = ltb-false left 128 (neither (ltb k 64) (ltb left 128) (sym c.is_kept.ensures ∙ w.if-is_kept.false)).1 in
-          let l = as_laid ys v.work.renderer.pending k p.passes.pending v.state (fit_all ys g.fit) c.pass-work.array_long p.block in
+          let l = as_laid ys v.work.renderer.pending k p.passes.pending v.state (fit_all ys g.fit) c.pass-work.array_long v.array_long in
           rw w.state-is
           (turn_skips q r l.0 o (passes_whole f p y l.1 c.pass-work.array_long e g) l.1.infos (ap (λ (s : Renderer714). s.pending) g.renderer)
           (omega (arith, x, c.up_to.ensures, c.loop-pcm.invariant.1)))
