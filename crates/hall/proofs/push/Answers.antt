@@ -50,11 +50,12 @@ returns-in_err-frame c =
 pub render-requires : goal.render-requires
 render-requires c =
     let whole = (rw c.unwrap-block.ensures at c.as_mut_array.ensures.cases).same in
-    let a = c.args in
+    let b = c.unwrap-block.result.now in
+    let out = c.args.out.now in
     let k = c.in_ok-frame.ensures in
     record {
       loaded = record { small = c.load-s.ensures; valid = rw whole (sym c.is_valid.ensures ∙ c.if-not-is_valid.false) };
-      clear = ap (λ (g : List ℕ → Args). found hall (decode c.unwrap-block.result.now) (g a.out.now)) k.frame ∙ sym (k.found c.unwrap-block.result.now a.out.now c.load-s.ensures refl);
+      clear = ap (λ (g : List ℕ → Args). found hall (decode b) (g out)) k.frame ∙ sym (k.found b out c.load-s.ensures refl);
     }
 
 pub returns : goal.returns
