@@ -43,7 +43,8 @@ pub fn mix(
     Run { input, scene }.pass(rows, filter);
 }
 
-// The rows' first k places behind the pending samples of the block.
+// The rows' first k places behind the pending samples of the block. Both counts go on to `append_rows` alone: a type that says there is room would be made and taken apart for
+// one call, and `settle` counts the same samples up in the renderer itself.
 pub fn lay(state: &mut Block, rows: &Rows, pending: usize, k: usize)
     requires { pending + k ≤ row_places }
     ensures { Laid rows.now pending k state.old state.new }
