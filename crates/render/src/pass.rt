@@ -24,7 +24,7 @@ fn filter_bass(rows: &mut Rows, filter: &mut BiquadLowpassState, k: usize)
     *filter = filter.process_in_place(&mut rows[BASS..end]);
 }
 
-// Rows go in silent, from `Rendering::pass` down: who makes an array fills it, and filled here it would be filled twice. Rows answered by value took 3 % more.
+// Rows go in silent, from `Rendering::pass` down: who makes an array fills it, and filled here it would be filled twice.
 impl Run<'_, '_> {
     // What sounds in the span, into row c from place 64 c on.
     #[tactic(auto, using(crate::proofs::HeardRows::run_heard))]
