@@ -1,4 +1,5 @@
-// Samples counted from the stream's start and from a frame's start: two types, and no generic one, that only the frame's own start joins (`at`). `==`, `<` and `<=` compare two of one type as their numbers.
+// Samples counted from the stream's start and from a frame's start: two types, and no generic one, that only the frame's own start joins (`at`). `==`, `<` and `<=` compare two
+// of one type as their numbers.
 #![tactic(auto)]
 
 ghost use Rattle.std.specs.Prelude.{◌≡◌, ◌+◌, ◌-◌, ◌≤◌, leb};
