@@ -13,7 +13,8 @@ fn top(r: u64) -> u64
     (square * square >> 64) as u64
 }
 
-// The whole number nearest to the root of n (`Spanned n` is a fact of a number and no type: it is made in `fourth_rest` alone, and asked in two), by halving the range: no index is counted.
+// The whole number nearest to the root of n (`Spanned n` is a fact of a number and no type: it is made in `fourth_rest` alone, and asked in two), by halving the range: no index
+// is counted.
 fn by_halves(n: u64) -> u64
     requires { Spanned n }
     ensures { NearWhole n result }
