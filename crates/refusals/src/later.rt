@@ -3,18 +3,16 @@
 
 // Refusals 9 to 14 of a push whose 1 to 8 found nothing: a pass over its samples that changes nothing.
 // Document 01: "After 8: 9, 10, 11 for updates at offset 0, 12, 11 for the present state, then 11, 13, 14 as they arise in time."
-ghost use Rattle.std.specs.Prelude.{◌≡◌, ◌||◌, not, ◌≤◌, eqb};
+ghost use Rattle.std.specs.Prelude.{◌≡◌, ◌||◌, not, eqb};
 ghost use Rattle.rules.specs.Refusals.{◌then◌, unless, walk, later};
 ghost use Rattle.refusals.specs.RefusalNumbers.{found_of};
-ghost use Rattle.theorem.specs.Instance.{shape_of};
 ghost use Rattle.refusals.specs.PresentShape.{told_of, present_shape};
 
 use crate::checks::{check_beds, check_counts, check_objects};
 use crate::present::Present;
-use crate::shapes::{present_after, present_of};
+use crate::shapes::present_after;
 use crate::{Frame, Refusal};
 use clock::{FrameOffset, START};
-use timed::state::MetadataRendererState;
 
 // 9 and 10. (d) 0 before the first frame, as in `Renderer714`.
 fn check_start(rate_before: u32, rate: u32, started: bool, updates: usize) -> Result<(), Refusal>
@@ -52,28 +50,17 @@ fn check_walk(start: Present, frame: Frame<'_>) -> Result<(), Refusal>
     Ok(())
 }
 
-// The first of 9 to 14, or none.
-pub fn check(
-    rate_before: u32,
-    state: MetadataRendererState,
-    frame: Frame<'_>,
-) -> Result<(), Refusal>
-    requires { (state.beds ≤ 18) × (state.objects ≤ 32) }
+// The first of 9 to 14, or none, from the shape that the state has.
+pub fn check(rate_before: u32, start: Present, frame: Frame<'_>) -> Result<(), Refusal>
     ensures { found_of result ≡ later (told_of frame.entry.metadata.records.now) frame.entry.n.objects frame.entry.codes.list.now frame.entry.n.samples
-        frame.entry.n.rate rate_before (shape_of state) }
+        frame.entry.n.rate rate_before (present_shape start) }
 {
     let Frame { metadata, n, .. } = frame;
-    check_start(
-        rate_before,
-        n.rate,
-        state.initialized,
-        metadata.layout.count,
-    )?;
+    check_start(rate_before, n.rate, start.started, metadata.layout.count)?;
     check_counts(metadata, START, n.objects)?;
     if n.samples == 0 {
         return Err(Refusal::UnsupportedSampleCount);
     }
-    let start = present_of(state);
     let first = present_after(start, metadata, START);
     check_objects(first, n.objects)?;
     check_walk(start, frame)

@@ -16,6 +16,7 @@ ghost use Rattle.refusals.specs.FirstFound.{args_with, args_in, IsFound};
 
 use beds::Codes;
 use records::metadata::{Fault, Metadata};
+use shapes::present_of;
 use store::renderer::Renderer714;
 
 // The refusals of a push: `stop` gives document 01's number and counts of each.
@@ -126,6 +127,6 @@ pub fn check_push<'a>(s: Renderer714, push: Push<'a>, bytes: usize) -> Result<Fr
     ensures frame { IfOk result (λ f. args_in f ≡ args_with push.entry) }
 {
     let frame = early::check(s.clock.position, push, bytes)?;
-    later::check(s.rate, s.state, frame)?;
+    later::check(s.rate, present_of(s.state), frame)?;
     Ok(frame)
 }
