@@ -65,8 +65,8 @@ pub record Taken (b : List ℕ) (a : Args) (l : Layout) : Type 0 where
   pub layout : IsLayout a.meta l
   pub samples : a.samples ≤ 1536
 
-pub takes : (w : Rendering) (b : List ℕ) (a : Args) (l : Layout) → Accepted w b a → IsLayout a.meta l → Bytes b → Bytes a.meta → Taken b a l
-takes w b a l h g bytes meta =
+pub takes : (s : Renderer714) (b : List ℕ) (a : Args) (l : Layout) → Accepted s b a → IsLayout a.meta l → Bytes b → Bytes a.meta → Taken b a l
+takes s b a l h g bytes meta =
     let p = is_passed hall (decode b) a h.clear in
     let x = (is_roomy a.stride (length a.out) p.early.room).most in
     let y = samples_fit a p.early.sized in
@@ -78,18 +78,18 @@ takes w b a l h g bytes meta =
       samples = omega arith;
     }
 
-pub is_rate : (b : List ℕ) (a : Args) (l : Layout) → Taken b a l → Listed a.rate
-is_rate b a l k = is_listed a.rate k.passed.early.listed
+pub is_rate : (s : Renderer714) (b : List ℕ) (a : Args) → Accepted s b a → Listed a.rate
+is_rate s b a h = is_listed a.rate (is_passed hall (decode b) a h.clear).early.listed
 
 -- before sample t
 pub record Running (b : List ℕ) (a : Args) (t : ℕ) (w : Rendering) (state out : List ℕ) : Type 0 where
   pub small : small_bytes state ≡ small_bytes b
   pub going : Going hall block facts (decode b) a t (held w.renderer state) w.ready w.meters out
 
-pub opens : (w v : Rendering) (b : List ℕ) (a : Args) (l : Layout) → Accepted w b a → Taken b a l
-    → v ≡ record { renderer = opened_by w.renderer a.rate; ready = 0; meters = unmet } → Running b a 0 v b a.out
+pub opens : (s : Renderer714) (v : Rendering) (b : List ℕ) (a : Args) (l : Layout) → Accepted s b a → Taken b a l
+    → v ≡ record { renderer = opened_by s a.rate; ready = 0; meters = unmet } → Running b a 0 v b a.out
 unfolding decode
-opens w v b a l h k e =
+opens s v b a l h k e =
     record {
       small = refl;
       going = subst (λ (v : Rendering). Going hall block facts (decode b) a 0 (held v.renderer b) v.ready v.meters a.out)

@@ -6,6 +6,7 @@ use Rattle.rules.specs.Refusals.{Args, clear}
 use Rattle.rules.specs.Samples.{After}
 use Rattle.rules.specs.Calls.{found}
 use Rattle.rules.specs.BlockCalls.{written}
+use Rattle.store.specs.declared.renderer.Renderer714.{Renderer714}
 use Rattle.store.specs.Fields.{small_of}
 use Rattle.store.specs.Layout.{small_width, decode}
 use Rattle.store.specs.ValidBlocks.{valid}
@@ -21,10 +22,9 @@ run_length started phase pending left = cond started (min (64 - phase) (min (64 
 
 -- ---- a push
 
--- w has the small part of the valid block b and nothing in the output, and the push is not refused
-pub record Accepted (w : Rendering) (b : List ℕ) (a : Args) : Type 0 where
-  pub small : w.renderer ≡ small_of (words_at b 0 small_width)
-  pub none : w.ready ≡ 0
+-- s is the small part of the valid block b, and the push is not refused
+pub record Accepted (s : Renderer714) (b : List ℕ) (a : Args) : Type 0 where
+  pub small : s ≡ small_of (words_at b 0 small_width)
   pub valid : valid b ≡ true
   pub clear : found hall (decode b) a ≡ clear
 

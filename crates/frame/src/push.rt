@@ -20,8 +20,10 @@ use refusals::Frame;
 use render::{Input, Span};
 use rendering::Rendering;
 use store::Block;
+use store::renderer::Renderer714;
 
-// How many samples a turn takes, of those from t up to `end`, the next update or the frame's end.
+// How many samples a turn takes, of those from t up to `end`, the next update or the frame's end. (b) Here and in `slot_starts` of the renderer's parts: with the renderer
+// lent in their place, the library's code was a third larger.
 fn run_length(started: bool, phase: u32, pending: u32, t: FrameOffset, end: FrameOffset) -> usize
     requires { (phase < 64) × (pending < 64) × (t.0 ≤ end.0) }
     ensures { result ≡ run_length started phase pending (end.0 - t.0) }
@@ -57,8 +59,8 @@ fn is_kept(k: usize, left: usize) -> bool
 }
 
 // Infos and places are left in `state`, the rest is answered: its bytes in `state` stay.
-pub fn render(idle: Rendering, state: &mut Block, frame: Frame<'_>, out: &mut [u8]) -> Rendering
-    requires { Accepted idle state.old (args_in frame out.old) }
+pub fn render(s: Renderer714, state: &mut Block, frame: Frame<'_>, out: &mut [u8]) -> Rendering
+    requires { Accepted s state.old (args_in frame out.old) }
     ensures { IsRendered (pushed hall (frame_of hall (args_in frame.entry out.old)) (decode state.old)) frame.entry.n.stride state.old out.old result state.new out.new }
 {
     let Frame {
@@ -71,7 +73,7 @@ pub fn render(idle: Rendering, state: &mut Block, frame: Frame<'_>, out: &mut [u
     let objects = n.objects as usize;
     let stride = n.stride as usize;
     let end = FrameOffset(n.samples);
-    let mut work = Rendering::of(idle.renderer.open(n.rate));
+    let mut work = Rendering::of(s.open(n.rate));
     let mut t = START;
     // By `while`: how many samples a turn takes is found as it goes.
     while t < end {

@@ -2,7 +2,7 @@
 use Rattle.std.specs.Prelude.{ℕ, ◌<◌, ◌≡◌, true, List, length, Result, Ok, Err}
 use Rattle.limiter.specs.Limiter.{0·0, 1·0}
 use Rattle.limiter.specs.declared.meters.Meters.{Meters}
-use Rattle.rules.specs.Refusals.{Args, clear, room}
+use Rattle.rules.specs.Refusals.{room}
 use Rattle.rules.specs.Calls as rules
 use Rattle.rules.specs.Calls.{refused, rendered, nothing, cleared, found}
 use Rattle.rules.specs.BlockCalls as block
@@ -11,9 +11,8 @@ use Rattle.refusals.specs.declared.Refusal.{Refusal}
 use Rattle.words.specs.Words.{words_at}
 use Rattle.store.specs.declared.renderer.Renderer714.{Renderer714}
 use Rattle.store.specs.Fields.{small_of}
-use Rattle.store.specs.Layout.{small_width, decode}
+use Rattle.store.specs.Layout.{small_width}
 use Rattle.store.specs.ValidBlocks.{valid}
-use Rattle.theorem.specs.Instance.{hall}
 use Rattle.hall.specs.declared.answer.Answer.{Answer}
 use Rattle.hall.specs.declared.answer.Given.{Given}
 use Rattle.hall.specs.declared.answer.Outcome.{Outcome}
@@ -60,11 +59,6 @@ pub record Left (o : block.Outcome) (r : Answer) (state out : List ℕ) : Type 0
 pub record Loaded (s : Renderer714) (b : List ℕ) : Type 0 where
   pub small : s ≡ small_of (words_at b 0 small_width)
   pub valid : valid b ≡ true
-
--- no refusal turned the push away
-pub record Cleared (s : Renderer714) (b : List ℕ) (a : Args) : Type 0 where
-  pub loaded : Loaded s b
-  pub clear : found hall (decode b) a ≡ clear
 
 -- samples wait, and the output has room
 pub record Waiting (s : Renderer714) (b out : List ℕ) (stride : ℕ) : Type 0 where

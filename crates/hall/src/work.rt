@@ -2,7 +2,8 @@
 ghost use Rattle.rules.specs.Calls.{push, flush};
 ghost use Rattle.rules.specs.BlockCalls.{made};
 ghost use Rattle.theorem.specs.Instance.{hall, block};
-ghost use Rattle.hall.specs.Answers.{Waiting, Cleared, Left, given_as};
+ghost use Rattle.hall.specs.Answers.{Waiting, Left, given_as};
+ghost use Rattle.frame.specs.Loop.{Accepted};
 ghost use Rattle.refusals.specs.FirstFound.{args_in};
 
 use crate::answer::Given;
@@ -13,11 +14,10 @@ use store::renderer::Renderer714;
 
 // A push that no refusal turned away.
 pub fn render(s: Renderer714, state: &mut Block, frame: Frame<'_>, out: &mut [u8]) -> Given
-    requires { Cleared s state.old (args_in frame out.old) }
+    requires { Accepted s state.old (args_in frame out.old) }
     ensures { Left (made hall block (push (args_in frame.entry out.old)) state.old) (given_as result) state.new out.new }
 {
-    let work = Rendering::of(s);
-    let done = frame::push::render(work, state, frame, out);
+    let done = frame::push::render(s, state, frame, out);
     store::write::save(state, done.renderer);
     Given {
         samples: done.ready,
@@ -25,13 +25,12 @@ pub fn render(s: Renderer714, state: &mut Block, frame: Frame<'_>, out: &mut [u8
     }
 }
 
-// A flush with samples waiting.
+// A flush with samples waiting. (d) It ends as `render` does: a function of these lines would have a contract longer than they are.
 pub fn drain(s: Renderer714, state: &mut Block, out: &mut [u8], stride: u32) -> Given
     requires { Waiting s state.old out.old stride }
     ensures { Left (made hall block (flush out.old stride) state.old) (given_as result) state.new out.new }
 {
-    let work = Rendering::of(s);
-    let last = work.drain(state, out, stride as usize);
+    let last = Rendering::drain(s, state, out, stride as usize);
     store::write::save(state, last.renderer);
     Given {
         samples: last.ready,

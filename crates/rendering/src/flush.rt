@@ -13,6 +13,7 @@ use crate::Rendering;
 use limiter::places::{Taken, store_block};
 use render::Rows;
 use store::Block;
+use store::renderer::Renderer714;
 
 impl Rendering {
     // The pending samples as one block, behind those that are ready.
@@ -38,7 +39,8 @@ impl Rendering {
         self
     }
 
-    // A whole block that is still in rows: the one peak is that of all channels.
+    // A whole block that is still in rows: the one peak is that of all channels. (d) The limiter's function over places takes these steps too: one for both would have eight
+    // parameters, the block and its peak among them. (d) `out` and `stride` are no struct: it would be taken apart in the line that hands both to the limiter.
     pub fn give_rows(mut self, rows: &Rows, out: &mut [u8], stride: usize) -> Rendering
         requires { CanGiveRows self out.old stride }
         ensures { GaveRows self rows.now stride out.old result out.new }
@@ -58,11 +60,10 @@ impl Rendering {
 
     // Flush: the remainder as one shorter block.
     #[tactic(auto, using(crate::proofs::Given::behind_written))]
-    pub fn drain(self, state: &Block, out: &mut [u8], stride: usize) -> Rendering
-        requires { CanGive self out.old stride × (self.ready ≡ 0) × (self.meters ≡ unmet) }
-        ensures { IsDrained (flushed hall (held self.renderer state.now)) self.renderer.pending stride state.now out.old result
-            out.new }
+    pub fn drain(s: Renderer714, state: &Block, out: &mut [u8], stride: usize) -> Rendering
+        requires { CanGive (record { renderer = s; ready = 0; meters = unmet }) out.old stride }
+        ensures { IsDrained (flushed hall (held s state.now)) s.pending stride state.now out.old result out.new }
     {
-        self.give(state, out, stride)
+        Rendering::of(s).give(state, out, stride)
     }
 }

@@ -54,7 +54,8 @@ render-requires c =
     let out = c.args.out.now in
     let k = c.in_ok-frame.ensures in
     record {
-      loaded = record { small = c.load-s.ensures; valid = rw whole (sym c.is_valid.ensures ∙ c.if-not-is_valid.false) };
+      small = c.load-s.ensures;
+      valid = rw whole (sym c.is_valid.ensures ∙ c.if-not-is_valid.false);
       clear = ap (λ (g : List ℕ → Args). found hall (decode b) (g out)) k.frame ∙ sym (k.found b out c.load-s.ensures refl);
     }
 

@@ -30,28 +30,28 @@ use Rattle.frame.proofs.Running.{turn_runs, turn_skips, rendered}
 use Rattle.frame.proofs.ChunkOnBlock.{can_give_rows, can_give, passes_on, passes_given, passes_whole}
 use Rattle.chunk.proofs.Theorems.{fit_all, as_laid}
 use Rattle.frame.proofs.push.render.Goals as goal
-use Rattle.frame.proofs.push.render.Goals.{In-loop-pcm, After-pass-work, After-run_length-k, After-open-arg-1, Joined-is_kept, Joined-is_sent, Joined-slot_starts, then-is_sent, else-is_sent, then-slot_starts+then-not-rests, else-slot_starts, else-slot_starts-via-then-slot_starts+else-not-rests, else-slot_starts-via-else-slot_starts, then-is_kept, else-is_kept, then-k-eq64, else-k-eq64+then-work-eq64, else-k-eq64+else-work-eq64}
+use Rattle.frame.proofs.push.render.Goals.{In-loop-pcm, After-pass-work, After-run_length-k, After-open, Joined-is_kept, Joined-is_sent, Joined-slot_starts, then-is_sent, else-is_sent, then-slot_starts+then-not-rests, else-slot_starts, else-slot_starts-via-then-slot_starts+else-not-rests, else-slot_starts-via-else-slot_starts, then-is_kept, else-is_kept, then-k-eq64, else-k-eq64+then-work-eq64, else-k-eq64+else-work-eq64}
 
 -- ---- at the start
 
 -- what is lent was accepted
-taken : (c : After-open-arg-1) → let s = c.args in Taken s.state.now (args_in s.frame s.out.now) s.frame.metadata.layout
+taken : (c : After-open) → let s = c.args in Taken s.state.now (args_in s.frame s.out.now) s.frame.metadata.layout
 taken c =
     let s = c.args in
-    takes s.idle s.state.now (args_in s.frame s.out.now) s.frame.metadata.layout c.requires s.frame.metadata.laid
+    takes s.s s.state.now (args_in s.frame s.out.now) s.frame.metadata.layout c.requires s.frame.metadata.laid
     (λ i. search rules)
     s.frame.metadata.bytes
 
 pub open-requires : goal.open-requires
 open-requires c =
     let s = c.args in
-    is_rate s.state.now (args_in s.frame s.out.now) s.frame.metadata.layout (taken (goal.at.open-requires c).After-open-arg-1)
+    is_rate s.s s.state.now (args_in s.frame s.out.now) c.requires
 
 pub loop-pcm-init : goal.loop-pcm-init
 loop-pcm-init c =
     let s = c.args in (
-      opens s.idle c.of-work.result s.state.now (args_in s.frame s.out.now) s.frame.metadata.layout c.requires
-          (taken (goal.at.loop-pcm-init c).After-open-arg-1)
+      opens s.s c.of-work.result s.state.now (args_in s.frame s.out.now) s.frame.metadata.layout c.requires
+          (taken (goal.at.loop-pcm-init c).After-open)
           (c.of-work.ensures ∙ ap (λ (r : Renderer714). record { renderer = r; ready = 0; meters = unmet }) c.«open».ensures),
       refl,
     )
@@ -92,14 +92,14 @@ slot_at c b a = rw a.next.holds b
 pub rests-requires : goal.rests-requires
 rests-requires c =
     let p = goal.at.rests-requires c in
-    let k = taken p.After-open-arg-1 in
+    let k = taken p.After-open in
     let s = slot_at p.Joined-is_sent (may_begin p.In-loop-pcm k) (updates_done p.Joined-is_sent k) in
     (s.start, s.within)
 
 pub start_slot-work-requires : goal.start_slot-work-requires
 start_slot-work-requires c =
     let p = goal.at.start_slot-work-requires c in
-    let k = taken p.After-open-arg-1 in
+    let k = taken p.After-open in
     let a = updates_done p.Joined-is_sent k in
     (slot_at p.Joined-is_sent (may_begin p.In-loop-pcm k) a, sym c.slot_starts.ensures ∙ c.if-slot_starts.true)
 
@@ -131,7 +131,7 @@ run_length-k-requires c =
     let s = c.args in
     let x = c.loop-pcm in
     let a = args_in s.frame s.out.now in
-    let k = taken p.After-open-arg-1 in
+    let k = taken p.After-open in
     let e = c.next_offset-next.result.0 in
     let l : c.loop-pcm.t.0 < c.args.frame.n.samples = more_left _ _ _ c.lt.ensures c.loop-pcm-test.true in
     let n = rw x.invariant.1 at c.next_offset-next.ensures in
@@ -158,14 +158,14 @@ turning c k b =
 pub invariant_of-span : goal.invariant_of-span
 invariant_of-span c =
     let p = goal.at.invariant_of-span c in
-    let k = taken p.After-open-arg-1 in
+    let k = taken p.After-open in
     let q = turn_passes (turning p.After-run_length-k k (begun p.Joined-slot_starts (updates_done p.Joined-is_sent k))) in
     record { within = rw c.index.ensures q.span; short = omega (arith, q.passes.pending) }
 
 pub invariant_of-input : goal.invariant_of-input
 invariant_of-input c =
     let p = goal.at.invariant_of-input c in
-    let k = taken p.After-open-arg-1 in
+    let k = taken p.After-open in
     let q = turn_passes (turning p.After-run_length-k k (begun p.Joined-slot_starts (updates_done p.Joined-is_sent k))) in
     record { few = q.few; framed = q.framed }
 
@@ -173,7 +173,7 @@ pub pass-work-requires : goal.pass-work-requires
 unfolding of_bits silent_rows
 pass-work-requires c =
     let p = goal.at.pass-work-requires c in
-    let k = taken p.After-open-arg-1 in
+    let k = taken p.After-open in
     ((turn_passes (turning p.After-run_length-k k (begun p.Joined-slot_starts (updates_done p.Joined-is_sent k)))).passes, search rules)
 
 -- what it leaves, by the offset
@@ -190,7 +190,7 @@ up_to-requires c =
 pub lay-requires : goal.lay-requires
 lay-requires c =
     let p = goal.at.lay-requires c in
-    let k = taken p.After-open-arg-1 in
+    let k = taken p.After-open in
     let q = turn_passes (turning p.After-run_length-k k (begun p.Joined-slot_starts (updates_done p.Joined-is_sent k))) in
     q.passes.pending
 
@@ -217,7 +217,7 @@ pub give_rows-work-requires : goal.give_rows-work-requires
 give_rows-work-requires c =
     let p = goal.at.give_rows-work-requires c in
     let s = c.args in
-    let k = taken p.After-open-arg-1 in
+    let k = taken p.After-open in
     can_give_rows (frame_of hall (args_in s.frame s.out.now))
     (turn_passes (turning p.After-run_length-k k (begun p.Joined-slot_starts (updates_done p.Joined-is_sent k))))
     (passed_at p.After-pass-work)
@@ -227,7 +227,7 @@ pub give-work-requires : goal.give-work-requires
 give-work-requires c =
     let p = goal.at.give-work-requires c in
     let s = c.args in
-    let k = taken p.After-open-arg-1 in
+    let k = taken p.After-open in
     let q = turning p.After-run_length-k k (begun p.Joined-slot_starts (updates_done p.Joined-is_sent k)) in
     can_give (frame_of hall (args_in s.frame s.out.now)) (turn_passes q)
     (passed_at p.After-pass-work)
@@ -236,7 +236,7 @@ give-work-requires c =
 pub overflow_cast-k : goal.overflow_cast-k
 overflow_cast-k c =
     let p = goal.at.overflow_cast-k c in
-    let k = taken p.After-open-arg-1 in
+    let k = taken p.After-open in
     let q = turning p.After-run_length-k k (begun p.Joined-slot_starts (updates_done p.Joined-is_sent k)) in
     let m = k.samples in
     let n = turn_within q in
@@ -245,7 +245,7 @@ overflow_cast-k c =
 pub plus-t-requires : goal.plus-t-requires
 plus-t-requires c =
     let p = goal.at.plus-t-requires c in
-    let k = taken p.After-open-arg-1 in
+    let k = taken p.After-open in
     let q = turning p.After-run_length-k k (begun p.Joined-slot_starts (updates_done p.Joined-is_sent k)) in
     let m = k.samples in
     let n = turn_within q in
@@ -254,7 +254,7 @@ plus-t-requires c =
 pub loop-pcm-smaller : goal.loop-pcm-smaller
 loop-pcm-smaller c =
     let p = goal.at.loop-pcm-smaller c in
-    let k = taken p.After-open-arg-1 in
+    let k = taken p.After-open in
     let q = turning p.After-run_length-k k (begun p.Joined-slot_starts (updates_done p.Joined-is_sent k)) in
     let m = turn_some q in
     let n = turn_within q in
@@ -293,7 +293,7 @@ loop-pcm-preserved c =
     let z = c.if-k-eq64 in
     let at = goal.at.loop-pcm-preserved c in
     let a = args_in s.frame s.out.now in
-    let k = taken at.After-open-arg-1 in
+    let k = taken at.After-open in
     let q = turning at.After-run_length-k k (begun at.Joined-slot_starts (updates_done at.Joined-is_sent k)) in
     let p = turn_passes q in
     let f = frame_of hall a in

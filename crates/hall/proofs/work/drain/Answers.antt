@@ -1,5 +1,5 @@
 -- `drain`: the flush of the rules, saved.
-use mathlib.Core.Path.{refl, ap, ◌∙◌}
+use mathlib.Core.Path.{ap, ◌∙◌}
 use Rattle.limiter.specs.Meters.{shown}
 use Rattle.hall.proofs.Done.{can_give, flushed_left}
 use Rattle.hall.proofs.work.drain.Goals as goal
@@ -8,18 +8,13 @@ pub drain-last-requires : goal.drain-last-requires
 drain-last-requires c =
     let a = c.args in
     let w = c.requires in
-    rw c.of-work.ensures (
-      can_give a.state.now a.s w.loaded.small c.fits-state w.loaded.valid a.out.now a.stride
-          w.room,
-      refl,
-      refl,
-    )
+    can_give a.state.now a.s w.loaded.small c.fits-state w.loaded.valid a.out.now a.stride w.room
 
 pub returns : goal.returns
 returns c =
     let a = c.args in
     let w = c.requires in
-    let d = rw c.of-work.ensures at c.drain-last.ensures in
+    let d = c.drain-last.ensures in
     flushed_left a.state.now a.s w.loaded.small
     c.fits-state
     w.loaded.valid a.out.now a.stride w.room
