@@ -39,7 +39,7 @@ pub enum Refusal {
     UnsupportedBedChannel(u32),
 }
 
-// What is told of a refusal: document 01's number and two counts, zero where unnamed.
+// What is told of a refusal: document 01's number and two counts, zero where unnamed. (a) Numbers, since they cross to C and are printed.
 #[derive(Clone, Copy)]
 pub struct Stop {
     pub number: u32,

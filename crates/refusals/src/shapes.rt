@@ -12,7 +12,7 @@ use records::metadata::{Metadata, Update};
 use timed::state::MetadataRendererState;
 use updates::update::next_codes;
 
-// The state's.
+// The state's. The clause is no invariant of the state, which C may hold with any numbers.
 pub fn present_of(state: MetadataRendererState) -> Present
     requires { (state.beds ≤ 18) × (state.objects ≤ 32) }
     ensures { IsPresent state result }

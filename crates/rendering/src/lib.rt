@@ -12,7 +12,8 @@ mod flush;
 mod pass;
 
 // A renderer at work: its value, how many samples of each channel are in the output, and what the limiter met in them. Infos and the samples that wait stay in the
-// lent block.
+// lent block. That the renderer's numbers are in range is asked where it is needed (`CanStart`, `CanPass`, `CanGive`), and is no invariant: `store::load` makes a
+// renderer of any block's words.
 #[derive(Clone, Copy)]
 pub struct Rendering {
     pub renderer: Renderer714,
