@@ -15,6 +15,7 @@ use answer::Outcome;
 use refusals::{Numbers, Push, Refusal};
 
 pub mod answer;
+mod archive;
 mod work;
 
 const VERSION: u32 = 3;
