@@ -8,7 +8,7 @@ use std::hint::black_box;
 use std::time::Instant;
 
 const SECONDS: f64 = 0.5;
-const LENGTHS: [usize; 7] = [1, 2, 4, 16, 64, 480, 1_536];
+const LENGTHS: [usize; 8] = [1, 2, 4, 8, 16, 64, 480, 1_536];
 /// Samples of a round.
 const SAMPLES: usize = 100_000;
 
