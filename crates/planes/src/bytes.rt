@@ -28,7 +28,7 @@ pub fn spread(source: &[u8], count: usize, dest: &mut [u8])
     fill(fourth, source, 3);
 }
 
-// So many samples out of their four planes.
+// So many samples out of their four planes. By index, since nothing is said of what a slice lent as chunks (`as_chunks_mut`) is afterwards.
 pub fn gather(source: &[u8], count: usize, dest: &mut [u8])
     requires source { length source.now ≡ 4 * count }
     requires dest { length dest.old ≡ 4 * count }
