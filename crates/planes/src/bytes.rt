@@ -1,4 +1,4 @@
-// The two loops over the bytes of so many samples.
+// The loops over the bytes of so many samples.
 ghost use Rattle.std.specs.Prelude.{◌≡◌, ◌*◌, ◌%◌, ◌<◌, length};
 ghost use Rattle.planes.specs.Planes.{plane, planes, samples_of};
 
