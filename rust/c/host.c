@@ -1,13 +1,13 @@
 /* SPDX-License-Identifier: Apache-2.0 */
 /* A host in C: one bed and one object that moves, frames of 480 samples, one too loud, one broken, a flush. It prints
    what it hears: each answer, and peak, gain and each ready sample of the twelve channels as the eight digits of their
-   bits. */
+   bits. Then it makes planes of some bytes, and prints these too. */
 #include "voqlisna.h"
 #include "voqlisna_records.h"
 #include <stdio.h>
 #include <stdlib.h>
 
-enum { SAMPLES = 480, STRIDE = 512, FRAMES = 8, LOUD = 3, BROKEN = 5, RATE = 48000 };
+enum { SAMPLES = 480, STRIDE = 512, FRAMES = 8, LOUD = 3, BROKEN = 5, RATE = 48000, ARCHIVED = 2 };
 
 /* Float modes, without the flags of bits 0 to 5. This thread flushes to zero and rounds up. */
 enum { USUAL = 0x1f80, AUDIO = 0xdf80, CONTROL = 0xffc0 };
@@ -18,12 +18,16 @@ static uint32_t bits(const void *x) {
   return word;
 }
 
-static void print(const char *call, hall_answer answer, const uint8_t *out) {
-  size_t i, c;
+static void print_answer(const char *call, hall_answer answer) {
   printf("%s %u %u %u %u %zu", call, answer.kind, answer.number, answer.first, answer.second, answer.ready);
   printf(" %08x %08x", bits(&answer.peak), bits(&answer.gain));
   if (answer.kind == HALL_REFUSED) printf(" %s", hall_refusal_text(answer.number));
   printf("\n");
+}
+
+static void print(const char *call, hall_answer answer, const uint8_t *out) {
+  size_t i, c;
+  print_answer(call, answer);
   for (i = 0; i < answer.ready; i++)
     for (c = 0; c < HALL_CHANNELS; c++)
       printf("%08x%c", bits(out + 4 * (c * STRIDE + i)), c + 1 < HALL_CHANNELS ? ' ' : '\n');
@@ -61,6 +65,20 @@ static void sound(float *pcm, int frame) {
   if (frame == BROKEN) memset(pcm + 7, 0xff, 4);
 }
 
+/* Planes of samples whose bytes count up, and these samples again. */
+static void archive(void) {
+  uint8_t sound[48 * ARCHIVED], planes[48 * ARCHIVED], back[48 * ARCHIVED];
+  size_t i;
+  for (i = 0; i < sizeof sound; i++) sound[i] = (uint8_t)i;
+  print_answer("to_planes", hall_to_planes(sound, sizeof sound, ARCHIVED, planes, sizeof planes));
+  for (i = 0; i < sizeof planes; i++) printf("%02x", planes[i]);
+  printf("\n");
+  print_answer("from_planes", hall_from_planes(planes, sizeof planes, ARCHIVED, back, sizeof back));
+  printf("%s\n", memcmp(back, sound, sizeof sound) == 0 ? "the same" : "others");
+  print_answer("to_planes", hall_to_planes(sound, sizeof sound, HALL_MAX_SAMPLES + 1, planes, sizeof planes));
+  print_answer("to_planes", hall_to_planes(sound, sizeof sound, ARCHIVED, planes, sizeof planes - 1));
+}
+
 /* With an argument the thread keeps the usual float mode: valgrind knows no other. */
 int main(int count, char **words) {
   const uint8_t codes[] = {HALL_BED_BASS};
@@ -89,7 +107,8 @@ int main(int count, char **words) {
   inside = hall_enter_floats();
   print("flush", hall_flush(state, size, out, sizeof out, STRIDE), out);
   print("flush", hall_flush(state, size, out, sizeof out, STRIDE), out);
-  for (number = 0; number < 16; number++) printf("%u: %s\n", number, hall_refusal_text(number));
+  archive();
+  for (number = 0; number < 24; number++) printf("%u: %s\n", number, hall_refusal_text(number));
   free(state);
   return (mode & CONTROL) == thread && (inside & CONTROL) == USUAL ? 0 : 2;
 }

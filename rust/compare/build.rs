@@ -7,7 +7,16 @@ use std::ffi::OsStr;
 use std::path::{Path, PathBuf};
 use std::process::Command;
 
-const ENTRIES: [&str; 5] = ["push", "flush", "reset", "state_size", "version"];
+/// A library from before R-10 has no planes; renaming what is not there changes nothing.
+const ENTRIES: [&str; 7] = [
+    "push",
+    "flush",
+    "reset",
+    "state_size",
+    "version",
+    "to_planes",
+    "from_planes",
+];
 
 fn main() {
     println!("cargo::rustc-check-cfg=cfg(no_sources)");

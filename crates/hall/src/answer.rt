@@ -23,8 +23,8 @@ pub enum Outcome {
 }
 
 // An enum does not cross the C boundary, so a refusal's number and counts do.
-// kind 0: rendered, with `ready` samples a channel; 1: refused, with document 01's number and two counts; 2: a flush with nothing pending; 3: reset. `peak` and `gain` are
-// the meters of what was given out, 0 and 1 where nothing was.
+// kind 0: rendered, with `ready` samples a channel; 1: refused, with document 01's number and two counts; 2: a flush with nothing pending; 3: done, a reset or `ready`
+// samples a channel converted. `peak` and `gain` are the meters of what was given out, 0 and 1 where nothing was.
 #[repr(C)]
 #[derive(Clone, Copy)]
 pub struct Answer {
@@ -38,7 +38,7 @@ pub struct Answer {
 }
 
 // A call that gives nothing out.
-const BARE: Answer = Answer {
+pub(crate) const BARE: Answer = Answer {
     kind: 0,
     number: 0,
     first: 0,

@@ -16,6 +16,7 @@ use refusals::{Numbers, Push, Refusal};
 use store::Block;
 
 pub mod answer;
+mod archive;
 mod work;
 
 const VERSION: u32 = 3;

@@ -1,13 +1,17 @@
-// The entries of `hall` under their C names: rust/voqlisna-sys/include/voqlisna.h. Each hands on what the one of its name answers, in C's form, and promises what that promises.
+// The entries of `hall`, and the two of `planes`, under their C names: rust/voqlisna-sys/include/voqlisna.h. Each hands on what the one of its name answers, in C's form, and
+// promises what that promises.
 #![tactic(auto)]
 
-ghost use Rattle.std.specs.Prelude.{◌≡◌};
+ghost use Rattle.std.specs.Prelude.{◌≡◌, ◌*◌, length};
 ghost use Rattle.rules.specs.Calls.{push, flush, reset};
 ghost use Rattle.rules.specs.BlockCalls.{made};
 ghost use Rattle.theorem.specs.Instance.{hall, block};
 ghost use Rattle.theorem.specs.Appends.{AppendsIfOpen};
 ghost use Rattle.store.specs.Layout.{size};
 ghost use Rattle.hall.specs.Answers.{Left, code_of, version};
+ghost use Rattle.hall.specs.Conversions.{converted_as};
+ghost use Rattle.planes.specs.Planes.{planes, samples_of};
+ghost use Rattle.planes.specs.Conversion.{judged, written_over};
 ghost use Rattle.rules.specs.Refusals.{args_of};
 
 use hall::answer::Answer;
@@ -59,4 +63,24 @@ pub extern "C" fn hall_version() -> u32
     ensures { result ≡ version }
 {
     hall::version()
+}
+
+// R-10: samples, channel after channel, into planes.
+#[unsafe(no_mangle)]
+pub extern "C" fn hall_to_planes(source: &[u8], samples: u32, dest: &mut [u8]) -> Answer
+    ensures answer { result ≡ converted_as (judged samples (length source.now) (length dest.old)) }
+    ensures dest { dest.new ≡
+        written_over (judged samples (length source.now) (length dest.old)) (planes (12 * samples) source.now) dest.old }
+{
+    Answer::from(planes::to_planes(source, samples, dest))
+}
+
+// Planes into samples, channel after channel.
+#[unsafe(no_mangle)]
+pub extern "C" fn hall_from_planes(source: &[u8], samples: u32, dest: &mut [u8]) -> Answer
+    ensures answer { result ≡ converted_as (judged samples (length source.now) (length dest.old)) }
+    ensures dest { dest.new ≡
+        written_over (judged samples (length source.now) (length dest.old)) (samples_of (12 * samples) source.now) dest.old }
+{
+    Answer::from(planes::from_planes(source, samples, dest))
 }

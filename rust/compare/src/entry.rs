@@ -1,7 +1,7 @@
 //! The entries that crates/hall exports, over slices, with no guard around them.
 
 use crate::calls::Call;
-use voqlisna_sys::{hall_flush, hall_push, hall_reset};
+use voqlisna_sys::{hall_flush, hall_from_planes, hall_push, hall_reset, hall_to_planes};
 
 pub use voqlisna_sys::Answer;
 
@@ -55,4 +55,28 @@ pub fn flush(state: &mut [u8], out: &mut [u8], stride: u32) -> Answer {
 pub fn reset(state: &mut [u8]) -> Answer {
     // SAFETY: one slice that lives through the call.
     unsafe { hall_reset(state.as_mut_ptr(), state.len()) }
+}
+
+/// R-10's two calls, by which of them it is.
+#[derive(Clone, Copy, Debug, PartialEq)]
+pub enum Planes {
+    To,
+    From,
+}
+
+pub fn planes(way: Planes, source: &[u8], samples: u32, dest: &mut [u8]) -> Answer {
+    let entry = match way {
+        Planes::To => hall_to_planes,
+        Planes::From => hall_from_planes,
+    };
+    // SAFETY: two slices that live through the call and do not overlap.
+    unsafe {
+        entry(
+            source.as_ptr(),
+            source.len(),
+            samples,
+            dest.as_mut_ptr(),
+            dest.len(),
+        )
+    }
 }

@@ -49,15 +49,47 @@ pub enum Command {
     Version,
     Demo(Demo),
     Render(Render),
-    Check { from: OsString },
-    Dump { from: OsString },
-    Undump { from: OsString, to: OsString },
-    Hex { from: OsString },
-    Draw { what: Picture, to: OsString },
+    Check {
+        from: OsString,
+    },
+    Dump {
+        from: OsString,
+    },
+    Undump {
+        from: OsString,
+        to: OsString,
+    },
+    Hex {
+        from: OsString,
+    },
+    Archive {
+        from: OsString,
+        to: OsString,
+    },
+    Unarchive {
+        from: OsString,
+        to: OsString,
+        rf64: bool,
+    },
+    Draw {
+        what: Picture,
+        to: OsString,
+    },
 }
 
-const COMMANDS: [&str; 10] = [
-    "demo", "render", "check", "dump", "undump", "hex", "map", "plot", "version", "help",
+const COMMANDS: [&str; 12] = [
+    "demo",
+    "render",
+    "check",
+    "dump",
+    "undump",
+    "hex",
+    "archive",
+    "unarchive",
+    "map",
+    "plot",
+    "version",
+    "help",
 ];
 const PLOTS: [&str; 4] = ["bass", "decay", "limiter", "levels"];
 
@@ -82,7 +114,8 @@ fn parse(mut parser: Parser) -> Result<Command, Trouble> {
     let known: &[&str] = match name.as_str() {
         "demo" => &["o", "s", "meters"],
         "render" => &["o", "conceal", "stop", "rf64", "meters"],
-        "undump" | "map" | "plot" => &["o"],
+        "unarchive" => &["o", "rf64"],
+        "undump" | "archive" | "map" | "plot" => &["o"],
         _ => &[],
     };
     let given = Given::read(&mut parser, known)?;
@@ -101,6 +134,8 @@ fn command(name: &str, given: Given) -> Result<Command, Trouble> {
         "demo" => given.demo(),
         "render" => given.render(),
         "undump" => given.undump(),
+        "archive" => given.archive(),
+        "unarchive" => given.unarchive(),
         "map" => given.none().and_then(|g| g.draw(Picture::Map)),
         "plot" => given.plot(),
         "version" => given.none().map(|_| Command::Version),
@@ -223,12 +258,7 @@ impl Given {
                 "--conceal and --stop: only one of them".into(),
             ));
         }
-        let to = self.to("a WAVE file")?;
-        if self.rf64 && to == "-" {
-            return Err(Trouble::Wrong(
-                "--rf64 needs a file: its sizes are written at the end".into(),
-            ));
-        }
+        let to = self.wave()?;
         Ok(Command::Render(Render {
             from: self.only("IN")?,
             meters: self.meters(&to)?,
@@ -240,6 +270,32 @@ impl Given {
             },
             rf64: self.rf64,
         }))
+    }
+
+    /// The WAVE file to write.
+    fn wave(&self) -> Result<OsString, Trouble> {
+        let to = self.to("a WAVE file")?;
+        if self.rf64 && to == "-" {
+            return Err(Trouble::Wrong(
+                "--rf64 needs a file: its sizes are written at the end".into(),
+            ));
+        }
+        Ok(to)
+    }
+
+    fn archive(self) -> Result<Command, Trouble> {
+        Ok(Command::Archive {
+            from: self.only("IN.wav")?,
+            to: self.to("an archive")?,
+        })
+    }
+
+    fn unarchive(self) -> Result<Command, Trouble> {
+        Ok(Command::Unarchive {
+            from: self.only("IN")?,
+            to: self.wave()?,
+            rf64: self.rf64,
+        })
     }
 
     fn undump(self) -> Result<Command, Trouble> {
@@ -343,7 +399,7 @@ mod tests {
         }
     }
 
-    const TAKEN: [&str; 26] = [
+    const TAKEN: [&str; 29] = [
         "demo",
         "demo -o x -s 0.5",
         "demo -s20",
@@ -358,6 +414,9 @@ mod tests {
         "check a",
         "dump -",
         "undump a -o b",
+        "archive a -o -",
+        "unarchive - -o b",
+        "unarchive a -o b --rf64",
         "hex a",
         "map -o b",
         "plot bass -o b",
@@ -373,7 +432,7 @@ mod tests {
     ];
 
     /// Lines, and what is said of them.
-    const NOT: [(&str, &str); 20] = [
+    const NOT: [(&str, &str); 24] = [
         ("rendr a", "unknown command rendr; did you mean render?"),
         ("sing", "unknown command sing"),
         (
@@ -407,6 +466,16 @@ mod tests {
         ),
         (
             "render a -o - --rf64",
+            "--rf64 needs a file: its sizes are written at the end",
+        ),
+        ("archiv a", "unknown command archiv; did you mean archive?"),
+        (
+            "archive a",
+            "-o FILE is missing (an archive to write, or - for standard output)",
+        ),
+        ("archive a -o b --rf64", "unknown option --rf64"),
+        (
+            "unarchive a -o - --rf64",
             "--rf64 needs a file: its sizes are written at the end",
         ),
         ("demo -s 0", "-s 0: seconds from 0.01 to 3600 are taken"),

@@ -1,5 +1,6 @@
 // SPDX-License-Identifier: Apache-2.0
 //! `voqlisna`: the hall renderer at a command line.
+mod archive;
 mod arguments;
 mod commands;
 mod files;
@@ -13,6 +14,7 @@ mod svg;
 mod text;
 mod trouble;
 mod wave;
+mod wave_reader;
 
 use std::io::Write;
 use std::process::ExitCode;

@@ -77,6 +77,17 @@ impl Wave {
             }
         }
         self.rows += sound.ready() as u64;
+        self.spill_a_piece()
+    }
+
+    /// Samples of all channels as bytes, sample after sample.
+    pub fn rows(&mut self, rows: &[u8]) -> io::Result<()> {
+        self.held.extend_from_slice(rows);
+        self.rows += rows.len() as u64 / ROW;
+        self.spill_a_piece()
+    }
+
+    fn spill_a_piece(&mut self) -> io::Result<()> {
         if self.held.len() >= PIECE {
             self.spill()
         } else {
@@ -157,7 +168,7 @@ fn head(rate: u32, rows: u64, sizes: Sizes) -> Vec<u8> {
 }
 
 /// The chunk that says what a sample is.
-fn format(rate: u32, h: &mut Vec<u8>) {
+pub fn format(rate: u32, h: &mut Vec<u8>) {
     let (row, bits) = (ROW as u16, 32u16);
     h.extend(b"fmt ");
     h.extend(40u32.to_le_bytes());

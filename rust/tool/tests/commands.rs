@@ -61,6 +61,8 @@ fn what_cannot_be_read_or_written_is_3() {
     let folder = Folder::new("three");
     let from = folder.with("in", &programme(1, 256));
     let none = folder.file("none");
+    let sound = folder.file("sound.wav");
+    assert_eq!(run(&["render", &from, "-o", &sound]).code, 0);
     for command in ["check", "dump", "hex"] {
         let said = run(&[command, none.as_str()]);
         assert_eq!(
@@ -73,6 +75,7 @@ fn what_cannot_be_read_or_written_is_3() {
         vec!["render", &from, "-o", &away],
         vec!["demo", "-s", "0.1", "-o", &away],
         vec!["map", "-o", &away],
+        vec!["archive", &sound, "-o", &away],
     ] {
         let said = run(&args);
         assert_eq!(
@@ -89,11 +92,16 @@ fn a_full_disk_is_3() {
     let folder = Folder::new("full");
     let from = folder.with("in", &programme(1, 256));
     let text = folder.with("text", b"flush\n");
+    let (sound, hall) = (folder.file("sound.wav"), folder.file("show.hall"));
+    assert_eq!(run(&["render", &from, "-o", &sound]).code, 0);
+    assert_eq!(run(&["archive", &sound, "-o", &hall]).code, 0);
     for args in [
         vec!["render", &from, "-o", "/dev/full"],
         vec!["demo", "-s", "1", "-o", "/dev/full"],
         vec!["undump", &text, "-o", "/dev/full"],
         vec!["plot", "limiter", "-o", "/dev/full"],
+        vec!["archive", &sound, "-o", "/dev/full"],
+        vec!["unarchive", &hall, "-o", "/dev/full"],
     ] {
         let said = run(&args);
         assert_eq!(
@@ -107,6 +115,8 @@ fn a_full_disk_is_3() {
         vec!["dump", &from],
         vec!["hex", &from],
         vec!["render", &from, "-o", "-"],
+        vec!["archive", &sound, "-o", "-"],
+        vec!["unarchive", &hall, "-o", "-"],
     ] {
         let to = File::options().write(true).open("/dev/full").unwrap();
         let done = Command::new(TOOL).args(&args).stdout(to).output().unwrap();
@@ -175,6 +185,8 @@ fn nothing_is_written_over_what_is_read() {
     for args in [
         ["render", &from, "-o", &from],
         ["undump", &from, "-o", &from],
+        ["archive", &from, "-o", &from],
+        ["unarchive", &from, "-o", &from],
     ] {
         let said = run(&args);
         assert_eq!(

@@ -10,7 +10,7 @@
 //! The caller of an unsafe entry owes:
 //! - a pointer that is not null, also for a length of 0, and is good for its length; no alignment
 //!   is asked;
-//! - `state` and `out` overlap neither each other nor another slice;
+//! - `state`, `out` and `dest` overlap neither each other nor another slice;
 //! - the processor's default float mode: rounding to nearest, subnormals kept, exceptions masked.
 //!   In another one samples may differ from what is promised, or the process ends.
 #![no_std]
@@ -24,7 +24,7 @@ pub const VERSION: u32 = 3;
 /// answers the library's.
 pub const STATE_SIZE: usize = 29_072;
 
-/// What [`hall_push`], [`hall_flush`] and [`hall_reset`] answer.
+/// What every entry answers but [`hall_state_size`] and [`hall_version`].
 #[repr(C)]
 #[derive(Clone, Copy, Debug, PartialEq)]
 pub struct Answer {
@@ -36,7 +36,7 @@ pub struct Answer {
     pub first: u32,
     /// Its second count, 0 where it has none.
     pub second: u32,
-    /// Samples written on each channel.
+    /// Samples written on each channel; of planes the samples converted.
     pub ready: usize,
     /// The greatest peak that the limiter met, before scaling, in the blocks that a push or flush
     /// gave out; 0 where there is none.
@@ -85,4 +85,23 @@ unsafe extern "C" {
     /// Makes a new renderer of a block, whatever its bytes were: kind 3, or 1 where its length is
     /// another.
     pub fn hall_reset(state: *mut u8, state_length: usize) -> Answer;
+
+    /// Writes the f32 samples of twelve channels, channel after channel, as planes: the least
+    /// significant byte of each, then the next byte of each. Kind 3, or 1 by 22 or 23.
+    pub fn hall_to_planes(
+        source: *const u8,
+        source_length: usize,
+        samples: u32,
+        dest: *mut u8,
+        dest_length: usize,
+    ) -> Answer;
+
+    /// Writes planes as samples again, bit for bit: kind 3, or 1 by 22 or 23.
+    pub fn hall_from_planes(
+        source: *const u8,
+        source_length: usize,
+        samples: u32,
+        dest: *mut u8,
+        dest_length: usize,
+    ) -> Answer;
 }

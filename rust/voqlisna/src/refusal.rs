@@ -4,7 +4,7 @@
 use core::fmt;
 use voqlisna_sys::Answer;
 
-/// A refused call. It has changed nothing: neither the renderer, nor its clock, nor the output.
+/// A refused call. It has changed nothing: neither the renderer, nor its clock, nor what it is lent.
 ///
 /// ```
 /// use voqlisna::{Blame, Refusal};
@@ -60,6 +60,10 @@ pub enum Refusal {
         /// Its code: 6, rear center.
         code: u32,
     },
+    /// 22: more than 1,536 samples to convert.
+    ConvertedSamples,
+    /// 23: the samples to convert have another length, or the destination is too short.
+    ConvertedLength,
     /// A number that this version does not know.
     Other {
         /// The library's number.
@@ -118,6 +122,8 @@ impl Refusal {
             12 => Self::NoSamples,
             13 => Self::BedMissing { expected: first },
             14 => Self::BedUnsupported { code: first },
+            22 => Self::ConvertedSamples,
+            23 => Self::ConvertedLength,
             number => Self::Other {
                 number,
                 first,
@@ -142,6 +148,8 @@ impl Refusal {
             Self::NoSamples => 12,
             Self::BedMissing { .. } => 13,
             Self::BedUnsupported { .. } => 14,
+            Self::ConvertedSamples => 22,
+            Self::ConvertedLength => 23,
             Self::Other { number, .. } => number,
         }
     }
@@ -184,6 +192,10 @@ impl fmt::Display for Refusal {
             Self::Sample => "a sample is not finite or beyond ±16",
             Self::NoUpdate => "no metadata has come yet",
             Self::NoSamples => "the frame has no samples",
+            Self::ConvertedSamples => "more than 1,536 samples to convert",
+            Self::ConvertedLength => {
+                "the samples to convert have another length, or the destination is too short"
+            }
             _ => return self.with_counts(f),
         })
     }

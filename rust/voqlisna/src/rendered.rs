@@ -122,6 +122,33 @@ impl<'o> Rendered<'o> {
         }
         Ok(needed)
     }
+
+    /// Copies channel after channel, [`ready`](Self::ready) places each, as
+    /// [`to_planes`](crate::to_planes) takes them, and answers the places written.
+    ///
+    /// ```
+    /// # use voqlisna::*;
+    /// # let mut memory = [0; MetadataWriter::bytes_for(1, &[])];
+    /// # let mut writer = MetadataWriter::new(&mut memory);
+    /// # writer.update(Update { at: 0, objects: 1, fixed: 0, beds: &[] })?;
+    /// # let (mut renderer, mut out) = (Renderer::new()?, Output::new(Stride::MAX));
+    /// # let frame = Frame::new(Rate::HZ_48000, &[], Pcm::packed(&[0.5; 480], 1)?, writer.finish())?;
+    /// let rendered = renderer.push(&frame, &mut out)?;
+    /// let (mut sound, mut planes) = ([0.0; 12 * 512], [0; 48 * 512]);
+    /// let places = rendered.pack_into(&mut sound)?;
+    /// let samples = to_planes(&sound[..places], rendered.ready(), &mut planes)?;
+    /// assert_eq!((places, samples), (12 * 448, 448));
+    /// # Ok::<(), Box<dyn std::error::Error>>(())
+    /// ```
+    pub fn pack_into(&self, to: &mut [f32]) -> Result<usize, ShapeError> {
+        let needed = self.ready().saturating_mul(Speaker::ALL.len());
+        let to = to.get_mut(..needed).ok_or(ShapeError::Memory { needed })?;
+        let channels = self.channels().flat_map(|(_, samples)| samples);
+        for (place, x) in to.iter_mut().zip(channels) {
+            *place = *x;
+        }
+        Ok(needed)
+    }
 }
 
 impl core::fmt::Debug for Rendered<'_> {

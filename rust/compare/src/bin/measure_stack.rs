@@ -3,7 +3,7 @@
 
 use compare::Generator;
 use compare::calls::Call;
-use compare::entry::{self, Answer, BLOCK};
+use compare::entry::{self, Answer, BLOCK, Planes};
 use oracle::frame::{ANCHORS, Block, Element, Frame, Object, Update};
 use std::arch::asm;
 use std::thread;
@@ -101,6 +101,11 @@ fn measure() {
     tell("push that is refused", depth(&mut push));
     let mut flush = || entry::flush(&mut state, &mut out, STRIDE as u32);
     tell("flush", depth(&mut flush));
+    let source = vec![0x5a; 48 * STRIDE];
+    for way in [Planes::To, Planes::From] {
+        let mut planes = || entry::planes(way, &source, STRIDE as u32, &mut out);
+        tell(&format!("planes, {way:?}"), depth(&mut planes));
+    }
 }
 
 fn main() {

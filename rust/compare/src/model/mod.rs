@@ -6,6 +6,7 @@
 mod judged;
 mod met;
 mod meters;
+pub mod planes;
 mod sends;
 
 use crate::calls::{Call, Step};

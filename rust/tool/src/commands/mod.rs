@@ -1,5 +1,6 @@
 // SPDX-License-Identifier: Apache-2.0
 //! Each command, in a module of its own.
+mod archive;
 mod check;
 mod demo;
 mod hex;
@@ -26,6 +27,8 @@ pub fn run(command: Command) -> Result<(), Trouble> {
         Command::Dump { from } => dump(&from),
         Command::Undump { from, to } => undump(&from, &to),
         Command::Hex { from } => hex::hex(&from),
+        Command::Archive { from, to } => archive::archive(&from, &to),
+        Command::Unarchive { from, to, rf64 } => archive::unarchive(&from, &to, rf64),
         Command::Draw { what, to } => {
             let picture = match what {
                 Picture::Map => pictures::map()?,

@@ -131,7 +131,7 @@ impl<'a> Recorder<'a> {
 }
 
 /// After a failed write: what is there is made a whole file, where that can be done.
-fn rescued(wave: Wave, message: String) -> Trouble {
+pub fn rescued(wave: Wave, message: String) -> Trouble {
     Trouble::Failed(match wave.rescue() {
         Some(seconds) => format!("{message}; {seconds:.1} s were written and closed"),
         None => message,

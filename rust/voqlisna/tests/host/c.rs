@@ -45,6 +45,15 @@ fn compiled(compiler: &str, language: &str, standard: &str) -> PathBuf {
 
 /// A call as host.c prints it.
 fn print(text: &mut String, call: &str, answer: Answer, rendered: Option<Rendered<'_>>) {
+    print_answer(text, call, answer);
+    for i in 0..answer.ready {
+        let words =
+            Speaker::ALL.map(|s| format!("{:08x}", rendered.unwrap().channel(s)[i].to_bits()));
+        writeln!(text, "{}", words.join(" ")).unwrap();
+    }
+}
+
+fn print_answer(text: &mut String, call: &str, answer: Answer) {
     let Answer {
         kind,
         number,
@@ -64,15 +73,14 @@ fn print(text: &mut String, call: &str, answer: Answer, rendered: Option<Rendere
         write!(text, " {}", refusal.to_string().replace('±', "+-")).unwrap();
     }
     text.push('\n');
-    for i in 0..ready {
-        let words =
-            Speaker::ALL.map(|s| format!("{:08x}", rendered.unwrap().channel(s)[i].to_bits()));
-        writeln!(text, "{}", words.join(" ")).unwrap();
-    }
 }
 
 fn answer(kind: u32) -> Answer {
     Answer { kind, ..raw::DONE }
+}
+
+fn done(ready: usize) -> Answer {
+    Answer { ready, ..raw::DONE }
 }
 
 fn ready(rendered: &Rendered<'_>) -> Answer {
@@ -160,18 +168,32 @@ fn expected() -> String {
     let rendered = renderer.flush(&mut out).unwrap();
     print(&mut text, "flush", ready(&rendered), Some(rendered));
     print(&mut text, "flush", answer(2), None);
+    archive(&mut text);
     text
+}
+
+/// The bytes count up, so each is its own place.
+fn archive(text: &mut String) {
+    print_answer(text, "to_planes", done(2));
+    for byte in (0..4).flat_map(|plane| (0..24).map(move |k| 4 * k + plane)) {
+        write!(text, "{byte:02x}").unwrap();
+    }
+    text.push('\n');
+    print_answer(text, "from_planes", done(2));
+    text.push_str("the same\n");
+    print_answer(text, "to_planes", refused(22));
+    print_answer(text, "to_planes", refused(23));
 }
 
 /// The refusals that host.c lists at its end are worded as the crate words them, where no count
 /// stands in the sentence.
 fn says_the_same(lines: &str) {
-    assert_eq!(lines.lines().count(), 16);
+    assert_eq!(lines.lines().count(), 24);
     for (number, line) in (0..).zip(lines.lines()) {
         let said = line.strip_prefix(&format!("{number}: ")).unwrap();
         let refusal = Refusal::from_answer(refused(number)).unwrap();
         match number {
-            0 | 7 | 15 => assert_eq!(said, "an unknown refusal"),
+            0 | 7 | 15..22 => assert_eq!(said, "an unknown refusal"),
             9 | 11 | 13 | 14 => assert!(said.contains(' ')),
             _ => assert_eq!(said, refusal.to_string().replace('±', "+-")),
         }
@@ -224,9 +246,11 @@ fn the_library_has_prefixed_names_and_needs_two() {
         defined,
         [
             "hall_flush",
+            "hall_from_planes",
             "hall_push",
             "hall_reset",
             "hall_state_size",
+            "hall_to_planes",
             "hall_version"
         ]
     );

@@ -53,7 +53,7 @@ impl Draw {
 
     pub fn refusal(&mut self) -> Refusal {
         let (number, first, second) = (
-            self.below(16) as u32,
+            self.below(26) as u32,
             self.word() as u32,
             self.word() as u32,
         );

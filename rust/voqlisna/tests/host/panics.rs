@@ -85,6 +85,7 @@ fn calls(draw: &mut Draw, frame: &Frame<'_>, stride: Stride) {
 fn reads(draw: &mut Draw, rendered: &Rendered<'_>, steady: &mut Steady) {
     let mut to = floats(draw);
     let _ = rendered.interleave_into(&mut to);
+    let _ = rendered.pack_into(&mut to);
     let _ = steady.put(rendered);
     let speakers: Vec<Speaker> = (0..draw.below(14))
         .map(|_| draw.pick(&Speaker::ALL))
@@ -105,6 +106,23 @@ fn lent(draw: &mut Draw) {
     let mut bytes = draw.bytes(length);
     let _ = Renderer::over(&mut bytes).map(|renderer| renderer.block().len());
     let _ = Snapshot::read(&bytes).map(|snapshot| Renderer::restore(snapshot).is_ok());
+}
+
+/// Planes of any lengths and counts; half of the lengths fit.
+fn planes(draw: &mut Draw) {
+    let samples = count(draw);
+    let fitting = if draw.once_in(2) {
+        samples.min(50)
+    } else {
+        draw.below(50)
+    };
+    let (mut sound, mut bytes) = (vec![draw.float(); 12 * fitting], draw.bytes(48 * fitting));
+    let _ = to_planes(&sound, samples, &mut bytes);
+    let _ = from_planes(&bytes, samples, &mut sound);
+    let length = draw.below(2_000);
+    let mut others = draw.bytes(length);
+    let _ = bytes_to_planes(&bytes, samples, &mut others);
+    let _ = bytes_from_planes(&others, samples, &mut bytes);
 }
 
 /// Any bytes as records.
@@ -136,6 +154,7 @@ fn nothing_panics() {
         shapes(&mut draw);
         lent(&mut draw);
         any_records(&mut draw);
+        planes(&mut draw);
         let samples = draw.below(200);
         let owned = Scene::draw(&mut draw).frame(&mut draw, samples);
         calls(&mut draw, &owned.frame(), Stride::MAX);

@@ -24,13 +24,13 @@ fn a_refusal_keeps_its_number_and_counts() {
         let expected = match number {
             9 | 11 => (7, 8),
             13 | 14 => (7, 0),
-            1..=6 | 8 | 10 | 12 => (0, 0),
+            1..=6 | 8 | 10 | 12 | 22 | 23 => (0, 0),
             _ => (7, 8),
         };
         assert_eq!(refusal.counts(), expected, "{number}");
         assert_eq!(
             matches!(refusal, Refusal::Other { .. }),
-            !matches!(number, 1..=6 | 8..=14),
+            !matches!(number, 1..=6 | 8..=14 | 22 | 23),
             "{number}"
         );
     }
@@ -53,6 +53,7 @@ fn blame_is_as_the_interface_has_it() {
         (5..=6, Blame::Programme),
         (8..=8, Blame::Decoder),
         (9..=14, Blame::Stream),
+        (22..=23, Blame::Host),
     ] {
         assert!(
             numbers
@@ -72,7 +73,7 @@ fn is_a_sentence(error: &dyn std::error::Error) {
 
 #[test]
 fn every_refusal_and_shape_error_is_a_sentence() {
-    (0..20).for_each(|number| is_a_sentence(&refusal(number)));
+    (0..30).for_each(|number| is_a_sentence(&refusal(number)));
     let shape = [
         ShapeError::Length { got: 3, of: 2 },
         ShapeError::Uneven {

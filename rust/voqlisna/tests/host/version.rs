@@ -52,6 +52,7 @@ fn numbers_of_the_header_are_those_of_the_crates() {
     assert_eq!(Renderer::block_size(), sys::STATE_SIZE);
     assert_eq!(defined("HALL_STATE_SIZE"), sys::STATE_SIZE as u64);
     assert_eq!(defined("HALL_MAX_STRIDE"), Stride::MAX.samples() as u64);
+    assert_eq!(defined("HALL_MAX_SAMPLES"), Stride::MAX.samples() as u64);
     assert_eq!(defined("HALL_WAVE_MASK"), u64::from(WAVE_MASK));
     let names = Speaker::ALL
         .map(|speaker| format!("HALL_{}", speaker.short_name()))

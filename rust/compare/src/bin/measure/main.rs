@@ -8,6 +8,7 @@ mod counts;
 mod fit;
 mod leaves;
 mod million;
+mod planes;
 mod sends;
 mod sides;
 mod slowest;
@@ -23,11 +24,12 @@ use std::{env, fs, process, thread};
 use table::{Row, rows};
 
 const USAGE: &str = "\
-usage: measure [SECONDS] | million | sends | leaves
+usage: measure [SECONDS] | million | sends | leaves | planes
   SECONDS   for each case (0.8)
   million   only a million pushes of one sample
   sends     only what sends to the bass feed cost
-  leaves    times of single functions";
+  leaves    times of single functions
+  planes    times of the archive's planes, both ways";
 
 /// Rounds of all cases, a line for each case and side: seconds a push.
 fn sweep(seconds: f64) {
@@ -148,6 +150,7 @@ fn main() {
     match words.as_slice() {
         [] => all(0.8),
         ["leaves"] => leaves::print(),
+        ["planes"] => planes::print(),
         ["million"] => million::print(),
         ["sends"] => sends::print(&sends(0.8)),
         [SWEEP_SENDS, seconds] => sends::sweep(seconds.parse().unwrap()),

@@ -1,0 +1,256 @@
+// SPDX-License-Identifier: Apache-2.0
+//! A rendered show into an archive and back.
+mod common;
+use common::{Dice, Folder, feed, programme, run};
+use std::fs;
+
+/// Bytes before the samples of a WAVE file that `render` writes, and before the first frame of an archive.
+const WAVE_HEAD: usize = 104;
+const HEAD: usize = 16;
+const MOST: usize = 1_536;
+
+/// A WAVE file as `render` writes it, of these samples, each of twelve words.
+fn wave(rows: &[u8]) -> Vec<u8> {
+    let mut wav = run(&["demo", "-s", "0.01", "-o", "-"]).out;
+    wav.truncate(WAVE_HEAD);
+    let (riff, data) = (rows.len() as u32 + 96, rows.len() as u32);
+    wav[4..8].copy_from_slice(&riff.to_le_bytes());
+    wav[100..].copy_from_slice(&data.to_le_bytes());
+    [&wav, rows].concat()
+}
+
+/// Samples of any bits, every second one a NaN.
+fn any_rows(dice: &mut Dice, samples: usize) -> Vec<u8> {
+    let words = (0..12 * samples).map(|i| match i % 2 {
+        0 => 0x7f80_0001 | dice.next() as u32,
+        _ => dice.next() as u32,
+    });
+    words.flat_map(u32::to_le_bytes).collect()
+}
+
+/// The archive of these samples, as its layout is written down.
+fn archived(rate: u32, rows: &[u8]) -> Vec<u8> {
+    let mut bytes = b"HALLSHOW\x01\0\0\0".to_vec();
+    bytes.extend(rate.to_le_bytes());
+    for frame in rows.chunks(48 * MOST) {
+        let samples = frame.len() / 48;
+        bytes.extend((samples as u32).to_le_bytes());
+        for plane in 0..4 {
+            for channel in 0..12 {
+                bytes.extend((0..samples).map(|i| frame[48 * i + 4 * channel + plane]));
+            }
+        }
+    }
+    bytes.extend([0; 4]);
+    bytes
+}
+
+#[test]
+fn any_samples_come_back_bit_for_bit() {
+    let folder = Folder::new("archive");
+    let (hall, back) = (folder.file("show.hall"), folder.file("back.wav"));
+    let mut dice = Dice::new(3);
+    for samples in [0, 1, 2, 1_535, 1_536, 1_537, 5_000] {
+        let rows = any_rows(&mut dice, samples);
+        let wav = wave(&rows);
+        let from = folder.with("show.wav", &wav);
+        let said = run(&["archive", &from, "-o", &hall]);
+        assert_eq!((said.code, said.err.as_str()), (0, ""));
+        assert!(
+            fs::read(&hall).unwrap() == archived(48_000, &rows),
+            "{samples}"
+        );
+        let said = run(&["unarchive", &hall, "-o", &back]);
+        assert_eq!((said.code, said.err.as_str()), (0, ""));
+        assert!(fs::read(&back).unwrap() == wav, "{samples}");
+    }
+}
+
+#[test]
+fn rendered_shows_come_back_as_render_wrote_them() {
+    let folder = Folder::new("archive-shows");
+    let (wav, hall, back) = (
+        folder.file("a.wav"),
+        folder.file("a.hall"),
+        folder.file("b.wav"),
+    );
+    for (seed, large) in [(1, false), (2, true), (3, false)] {
+        let from = folder.with("in", &programme(seed, 1_536));
+        let options = if large { &["--rf64"][..] } else { &[] };
+        assert_eq!(
+            run(&[&["render", &from, "-o", &wav], options].concat()).code,
+            0
+        );
+        assert_eq!(run(&["archive", &wav, "-o", &hall]).code, 0);
+        assert_eq!(
+            run(&[&["unarchive", &hall, "-o", &back], options].concat()).code,
+            0
+        );
+        let (wav, back) = (fs::read(&wav).unwrap(), fs::read(&back).unwrap());
+        assert!(wav.len() > 10_000 && wav == back, "{seed}");
+    }
+}
+
+/// On pipes the WAVE files' sizes are open.
+#[test]
+fn through_pipes() {
+    let folder = Folder::new("archive-pipes");
+    let from = folder.with("in", &programme(4, 1_000));
+    let open = run(&["render", &from, "-o", "-"]).out;
+    let hall = feed(&["archive", "-", "-o", "-"], &open);
+    let rate = u32::from_le_bytes(open[60..64].try_into().unwrap());
+    assert!(hall.code == 0 && hall.out == archived(rate, &open[WAVE_HEAD..]));
+    assert!(hall.err.starts_with("standard output: ") && hall.err.ends_with(" Hz\n"));
+    let back = feed(&["unarchive", "-", "-o", "-"], &hall.out);
+    assert!(back.code == 0 && back.out == open);
+}
+
+#[test]
+fn it_says_how_long_the_show_is() {
+    let folder = Folder::new("archive-says");
+    let from = folder.with("show.wav", &wave(&[0; 48 * 2_400]));
+    let (hall, back) = (folder.file("show.hall"), folder.file("back.wav"));
+    let long = "0.050 s, 2,400 samples at 48,000 Hz\n";
+    let said = run(&["archive", &from, "-o", &hall]);
+    assert_eq!(said.text(), format!("{hall}: {long}"));
+    let said = run(&["unarchive", &hall, "-o", &back]);
+    assert_eq!(said.text(), format!("{back}: {long}"));
+}
+
+/// `command` of these bytes ends by 2 with this message, and writes what `written` of them was whole.
+fn is_wrong(folder: &Folder, command: &str, bytes: &[u8], message: &str) -> Vec<u8> {
+    let to = folder.file("out");
+    let _ = fs::remove_file(&to);
+    let said = feed(&[command, "-", "-o", &to], bytes);
+    let wanted = format!("voqlisna: standard input: {message}\n");
+    assert_eq!((said.code, said.err), (2, wanted));
+    fs::read(&to).unwrap_or_default()
+}
+
+#[test]
+fn other_files_are_not_archived() {
+    let folder = Folder::new("archive-others");
+    let good = wave(&[0; 96]);
+    let changed = |at: usize, to: &[u8]| {
+        let mut bytes = good.clone();
+        bytes[at..at + to.len()].copy_from_slice(to);
+        bytes
+    };
+    let none = "byte 0: this is no WAVE file";
+    let other = "byte 56: not twelve channels in f32 with the speakers' mask 0x2d63f";
+    let short = |at: usize| format!("byte {at}: the file ends before its samples");
+    for (bytes, message) in [
+        (vec![], none),
+        (good[..11].to_vec(), none),
+        (changed(0, b"RIFX"), none),
+        (changed(8, b"WAVX"), none),
+        (good[..12].to_vec(), &short(12)),
+        (good[..40].to_vec(), &short(40)),
+        (good[..90].to_vec(), &short(56)),
+        (good[..103].to_vec(), &short(96)),
+        (changed(58, &[2]), other),  // channels
+        (changed(70, &[24]), other), // bits
+        (changed(76, &[0]), other),  // the mask
+        (changed(80, &[1]), other),  // whole numbers
+        (
+            changed(60, &[0; 4]),
+            "byte 56: a rate outside 8,000 to 192,000 Hz",
+        ),
+        (
+            changed(48, b"fmtx"),
+            "byte 104: samples before their format",
+        ),
+        (
+            changed(100, &[95]),
+            "byte 104: the samples are not whole rows of 48 bytes",
+        ),
+    ] {
+        assert_eq!(is_wrong(&folder, "archive", &bytes, message), []);
+    }
+}
+
+#[test]
+fn a_cut_wave_file_gives_the_archive_of_what_is_there() {
+    let folder = Folder::new("archive-cut");
+    let rows = any_rows(&mut Dice::new(5), 3);
+    let wav = wave(&rows);
+    let cut = |bytes: usize| &wav[..wav.len() - bytes];
+    let missing = |at: usize, n: usize| {
+        format!("byte {at}: the file ends inside its samples ({n} bytes are missing)")
+    };
+    let written = is_wrong(&folder, "archive", cut(1), &missing(WAVE_HEAD + 96, 1));
+    assert!(written == archived(48_000, &rows[..96]));
+    let written = is_wrong(&folder, "archive", cut(48), &missing(WAVE_HEAD + 96, 48));
+    assert!(written == archived(48_000, &rows[..96]));
+    let mut open = cut(50).to_vec();
+    open[100..104].fill(0xff);
+    let written = is_wrong(&folder, "archive", &open, &missing(WAVE_HEAD + 48, 2));
+    assert!(written == archived(48_000, &rows[..48]));
+}
+
+#[test]
+fn a_damaged_archive_gives_the_samples_before_the_damage() {
+    let folder = Folder::new("archive-damaged");
+    let rows = any_rows(&mut Dice::new(6), MOST + 10);
+    let good = archived(48_000, &rows);
+    let second = HEAD + 4 + 48 * MOST;
+    let changed = |at: usize, to: &[u8]| {
+        let mut bytes = good.clone();
+        bytes[at..at + to.len()].copy_from_slice(to);
+        bytes
+    };
+    let none = "byte 0: this is no archive of a show";
+    for (bytes, message) in [
+        (vec![], none),
+        (good[..15].to_vec(), none),
+        (changed(7, b"X"), none),
+        (
+            changed(8, &[2]),
+            "byte 0: an archive of version 2, and this tool reads version 1",
+        ),
+        (changed(12, &[0; 4]), "byte 0: a rate of 0 Hz"),
+    ] {
+        assert_eq!(is_wrong(&folder, "unarchive", &bytes, message), []);
+    }
+    let end = good.len();
+    let grouped = |n: usize| format!("{},{:03}", n / 1_000, n % 1_000);
+    let at = |byte: usize, why: &str| format!("byte {}: {why}", grouped(byte));
+    for (bytes, message, samples) in [
+        (
+            good[..HEAD].to_vec(),
+            "byte 16: the file ends before the archive does".to_owned(),
+            0,
+        ),
+        (
+            good[..second].to_vec(),
+            at(second, "the file ends before the archive does"),
+            MOST,
+        ),
+        (
+            good[..end - 5].to_vec(),
+            at(
+                second,
+                "the file ends inside a frame (1 of 484 bytes are missing)",
+            ),
+            MOST,
+        ),
+        (
+            good[..end - 1].to_vec(),
+            at(end - 4, "the file ends before the archive does"),
+            MOST + 10,
+        ),
+        (
+            changed(second, &[1, 6]),
+            at(second, "a frame of 1,537 samples, and at most 1,536 may be"),
+            MOST,
+        ),
+        (
+            [&good[..], &[0]].concat(),
+            at(end, "the archive is at its end and the file is not"),
+            MOST + 10,
+        ),
+    ] {
+        let written = is_wrong(&folder, "unarchive", &bytes, &message);
+        assert!(written == wave(&rows[..48 * samples]), "{message}");
+    }
+}
