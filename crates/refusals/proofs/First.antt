@@ -1,20 +1,17 @@
 -- The first that stops: what a refusal, or a test, that stops or does not leaves of those after it. Assumes nothing.
-use Prim.Native.Nat.{ℕ, zero, suc, ◌+◌, ◌<◌, ◌≤◌}
+use Prim.Native.Nat.{ℕ, zero, suc, ◌≤◌}
 use mathlib.Core.Path.{◌≡◌, refl, sym, ap, ◌∙◌}
 use mathlib.Core.Bool.{Bool, true, false}
 use mathlib.Core.Logic.{◌↔◌}
 use mathlib.Core.List.{List, [], ◌∷◌}
 use lib.Dec.{leb}
-use lib.ListN.{length, get_or, drop, drop_of_length-le}
-use lib.Seq.{drop-cons}
-use native.Mathlib.Numerals.{add-one}
+use lib.ListN.{get_or}
 use native.Mathlib.Omega.{arith}
-use borrow.Author.Tests.{ne_eqb, le-leb, leb-true}
+use borrow.Author.Tests.{le-leb, leb-true}
 use Rattle.std.specs.Prelude.{EachIndex, IsTrue, IsErrAnd, Result}
 use Rattle.std.proofs.lemmas.Result.{err_from_is_err_and}
 use Rattle.fields.proofs.All.{and_left, and_right}
-use Rattle.beds.specs.Matching.{counted}
-use Rattle.rules.specs.Refusals.{Found, clear, stop, ◌then◌, unless, every, bed_found, beds_found}
+use Rattle.rules.specs.Refusals.{Found, clear, stop, ◌then◌, unless, every}
 use Rattle.refusals.specs.RefusalNumbers.{stop_of, numbers_of, found_of}
 use Rattle.refusals.specs.declared.Refusal.{Refusal}
 use Rattle.refusals.specs.declared.Stop.{Stop}
@@ -39,26 +36,6 @@ module _ (f x all : Found) (rest : (f then x) ≡ all) where
 
 pub handed_on : {A : Type 0} (r : Result A Refusal) (e : Refusal) {x : Found} → IsErrAnd r (λ y. y ≡ e) → stop_of e ≡ x → found_of r ≡ x
 handed_on r e h is = let p = err_from_is_err_and r h in rw (p.1, p.2) is
-
--- ---- the beds in order
-
-module _ (beds codes : List ℕ) where
-  pub beds_step : (i : ℕ) → i < length beds →
-      beds_found beds codes (drop i beds) ≡ (bed_found beds codes (get_or beds i 0) then beds_found beds codes (drop (i + 1) beds))
-  beds_step i l = rw (drop-cons beds i 0, add-one)
-
-  pub beds_end : (i : ℕ) → length beds ≤ i → beds_found beds codes (drop i beds) ≡ clear
-  beds_end i l = rw drop_of_length-le
-
-module _ (beds codes : List ℕ) (c : ℕ) where
-  pub bed_missing : counted c codes ≡ 0 → stop 13 (counted c beds) 0 ≡ bed_found beds codes c
-  bed_missing e = rw e
-
-  pub bed_unsupported : (counted c codes ≡ 0 → ⊥) → c ≡ 6 → stop 14 c 0 ≡ bed_found beds codes c
-  bed_unsupported h e = rw (ne_eqb (counted c codes) 0 h, e)
-
-  pub bed_clear : (counted c codes ≡ 0 → ⊥) → (c ≡ 6 → ⊥) → clear ≡ bed_found beds codes c
-  bed_clear h e = rw (ne_eqb (counted c codes) 0 h, ne_eqb c 6 e)
 
 -- ---- one test of a chain
 
