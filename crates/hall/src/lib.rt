@@ -87,10 +87,10 @@ pub fn flush(state: &mut [u8], out: &mut [u8], stride: u32) -> Result<Outcome, R
 pub fn reset(state: &mut [u8]) -> Result<Outcome, Refusal>
     ensures { (coded result ≡ code_of (made hall block reset state.old).answer) × (state.new ≡ (made hall block reset state.old).state) }
 {
-    if state.len() != store::SIZE {
+    let Some(block) = state.as_mut_array() else {
         return Err(Refusal::Lent);
-    }
-    store::reset(state.as_mut_array().unwrap());
+    };
+    store::reset(block);
     Ok(Outcome::Fresh)
 }
 

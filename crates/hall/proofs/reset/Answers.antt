@@ -7,13 +7,14 @@ use Rattle.hall.specs.Answers.{code_of}
 use Rattle.hall.proofs.WaysOut.{wrong, resets}
 use Rattle.hall.proofs.reset.Goals as goal
 
-pub returns-then-state-ne-SIZE : goal.returns-then-state-ne-SIZE
-returns-then-state-ne-SIZE c =
+pub returns-in_default : goal.returns-in_default
+returns-in_default c =
     let b = c.args.state.now in
-    let e = sym (wrong reset b (ne_eqb _ _ c.if-state-ne-SIZE.true)) in
+    let e = sym (wrong reset b (ne_eqb _ _ c.in_default.ensures.cases)) in
     (ap (λ (o : Outcome). code_of o.answer) e, ap (λ (o : Outcome). o.state) e)
 
 pub returns : goal.returns
 returns c =
-    let e = sym (resets c.args.state.now (eq-eqb _ _ c.if-state-ne-SIZE.false)) in
+    let h = c.in-Some.ensures.cases in
+    let e = sym (resets c.args.state.now (eq-eqb _ _ h.long)) in
     (ap (λ (o : Outcome). code_of o.answer) e, c.reset.ensures ∙ ap (λ (o : Outcome). o.state) e)
