@@ -1,7 +1,7 @@
 /* SPDX-License-Identifier: Apache-2.0 */
-/* A host in C: one bed and one object that moves, frames of 480 samples, one too loud, one broken, a flush. It prints
-   what it hears: each answer, and peak, gain and each ready sample of the twelve channels as the eight digits of their
-   bits. Then it makes planes of some bytes, and prints these too. */
+/* A host in C: in a hall of each layout one bed and one object that moves, frames of 480 samples, one too loud, one
+   broken, a flush. It prints what it hears: each answer, and peak, gain and each ready sample of the layout's channels as
+   the eight digits of their bits. Then it makes planes of some bytes, and prints these too. */
 #include "voqlisna.h"
 #include "voqlisna_records.h"
 #include <stdio.h>
@@ -25,12 +25,15 @@ static void print_answer(const char *call, hall_answer answer) {
   printf("\n");
 }
 
-static void print(const char *call, hall_answer answer, const uint8_t *out) {
-  size_t i, c;
+static void print(const char *call, hall_answer answer, uint32_t layout, const uint8_t *out) {
+  size_t i;
+  uint32_t c;
   print_answer(call, answer);
-  for (i = 0; i < answer.ready; i++)
+  for (i = 0; i < answer.ready; i++) {
     for (c = 0; c < HALL_CHANNELS; c++)
-      printf("%08x%c", bits(out + 4 * (c * STRIDE + i)), c + 1 < HALL_CHANNELS ? ' ' : '\n');
+      if (hall_has(layout, c)) printf("%s%08x", c > 0 ? " " : "", bits(out + 4 * (c * STRIDE + i)));
+    printf("\n");
+  }
 }
 
 /* One update: the bed stays, the object goes to (x, 0.25, 0.5) within the frame and shakes the floor. Gives the records'
@@ -79,20 +82,14 @@ static void archive(void) {
   print_answer("to_planes", hall_to_planes(sound, sizeof sound, ARCHIVED, planes, sizeof planes - 1));
 }
 
-/* With an argument the thread keeps the usual float mode: valgrind knows no other. */
-int main(int count, char **words) {
+/* The show in a hall of that layout, in the thread's float mode; the mode before the last two calls, and between them. */
+static void show(uint8_t *state, size_t size, uint32_t layout, uint32_t modes[2]) {
   const uint8_t codes[] = {HALL_BED_BASS};
   static float pcm[2 * SAMPLES];
   static uint8_t out[48 * STRIDE], meta[5 * HALL_RECORD];
-  const size_t size = hall_state_size();
-  uint8_t *state = (uint8_t *)malloc(size);
-  const uint32_t thread = count > 1 ? USUAL : AUDIO;
-  uint32_t number, mode, inside;
+  uint32_t mode;
   int frame;
-  if (hall_version() != HALL_VERSION || size != HALL_STATE_SIZE || !state) return 1;
-  (void)words;
-  hall_leave_floats(thread);
-  print("reset", hall_reset(state, size), out);
+  print_answer("make", hall_make(state, size, layout));
   for (frame = 0; frame < FRAMES; frame++) {
     const size_t length = frame % 2 == 0 ? move(meta, (float)frame / 8.0f) : 0;
     hall_answer answer;
@@ -101,14 +98,34 @@ int main(int count, char **words) {
     answer = hall_push(state, size, (const uint8_t *)pcm, sizeof pcm, meta, length, out, sizeof out, codes, sizeof codes,
                        RATE, SAMPLES, 1, STRIDE);
     hall_leave_floats(mode);
-    print("push", answer, out);
+    print("push", answer, layout, out);
   }
-  mode = hall_enter_floats();
-  inside = hall_enter_floats();
-  print("flush", hall_flush(state, size, out, sizeof out, STRIDE), out);
-  print("flush", hall_flush(state, size, out, sizeof out, STRIDE), out);
+  modes[0] = hall_enter_floats();
+  modes[1] = hall_enter_floats();
+  print("flush", hall_flush(state, size, out, sizeof out, STRIDE), layout, out);
+  print("flush", hall_flush(state, size, out, sizeof out, STRIDE), layout, out);
+  hall_leave_floats(modes[0]);
+  print_answer("reset", hall_reset(state, size));
+}
+
+/* With an argument the thread keeps the usual float mode: valgrind knows no other. */
+int main(int count, char **words) {
+  const size_t size = hall_state_size();
+  uint8_t *state = (uint8_t *)malloc(size);
+  const uint32_t thread = count > 1 ? USUAL : AUDIO;
+  uint32_t number, layout, modes[2];
+  int kept = 1;
+  if (hall_version() != HALL_VERSION || size != HALL_STATE_SIZE || !state) return 1;
+  (void)words;
+  hall_leave_floats(thread);
+  print_answer("make", hall_make(state, size - 1, HALL_LAYOUTS));
+  print_answer("make", hall_make(state, size, HALL_LAYOUTS));
+  for (layout = HALL_714; layout < HALL_LAYOUTS; layout++) {
+    show(state, size, layout, modes);
+    kept = kept && (modes[0] & CONTROL) == thread && (modes[1] & CONTROL) == USUAL;
+  }
   archive();
   for (number = 0; number < 24; number++) printf("%u: %s\n", number, hall_refusal_text(number));
   free(state);
-  return (mode & CONTROL) == thread && (inside & CONTROL) == USUAL ? 0 : 2;
+  return kept ? 0 : 2;
 }

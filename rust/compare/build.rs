@@ -7,11 +7,13 @@ use std::ffi::OsStr;
 use std::path::{Path, PathBuf};
 use std::process::Command;
 
-/// A library from before R-10 has no planes; renaming what is not there changes nothing.
-const ENTRIES: [&str; 7] = [
+/// A library from before R-5 has no make, one from before R-10 no planes; renaming what is not there
+/// changes nothing.
+const ENTRIES: [&str; 8] = [
     "push",
     "flush",
     "reset",
+    "make",
     "state_size",
     "version",
     "to_planes",

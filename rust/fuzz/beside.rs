@@ -16,6 +16,7 @@ pub struct Made {
     samples: u32,
     objects: u32,
     stride: u32,
+    layout: u32,
     state: *const u8,
     out: *const u8,
     before: *const u8,
@@ -56,7 +57,8 @@ pub unsafe extern "C" fn beside(made: &Made) {
                 pcm: copy(made.pcm, made.pcm_length),
             }),
             1 => Step::Flush,
-            _ => Step::Reset,
+            2 => Step::Reset,
+            _ => Step::Make(made.layout),
         };
         let case = Case {
             state: copy(made.before, made.state_length),

@@ -12,13 +12,15 @@
 #include <unistd.h>
 
 enum { CALLS = 24, HEAD = 32, STRIDE = 1536, CHANNELS = 34, RECORDS = 1024, STREAM = 40, BEHIND = 64 };
-/* Of the block: where sources, elements and infos stand, and how long a source and an element are (docs/STATE-BLOCK.md). */
+/* Of the block: where sources, elements, infos and the layout's code stand, and how long a source and an element are
+   (docs/STATE-BLOCK.md). */
 enum { SOURCES = 240, SOURCE = 28, ELEMENTS = SOURCES + 16 * SOURCE, ELEMENT = 368, INFOS = ELEMENTS + 2 * ELEMENT };
+enum { LAYOUT = HALL_STATE_SIZE - 4 };
 
 /* One renderer's memory, longer than what is lent of it. */
 static uint8_t state[1 << 16], before[1 << 16], out[48 * STRIDE], kept[48 * STRIDE], records[40 * RECORDS], codes[255];
 static float pcm[CHANNELS * STRIDE];
-static int damaged; /* the block was written from outside since the last reset: its floats may be any */
+static int damaged; /* the block was written from outside since it was new: its floats may be any */
 static int printing; /* each answer, where one input is run again */
 
 static uint32_t half(const uint8_t *p) { return (uint32_t)(p[0] | p[1] << 8); }
@@ -69,15 +71,22 @@ static size_t room_of(uint32_t stride, uint8_t b) {
   return 48 * (size_t)stride - (b == 255);
 }
 
+static unsigned entry_of(const uint8_t *head) {
+  if ((head[0] & 7) == 6) return head[1] & 1 ? MAKE : RESET;
+  return (head[0] & 7) == 5 ? FLUSH : PUSH;
+}
+
 /* The call of a head. */
 static made call(const uint8_t *head, size_t count, size_t size) {
-  made m = {.entry = (head[0] & 7) == 6 ? RESET : (head[0] & 7) == 5 ? FLUSH : PUSH, .stride = stride_of(head[1])};
+  made m = {.entry = entry_of(head), .stride = stride_of(head[1])};
+  m.layout = head[8] < 240 ? head[8] % 5 : word(head + 2);
   m.state = state, m.before = before, m.state_length = size - (head[13] == 254);
   m.out = out, m.kept = kept, m.out_length = room_of(m.stride, head[13]);
   m.pcm = m.meta = m.codes = records;
   if (m.entry == PUSH) push_of(&m, head, count);
   memcpy(before, state, size + BEHIND), memset(out, 0x5a, sizeof out), memcpy(kept, out, sizeof out);
   if (m.entry == RESET) m.answer = hall_reset(m.state, m.state_length);
+  else if (m.entry == MAKE) m.answer = hall_make(m.state, m.state_length, m.layout);
   else if (m.entry == FLUSH) m.answer = hall_flush(m.state, m.state_length, m.out, m.out_length, m.stride);
   else
     m.answer = hall_push(m.state, m.state_length, m.pcm, m.pcm_length, m.meta, m.meta_length, m.out, m.out_length, m.codes,
@@ -93,7 +102,8 @@ static void damage(const uint8_t *head, size_t size) {
     const int places[3] = {8, 16, 72}; /* position, slot start, payload position */
     for (int i = 0; i < 3; i++) put_both(state + places[i], both(state + places[i]) + end - room - position);
   } else {
-    state[head[1] & 2 ? word(head + 2) % size : word(head + 2) % INFOS] = head[8];
+    size_t place = word(head + 2) % (INFOS + 1); /* behind the rest the layout */
+    state[head[1] & 2 ? word(head + 2) % size : place < INFOS ? place : LAYOUT] = head[8];
     damaged = 1;
   }
 }
@@ -105,14 +115,21 @@ static void check_answer(const made *m) {
   if (!damaged && !(__builtin_isfinite(a.peak) && a.gain > 0.0f && a.gain <= 1.0f)) fail("a peak or gain out of range");
   if (a.kind > 3 || (a.kind != HALL_REFUSED && (a.number || a.first || a.second))) fail("an answer that cannot be");
   if (a.kind != HALL_REFUSED) return;
-  if (a.number < 1 || a.number > 14 || a.number == 7 || a.ready) fail("a refusal that cannot be");
-  if (m->entry != PUSH && a.number != 1) fail("a refusal that is not this entry's");
+  if (a.number < 1 || a.number > 15 || a.number == 7 || a.ready) fail("a refusal that cannot be");
+  if (m->entry == MAKE ? a.number != 1 && a.number != 15 : a.number == 15 || (m->entry != PUSH && a.number != 1))
+    fail("a refusal that is not this entry's");
   int counts = a.number == 9 || a.number == 11 || a.number == 13 || a.number == 14;
   if (!counts && (a.first || a.second)) fail("counts that cannot be");
 }
 
+/* Channels that the block's layout lacks have no samples. */
 static void check_output(size_t ready, size_t stride) {
-  for (size_t c = 0; c < 12; c++) {
+  uint32_t layout = word(state + LAYOUT);
+  for (uint32_t c = 0; c < 12; c++) {
+    if (!hall_has(layout, c)) {
+      if (memcmp(out + 4 * c * stride, kept, 4 * stride)) fail("a byte of an absent channel");
+      continue;
+    }
     for (size_t i = 0; i < ready; i++) {
       float x;
       memcpy(&x, out + 4 * (c * stride + i), 4);
@@ -148,11 +165,12 @@ static void tell(hall_answer a, size_t stride, uint32_t last) {
   }
   spot(808 + (word(state + 24) != 0x3f800000u) + 2 * (state[68] & 1u)); /* limiter gain, initialized */
   unsigned heard = 0;
-  for (size_t c = 0; c < 12 && a.ready; c++) heard += word(out + 4 * c * stride) != 0;
+  for (uint32_t c = 0; c < 12 && a.ready; c++) heard += hall_has(word(state + LAYOUT), c) && word(out + 4 * c * stride) != 0;
   spot(820 + heard); /* channels that are heard */
   unsigned sent = 0;
   for (size_t i = 0; i < 16; i++) sent += word(state + SOURCES + SOURCE * i + 24) << 1 != 0;
   spot(840 + sent); /* objects with a send */
+  spot(860 + word(state + LAYOUT) % 5);
 }
 
 static void check(const made *m, size_t size) {
@@ -166,7 +184,7 @@ static void check(const made *m, size_t size) {
   }
   if (m->entry == PUSH && a.ready != (pending + m->samples) / 64 * 64) fail("ready of a push");
   if (m->entry == FLUSH && a.ready != pending) fail("ready of a flush");
-  if (m->entry == RESET) damaged = 0;
+  if (m->entry == RESET || m->entry == MAKE) damaged = 0;
   else check_output(a.ready, m->stride);
   if (refused_by_1(size)) fail("an accepted call left a block out of range");
 }
@@ -180,7 +198,7 @@ static void run(const uint8_t *p, size_t n) {
   uint32_t last = 0;
   const uint8_t *end = p + n;
   memset(state, 0xa5, sizeof state);
-  if (hall_reset(state, size).kind != HALL_DONE) fail("reset");
+  if (hall_make(state, size, HALL_714).kind != HALL_DONE) fail("make");
   damaged = 0;
   for (int calls = 0; calls < CALLS && end - p >= HEAD; calls++) {
     const uint8_t *head = p;

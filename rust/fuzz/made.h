@@ -4,10 +4,10 @@
 #define MADE_H
 #include "voqlisna.h"
 
-enum { PUSH, FLUSH, RESET };
+enum { PUSH, FLUSH, RESET, MAKE };
 
 typedef struct {
-  uint32_t entry, rate, samples, objects, stride;
+  uint32_t entry, rate, samples, objects, stride, layout;
   uint8_t *state, *out;           /* after the call */
   const uint8_t *before, *kept;   /* the same before it */
   const uint8_t *pcm, *meta, *codes;

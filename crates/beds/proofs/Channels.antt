@@ -1,6 +1,6 @@
 -- The channels of the routes. Assumes nothing.
 use mathlib.Core.Path.{◌≡◌, refl, sym, ap, subst}
-use mathlib.Core.Bool.{Bool, true, not, ◌&&◌, cond}
+use mathlib.Core.Bool.{Bool, true, false, not, ◌&&◌, cond}
 use mathlib.Core.List.{List, [], ◌∷◌}
 use Prim.Native.Nat.{ℕ, zero, suc, ◌<◌}
 use lib.Dec.{T, T_not, ltb, eqb, ltb→lt}
@@ -26,11 +26,29 @@ every_at [] n t = tt
 every_at (r ∷ rs) zero t = and_l (allowed r) (every rs) t
 every_at (r ∷ rs) (suc n) t = every_at rs n (and_r (allowed r) (every rs) t)
 
+direct_allowed : {k : ℕ} (r : Route) → T (allowed r) → r ≡ Direct k → (k < 12) × (k ≡ 3 → ⊥)
+direct_allowed {k} r a e =
+    let t : T (ltb k 12 && not (eqb k 3)) = subst (λ (s : Route). T (allowed s)) e a in
+    (ltb→lt k 12 (and_l (ltb k 12) _ t), λ h. T_not (eqb k 3) (and_r (ltb k 12) _ t) (subst (λ (n : ℕ). T (eqb n 3)) (sym h) tt))
+
 pub direct_channel : {k : ℕ} (code : ℕ) → route_of code ≡ Direct k → (k < 12) × (k ≡ 3 → ⊥)
 unfolding route_of
-direct_channel {k} code e =
-    let t : T (ltb k 12 && not (eqb k 3)) = subst (λ (r : Route). T (allowed r)) e (every_at routes code tt) in
-    (ltb→lt k 12 (and_l (ltb k 12) _ t), λ h. T_not (eqb k 3) (and_r (ltb k 12) _ t) (subst (λ (n : ℕ). T (eqb n 3)) (sym h) tt))
+direct_channel code e = direct_allowed (route_of code) (every_at routes code tt) e
+
+-- and so in any hall
+folded_allowed : (here : ℕ → Bool) (r : Route) → T (allowed r) → T (allowed (folded_unless here r))
+folded_allowed here Bass a = tt
+folded_allowed here Folded a = tt
+folded_allowed here (Direct j) a = go (here j)
+  where
+    go : (b : Bool) → T (allowed (cond b (Direct j) Folded))
+    go true = a
+    go false = tt
+folded_allowed here Unsupported a = tt
+
+pub direct_in : {k : ℕ} (here : ℕ → Bool) (code : ℕ) → route_in here code ≡ Direct k → (k < 12) × (k ≡ 3 → ⊥)
+unfolding route_of route_in
+direct_in here code e = direct_allowed (route_in here code) (folded_allowed here (route_of code) (every_at routes code tt)) e
 
 -- a hall that has all twelve channels routes each bed as document 01 does
 pub route_all_here : (here : ℕ → Bool) → ((k : ℕ) → k < 12 → here k ≡ true) → (code : ℕ) → route_in here code ≡ route_of code

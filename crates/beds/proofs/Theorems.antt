@@ -4,8 +4,8 @@
 pub use Rattle.beds.proofs.Matches.{Judged, judged}
 -- and where none is counted it finds nothing
 pub use Rattle.beds.proofs.Matches.{counted_none}
--- a direct channel is one of the twelve, and not the bass channel
-pub use Rattle.beds.proofs.Channels.{direct_channel}
+-- a direct channel is one of the twelve, and not the bass channel, in any hall too
+pub use Rattle.beds.proofs.Channels.{direct_channel, direct_in}
 -- a hall that has all twelve channels routes each bed as document 01 does
 pub use Rattle.beds.proofs.Channels.{route_all_here}
 -- what holds at each number of a range, shown one by one

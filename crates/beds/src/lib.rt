@@ -5,8 +5,8 @@
 // functions answer every byte, and compare unknown codes too.
 #![tactic(auto)]
 
-ghost use Rattle.std.specs.Prelude.{◌≡◌};
-ghost use Rattle.beds.specs.Routes.{route_of, bass_gain};
+ghost use Rattle.std.specs.Prelude.{◌≡◌, false, get_or};
+ghost use Rattle.beds.specs.Routes.{route_of, route_in, bass_gain};
 ghost use Rattle.beds.specs.Positions.{bed_position};
 ghost use Rattle.beds.specs.Matching.{low_frequency, matches, first_of, matching};
 
@@ -38,6 +38,17 @@ pub fn route_of(code: u8) -> Route
         9..=10 => Route::Direct(usize::from(code) - 1),
         13..=14 => Route::Direct(usize::from(code) - 3),
         _ => Route::Unsupported,
+    }
+}
+
+// The same in a hall that has the channels `present`: a bed whose own channel is absent is panned.
+#[tactic(auto, using(crate::proofs::Channels::direct_channel), unfolding(crate::specs::Routes::route_in))]
+pub fn route_in(code: u8, present: &[bool; 12]) -> Route
+    ensures { result ≡ route_in (λ k. get_or present.now k false) code }
+{
+    match route_of(code) {
+        Route::Direct(channel) if !present[channel] => Route::Folded,
+        route => route,
     }
 }
 

@@ -1,25 +1,25 @@
 -- Rows laid into the places of a state block: the small part's bytes and the infos stay, and each channel's 64 places are `laid`. Assumes nothing.
 use mathlib.Core.Path.{◌≡◌, refl, sym, ap, ap₂, fun_ext, ◌∙◌}
-use mathlib.Core.Bool.{Bool, true, false}
-use mathlib.Core.List.{List, [], ◌∷◌, ◌++◌, map, append-nil}
+use mathlib.Core.Bool.{Bool, true, false, cond}
+use mathlib.Core.List.{List, [], ◌∷◌, ◌++◌, map}
 use Prim.Native.Nat.{ℕ, zero, suc, ◌+◌, ◌*◌, ◌≤◌}
 use native.Mathlib.Nat.{suc-ne-zero, suc_inj}
 use native.Mathlib.Omega.{arith}
 use borrow.Author.Tests.{ltb-true, ltb-false}
 use borrow.Rule.Slice.PartMut.{put_mid}
 use lib.Dec.{T, ltb}
-use lib.ListN.{length, get_or, set, take, drop, length-set, length-drop, take-append-drop, drop_of_length-le}
-use lib.Seq.{take_all, length-take-le, take-append-le, drop-append-le, drop_at}
+use lib.ListN.{length, get_or, set, take, drop, length-set, length-drop, take-append-drop}
+use lib.Seq.{length-take-le, take-append-le, drop-append-le, take_at, drop_at, drop-drop}
 use lib.Ieee.{Float, nan, binary32, fits, of_bits, to_bits}
 use lib.Ieee.Bits.{of_bits-to_bits}
 use Rattle.words.specs.Words.{words_at}
 use Rattle.limiter.specs.ChannelPlaces.{channels, with_channels}
 use Rattle.rules.specs.Parts.{laid}
 use Rattle.store.specs.Layout.{infos_at, places_at, size, infos_of, places_of}
-use Rattle.store.proofs.Theorems.{places_row, no_places, words_drop}
-use Rattle.render.proofs.Theorems.{Fit, append_laid}
+use Rattle.store.proofs.Theorems.{places_row, no_places, words_drop, words_front}
+use Rattle.render.proofs.Theorems.{Fit, append_laid, length_channels}
 use Rattle.formats.specs.Areas.{infos_bytes, places_bytes}
-use Rattle.chunk.specs.ChunkRows.{small_bytes, Laid}
+use Rattle.chunk.specs.ChunkRows.{small_bytes, hall_bytes_of, Laid}
 
 -- ---- laid
 
@@ -57,59 +57,84 @@ infos_front p x l =
     let d : infos_bytes ≤ length (drop infos_at p) = rw length-drop (omega arith) in
     ap (take infos_bytes) (drop-append-le infos_at p x (omega arith)) ∙ take-append-le infos_bytes (drop infos_at p) x d
 
-words_back : (p x : List ℕ) (at n : ℕ) → length p ≡ places_at → words_at (p ++ x) (places_at + at) n ≡ words_at x at n
-words_back p x at n l = words_drop (p ++ x) places_at at n ∙ ap (λ (s : List ℕ). words_at s at n) (drop_at p x places_at l)
+-- words of the places, between what stands before and behind them
+words_between : (p x y : List ℕ) (at n : ℕ) → length p ≡ places_at → length x ≡ places_bytes → at + 4 * n ≤ places_bytes
+    → words_at (p ++ (x ++ y)) (places_at + at) n ≡ words_at x at n
+words_between p x y at n l m h =
+    words_drop (p ++ (x ++ y)) places_at at n
+    ∙ ap (λ (s : List ℕ). words_at s at n) (drop_at p (x ++ y) places_at l)
+    ∙ sym (words_front (x ++ y) at n places_bytes h)
+    ∙ ap (λ (s : List ℕ). words_at s at n) (take_at x y places_bytes m)
 
-module _ (rows : List Float) (pending k : ℕ) (short : pending + k ≤ 64) (b new : List ℕ) (fit : Fit rows) (lr : length rows ≡ 768) (l : length b ≡ size)
-    (p : new ≡ with_channels (channels 12 k rows) 256 (4 * pending) (take places_bytes (drop places_at b))) where
+module _ (here : List Bool) (lh : length here ≡ 12) (rows : List Float) (pending k : ℕ) (short : pending + k ≤ 64) (b new : List ℕ) (fit : Fit rows) (l : length b ≡ size)
+    (p : new ≡ with_channels (channels here k rows) 256 (4 * pending) (take places_bytes (drop places_at b))) where
+  -- the block is what stands before the places, they, and the hall
   front : List ℕ
   front = take places_at b
 
-  back : List ℕ
-  back = with_channels (channels 12 k rows) 256 (4 * pending) (drop places_at b)
+  old : List ℕ
+  old = take places_bytes (drop places_at b)
+
+  hall : List ℕ
+  hall = drop places_bytes (drop places_at b)
+
+  split : front ++ (old ++ hall) ≡ b
+  unfolding front old hall
+  split = ap (λ (t : List ℕ). take places_at b ++ t) (take-append-drop places_bytes (drop places_at b)) ∙ take-append-drop places_at b
 
   front_long : length front ≡ places_at
   unfolding front
   front_long = length-take-le places_at b (omega arith)
 
-  rest_long : length (drop places_at b) ≡ 3072
-  rest_long = length-drop places_at b ∙ omega arith
+  old_long : length old ≡ places_bytes
+  unfolding old
+  old_long = length-take-le places_bytes (drop places_at b) (rw length-drop (omega arith))
 
-  put : put_mid places_at places_bytes b new ≡ front ++ back
-  unfolding front back
-  put =
-      let d = rest_long in
-      let o : length (drop places_at b) ≤ places_bytes = omega arith in
-      ap (λ (t : List ℕ). take places_at b ++ (new ++ t)) (drop_of_length-le (drop places_at b) o)
-      ∙ ap (λ (t : List ℕ). take places_at b ++ t)
-      (append-nil new ∙ p ∙ ap (with_channels (channels 12 k rows) 256 (4 * pending)) (take_all places_bytes (drop places_at b) o))
+  new_long : length new ≡ places_bytes
+  unfolding old
+  new_long = ap length p ∙ length_channels (channels here k rows) (4 * pending) old ∙ old_long
 
-  put_small : small_bytes (front ++ back) ≡ small_bytes b
-  unfolding front
+  put : put_mid places_at places_bytes b new ≡ front ++ (new ++ hall)
+  unfolding front hall
+  put = refl
+
+  put_small : small_bytes (front ++ (new ++ hall)) ≡ small_bytes b
   put_small =
       let f = front_long in
-      take-append-le infos_at front back (omega arith) ∙ sym (take-append-le infos_at front (drop places_at b) (omega arith)) ∙ ap small_bytes (take-append-drop places_at b)
+      take-append-le infos_at front (new ++ hall) (omega arith) ∙ sym (take-append-le infos_at front (old ++ hall) (omega arith)) ∙ ap small_bytes split
 
-  put_infos : infos_of (front ++ back) ≡ infos_of b
-  unfolding front
-  put_infos = infos_front front back front_long ∙ sym (infos_front front (drop places_at b) front_long) ∙ ap infos_of (take-append-drop places_at b)
+  put_infos : infos_of (front ++ (new ++ hall)) ≡ infos_of b
+  put_infos = infos_front front (new ++ hall) front_long ∙ sym (infos_front front (old ++ hall) front_long) ∙ ap infos_of split
 
-  put_place : (c : ℕ) (q : Bool) → ltb c 12 ≡ q → places_of (front ++ back) c ≡ laid pending (take k (drop (64 * c) rows)) (places_of b c)
-  unfolding back
+  hall_behind : (x : List ℕ) → length x ≡ places_bytes → hall_bytes_of (front ++ (x ++ hall)) ≡ hall
+  hall_behind x e =
+      sym (drop-drop places_bytes places_at (front ++ (x ++ hall))) ∙ ap (drop places_bytes) (drop_at front (x ++ hall) places_at front_long) ∙ drop_at x hall places_bytes e
+
+  put_hall : hall_bytes_of (front ++ (new ++ hall)) ≡ hall_bytes_of b
+  put_hall = hall_behind new new_long ∙ sym (hall_behind old old_long) ∙ ap hall_bytes_of split
+
+  put_place : (c : ℕ) (q : Bool) → ltb c 12 ≡ q
+      → places_of (front ++ (new ++ hall)) c ≡ laid pending (cond (get_or here c false) (take k (drop (64 * c) rows)) []) (places_of b c)
+  unfolding old
   put_place c true e =
-      let l = ltb-true c 12 e in
-      places_row (front ++ back) c l
-      ∙ words_back front back (256 * c) 64 front_long
-      ∙ append_laid k pending short rows (drop places_at b) fit rest_long lr c l
-      ∙ ap (laid pending (take k (drop (64 * c) rows))) (sym (words_drop b places_at (256 * c) 64) ∙ sym (places_row b c l))
+      let i = ltb-true c 12 e in
+      let ys = cond (get_or here c false) (take k (drop (64 * c) rows)) [] in
+      let h : 256 * c + 4 * 64 ≤ places_bytes = omega arith in
+      places_row (front ++ (new ++ hall)) c i
+      ∙ words_between front new hall (256 * c) 64 front_long new_long h
+      ∙ ap (λ (s : List ℕ). words_at s (256 * c) 64) p
+      ∙ append_laid k pending short here lh rows old fit old_long c i
+      ∙ ap (laid pending ys)
+      (sym (words_between front old hall (256 * c) 64 front_long old_long h) ∙ ap (λ (s : List ℕ). words_at s (places_at + 256 * c) 64) split ∙ sym (places_row b c i))
   put_place c false e =
-      let l = ltb-false c 12 e in
-      no_places (front ++ back) c l
-      ∙ sym (laid_nil pending (take k (drop (64 * c) rows))) ∙ ap (laid pending (take k (drop (64 * c) rows))) (sym (no_places b c l))
+      let i = ltb-false c 12 e in
+      let ys = cond (get_or here c false) (take k (drop (64 * c) rows)) [] in
+      no_places (front ++ (new ++ hall)) c i ∙ sym (laid_nil pending ys) ∙ ap (laid pending ys) (sym (no_places b c i))
 
-  pub lay_laid : Laid rows pending k b (put_mid places_at places_bytes b new)
-  lay_laid = rw put (record { small = put_small; infos = put_infos; places = fun_ext (λ c. put_place c (ltb c 12) refl) })
+  pub lay_laid : Laid here rows pending k b (put_mid places_at places_bytes b new)
+  lay_laid = rw put (record { small = put_small; infos = put_infos; places = fun_ext (λ c. put_place c (ltb c 12) refl); hall = put_hall })
 
 -- the block as it would be with the rows laid
-pub as_laid : (rows : List Float) (pending k : ℕ) → pending + k ≤ 64 → (b : List ℕ) → Fit rows → length rows ≡ 768 → length b ≡ size → (c : List ℕ) × Laid rows pending k b c
-as_laid rows pending k short b fit lr l = (_, lay_laid rows pending k short b _ fit lr l refl)
+pub as_laid : (here : List Bool) → length here ≡ 12 → (rows : List Float) (pending k : ℕ) → pending + k ≤ 64 → (b : List ℕ) → Fit rows → length b ≡ size
+    → (c : List ℕ) × Laid here rows pending k b c
+as_laid here lh rows pending k short b fit l = (_, lay_laid here lh rows pending k short b _ fit l refl)

@@ -11,7 +11,7 @@ use lib.Ieee.Fits.{and_i}
 use Rattle.ieee.specs.Units.{F32, P, N}
 use Rattle.ieee.proofs.Compare.{lt→, →lt, le→, →le, eq→, →eq}
 use Rattle.vectors.specs.declared.Vec3.{Vec3}
-use Rattle.panning.specs.Table.{alike}
+use Rattle.corners.specs.Table.{alike}
 use Rattle.corners.specs.SpeakerOrder.{precedes}
 use Rattle.corners.proofs.Rising.{less_or_not}
 

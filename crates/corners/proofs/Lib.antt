@@ -1,3 +1,5 @@
+pub mod Lists
+pub mod Tables
 pub mod Rising
 pub mod Segments
 pub mod Stops
@@ -7,6 +9,4 @@ pub mod Lexical
 pub mod Lined
 pub mod RunEnds
 pub mod Making
-pub mod Walk714
-pub mod PartTables
 pub mod Theorems

@@ -13,10 +13,10 @@ use lib.Ieee.Fits.{and_i, and_l, and_r}
 use Rattle.ieee.specs.Units.{F32}
 use Rattle.ieee.proofs.Compare.{eq→, →eq}
 use Rattle.vectors.specs.declared.Vec3.{Vec3}
-use Rattle.panning.specs.Choice.{every_of}
-use Rattle.panning.specs.Table.{Table, alike, distinct}
-use Rattle.panning.proofs.Lists.{In, Each, keep→, →keep, every→}
-use Rattle.panning.proofs.Tables.{all_tame}
+use Rattle.corners.specs.Choice.{every_of}
+use Rattle.corners.specs.Table.{Table, alike, distinct}
+use Rattle.corners.proofs.Lists.{In, Each, keep→, →keep, every→}
+use Rattle.corners.proofs.Tables.{all_tame}
 use Rattle.corners.specs.EqualRuns.{Members}
 use Rattle.corners.specs.SpeakerOrder.{precedes, is_marked, speakers_of, Inserted, InLine}
 use Rattle.corners.proofs.Rising.{less_or_not}

@@ -8,10 +8,8 @@ use native.Mathlib.Nat.{le_trans, lt_of_lt_of_le}
 use native.Mathlib.Omega.{arith}
 use lib.ListN.{replicate, get_or-replicate}
 use Rattle.vectors.specs.declared.Vec3.{Vec3}
-use Rattle.panning.specs.Choice.{Corner, corner}
-use Rattle.panning.specs.Table.{Table}
-use Rattle.panning.proofs.Lists.{some_of}
-use Rattle.panning.proofs.Corners.{corner_in}
+use Rattle.corners.specs.Table.{Table}
+use Rattle.corners.proofs.Lists.{some_of}
 use Rattle.corners.specs.declared.Axis.TheVariants.{X, Y, Z}
 use Rattle.corners.specs.Axes.{place_among, speaker_at, channel_at, along, index_at}
 use Rattle.corners.specs.declared.Speaker.{Speaker}
@@ -19,7 +17,7 @@ use Rattle.corners.specs.EqualRuns.{Members}
 use Rattle.corners.specs.SpeakerOrder.{is_marked, speakers_of, InLine, Gathered, RunEnds}
 use Rattle.corners.specs.Sorted.{Sorted}
 use Rattle.corners.proofs.Lexical.{Fine, Lex, lex_of}
-use Rattle.corners.proofs.Lined.{in_speaker, fine_marked, all_lined}
+use Rattle.corners.proofs.Lined.{fine_marked, all_lined}
 use Rattle.corners.proofs.RunEnds.{layer_most, walkable}
 
 module _ (P : List Vec3) (p : List Bool) (t : Table (place_among P) (speakers_of p)) (n : ℕ) (ch : List ℕ)
@@ -82,6 +80,3 @@ module _ (P : List Vec3) (p : List Bool) (t : Table (place_among P) (speakers_of
           at_z = λ i o q. ap (λ (v : Vec3). v.z) (stands i q);
         };
       }
-
-pub corner_below : (sp : ℕ → Vec3) (p : List Bool) → Table sp (speakers_of p) → (v : Vec3) (c : Corner) → corner sp (speakers_of p) v c < 12
-corner_below sp p t v c = (in_speaker p (corner sp (speakers_of p) v c) (corner_in sp (speakers_of p) t v c.top c.front c.right)).0

@@ -9,7 +9,6 @@ use lib.Dec.{T, ltb, ltb→lt, nltb→le}
 use lib.Ieee.{Float, nan, inf, fin, binary32, fits, le, lt, eq}
 use Rattle.ieee.specs.Units.{F32, P, N}
 use Rattle.ieee.proofs.Compare.{le→, →le, eq→, →eq}
-use Rattle.panning.proofs.Corners714.{eq_finite}
 
 pub less_or_not : (m n : ℕ) → (m < n) ⊎ (n ≤ m)
 less_or_not m n = go (ltb m n) (ltb→lt m n) (nltb→le m n)
@@ -17,6 +16,14 @@ less_or_not m n = go (ltb m n) (ltb→lt m n) (nltb→le m n)
     go : (b : Bool) → (T b → m < n) → (T (not b) → n ≤ m) → (m < n) ⊎ (n ≤ m)
     go true h k = inl (h tt)
     go false h k = inr (k tt)
+
+pub eq_finite : (a v : Float) → F32 a → T (fits binary32 v) → T (eq a v) → F32 v
+unfolding eq
+eq_finite nan v f g h = absurd f.fine
+eq_finite (inf s) v f g h = absurd f.fine
+eq_finite (fin s m e) nan f g h = absurd h
+eq_finite (fin s m e) (inf t) f g h = absurd h
+eq_finite (fin s m e) (fin t n d) f g h = record { fine = tt; fit = g }
 
 pub le_self : (a : Float) → F32 a → T (le a a)
 le_self a f = →le a a f f (le_refl (P a + N a))

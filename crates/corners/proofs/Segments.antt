@@ -11,8 +11,8 @@ use native.Mathlib.Omega.{arith}
 use lib.Dec.{T, T_not, not_T}
 use lib.Ieee.{Float, le}
 use Rattle.ieee.specs.Units.{F32}
-use Rattle.panning.specs.Choice.{keep, every_of, first, or_list, ge, outermost, below, above}
-use Rattle.panning.proofs.Lists.{In, Each, keep→, →keep, every→, →every}
+use Rattle.corners.specs.Choice.{keep, every_of, first, or_list, ge, outermost, below, above}
+use Rattle.corners.proofs.Lists.{In, Each, keep→, →keep, every→, →every}
 use Rattle.corners.specs.EqualRuns.{Members}
 use Rattle.corners.proofs.Rising.{less_or_not, through}
 

@@ -9,9 +9,9 @@ use native.Mathlib.Omega.{arith}
 use lib.Dec.{T, T_not}
 use lib.Ieee.{Float, binary32, fits, le, eq}
 use Rattle.ieee.specs.Units.{F32}
-use Rattle.panning.specs.Choice.{keep, first, or_list, below, above, level, end, flank}
-use Rattle.panning.proofs.Lists.{In, keep→, →keep}
-use Rattle.panning.specs.Found.{side_of}
+use Rattle.corners.specs.Choice.{keep, first, or_list, below, above, level, end, flank}
+use Rattle.corners.proofs.Lists.{In, keep→, →keep}
+use Rattle.corners.specs.Found.{side_of}
 use Rattle.corners.specs.EqualRuns.{Members, Runs, Along, LastRun, Walked, EndsAt, SidesAt}
 use Rattle.corners.proofs.Rising.{less_or_not, through, eq_le, eq_both, squeezed}
 use Rattle.corners.proofs.Segments.{each_member, part, or_some, or_none, only_first, none_below, none_above, below_run, above_run}

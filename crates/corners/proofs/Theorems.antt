@@ -10,9 +10,5 @@ pub use Rattle.corners.proofs.Lexical.{Fine, Lex, lex_of, of_lex, lex_chain, oth
 pub use Rattle.corners.proofs.Lined.{speaker_in, in_speaker, fine_marked, away_marked}
 -- sorted arrays, with the ends of their runs, can be walked
 pub use Rattle.corners.proofs.RunEnds.{walkable}
--- every corner is a marked channel
-pub use Rattle.corners.proofs.Making.{corner_below}
--- any marks of a table that leave a speaker, and not channel 3, can be sorted, and so the four layouts of R-5
-pub use Rattle.corners.proofs.PartTables.{without_bass, part_table, layouts_714}
--- in the 7.1.4 hall the walk finds the corners that `panning` chooses
-pub use Rattle.corners.proofs.Walk714.{CubeOf, same_as_714}
+-- so can what is made of any table
+pub use Rattle.corners.proofs.Making.{made}

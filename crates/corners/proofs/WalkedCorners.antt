@@ -1,16 +1,16 @@
 -- The corners from the ends: a layer of the walk is a layer of the choice, a row of it a row of that layer, and a side of that a corner. Assumes nothing.
-use mathlib.Core.Path.{◌≡◌, refl, sym}
+use mathlib.Core.Path.{◌≡◌, sym, fun_ext}
 use mathlib.Core.Bool.{Bool, true, false}
-use mathlib.Core.List.{List, [], ◌∷◌, map}
+use mathlib.Core.List.{List}
 use Prim.Native.Nat.{ℕ, ◌≤◌, ◌<◌}
 use native.Mathlib.Nat.{le_trans, lt_of_lt_of_le}
 use lib.Ieee.{Float}
 use Rattle.vectors.specs.declared.Vec3.{Vec3}
-use Rattle.panning.specs.Choice.{first, end, flank, row_among, side, corner, corners}
-use Rattle.panning.specs.Choice as choice
-use Rattle.panning.specs.declared.Ends.{Ends}
-use Rattle.panning.specs.declared.Layer.{Layer}
-use Rattle.panning.specs.Found.{side_of, row_of}
+use Rattle.corners.specs.Choice.{first, end, flank, row_among, side, corner}
+use Rattle.corners.specs.Choice as choice
+use Rattle.corners.specs.declared.Ends.{Ends}
+use Rattle.corners.specs.declared.Layer.{Layer}
+use Rattle.corners.specs.Found.{side_of, row_of, layer_of, chosen}
 use Rattle.corners.specs.EqualRuns.{Along, EndsAt, SidesAt}
 use Rattle.corners.specs.Walkable.{RowRuns, LayerRuns, Walkable, StandAt, RowAt, LayerAt}
 
@@ -21,9 +21,6 @@ row_at ch {v = v} {r = r} s = record {
     | true ↦ sym (s.is ch C l al h true)
   ];
 }
-
-both : {a b : ℕ} {l m : List ℕ} → a ≡ b → l ≡ m → a ∷ l ≡ b ∷ m
-both p q = cc
 
 -- a part of what stands along an axis
 along_part : {c : ℕ → Float} {a b i j : ℕ} (ch : ℕ → ℕ) (C : ℕ → Float) → a ≤ i → j ≤ b → Along c a b ch C → Along c i j ch C
@@ -53,11 +50,11 @@ module _ {x y z : ℕ → Float} {layers rows : ℕ → ℕ} {n : ℕ} (r : Walk
 
   pub cube_is : {ch : ℕ → ℕ} {p : Vec3} {e : Ends} {b t : Layer} → EndsAt y layers 0 n p.y e → LayerAt x z ch e.low (layers e.low) p b →
       LayerAt x z ch e.high (layers e.high) p t → (sp : ℕ → Vec3) (l : List ℕ) → StandAt sp l x y z ch n →
-      b.front.low ∷ b.front.high ∷ b.rear.low ∷ b.rear.high ∷ t.front.low ∷ t.front.high ∷ t.rear.low ∷ t.rear.high ∷ [] ≡ map (corner sp l p) corners
+      chosen (record { bottom = b; top = t }) ≡ corner sp l p
   unfolding corner choice.layer
   cube_is {ch} {p} {e} {b} {t} k f g sp l s =
-      both (bottom true false) (both (bottom true true) (both (bottom false false) (both (bottom false true)
-      (both (top true false) (both (top true true) (both (top false false) (both (top false true) refl)))))))
+      fun_ext (λ c. elim c.top as (λ q. side_of c.right (row_of c.front (layer_of q (record { bottom = b; top = t }))) ≡
+      first (side c.right sp p (row_among c.front sp p (choice.layer q sp p l)))) [ false ↦ bottom c.front c.right | true ↦ top c.front c.right ])
     where
       bottom : (front right : Bool) → side_of right (row_of front b) ≡ first (side right sp p (row_among front sp p (choice.layer false sp p l)))
       bottom front right = f.is sp (choice.layer false sp p l) (along_part ch (λ k. (sp k).x) (k.from false) (r.layers.inside e.low (k.from false) (k.to false)) s.at_x)

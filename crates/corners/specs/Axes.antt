@@ -5,7 +5,7 @@ use Rattle.vectors.specs.declared.Vec3.{Vec3}
 use Rattle.corners.specs.declared.Axis.{Axis}
 use Rattle.corners.specs.declared.Axis.TheVariants.{X, Y, Z}
 use Rattle.corners.specs.declared.Speaker.{Speaker}
-use Rattle.corners.specs.declared.Hall.{Hall}
+use Rattle.corners.specs.declared.SortedSpeakers.{SortedSpeakers}
 
 abbrev pub coordinate : Axis → Vec3 → Float
 coordinate X v = v.x
@@ -29,7 +29,7 @@ abbrev pub index_at : List ℕ → ℕ → ℕ
 index_at l i = get_or l i 0
 
 -- where the run at i ends; along a row each speaker is a run
-abbrev pub run_after : Axis → Hall → ℕ → ℕ
+abbrev pub run_after : Axis → SortedSpeakers → ℕ → ℕ
 run_after X h i = i + 1
 run_after Y h i = index_at h.layers i
 run_after Z h i = index_at h.rows i

@@ -1,13 +1,13 @@
 -- Speakers in order along one axis. Document 01, item 4: "lower and upper layer, front and rear row in each, left and right in each row; a missing side is filled". Sorted by
 -- (y, z, x), a layer, a row and a side are runs of neighbouring places of the arrays, from a first index up to an end, and what a walk over the runs finds is the end that
--- panning/specs/Choice chooses. Assumes nothing.
+-- specs/Choice chooses. Assumes nothing.
 use Rattle.std.specs.Prelude.{ℕ, ◌≤◌, ◌<◌, ◌≡◌, ◌⊎◌, Bool, T, Float}
 use mathlib.Core.List.{List, Memᴰ}
 use Rattle.std.specs.Float.Ieee.{le}
 use Rattle.ieee.specs.Units.{F32}
-use Rattle.panning.specs.Choice.{first, end, flank}
-use Rattle.panning.specs.declared.Ends.{Ends}
-use Rattle.panning.specs.Found.{side_of}
+use Rattle.corners.specs.Choice.{first, end, flank}
+use Rattle.corners.specs.declared.Ends.{Ends}
+use Rattle.corners.specs.Found.{side_of}
 
 -- the members of l are the channels at the indexes from a up to b
 pub record Members (channel : ℕ → ℕ) (a b : ℕ) (l : List ℕ) : Type 0 where

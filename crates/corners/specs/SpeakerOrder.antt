@@ -2,7 +2,7 @@
 use Rattle.std.specs.Prelude.{ℕ, ◌+◌, ◌≤◌, ◌<◌, ◌≡◌, Bool, false, ◌&&◌, cond, List, [], ◌∷◌, T, ltb, get_or, Float}
 use Rattle.std.specs.Float.Ieee.{lt, eq}
 use Rattle.vectors.specs.declared.Vec3.{Vec3}
-use Rattle.panning.specs.Choice.{keep}
+use Rattle.corners.specs.Choice.{keep}
 use Rattle.corners.specs.declared.Speaker.{Speaker}
 use Rattle.corners.specs.Axes.{speaker_at}
 
@@ -12,11 +12,11 @@ precedes v w = cond (eq v.y w.y) (cond (eq v.z w.z) (lt v.x w.x) (lt v.z w.z)) (
 
 -- the channels that are marked
 abbrev pub is_marked : List Bool → ℕ → Bool
-is_marked present k = get_or present k false
+is_marked marked k = get_or marked k false
 
 unfoldable pub speakers_of : List Bool → List ℕ
 unfolding keep
-speakers_of present = keep (is_marked present) (0 ∷ 1 ∷ 2 ∷ 3 ∷ 4 ∷ 5 ∷ 6 ∷ 7 ∷ 8 ∷ 9 ∷ 10 ∷ 11 ∷ [])
+speakers_of marked = keep (is_marked marked) (0 ∷ 1 ∷ 2 ∷ 3 ∷ 4 ∷ 5 ∷ 6 ∷ 7 ∷ 8 ∷ 9 ∷ 10 ∷ 11 ∷ [])
 
 -- ---- contracts
 

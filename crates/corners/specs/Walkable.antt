@@ -2,10 +2,10 @@
 -- the contracts of `row` and `layer`. Assumes nothing.
 use Rattle.std.specs.Prelude.{ℕ, ◌+◌, ◌≤◌, ◌<◌, ◌≡◌, Bool, List, Float}
 use Rattle.vectors.specs.declared.Vec3.{Vec3}
-use Rattle.panning.specs.Choice.{first, flank, row_among, side}
-use Rattle.panning.specs.declared.Ends.{Ends}
-use Rattle.panning.specs.declared.Layer.{Layer}
-use Rattle.panning.specs.Found.{side_of, row_of}
+use Rattle.corners.specs.Choice.{first, flank, row_among, side}
+use Rattle.corners.specs.declared.Ends.{Ends}
+use Rattle.corners.specs.declared.Layer.{Layer}
+use Rattle.corners.specs.Found.{side_of, row_of}
 use Rattle.corners.specs.EqualRuns.{Members, Runs, Along}
 
 -- the row at a

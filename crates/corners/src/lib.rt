@@ -4,12 +4,10 @@
 #![tactic(auto)]
 
 ghost use Rattle.std.specs.Prelude.{◌≡◌, map};
-ghost use Rattle.panning.specs.Choice.{corners};
-ghost use Rattle.panning.specs.Found.{chosen};
-ghost use Rattle.panning.specs.Corners714.{cube714};
+ghost use Rattle.corners.specs.Choice.{corners};
+ghost use Rattle.corners.specs.Found.{chosen};
 ghost use Rattle.corners.specs.Axes.{coordinate};
 
-use panning::SPEAKERS;
 use vectors::Vec3;
 
 mod sort;
@@ -44,21 +42,47 @@ pub struct Speaker {
 // `ArrayVec` are of lists. And `layers` and `rows` have the ends of the runs of equal y, and of equal y and z: arrays of
 // their own, since each end is worked out from those after it, and the ends of the layers bound those of the rows.
 #[derive(Clone, Copy)]
-pub struct Hall {
+pub struct SortedSpeakers {
     pub speakers: [Speaker; 12],
     pub layers: [usize; 12],
     pub rows: [usize; 12],
     pub count: usize,
 }
 
-// The speakers of the 7.1.4 hall but the bass.
-const FULL_RANGE: [bool; 12] = [
-    true, true, true, false, true, true, true, true, true, true, true, true,
-];
+// The two sides of a row.
+#[derive(Clone, Copy)]
+pub struct Ends {
+    pub low: usize,
+    pub high: usize,
+}
 
-// The corners in the 7.1.4 hall, by sorting and walking: those of `panning`.
-pub fn walk_714(place: Vec3) -> [usize; 8]
-    ensures { result ≡ map (chosen (cube714 place)) corners }
-{
-    Hall::of(&SPEAKERS, &FULL_RANGE).cube(place)
+#[derive(Clone, Copy)]
+pub struct Layer {
+    pub front: Ends,
+    pub rear: Ends,
+}
+
+// The eight corners.
+#[derive(Clone, Copy)]
+pub struct Cube {
+    pub bottom: Layer,
+    pub top: Layer,
+}
+
+impl Cube {
+    // The corners in the order in which they are mixed.
+    pub fn channels(self) -> [usize; 8]
+        ensures { result ≡ map (chosen self) corners }
+    {
+        [
+            self.bottom.front.low,
+            self.bottom.front.high,
+            self.bottom.rear.low,
+            self.bottom.rear.high,
+            self.top.front.low,
+            self.top.front.high,
+            self.top.rear.low,
+            self.top.rear.high,
+        ]
+    }
 }

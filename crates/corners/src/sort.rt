@@ -2,12 +2,12 @@
 
 // The speakers of a hall in the order of (y, z, x), and where the layers and the rows among them end.
 ghost use Rattle.std.specs.Prelude.{◌≡◌, ℕ, ◌+◌, ◌<◌, ◌≤◌};
-ghost use Rattle.panning.specs.Table.{Table};
+ghost use Rattle.corners.specs.Table.{Table};
 ghost use Rattle.corners.specs.Axes.{place_among, along, index_at};
 ghost use Rattle.corners.specs.SpeakerOrder.{precedes, is_marked, speakers_of, Inserted, InLine, Gathered, run_end, RunEnds};
 ghost use Rattle.corners.specs.Sorted.{Sorted};
 
-use crate::{Axis, Hall, Speaker};
+use crate::{Axis, SortedSpeakers, Speaker};
 use vectors::Vec3;
 
 // Whether a speaker at `v` comes before one at `w`. No order of `Vec3` that a derive writes: that would be (x, y, z).
@@ -17,7 +17,7 @@ fn precedes(v: Vec3, w: Vec3) -> bool
     (v.y, v.z, v.x) < (w.y, w.z, w.x)
 }
 
-// The channels that were tried so far, in order: a count beside an array, as in `Hall`.
+// The channels that were tried so far, in order: a count beside an array, as in `SortedSpeakers`.
 #[derive(Clone, Copy)]
 struct Line {
     channels: [usize; 12],
@@ -45,16 +45,16 @@ impl Line {
     }
 
     // The marked channels.
-    fn of(places: &[Vec3; 12], present: &[bool; 12]) -> Line
-        requires { Table (place_among places.now) (speakers_of present.now) }
-        ensures { InLine (place_among places.now) (is_marked present.now) 12 result.count (index_at result.channels) }
+    fn of(places: &[Vec3; 12], marked: &[bool; 12]) -> Line
+        requires { Table (place_among places.now) (speakers_of marked.now) }
+        ensures { InLine (place_among places.now) (is_marked marked.now) 12 result.count (index_at result.channels) }
     {
         let mut line = Line {
             channels: [0; 12],
             count: 0,
         };
-        for (k, marked) in present.iter().enumerate() {
-            if !*marked {
+        for (k, here) in marked.iter().enumerate() {
+            if !*here {
                 continue;
             }
             line.insert(places, k);
@@ -113,19 +113,19 @@ fn run_ends(axis: Axis, speakers: &[Speaker; 12], bound: &[usize; 12], n: usize)
     ends
 }
 
-impl Hall {
-    // The hall of the marked speakers, channel k standing at `places[k]`. Places and marks are two arrays: that of `panning` has a place for the bass too, which is unmarked.
-    pub fn of(places: &[Vec3; 12], present: &[bool; 12]) -> Hall
-        requires { Table (place_among places.now) (speakers_of present.now) }
-        ensures { Sorted (place_among places.now) (speakers_of present.now) result }
+impl SortedSpeakers {
+    // The marked speakers, channel k standing at `places[k]`. Places and marks are two arrays: a hall's has a place for the bass too, which is unmarked.
+    pub fn of(places: &[Vec3; 12], marked: &[bool; 12]) -> SortedSpeakers
+        requires { Table (place_among places.now) (speakers_of marked.now) }
+        ensures { Sorted (place_among places.now) (speakers_of marked.now) result }
     {
-        let line = Line::of(places, present);
+        let line = Line::of(places, marked);
         let speakers = line.speakers(places);
         let count = line.count;
         let bounds = [count; 12];
         let layers = run_ends(Axis::Y, &speakers, &bounds, count);
         let rows = run_ends(Axis::Z, &speakers, &layers, count);
-        Hall {
+        SortedSpeakers {
             speakers,
             layers,
             rows,

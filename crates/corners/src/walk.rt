@@ -1,20 +1,20 @@
 // SPDX-License-Identifier: Apache-2.0
 
 // The corners about a place: the runs of equal coordinates of a sorted hall are walked along each axis.
-ghost use Rattle.std.specs.Prelude.{◌≡◌, List, map, ℕ, ◌+◌, ◌<◌, ◌≤◌};
+ghost use Rattle.std.specs.Prelude.{◌≡◌, List, ℕ, ◌+◌, ◌<◌, ◌≤◌};
 ghost use Rattle.vectors.specs.declared.Vec3.{Vec3};
-ghost use Rattle.panning.specs.Choice.{corner, corners};
+ghost use Rattle.corners.specs.Choice.{corner};
+ghost use Rattle.corners.specs.Found.{chosen};
 ghost use Rattle.corners.specs.declared.Axis.TheVariants.{X, Z};
 ghost use Rattle.corners.specs.Axes.{along, channel_at, index_at, run_after};
 ghost use Rattle.corners.specs.EqualRuns.{StopsAt, EndsAt, SidesAt};
 ghost use Rattle.corners.specs.Walkable.{RowRuns, LayerRuns, RowAt, LayerAt};
 ghost use Rattle.corners.specs.Sorted.{RunsIn, CanWalk, StandIn};
 
-use crate::{Axis, Hall};
-use panning::{Cube, Ends, Layer};
+use crate::{Axis, Cube, Ends, Layer, SortedSpeakers};
 use vectors::Vec3;
 
-impl Hall {
+impl SortedSpeakers {
     // Where the run that begins at `i` ends. Along a row each speaker is a run.
     fn run_after(&self, axis: Axis, i: usize) -> usize
         requires { i < 12 }
@@ -94,7 +94,8 @@ impl Hall {
         }
     }
 
-    // The corners in the layer that begins at `a`.
+    // The corners in the layer that begins at `a`. The hint takes a tenth off `pan`.
+    #[inline(always)]
     fn layer(&self, a: usize, place: Vec3) -> Layer
         requires { LayerRuns (along X self.now.speakers) (along Z self.now.speakers) (index_at self.now.layers) (index_at self.now.rows) a }
         ensures { LayerAt (along X self.now.speakers) (along Z self.now.speakers) (channel_at self.now.speakers) a (index_at self.now.layers a) place result }
@@ -106,16 +107,15 @@ impl Hall {
         }
     }
 
-    // The eight corners about a place, in the order in which they are mixed.
-    pub fn cube(&self, place: Vec3) -> [usize; 8]
+    // The eight corners about a place.
+    pub fn cube(&self, place: Vec3) -> Cube
         requires { CanWalk self.now }
-        ensures { (sp : ℕ → Vec3) (l : List ℕ) → StandIn sp l self.now → result ≡ map (corner sp l place) corners }
+        ensures { (sp : ℕ → Vec3) (l : List ℕ) → StandIn sp l self.now → chosen result ≡ corner sp l place }
     {
         let layers = self.ends(Axis::Y, 0, self.count, place.y);
         Cube {
             bottom: self.layer(layers.low, place),
             top: self.layer(layers.high, place),
         }
-        .channels()
     }
 }

@@ -11,17 +11,20 @@ use lib.Ieee.{Float}
 use borrow.Author.Tests.{lt-leb, ne_eqb}
 use Rattle.ieee.specs.Bounds.{All}
 use Rattle.lowpass.specs.Lowpass.{output, next}
+use Rattle.panning.specs.Setup.{present}
 use Rattle.rules.specs.Parts.{Places, none, joined, laid}
 use Rattle.rules.specs.Leaves.{Leaves, started}
 use Rattle.rules.specs.Mix.{Moment, heard, fed}
-use Rattle.rules.specs.Samples.{appended, Frame, State, After, row, moment, updated, slotted, settled, closing, passed, sampled, framed}
+use Rattle.rules.specs.Samples.{appended, Frame, State, After, sounding, row, moment, updated, slotted, settled, closing, passed, sampled, framed}
 use Rattle.render.specs.Run.{filter_after, row_run}
 use Rattle.frame.specs.Chunk.{moments, chunk}
 
--- the first sample and then the rest, on channel 3 and on another
-one_by_one : (b : Bool) (k : ℕ) (x y : Float) (xs : List Float) (ws : List ℕ) → laid (k + 1) xs (laid k (cond b (x ∷ []) (y ∷ [])) ws) ≡ laid k (cond b (x ∷ []) (y ∷ []) ++ xs) ws
-one_by_one true k x y xs ws = rw add-one refl
-one_by_one false k x y xs ws = rw add-one refl
+-- the first sample and then the rest, on channel 3 and on another; nothing on a channel that is absent
+one_by_one : (here b : Bool) (k : ℕ) (x y : Float) (xs : List Float) (ws : List ℕ)
+    → laid (k + 1) (cond here xs []) (laid k (cond here (cond b (x ∷ []) (y ∷ [])) []) ws) ≡ laid k (cond here (cond b (x ∷ []) (y ∷ []) ++ xs) []) ws
+one_by_one true true k x y xs ws = rw add-one refl
+one_by_one true false k x y xs ws = rw add-one refl
+one_by_one false b k x y xs ws = refl
 
 module _ (L : Leaves) where
   -- no update falls on t
@@ -65,7 +68,7 @@ module _ (L : Leaves) where
         limiter = r.limiter;
         filter = next r.filter (fed (moment L f t r.setup r.meta));
         meta = r.meta;
-        pending = appended 1 (row (moment L f t r.setup r.meta) r.filter) r.pending;
+        pending = appended 1 (sounding r.setup (row (moment L f t r.setup r.meta) r.filter)) r.pending;
       }
 
   -- what its first sample leaves
@@ -120,12 +123,12 @@ module _ (L : Leaves) where
       past a = omega arith
 
       after : Places
-      after c = laid r.pending.count (row_run m r.filter c t (suc (suc n))) (r.pending.places c)
+      after c = laid r.pending.count (sounding r.setup (λ c. row_run m r.filter c t (suc (suc n))) c) (r.pending.places c)
 
-      rows : (c : ℕ) → laid (r.pending.count + 1) (row_run m (next r.filter (fed (m t))) c (suc t) (suc n))
-          (laid r.pending.count (row (m t) r.filter c) (r.pending.places c)) ≡ after c
-      rows c = one_by_one (eqb c 3) r.pending.count (output r.filter (fed (m t))) (heard (m t) c) (row_run m (next r.filter (fed (m t))) c (suc t) (suc n))
-          (r.pending.places c)
+      rows : (c : ℕ) → laid (r.pending.count + 1) (sounding r.setup (λ c. row_run m (next r.filter (fed (m t))) c (suc t) (suc n)) c)
+          (laid r.pending.count (sounding r.setup (row (m t) r.filter) c) (r.pending.places c)) ≡ after c
+      rows c = one_by_one (present r.setup.layout c) (eqb c 3) r.pending.count (output r.filter (fed (m t))) (heard (m t) c)
+          (row_run m (next r.filter (fed (m t))) c (suc t) (suc n)) (r.pending.places c)
 
       at : Bool → ℕ → ℕ → After L
       at b phase rest = shut f (suc (suc n)) t r b (r.clock.position + suc (suc n)) phase rest (r.pending.count + suc (suc n)) after
@@ -140,7 +143,7 @@ module _ (L : Leaves) where
   unfolding chunk
   single f t r =
       (λ i. record { next = (passed L (m t) r).next; given = λ c. append-nil ((passed L (m t) r).given c) i; meters = append-nil (passed L (m t) r).meters i; moments = m t ∷ [] })
-      ∙ (λ i. closing L (settled L 1 (next r.filter (fed (m t))) (λ c. sym (append-nil (row (m t) r.filter c)) i) r) (m t ∷ []))
+      ∙ (λ i. closing L (settled L 1 (next r.filter (fed (m t))) (sounding r.setup (λ c. sym (append-nil (row (m t) r.filter c)) i)) r) (m t ∷ []))
     where
       m : ℕ → Moment
       m t = moment L f t r.setup r.meta
@@ -172,13 +175,14 @@ module _ (L : Leaves) where
 
   -- what a chunk leaves as it was, and how far the stream goes
   pub record Passes (n : ℕ) (r s : State L) : Type 0 where
+    pub setup : s.setup ≡ r.setup
     pub rate : s.rate ≡ r.rate
     pub position : s.clock.position ≡ r.clock.position + n
     pub meta : s.meta ≡ r.meta
 
   pub chunk_passes : (f : Frame L.Update) (n t : ℕ) (r : State L) → Passes n r (chunk L f n t r).next
   unfolding chunk
-  chunk_passes f n t r = record { rate = refl; position = refl; meta = refl }
+  chunk_passes f n t r = record { setup = refl; rate = refl; position = refl; meta = refl }
 
   pub chunk_whole : (f : Frame L.Update) (n t : ℕ) (r : State L) → Turn f n t (slotted L (updated L t f.updates r))
       → framed L f (suc n) t r ≡ chunk L f (suc n) t (slotted L (updated L t f.updates r))

@@ -1,25 +1,30 @@
 -- The frame's loop over the rules: what holds before each turn, and that a turn keeps it. Assumes nothing beyond `Facts` and `Shaped`.
 use Prim.Native.Nat.{ℕ, suc, ◌+◌, ◌-◌, ◌*◌, ◌%◌, ◌≤◌, ◌<◌, zero-le}
-use native.Mathlib.Nat.{zero-add}
+use native.Mathlib.Nat.{zero-add, suc-ne-zero}
 use native.Mathlib.Omega.{arith}
 use mathlib.Core.Path.{◌≡◌, refl, sym, ap, ◌∙◌, subst}
+use mathlib.Core.Logic.{◌⊎◌, inl, inr}
 use mathlib.Core.Bool.{Bool, true, false, cond}
-use mathlib.Core.List.{List}
+use mathlib.Core.List.{List, [], ◌∷◌}
 use lib.Dec.{eqb, ltb, lit<}
 use lib.ListN.{length, length-append}
+use lib.Ieee.{Float}
 use borrow.Author.Tests.{eqb-true, eqb-false, ltb-true, ltb-false}
 use Rattle.ieee.specs.Bounds.{All}
 use Rattle.limiter.specs.Meters.{unmet, meets_all}
 use Rattle.limiter.specs.declared.meters.Meters.{Meters}
 use Rattle.limiter.proofs.Theorems.{meets_append}
+use Rattle.panning.specs.Setup.{Setup, present}
+use Rattle.panning.proofs.Theorems.{front_present}
 use Rattle.rules.specs.Parts.{Places}
 use Rattle.rules.specs.Leaves.{Leaves, Shape}
 use Rattle.rules.specs.Samples.{Pending, State, After, updated, slotted, framed, opened, pushed}
 use Rattle.rules.specs.Refusals.{Args, listed, shape_at}
 use Rattle.rules.specs.Calls.{announced, frame_of}
 use Rattle.rules.specs.BlockCalls.{Layout, written}
+use Rattle.rules.specs.Promises.{count_on}
 use Rattle.rules.proofs.Theorems.{Facts, Passed, is_roomy, samples_fit, untouched, R, updated_ranged, slotted_ranged, framed_ranged, opened_ranged, Matches, matches_on, judged}
-use Rattle.rules.proofs.Theorems.{updated_shape, slotted_shape}
+use Rattle.rules.proofs.Theorems.{updated_shape, slotted_shape, count_most, here_count, all_or_none}
 use Rattle.frame.specs.Chunk.{chunk}
 use Rattle.rendering.specs.Out.{behind}
 use Rattle.frame.proofs.Chunks.{both, Turn, chunk_passes, chunk_whole, turn}
@@ -38,6 +43,10 @@ ready_is false ready p n blocks pending e h l = let z = eqb-false pending 0 e in
 space : (ready p₀ p t n m samples stride b d pending end : ℕ) → ready % 64 ≡ 0 → stride % 64 ≡ 0 → p₀ < 64 → samples ≤ stride → t + suc n + m ≡ samples → ready + p ≡ p₀ + t
     → 64 * b + pending ≡ p + suc n → 64 * d + end ≡ pending + m → ready + 64 * b + 64 * d ≤ stride
 space ready p₀ p t n m samples stride b d pending end x y few fit all at c e = omega arith
+
+empty : (xs : List Float) → length xs ≡ 0 → xs ≡ []
+empty [] e = refl
+empty (x ∷ xs) e = absurd (suc-ne-zero (length xs) e)
 
 module _ (L : Leaves) (B : Layout L) (F : Facts L B) where
   -- what timed states within their ranges have for updates and slots to give them their shapes, gains of any bits
@@ -83,6 +92,7 @@ module _ (L : Leaves) (B : Layout L) (F : Facts L B) where
 
     -- what the updates and the slot at t leave
     pub record Begun (t : ℕ) (r : State L) : Type 0 where
+      pub setup : (met t r).setup ≡ r.setup
       pub updates : R L B F (updated L t us r)
       pub ranged : R L B F (met t r)
       pub listed : listed (met t r).rate ≡ true
@@ -99,6 +109,7 @@ module _ (L : Leaves) (B : Layout L) (F : Facts L B) where
           let e = slotted_shape L B F (updated L t us r) (λ n. S.rests n (updated L t us r).meta)
           ∙ updated_shape L B F S.Coded S.keeps S.gives (announced L us) a.objects a.codes t us r k (S.within r.clock.position r.meta g.ranged.meta) in
           record {
+            setup = w.setup;
             updates = u;
             ranged = slotted_ranged L B F (updated L t us r) u;
             listed = ap listed w.rate ∙ g.listed;
@@ -123,8 +134,8 @@ module _ (L : Leaves) (B : Layout L) (F : Facts L B) where
         at_once : framed L (frame_of L a) (suc n) t r ≡ C
         at_once = chunk_whole L (frame_of L a) n t r q
 
-        counted : Counted L r.pending.count (suc n) C
-        counted = subst (Counted L r.pending.count (suc n)) at_once (framed_counted L (frame_of L a) (suc n) t r g.ranged.long g.ranged.pending)
+        counted : Counted L r.setup r.pending.count (suc n) C
+        counted = subst (Counted L r.setup r.pending.count (suc n)) at_once (framed_counted L (frame_of L a) (suc n) t r g.ranged.long g.ranged.pending)
 
         chunk_ranged : R L B F C.next
         chunk_ranged =
@@ -132,21 +143,36 @@ module _ (L : Leaves) (B : Layout L) (F : Facts L B) where
             let last = p.early.position in
             subst (λ (x : After L). R L B F x.next) at_once (framed_ranged L B F (frame_of L a) k (suc n) t r g.listed (omega arith) g.ranged)
 
-        rest_counted : Counted L C.next.pending.count (a.samples - (t + suc n)) D
-        rest_counted = framed_counted L (frame_of L a) (a.samples - (t + suc n)) (t + suc n) C.next chunk_ranged.long chunk_ranged.pending
+        rest_counted : Counted L r.setup C.next.pending.count (a.samples - (t + suc n)) D
+        rest_counted =
+            subst (λ (h : Setup). Counted L h C.next.pending.count (a.samples - (t + suc n)) D)
+            ((chunk_passes L (frame_of L a) (suc n) t (met t r)).setup ∙ begun.setup)
+            (framed_counted L (frame_of L a) (a.samples - (t + suc n)) (t + suc n) C.next chunk_ranged.long chunk_ranged.pending)
 
         room : (c : ℕ) → c < 12 → ready + 64 * counted.blocks + length (D.given c) ≤ a.stride
         room c l =
             let e = rest_counted.length c l in
             let w = is_roomy a.stride (length a.out) p.early.room in
             subst (λ (i : ℕ). ready + 64 * counted.blocks + i ≤ a.stride) (sym e)
+            (below (count_on r.setup (64 * rest_counted.blocks) c) (count_most r.setup (64 * rest_counted.blocks) c)
             (space ready r₀.pending.count r.pending.count t n (a.samples - (t + suc n)) a.samples a.stride counted.blocks rest_counted.blocks
             C.next.pending.count D.next.pending.count g.whole w.whole
-            few (samples_fit a p.early.sized) (omega arith) g.pending counted.all rest_counted.all)
+            few (samples_fit a p.early.sized) (omega arith) g.pending counted.all rest_counted.all))
+          where
+            below : (i : ℕ) → i ≤ 64 * rest_counted.blocks → ready + 64 * counted.blocks + 64 * rest_counted.blocks ≤ a.stride → ready + 64 * counted.blocks + i ≤ a.stride
+            below i x y = omega arith
+
+        -- a channel that is there has all of this turn's blocks, and one that is absent has nothing after them
+        follows : (c : ℕ) → c < 12 → (length (C.given c) ≡ 64 * counted.blocks) ⊎ (D.given c ≡ [])
+        follows c l = elim (all_or_none r.setup (64 * counted.blocks) c (counted.length c l)) [
+          | inl e ↦ inl e
+          | inr e ↦ inr (empty (D.given c) (rest_counted.length c l ∙ ap (λ (b : Bool). cond b (64 * rest_counted.blocks) 0) e.0))
+        ]
 
         count_more : length ((rest t r).given 0) ≡ 64 * counted.blocks + length (D.given 0)
         count_more =
-            ap (λ (x : After L). length (x.given 0)) parts ∙ length-append (C.given 0) (D.given 0) ∙ ap (λ (i : ℕ). i + length (D.given 0)) (counted.length 0 (lit< tt))
+            ap (λ (x : After L). length (x.given 0)) parts ∙ length-append (C.given 0) (D.given 0) ∙ ap (λ (i : ℕ). i + length (D.given 0))
+            (counted.length 0 (lit< tt) ∙ here_count r.setup (64 * counted.blocks) 0 (front_present r.setup.layout g.ranged.setup.layout))
 
         fits_more : t + suc n < a.samples → Fit (shaped (t + suc n) (L.shape C.next.meta))
         fits_more l =
@@ -161,7 +187,7 @@ module _ (L : Leaves) (B : Layout L) (F : Facts L B) where
             record {
               here = fit;
               next = sym (ap (λ (x : After L). x.next) parts) ∙ g.next;
-              given = behind_joined C.given D.given ready (64 * counted.blocks) a.stride counted.length room out
+              given = behind_joined C.given D.given ready (64 * counted.blocks) a.stride follows room out
                   ∙ ap (λ (x : After L). behind ready x.given a.stride out) (sym parts) ∙ g.given;
               count = numbers_count (64 * counted.blocks) (length (D.given 0)) (length ((rest t r).given 0)) g.count count_more;
               meters = sym (meets_append level C.meters D.meters) ∙ ap (λ (x : After L). meets_all level x.meters) (sym parts) ∙ g.meters;
@@ -194,10 +220,10 @@ module _ (L : Leaves) (B : Layout L) (F : Facts L B) where
             subst (λ (i : ℕ). Going (t + suc n) C.next i (meets_all level C.meters) (behind ready C.given a.stride out))
             (sym (ready_is (eqb C.next.pending.count 0) ready r.pending.count n counted.blocks C.next.pending.count refl counted.all (omega arith))) gone
 
-    -- where nothing is pending and a block's samples are left, places may be others
+    -- where nothing is pending and a block's samples are left, places may be others, but for those of a channel that is absent
     pub swapped : (q : Places) (t : ℕ) (r : State L) (ready : ℕ) (level : Meters) (out : List ℕ) → Going t r ready level out → r.pending.count ≡ 0 → 64 ≤ a.samples - t
-        → R L B F (replaced L q r) → Going t (replaced L q r) ready level out
-    swapped q t r ready level out g z m h =
+        → ((c : ℕ) → present r.setup.layout c ≡ false → q c ≡ r.pending.places c) → R L B F (replaced L q r) → Going t (replaced L q r) ready level out
+    swapped q t r ready level out g z m away h =
         record {
           here = g.here;
           next = ap (λ (x : After L). x.next) same ∙ g.next;
@@ -213,8 +239,8 @@ module _ (L : Leaves) (B : Layout L) (F : Facts L B) where
           fits = g.fits;
         }
       where
-        agree : Agree r.pending.count r.pending.places q
-        agree = rw z (record { same = λ c. refl; long = λ c. level_of c (ltb c 12) refl; short = λ c. short_of c (ltb c 12) refl })
+        agree : Agree r.setup r.pending.count r.pending.places q
+        agree = rw z (record { same = λ c. refl; absent = away; long = λ c. level_of c (ltb c 12) refl; short = λ c. short_of c (ltb c 12) refl })
           where
             level_of : (c : ℕ) (b : Bool) → ltb c 12 ≡ b → length (r.pending.places c) ≡ length (q c)
             level_of c true e = g.ranged.long c (ltb-true c 12 e) ∙ sym (h.long c (ltb-true c 12 e))

@@ -3,6 +3,7 @@ pub mod Outs
 pub mod Counted
 pub mod Replaced
 pub mod Going
+pub mod Silent
 pub mod ChunkOnBlock
 pub mod Opening
 pub mod Running

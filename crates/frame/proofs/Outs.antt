@@ -3,10 +3,11 @@ use Prim.Native.Nat.{ℕ, zero, suc, ◌+◌, ◌*◌, ◌/◌, ◌%◌, ◌^◌
 use native.Mathlib.Nat.{suc-mul}
 use native.Mathlib.Omega.{arith}
 use mathlib.Core.Path.{◌≡◌, refl, sym, ap, ◌∙◌}
-use mathlib.Core.List.{List, [], ◌∷◌, ◌++◌, map, map-append}
+use mathlib.Core.Logic.{◌⊎◌, inl, inr}
+use mathlib.Core.List.{List, [], ◌∷◌, ◌++◌, map, map-append, append-nil}
 use lib.ListN.{length, set}
 use lib.Seq.{set_comm}
-use lib.Ieee.{binary32, to_bits}
+use lib.Ieee.{Float, binary32, to_bits}
 use Rattle.words.specs.Words.{with_number, with_word, with_words}
 use Rattle.words.proofs.Runs.{run_length_kept}
 use Rattle.rules.specs.Parts.{Channels, none, joined}
@@ -57,7 +58,8 @@ before_channels (suc m) c k a stride out at ws h =
     let xs = map (to_bits binary32) (a c) in
     before_channels m (suc c) k a stride (with_words out q xs) at ws (omega arith) ∙ ap (behind_from m (suc c) k a stride) (sym (words_swap out at ws q xs h))
 
-module _ (a d : Channels) (k n stride : ℕ) (long : (c : ℕ) → c < 12 → length (a c) ≡ n) (room : (c : ℕ) → c < 12 → k + n + length (d c) ≤ stride) where
+-- where a channel has n samples or nothing is behind it
+module _ (a d : Channels) (k n stride : ℕ) (long : (c : ℕ) → c < 12 → (length (a c) ≡ n) ⊎ (d c ≡ [])) (room : (c : ℕ) → c < 12 → k + n + length (d c) ≤ stride) where
   behind_from_is : (m c : ℕ) (out : List ℕ) → c + m ≤ 12 → behind_from m c (k + n) d stride (behind_from m c k a stride out) ≡ behind_from m c k (joined a d) stride out
   behind_from_is zero c out h = refl
   behind_from_is (suc m) c out h =
@@ -78,12 +80,16 @@ module _ (a d : Channels) (k n stride : ℕ) (long : (c : ℕ) → c < 12 → le
       past = let e = suc-mul c stride in let l = length_map (to_bits binary32) (d c) in let r = room c (omega arith) in omega arith
 
       here : with_words (with_words out at xs) (4 * (c * stride + (k + n))) ys ≡ with_words out at (map (to_bits binary32) (a c ++ d c))
-      here =
-          let l = length_map (to_bits binary32) (a c) in
-          let r = long c (omega arith) in
-          ap (λ (q : ℕ). with_words (with_words out at xs) q ys) (let e : 4 * (c * stride + (k + n)) ≡ at + 4 * length xs = omega arith in e)
-          ∙ words_joined out at xs ys
-          ∙ ap (with_words out at) (sym (map-append (to_bits binary32) (a c) (d c)))
+      here = elim (long c (omega arith)) [
+        | inl r ↦
+            let l = length_map (to_bits binary32) (a c) in
+            ap (λ (q : ℕ). with_words (with_words out at xs) q ys) (let e : 4 * (c * stride + (k + n)) ≡ at + 4 * length xs = omega arith in e)
+            ∙ words_joined out at xs ys
+            ∙ ap (with_words out at) (sym (map-append (to_bits binary32) (a c) (d c)))
+        | inr e ↦
+            ap (λ (us : List Float). with_words (with_words out at xs) (4 * (c * stride + (k + n))) (map (to_bits binary32) us)) e
+            ∙ ap (λ (us : List Float). with_words out at (map (to_bits binary32) us)) (sym (append-nil (a c)) ∙ ap (λ (us : List Float). a c ++ us) (sym e))
+      ]
 
   -- samples behind k others, and more behind these
   pub behind_joined : (out : List ℕ) → behind (k + n) d stride (behind k a stride out) ≡ behind k (joined a d) stride out

@@ -2,11 +2,12 @@
 use Prim.Native.Nat.{ℕ, zero, suc, ◌+◌, ◌-◌, ◌*◌, ◌%◌, ◌≤◌, ◌<◌}
 use native.Mathlib.Nat.{le_of_lt}
 use native.Mathlib.Omega.{arith}
-use mathlib.Core.Path.{◌≡◌, refl, sym, ap, ◌∙◌, subst}
+use mathlib.Core.Path.{◌≡◌, refl, sym, ap, ap₂, ◌∙◌, subst}
 use mathlib.Core.Bool.{true, false}
 use mathlib.Core.List.{List}
 use lib.Dec.{eqb}
 use lib.ListN.{length}
+use lib.Ieee.{Float}
 use borrow.Author.Tests.{ne_eqb}
 use Rattle.ieee.specs.Bounds.{All}
 use Rattle.words.specs.Words.{Bytes}
@@ -25,20 +26,23 @@ use Rattle.rules.specs.Leaves.{started}
 use Rattle.rules.specs.Samples.{State, After, updated, slotted, pushed}
 use Rattle.rules.specs.Refusals.{Args, listed}
 use Rattle.rules.specs.Calls.{frame_of}
-use Rattle.rules.proofs.Theorems.{Passed, is_passed, is_roomy, is_listed, rate_high, is_sized, samples_fit, R}
+use Rattle.rules.proofs.Theorems.{Passed, is_passed, is_roomy, is_listed, rate_high, is_sized, samples_fit, and_true, R}
 use Rattle.store.specs.declared.renderer.Renderer714.{Renderer714}
 use Rattle.store.specs.Steps.{opened_by}
-use Rattle.store.specs.Layout.{assembled, infos_of, places_of, decode}
+use Rattle.panning.specs.Setup.{Setup, present, marks_of}
+use Rattle.store.specs.Layout.{assembled, places_of, layout_of, setup_in, decode}
+use Rattle.store.specs.ValidBlocks.{hall_valid, valid}
+use Rattle.store.proofs.Theorems.{setup_beside}
 use Rattle.theorem.specs.Instance.{hall, block, sent_at, sent_of}
 use Rattle.theorem.proofs.Theorems.{each_all, codes_long, shape_apply, shape_slot, facts}
 use Rattle.rendering.specs.declared.Rendering.{Rendering}
-use Rattle.chunk.specs.ChunkRows.{small_bytes}
+use Rattle.chunk.specs.ChunkRows.{small_bytes, hall_bytes_of, Laid}
 use Rattle.rendering.specs.Begin.{CanStart}
 use Rattle.rendering.specs.Held.{held, Leads}
 use Rattle.frame.specs.Chunk.{chunk}
 use Rattle.rendering.specs.Out.{behind}
 use Rattle.frame.specs.Turn.{ready_after, Passes}
-use Rattle.frame.proofs.ChunkOnBlock.{Passable}
+use Rattle.frame.proofs.ChunkOnBlock.{Passable, stays_absent}
 use Rattle.frame.specs.Loop.{run_length, Accepted, IsRendered}
 use Rattle.rendering.proofs.Theorems.{ranged_starts}
 use Rattle.frame.proofs.Chunks.{NoneAt, Turn}
@@ -78,12 +82,17 @@ takes s b a l h g bytes meta =
       samples = omega arith;
     }
 
+pub valid_hall : (b : List ℕ) → valid b ≡ true → hall_valid b ≡ true
+unfolding valid
+valid_hall b e = (and_true _ (hall_valid b) e).1
+
 pub is_rate : (s : Renderer714) (b : List ℕ) (a : Args) → Accepted s b a → Listed a.rate
 is_rate s b a h = is_listed a.rate (is_passed hall (decode b) a h.clear).early.listed
 
 -- before sample t
 pub record Running (b : List ℕ) (a : Args) (t : ℕ) (w : Rendering) (state out : List ℕ) : Type 0 where
   pub small : small_bytes state ≡ small_bytes b
+  pub setup : hall_bytes_of state ≡ hall_bytes_of b
   pub going : Going hall block facts (decode b) a t (held w.renderer state) w.ready w.meters out
 
 pub opens : (s : Renderer714) (v : Rendering) (b : List ℕ) (a : Args) (l : Layout) → Accepted s b a → Taken b a l
@@ -92,6 +101,7 @@ unfolding decode
 opens s v b a l h k e =
     record {
       small = refl;
+      setup = refl;
       going = subst (λ (v : Rendering). Going hall block facts (decode b) a 0 (held v.renderer b) v.ready v.meters a.out)
           (sym (e ∙ ap (λ (s : Renderer714). record { renderer = opened_by s a.rate; ready = 0; meters = unmet }) h.small))
           (starts hall block facts (decode b) a k.ranged k.passed);
@@ -177,6 +187,8 @@ module _ (b : List ℕ) (a : Args) (l : Layout) (k : Taken b a l) (t : ℕ) (w :
                   (ap (λ (x : State hall). x.pending.count) e.next.holds ∙ here.pending) x;
               short = let m = w₁.most in omega arith;
               output = omega arith;
+              layout = r.setup.layout;
+              sources = r.meta.state.objects;
             }
           where
             roomy : w'.ready ≡ w.ready → w.ready % 64 ≡ 0 → a.stride % 64 ≡ 0 → (decode b).pending.count < 64 → a.samples ≤ a.stride → t + n ≤ a.samples
@@ -218,8 +230,8 @@ module _ (b : List ℕ) (a : Args) (l : Layout) (k : Taken b a l) (t : ℕ) (w :
                 let m : meets_all w.meters (C y).meters ≡ r.meters = sym (p.meters ∙ ap (λ (x : Meters). meets_all x (C y).meters) e.meters) in
                 let d₅ = subst (λ (x : Meters). G (held r.renderer c) r.ready x (o₁ w'.ready y)) m d₄ in
                 record {
-                  small = p.next.small ∙ e.next.small
-                      ∙ h.small;
+                  small = p.next.small ∙ e.next.small ∙ h.small;
+                  setup = p.next.hall ∙ e.next.hall ∙ h.setup;
                   going = subst (G (held r.renderer c) r.ready r.meters) (sym p.given) d₅;
                 }
 
@@ -244,6 +256,10 @@ module _ {b : List ℕ} {a : Args} {l : Layout} {t : ℕ} {w : Rendering} {state
       subst (RunLength s.state.initialized s.clock.phase s.pending (end - t)) (sym u.count)
       (run_length_is s.state.initialized s.clock.phase s.pending (end - t) f.0 f.1 (omega arith))
 
+  -- the block has the hall that it began with
+  pub turn_setup : setup_in state' ≡ setup_in b
+  turn_setup = setup_beside b state' (u.begun.next.hall ∙ u.running.setup)
+
   pub turn_some : 0 < n
   turn_some = len.some
 
@@ -257,17 +273,20 @@ module _ {b : List ℕ} {a : Args} {l : Layout} {t : ℕ} {w : Rendering} {state
   turn_runs r c o p = turns b a l u.taken t w state out u.running u.more end u.ends w' state' u.begun n len r c o p
 
   -- where its block was not laid and as many samples follow; c is the block with it
-  pub turn_skips : (r : Rendering) (c o : List ℕ) → Passes (frame_of hall a) t n a.stride w' state' out r c o → infos_of c ≡ infos_of state' → r.renderer.pending ≡ 0
-      → 64 ≤ a.samples - (t + n) → Running b a (t + n) r state' o
-  turn_skips r c o p i z m =
+  pub turn_skips : (r : Rendering) (c o : List ℕ) → Passes (frame_of hall a) t n a.stride w' state' out r c o → {ys : List Float} {pending k : ℕ}
+      → Laid (marks_of (layout_of state')) ys pending k state' c → r.renderer.pending ≡ 0 → 64 ≤ a.samples - (t + n) → Running b a (t + n) r state' o
+  turn_skips r c o p y z m =
+      let same : setup_in c ≡ setup_in state' = setup_beside state' c y.hall in
       let x = turn_runs r c o p in
       let g = x.going.ranged in
       let h = now_ranged b a l u.taken t w state out u.running u.more end u.ends w' state' u.begun in
       record {
         small = u.begun.next.small ∙ u.running.small;
+        setup = u.begun.next.hall ∙ u.running.setup;
         going = subst (λ (y : State hall). Going hall block facts (decode b) a (t + n) y r.ready r.meters o)
-            (ap (λ (is : List ℕ). assembled r.renderer is (places_of state')) i)
+            (ap₂ (λ (is : List ℕ) (h : Setup). assembled r.renderer is (places_of state') h) y.infos same)
             (swapped hall block facts (decode b) a (places_of state') (t + n) (held r.renderer c) r.ready r.meters o x.going z m
+            (λ j q. stays_absent y j (sym (ap (λ (h : Setup). present h.layout j) same) ∙ q))
             (record {
               setup = g.setup;
               rate = g.rate;
@@ -290,4 +309,4 @@ pub rendered : (b : List ℕ) (a : Args) (t : ℕ) (w : Rendering) (state out : 
     → IsRendered (pushed hall (frame_of hall a) (decode b)) a.stride b a.out w state out
 rendered b a t w state out h last =
     let e = ends hall block facts (decode b) a t (held w.renderer state) w.ready w.meters out h.going last in
-    record { next = record { holds = e.0; small = h.small }; given = e.1; ready = e.2; meters = e.3 }
+    record { next = record { holds = e.0; small = h.small; hall = h.setup }; given = e.1; ready = e.2; meters = e.3 }

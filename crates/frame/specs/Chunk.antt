@@ -2,7 +2,7 @@
 use Rattle.std.specs.Prelude.{ℕ, zero, suc, List, [], ◌∷◌}
 use Rattle.rules.specs.Leaves.{Leaves}
 use Rattle.rules.specs.Mix.{Moment}
-use Rattle.rules.specs.Samples.{Frame, State, After, moment, settled, closing}
+use Rattle.rules.specs.Samples.{Frame, State, After, sounding, moment, settled, closing}
 use Rattle.render.specs.Run.{filter_after, row_run}
 
 -- the moments of the n samples from t on
@@ -15,4 +15,4 @@ module _ (L : Leaves) where
   unfoldable pub chunk : Frame L.Update → ℕ → ℕ → State L → After L
   chunk f n t r =
       let m : ℕ → Moment = λ t. moment L f t r.setup r.meta in
-      closing L (settled L n (filter_after m r.filter t n) (λ c. row_run m r.filter c t n) r) (moments m t n)
+      closing L (settled L n (filter_after m r.filter t n) (sounding r.setup (λ c. row_run m r.filter c t n)) r) (moments m t n)

@@ -2,8 +2,9 @@
 use Rattle.std.specs.Prelude.{ℕ, ◌+◌, ◌≡◌, cond, List, eqb}
 use Rattle.timed.specs.State.{Timed}
 use Rattle.limiter.specs.Meters.{meets_all}
-use Rattle.rules.specs.Samples.{Frame, Renderer, settled}
+use Rattle.rules.specs.Samples.{Frame, Renderer, sounding, settled}
 use Rattle.store.specs.declared.renderer.Renderer714.{Renderer714}
+use Rattle.store.specs.Layout.{setup_in}
 use Rattle.theorem.specs.Instance.{Sent, hall}
 use Rattle.render.specs.Run.{filter_after, row_run}
 use Rattle.rendering.specs.declared.Rendering.{Rendering}
@@ -19,7 +20,7 @@ ready_after ready pending = cond (eqb pending 0) (ready + 64) ready
 module _ (f : Frame Sent) (t k : ℕ) (s : Renderer714) (b : List ℕ) where
   -- the renderer after the chunk, before a whole block is given out
   abbrev pub settled_at : Renderer Timed
-  settled_at = settled hall k (filter_after (moment_here f t k s b) s.filter t k) (λ c. row_run (moment_here f t k s b) s.filter c t k) (held s b)
+  settled_at = settled hall k (filter_after (moment_here f t k s b) s.filter t k) (sounding (setup_in b) (λ c. row_run (moment_here f t k s b) s.filter c t k)) (held s b)
 
 -- the rules' chunk: what is held after it, what is given out behind the samples that are ready, how many are ready then, and with which meters
 pub record Passes (f : Frame Sent) (t k stride : ℕ) (w : Rendering) (state out : List ℕ) (r : Rendering) (state' out' : List ℕ) : Type 0 where

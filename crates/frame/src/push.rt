@@ -73,6 +73,7 @@ pub fn render(s: Renderer714, state: &mut Block, frame: Frame<'_>, out: &mut [u8
     let objects = n.objects as usize;
     let stride = n.stride as usize;
     let end = FrameOffset(n.samples);
+    let hall = store::hall(state);
     let mut work = Rendering::of(s.open(n.rate));
     let mut t = START;
     // By `while`: how many samples a turn takes is found as it goes.
@@ -106,14 +107,14 @@ pub fn render(s: Renderer714, state: &mut Block, frame: Frame<'_>, out: &mut [u8
         };
         let mut rows = [0.0f32; areas::PLACE_COUNT];
         let pending = work.renderer.pending as usize;
-        work = work.pass(&mut rows, input);
+        work = work.pass(&hall, &mut rows, input);
         if is_kept(k, t.up_to(end)) {
-            lay(state, &rows, pending, k);
+            lay(state, &rows, &hall.present, pending, k);
         }
         if k == 64 {
-            work = work.give_rows(&rows, out, stride);
+            work = work.give_rows(&hall.present, &rows, out, stride);
         } else if work.renderer.pending == 64 {
-            work = work.give(state, out, stride);
+            work = work.give(&hall.present, state, out, stride);
         }
         t = t.plus(k as u32);
     }

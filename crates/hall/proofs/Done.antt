@@ -4,20 +4,22 @@ use native.Mathlib.Nat.{le_of_lt}
 use native.Mathlib.Omega.{arith}
 use mathlib.Core.Path.{◌≡◌, sym, ap, ap₂, ◌∙◌}
 use mathlib.Core.Logic.{◌⊎◌, inl, inr}
-use mathlib.Core.Bool.{true, false}
-use mathlib.Core.List.{List}
-use lib.Dec.{eqb}
+use mathlib.Core.Bool.{Bool, true, false, cond}
+use mathlib.Core.List.{List, []}
+use lib.Dec.{T, eqb}
 use lib.ListN.{length, take, length-map}
 use lib.Seq.{length-take-le}
-use lib.Ieee.{binary32, of_bits}
+use lib.Ieee.{Float, binary32, of_bits}
 use borrow.Author.Tests.{ne_eqb}
 use Rattle.words.specs.Words.{Bytes, words_at}
 use Rattle.timed.specs.State.{Timed}
 use Rattle.rules.specs.Parts.{floats}
+use Rattle.panning.specs.Setup.{present}
+use Rattle.panning.proofs.Theorems.{front_present}
 use Rattle.limiter.specs.Meters.{unmet, call_meters}
 use Rattle.limiter.specs.declared.meters.Meters.{Meters}
 use Rattle.rules.specs.Refusals.{Args, clear, room, listed}
-use Rattle.rules.specs.Samples.{Renderer, pushed, flushed}
+use Rattle.rules.specs.Samples.{Renderer, pushed, flushed, waiting}
 use Rattle.rules.specs.Ranges.{Ranged}
 use Rattle.rules.specs.Calls.{push, flush, frame_of, found}
 use Rattle.rules.specs.BlockCalls.{written, made}
@@ -52,13 +54,17 @@ rate_small : (n : ℕ) → (n ≡ 0) ⊎ (listed n ≡ true) → n ≤ 16777216
 rate_small n (inl z) = omega arith
 rate_small n (inr l) = le_of_lt (rate_high (is_listed n l))
 
--- as many samples as wait
+here : (b : Bool) → T b → (n : ℕ) (xs : List Float) → n ≤ length xs → length (take n (cond b xs [])) ≡ n
+here true t n xs l = length-take-le n xs l
+here false t n xs l = absurd t
+
+-- as many samples as wait, on channel 0, which each layout has
 flushed_long : (r : Renderer Timed) → Ranged hall Within r → length ((flushed hall r).given 0) ≡ r.pending.count
 unfolding flushed
 flushed_long r g =
-    length_limited r.limiter.gain (λ c. take r.pending.count (floats r.pending.places c)) 0
-    ∙ length-take-le r.pending.count (floats r.pending.places 0) (let l = g.long 0 (omega arith) in let p = g.pending in
-    let m = length-map (r.pending.places 0) (of_bits binary32) in omega arith)
+    length_limited r.limiter.gain (waiting hall r) 0
+    ∙ here (present r.setup.layout 0) (front_present r.setup.layout g.setup.layout) r.pending.count (floats r.pending.places 0)
+    (let l = g.long 0 (omega arith) in let p = g.pending in let m = length-map (r.pending.places 0) (of_bits binary32) in omega arith)
 
 module _ (b : List ℕ) (s : Renderer714) (e : s ≡ small_of (words_at b 0 small_width)) (bytes : Bytes b) (v : valid b ≡ true) (out : List ℕ) (stride : ℕ)
     (k : room stride (length out) ≡ true) where

@@ -15,17 +15,25 @@ use Rattle.rules.proofs.Theorems.{and_true}
 use Rattle.store.specs.declared.renderer.Renderer714.{Renderer714}
 use Rattle.store.specs.Fields.{small_of}
 use Rattle.store.specs.Layout.{small_width, size, infos_of, decode}
-use Rattle.store.specs.ValidBlocks.{valid, small_valid, heads_valid}
+use Rattle.store.specs.ValidBlocks.{valid, small_valid, heads_valid, hall_valid}
 use Rattle.theorem.specs.Instance.{hall}
 use Rattle.theorem.proofs.Theorems.{Within, decoded_of}
 use Rattle.refusals.proofs.Theorems.{loaded}
 use Rattle.rendering.specs.Held.{held}
 
-pub valid_long : (b : List ℕ) → valid b ≡ true → length b ≡ size
-unfolding valid
-valid_long b v = eqb-true (length b) size
-    (and_true (eqb (length b) size) (small_valid (words_at b 0 small_width))
-    (and_true (eqb (length b) size && small_valid (words_at b 0 small_width)) (heads_valid (infos_of b) 0 512) v).0).0
+module _ (b : List ℕ) (v : valid b ≡ true) where
+  but_hall : (eqb (length b) size && small_valid (words_at b 0 small_width) && heads_valid (infos_of b) 0 512 ≡ true) × (hall_valid b ≡ true)
+  unfolding valid
+  but_hall = and_true (eqb (length b) size && small_valid (words_at b 0 small_width) && heads_valid (infos_of b) 0 512) (hall_valid b) v
+
+  pub valid_long : length b ≡ size
+  valid_long =
+      eqb-true (length b) size
+      (and_true (eqb (length b) size) (small_valid (words_at b 0 small_width))
+      (and_true (eqb (length b) size && small_valid (words_at b 0 small_width)) (heads_valid (infos_of b) 0 512) but_hall.0).0).0
+
+  pub valid_hall : hall_valid b ≡ true
+  valid_hall = but_hall.1
 
 pub pos_of : (n : ℕ) → (n ≡ 0 → ⊥) → 0 < n
 pos_of zero h = absurd (h refl)

@@ -1,9 +1,9 @@
 -- The rules' `made`, one law for each way out of an entry. Assumes nothing.
 use Prim.Native.Nat.{ℕ}
 use mathlib.Core.Path.{◌≡◌, refl, sym, ap, ◌∙◌, subst}
-use mathlib.Core.Bool.{Bool, true, false, cond}
+use mathlib.Core.Bool.{Bool, true, false, cond, ◌&&◌}
 use mathlib.Core.List.{List, []}
-use lib.Dec.{eqb}
+use lib.Dec.{eqb, leb}
 use lib.ListN.{length}
 use Rattle.rules.specs.Refusals.{Args, Found, clear, stop, room}
 use Rattle.refusals.specs.RefusalNumbers.{numbers_of, stop_of}
@@ -11,14 +11,15 @@ use Rattle.refusals.specs.declared.Refusal.{Refusal}
 use Rattle.std.specs.Prelude.{Err}
 use Rattle.rules.specs.Samples.{pushed, flushed}
 use Rattle.rules.specs.Calls as rules
-use Rattle.rules.specs.Calls.{Call, push, flush, reset, refused, rendered, nothing, cleared, Result, frame_of, found, answered, asked, drained, step}
+use Rattle.rules.specs.Calls.{Call, push, flush, reset, make, refused, rendered, nothing, cleared, Result, frame_of, found, answered, asked, drained, making, step}
 use Rattle.rules.specs.BlockCalls.{Outcome, out_of, stride_of, written, left, takes, made}
 use Rattle.rules.proofs.Theorems.{number_of, never_seven}
-use Rattle.store.specs.Layout.{size, decode, encode, fresh_renderer}
-use Rattle.store.specs.ValidBlocks.{valid}
+use Rattle.panning.specs.Setup.{hall_with}
+use Rattle.store.specs.Layout.{size, setup_in, decode, encode, fresh_renderer}
+use Rattle.store.specs.ValidBlocks.{hall_valid, valid}
 use Rattle.theorem.specs.Instance.{hall, block}
 use Rattle.hall.specs.declared.answer.Answer.{Answer}
-use Rattle.hall.specs.Answers.{code_of, coded, Left}
+use Rattle.hall.specs.Answers.{code_of, coded, Left, MadeNew}
 
 -- ---- a block that is not taken, and one that is
 
@@ -35,6 +36,9 @@ taken c b x e s = ap (λ (t : Bool). cond t (leaves c b (step hall (decode b) c)
 -- an entry left what o says, o being given by a law above
 pub leaves_as : {o p : Outcome} {r : Answer} {state out : List ℕ} → o ≡ p → Left p r state out → Left o r state out
 leaves_as {r = r} {state = state} {out = out} e h = subst (λ (x : Outcome). Left x r state out) (sym e) h
+
+pub made_as : {o p : Outcome} {r : Answer} {state : List ℕ} → o ≡ p → MadeNew p r state → MadeNew o r state
+made_as {r = r} {state = state} e h = subst (λ (x : Outcome). MadeNew x r state) (sym e) h
 
 -- ---- push
 
@@ -77,11 +81,25 @@ module _ (out : List ℕ) (stride : ℕ) (b : List ℕ) (v : valid b ≡ true) w
       }
   flushes e p = taken (flush out stride) b _ v (ap (λ (t : Bool). by_tests t (eqb (decode b).pending.count 0)) e ∙ ap (by_tests true) p)
 
--- ---- reset
+-- ---- making and reset
 
-pub resets : (b : List ℕ) → eqb (length b) size ≡ true → made hall block reset b ≡ record { answer = cleared; state = encode fresh_renderer; out = [] }
-unfolding decode
-resets b e = taken reset b _ e refl
+-- reset asks for the length before it looks at the hall
+pub too_short : (b : List ℕ) → eqb (length b) size ≡ false → takes hall block reset b ≡ false
+too_short b e = rw e refl
+
+module _ (b : List ℕ) (e : eqb (length b) size ≡ true) where
+  pub no_layout : (n : ℕ) → leb n 3 ≡ false → made hall block (make n) b ≡ record { answer = refused 15 0 0; state = b; out = [] }
+  no_layout n l = taken (make n) b _ e (ap (λ (t : Bool). making hall t n (decode b)) l)
+
+  pub makes : (n : ℕ) → leb n 3 ≡ true → made hall block (make n) b ≡ record { answer = cleared; state = encode (fresh_renderer (hall_with n)); out = [] }
+  makes n l = taken (make n) b _ e (ap (λ (t : Bool). making hall t n (decode b)) l)
+
+  pub no_hall : hall_valid b ≡ false → made hall block reset b ≡ record { answer = refused 1 0 0; state = b; out = [] }
+  no_hall h = wrong reset b (rw (e, h) refl)
+
+  pub resets : hall_valid b ≡ true → made hall block reset b ≡ record { answer = cleared; state = encode (fresh_renderer (setup_in b)); out = [] }
+  unfolding decode
+  resets h = taken reset b _ (rw (e, h) refl) refl
 
 -- ---- R-1: "7 never occurs again"
 

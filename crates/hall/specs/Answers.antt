@@ -18,7 +18,7 @@ use Rattle.hall.specs.declared.answer.Given.{Given}
 use Rattle.hall.specs.declared.answer.Outcome.{Outcome}
 use Rattle.hall.specs.declared.answer.Outcome.TheVariants.{Ready, Nothing, Fresh}
 
--- "`ready N`": so many samples given out on each channel; R-2: "the greatest peak and the least gain of the call"
+-- "`ready N`": so many samples given out on each channel that is there; R-2: "the greatest peak and the least gain of the call"
 abbrev pub ready_of : ℕ → Meters → Answer
 ready_of n m = record { kind = 0; number = 0; first = 0; second = 0; ready = n; peak = m.peak; gain = m.gain }
 
@@ -35,7 +35,7 @@ code_of cleared = bare 3 0 0 0
 
 -- the interface's number: it steps with every change of the block's layout or of a signature
 abbrev pub version : ℕ
-version = 3
+version = 4
 
 abbrev pub given_as : Given → Answer
 given_as g = ready_of g.samples g.meters
@@ -52,6 +52,11 @@ pub record Left (o : block.Outcome) (r : Answer) (state out : List ℕ) : Type 0
   pub answer : r ≡ code_of o.answer
   pub block : state ≡ o.state
   pub output : out ≡ o.out
+
+-- a making call or a reset left what the rules say: the answer and the state block. No output is lent.
+pub record MadeNew (o : block.Outcome) (r : Answer) (state : List ℕ) : Type 0 where
+  pub answer : r ≡ code_of o.answer
+  pub block : state ≡ o.state
 
 -- ---- what is known when the work begins
 

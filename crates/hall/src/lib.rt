@@ -3,15 +3,16 @@
 #![tactic(auto)]
 
 ghost use Rattle.std.specs.Prelude.{◌≡◌, OnOk};
-ghost use Rattle.rules.specs.Calls.{push, flush, reset};
+ghost use Rattle.rules.specs.Calls.{push, flush, reset, make};
 ghost use Rattle.rules.specs.BlockCalls.{made};
 ghost use Rattle.theorem.specs.Instance.{hall, block};
 ghost use Rattle.theorem.specs.Appends.{AppendsIfOpen};
 ghost use Rattle.store.specs.Layout.{size};
-ghost use Rattle.hall.specs.Answers.{Left, code_of, coded, version};
+ghost use Rattle.hall.specs.Answers.{Left, MadeNew, coded, version};
 ghost use Rattle.rules.specs.Refusals.{args_of};
 
 use answer::Outcome;
+use panning::LAST_LAYOUT;
 use refusals::{Numbers, Push, Refusal};
 use store::Block;
 
@@ -19,14 +20,15 @@ pub mod answer;
 mod archive;
 mod work;
 
-const VERSION: u32 = 3;
+const VERSION: u32 = 4;
 
 // The bytes of a state block.
 pub const STATE_BYTES: usize = store::SIZE;
 
 // Renders a frame: beds (one code each), then objects, `samples` of each channel in `pcm`. What is ready goes to `out`, channel c from place c x `stride` on.
-// Its parameters are document 01's: "calls push, flush and reset over numbers and byte slices".
+// Its parameters are document 01's: "calls push, flush and reset over numbers and byte slices". The hint: the library calls it in one place, the C entry.
 #[tactic(auto, using(crate::proofs::Known::valid_long))]
+#[inline(always)]
 pub fn push(
     state: &mut [u8],
     pcm: &[u8],
@@ -83,14 +85,32 @@ pub fn flush(state: &mut [u8], out: &mut [u8], stride: u32) -> Result<Outcome, R
     Ok(Outcome::Ready(work::drain(s, block, out, stride)))
 }
 
-// Makes a block of the right length a new renderer.
-pub fn reset(state: &mut [u8]) -> Result<Outcome, Refusal>
-    ensures { (coded result ≡ code_of (made hall block reset state.old).answer) × (state.new ≡ (made hall block reset state.old).state) }
+// Makes any block of the right length a new renderer for a layout: 0 is 7.1.4, 1 5.1.4, 2 7.1.0, 3 5.1.0.
+pub fn make(state: &mut [u8], layout: u32) -> Result<Outcome, Refusal>
+    ensures { MadeNew (made hall block (make layout) state.old) (coded result) state.new }
 {
     let Some(block) = state.as_mut_array() else {
         return Err(Refusal::Lent);
     };
-    store::reset(block);
+    if layout > LAST_LAYOUT {
+        return Err(Refusal::Layout);
+    }
+    store::make(block, layout);
+    Ok(Outcome::Fresh)
+}
+
+// Makes a block's renderer new: it keeps its layout, and all else is as a making call leaves it.
+pub fn reset(state: &mut [u8]) -> Result<Outcome, Refusal>
+    ensures { MadeNew (made hall block reset state.old) (coded result) state.new }
+{
+    let Some(block) = state.as_mut_array() else {
+        return Err(Refusal::Lent);
+    };
+    if !store::ranges::hall_valid(block) {
+        return Err(Refusal::Lent);
+    }
+    let layout = store::layout(block);
+    store::make(block, layout);
     Ok(Outcome::Fresh)
 }
 

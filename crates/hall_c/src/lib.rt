@@ -3,12 +3,12 @@
 #![tactic(auto)]
 
 ghost use Rattle.std.specs.Prelude.{◌≡◌, ◌*◌, length};
-ghost use Rattle.rules.specs.Calls.{push, flush, reset};
+ghost use Rattle.rules.specs.Calls.{push, flush, reset, make};
 ghost use Rattle.rules.specs.BlockCalls.{made};
 ghost use Rattle.theorem.specs.Instance.{hall, block};
 ghost use Rattle.theorem.specs.Appends.{AppendsIfOpen};
 ghost use Rattle.store.specs.Layout.{size};
-ghost use Rattle.hall.specs.Answers.{Left, code_of, version};
+ghost use Rattle.hall.specs.Answers.{Left, MadeNew, version};
 ghost use Rattle.hall.specs.Conversions.{converted_as};
 ghost use Rattle.planes.specs.Planes.{planes, samples_of};
 ghost use Rattle.planes.specs.Conversion.{judged, written_over};
@@ -44,9 +44,17 @@ pub extern "C" fn hall_flush(state: &mut [u8], out: &mut [u8], stride: u32) -> A
     Answer::from(hall::flush(state, out, stride))
 }
 
+// R-5: a new renderer for a layout.
+#[unsafe(no_mangle)]
+pub extern "C" fn hall_make(state: &mut [u8], layout: u32) -> Answer
+    ensures { MadeNew (made hall block (make layout) state.old) result state.new }
+{
+    Answer::from(hall::make(state, layout))
+}
+
 #[unsafe(no_mangle)]
 pub extern "C" fn hall_reset(state: &mut [u8]) -> Answer
-    ensures { (result ≡ code_of (made hall block reset state.old).answer) × (state.new ≡ (made hall block reset state.old).state) }
+    ensures { MadeNew (made hall block reset state.old) result state.new }
 {
     Answer::from(hall::reset(state))
 }

@@ -1,6 +1,6 @@
 -- Document 01's `hallrender`: a run of it, record after record. Assumes nothing.
 use Rattle.std.specs.Prelude.{ℕ, ◌≡◌, true, List, [], ◌∷◌, length}
-use Rattle.rules.specs.Samples.{built_in, fresh}
+use Rattle.rules.specs.Samples.{hall_with, fresh}
 use Rattle.rules.specs.Calls.{Call}
 use Rattle.rules.specs.BlockCalls.{made, final_on}
 use Rattle.theorem.specs.Instance.{hall, block}
@@ -23,9 +23,9 @@ abbrev pub out_on : List Input → List ℕ → List ℕ → List ℕ
 out_on [] b o = o
 out_on (x ∷ xs) b o = let c = call_of x.rec x.body o in out_on xs (made hall block c b).state (out_after c b o)
 
--- the block of a renderer to which nothing was said
+-- the block of a 7.1.4 renderer to which nothing was said
 unfoldable pub new_block : List ℕ
-new_block = block.encode (fresh hall built_in)
+new_block = block.encode (fresh hall (hall_with 0))
 
 -- a run of the program on the block b and the output o: calls of records as laid out, and no other change
 pub record Ran (b o state out : List ℕ) : Type 0 where

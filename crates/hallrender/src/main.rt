@@ -12,6 +12,9 @@ use listing::text::Text;
 use std::io;
 use std::io::{Read, Write};
 
+// The layout that it renders for: 7.1.4. Document 01 fixes the records, and none says another.
+const LAYOUT: u32 = 0;
+
 // Why the program ends.
 #[derive(Clone, Copy)]
 enum End {
@@ -132,7 +135,7 @@ fn main(rt: HostRuntime) {
         state: [0; hall::STATE_BYTES],
         out: [0; 12288],
     };
-    let _ = hall::reset(&mut program.state);
+    let _ = hall::make(&mut program.state, LAYOUT);
     if let Err(End::BadRecord) = program.run(&rt) {
         let _ = say(&rt, b"bad record\n");
     }

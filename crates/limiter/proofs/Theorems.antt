@@ -6,8 +6,8 @@ pub use Rattle.limiter.proofs.InRange.{limiter_in_range}
 pub use Rattle.limiter.proofs.Return.{full_after}
 -- k blocks that do not lower it bring the gain to 1, or up by k times the decay less k roundings
 pub use Rattle.limiter.proofs.Growth.{Decay, decay_is, HalfUlp, Grows, grows}
--- one channel more of a block, its number, and one channel more that is written
-pub use Rattle.limiter.proofs.Blocks.{channels_more, length_channels, written_more}
+-- one channel more of a block, empty where it is not there, their number, and one channel more that is written
+pub use Rattle.limiter.proofs.Blocks.{channel, channels_more, length_channels, written_more}
 -- scaling keeps the number of samples
 pub use Rattle.limiter.proofs.Scaled.{length_scaled}
 -- the meters of a call: blocks are met one behind the other, none are 0 and 1, and blocks in range give meters in range

@@ -9,7 +9,6 @@ pub mod places;
 
 ghost use Rattle.std.specs.Prelude.{◌≡◌, ◌≤◌};
 ghost use Rattle.ieee.specs.Small.{absolute, larger};
-ghost use Rattle.formats.specs.Areas.{row_count};
 ghost use Rattle.limiter.specs.Level.{Level};
 ghost use Rattle.limiter.specs.Limiter.{0·0, 1·0, peak_from, peak, lowered, grown};
 ghost use Rattle.limiter.specs.Limiter.{block_peak};
@@ -67,13 +66,16 @@ pub fn max_abs_slice(samples: &[f32]) -> f32
     max_abs_from(max_abs_from(0.0, &lanes), &samples[4 * fours..])
 }
 
-// The peak of a block: twelve channels of 64 places.
+// The peak of a block: twelve channels of 64 places, over those that are there.
 #[tactic(auto, using(crate::proofs::Blocks::peak_next))]
 fn block_peak(block: &[f32; areas::PLACE_COUNT], taken: Taken) -> f32
-    ensures { result ≡ block_peak 0·0 (channels row_count taken.samples block.now) }
+    ensures { result ≡ block_peak 0·0 (channels taken.entry.present.now taken.entry.samples block.now) }
 {
     let mut max: f32 = 0.0;
     for c in 0..areas::ROW_COUNT {
+        if !taken.present[c] {
+            continue;
+        }
         let at = areas::ROW_PLACES * c;
         max = raise(max, max_abs_slice(&block[at..at + taken.samples]));
     }
@@ -133,7 +135,7 @@ impl Limiter {
         to: usize,
     ) -> Limited
         requires { Room places.now taken.samples rate out.old step to }
-        ensures { Given self.gain taken.samples rate places.now step to out.old result out.new }
+        ensures { Given self.gain taken.entry.present.now taken.entry.samples rate places.now step to out.old result out.new }
     {
         let mut block = [0.0f32; areas::PLACE_COUNT];
         places::load_block(places.as_array().unwrap(), taken, &mut block);

@@ -9,11 +9,13 @@ ghost use Rattle.limiter.specs.ChannelPlaces.{floats_at, with_floats, channels, 
 
 use formats::areas;
 
-// How many of the 64 places of each channel are taken.
+// How many of the 64 places of each channel are taken, and which channels there are.
 #[derive(Clone, Copy)]
-pub struct Taken {
+pub struct Taken<'a> {
     pub samples: usize,
+    pub present: &'a [bool; areas::ROW_COUNT],
     ghost most: { samples ≤ row_places },
+    ghost rows: { length present.now ≡ row_count },
 }
 
 // The floats from `at` on, as many as `samples` has. `mixing::read_row` reads without a test for NaNs, which it asks of the bytes, and is quicker.
@@ -37,22 +39,25 @@ pub fn scale_slice_into(samples: &[f32], gain: f32, out: &mut [u8])
     }
 }
 
-// The places of a state block that are taken, in a block of floats.
+// The places of a state block that are taken, in a block of floats. The row of a channel that is not there stays.
 #[tactic(auto, using(crate::proofs::Blocks::load_end))]
 pub fn load_block(
     places: &[u8; areas::PLACES_BYTES],
     taken: Taken,
     block: &mut [f32; areas::PLACE_COUNT],
 )
-    ensures { block.new ≡ overlaid (channels_at row_count taken.samples places.now 0) block.old }
+    ensures { block.new ≡ overlaid (channels_at taken.entry.present.now taken.entry.samples places.now 0) block.old }
 {
     for row in 0..areas::ROW_COUNT {
+        if !taken.present[row] {
+            continue;
+        }
         let at = areas::ROW_PLACES * row;
         load_samples(places, 4 * at, &mut block[at..at + taken.samples]);
     }
 }
 
-// The block times the gain, channel c at `to` + c x `step`.
+// The block times the gain, channel c at `to` + c x `step`. Nothing is written of a channel that is not there.
 #[tactic(auto, using(crate::proofs::Blocks::room_at))]
 pub fn store_block(
     block: &[f32; areas::PLACE_COUNT],
@@ -63,9 +68,12 @@ pub fn store_block(
     to: usize,
 )
     requires { (to + 4 * taken.samples ≤ step) × (row_count * step ≤ length out.old) }
-    ensures { out.new ≡ with_channels (scaled_block gain (channels row_count taken.samples block.now)) step to out.old }
+    ensures { out.new ≡ with_channels (scaled_block gain (channels taken.entry.present.now taken.entry.samples block.now)) step to out.old }
 {
     for c in 0..areas::ROW_COUNT {
+        if !taken.present[c] {
+            continue;
+        }
         let at = areas::ROW_PLACES * c;
         let from = step * c + to;
         let until = from + 4 * taken.samples;

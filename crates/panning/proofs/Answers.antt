@@ -7,12 +7,11 @@ use lib.Dec.{lit<}
 use lib.ListN.{get_or, replicate}
 use lib.Ieee.{Float, nan, binary32, mul, eq}
 use Rattle.vectors.specs.declared.Vec3.{Vec3}
-use Rattle.panning.specs.Choice.{Corner, corner, corners, 0·0}
+use Rattle.corners.specs.Choice.{Corner, corner, corners, 0·0}
 use Rattle.panning.specs.Terms.{up, ahead, across, part, row_weight, weighted, coefficient, inner_gain, extra, nothing, panned}
-use Rattle.panning.specs.Speakers.{hall714}
-use Rattle.panning.specs.Found.{Inside, chosen}
+use Rattle.corners.specs.Found.{Inside, chosen}
 use Rattle.panning.specs.Shares.{layer_coefficients, SharesOf}
-use Rattle.panning.specs.declared.Cube.{Cube}
+use Rattle.corners.specs.declared.Cube.{Cube}
 use Rattle.panning.specs.declared.Shares.{Shares}
 use Rattle.panning.specs.declared.Panned.{Panned}
 
@@ -21,20 +20,20 @@ eight : {A : Type 0} {a b c d e f g h a' b' c' d' e' f' g' h' : A} → a ≡ a' 
     → a ∷ b ∷ c ∷ d ∷ e ∷ f ∷ g ∷ h ∷ [] ≡ a' ∷ b' ∷ c' ∷ d' ∷ e' ∷ f' ∷ g' ∷ h' ∷ []
 eight i j k l m n o p = cc
 
-module _ (c : Cube) (p : Vec3) (g : Float) where
+module _ (sp : ℕ → Vec3) (c : Cube) (p : Vec3) (g : Float) where
   -- one of them, from the three shares that it rests on
-  one_of : (k : Corner) {a u w : Float} → a ≡ ahead hall714 (chosen c) p k.top → u ≡ up hall714 (chosen c) p → w ≡ across hall714 (chosen c) p k.top k.front
-      → weighted (mul binary32 (mul binary32 (part k.front a) (part k.top u)) g) (part k.right w) ≡ coefficient hall714 (chosen c) p g k
+  one_of : (k : Corner) {a u w : Float} → a ≡ ahead sp (chosen c) p k.top → u ≡ up sp (chosen c) p → w ≡ across sp (chosen c) p k.top k.front
+      → weighted (mul binary32 (mul binary32 (part k.front a) (part k.top u)) g) (part k.right w) ≡ coefficient sp (chosen c) p g k
   unfolding coefficient row_weight
   one_of k {a} {u} {w} e f h =
       ap (λ (v : Float). weighted (mul binary32 (mul binary32 (part k.front v) (part k.top u)) g) (part k.right w)) e
-      ∙ ap (λ (v : Float). weighted (mul binary32 (mul binary32 (part k.front (ahead hall714 (chosen c) p k.top)) (part k.top v)) g) (part k.right w)) f
-      ∙ ap (λ (v : Float). weighted (row_weight hall714 (chosen c) p g k.top k.front) (part k.right v)) h
+      ∙ ap (λ (v : Float). weighted (mul binary32 (mul binary32 (part k.front (ahead sp (chosen c) p k.top)) (part k.top v)) g) (part k.right w)) f
+      ∙ ap (λ (v : Float). weighted (row_weight sp (chosen c) p g k.top k.front) (part k.right v)) h
 
-  pub coefficients_are : {s : Shares} (h : SharesOf c p s) {b t : List Float} → b ≡ layer_coefficients s.bottom (part false s.up) g
+  pub coefficients_are : {s : Shares} (h : SharesOf sp c p s) {b t : List Float} → b ≡ layer_coefficients s.bottom (part false s.up) g
       → t ≡ layer_coefficients s.top (part true s.up) g
       → get_or b 0 nan ∷ get_or b 1 nan ∷ get_or b 2 nan ∷ get_or b 3 nan ∷ get_or t 0 nan ∷ get_or t 1 nan ∷ get_or t 2 nan ∷ get_or t 3 nan ∷ []
-      ≡ map (coefficient hall714 (chosen c) p g) corners
+      ≡ map (coefficient sp (chosen c) p g) corners
   coefficients_are h d e =
       let b = h.bottom in
       let t = h.top in

@@ -16,11 +16,11 @@ use Rattle.ieee.specs.Units.{F32, mag}
 use Rattle.ieee.proofs.Compare.{eq→}
 use Rattle.ieee.proofs.Signed.{one_sided, mag_is}
 use Rattle.vectors.specs.declared.Vec3.{Vec3}
-use Rattle.panning.specs.Choice.{Corner, differ, 0·0}
-use Rattle.panning.specs.Table.{distinct}
+use Rattle.corners.specs.Choice.{Corner, differ, 0·0}
+use Rattle.corners.specs.Table.{distinct}
 use Rattle.panning.specs.Terms.{Term, term, audible, on_channel}
 use Rattle.panning.specs.Coefficients.{Each, square_sum, squares}
-use Rattle.panning.proofs.Tables.{other, others}
+use Rattle.corners.proofs.Tables.{other, others}
 
 pub audible→ : (ts : List Term) {t : Term} → Memᴰ t (audible ts) → Memᴰ t ts
 unfolding audible

@@ -11,9 +11,9 @@ use lib.Dec.{T, leb, leb→le, nleb→lt}
 use lib.Ieee.{Float, binary32, fits, le, eq}
 use Rattle.ieee.specs.Units.{F32, P, N}
 use Rattle.ieee.proofs.Compare.{le→, →le, →eq, eq→}
-use Rattle.panning.proofs.Corners714.{eq_finite}
-use Rattle.panning.specs.Choice.{keep, every_of, first, or_list, ge, outermost, below, above, end}
-use Rattle.panning.proofs.Lists.{In, Some, Each, keep→, →keep, every→, →every, first_in, or_else→, Filled, filled}
+use Rattle.corners.proofs.Rising.{eq_finite}
+use Rattle.corners.specs.Choice.{keep, every_of, first, or_list, ge, outermost, below, above, end}
+use Rattle.corners.proofs.Lists.{In, Some, Each, keep→, →keep, every→, →every, first_in, or_else→, Filled, filled}
 
 -- ---- `le` and `ge` order the finite values
 pub record Order (r : Float → Float → Bool) : Type 0 where

@@ -10,12 +10,12 @@ use lib.Dec.{T}
 use lib.Ieee.{Float, binary32, fits, eq}
 use Rattle.ieee.specs.Units.{F32}
 use Rattle.vectors.specs.declared.Vec3.{Vec3}
-use Rattle.panning.specs.Choice.{keep, first, or_list, level, end, flank, layer, row_among, side, corner}
+use Rattle.corners.specs.Choice.{keep, first, or_list, level, end, flank, layer, row_among, side, corner}
 use Rattle.panning.specs.Terms.{corner_at, up, ahead, across}
-use Rattle.panning.specs.Table.{Table, Position}
-use Rattle.panning.proofs.Lists.{In, Some, Each, keep→, first_in, or_else→, or_else_some, some_of}
+use Rattle.corners.specs.Table.{Table, Position}
+use Rattle.corners.proofs.Lists.{In, Some, Each, keep→, first_in, or_else→, or_else_some, some_of}
 use Rattle.panning.proofs.Axis.{end→, Ends, ends, level_with}
-use Rattle.panning.proofs.Tables.{Tame3, all_tame}
+use Rattle.corners.proofs.Tables.{Tame3, all_tame}
 use Rattle.panning.proofs.SharesInUnit.{Beside, Part, eq_self, ratio_part}
 
 -- ---- left and right of a row

@@ -5,17 +5,18 @@ use mathlib.Core.Bool.{Bool, true, false, not, ◌&&◌, ◌||◌, cond}
 use mathlib.Core.List.{List, [], ◌∷◌}
 use Prim.Native.Nat.{ℕ, ◌+◌, ◌<◌, ◌≤◌}
 use native.Mathlib.Omega.{arith}
-use lib.Dec.{T, not_T, eqb, eqb→eq, leb, lit<}
+use lib.Dec.{T, not_T, eqb, eqb→eq, leb}
 use lib.Ieee.{Float, nan, inf, fin, binary32, fits, le, lt, eq}
 use lib.Ieee.Fits.{and_i, and_l, and_r}
 use Rattle.ieee.specs.Units.{F32, P, N}
 use Rattle.ieee.proofs.Compare.{lt→, →lt, le→, eq→}
+use Rattle.corners.proofs.Rising.{eq_finite}
 use Rattle.vectors.specs.declared.Vec3.{Vec3}
-use Rattle.panning.specs.Choice.{0·0, keep, every_of, or_list, first, ge, outermost, below, above, level, end, flank, layer, row_among, side, corner}
-use Rattle.panning.specs.declared.Ends.{Ends}
-use Rattle.panning.specs.Found.{side_of, row_of, layer_of, chosen, Inside}
+use Rattle.corners.specs.Choice.{0·0, keep, every_of, or_list, first, ge, outermost, below, above, level, end, flank, layer, row_among, side, corner}
+use Rattle.corners.specs.declared.Ends.{Ends}
+use Rattle.corners.specs.Found.{side_of, row_of, layer_of, chosen}
 use Rattle.panning.specs.Corners714.{pair_ends, narrow_ends, wide_ends, front_ends, floor_ends, ceiling_ends, cube714}
-use Rattle.panning.specs.Speakers.{positions714, hall714, full_range, diagonal, surround, one}
+use Rattle.panning.specs.Speakers.{positions714, hall714, full_range, surround, one}
 
 abbrev floor : List ℕ
 floor = 0 ∷ 1 ∷ 2 ∷ 4 ∷ 5 ∷ 6 ∷ 7 ∷ []
@@ -150,15 +151,6 @@ unfolding all outermost keep every_of or_list first hall714 positions714 le lt e
 three = tt
 
 -- ---- what the comparisons of floats say
--- a value that equals a finite one is finite
-pub eq_finite : (a v : Float) → F32 a → T (fits binary32 v) → T (eq a v) → F32 v
-unfolding eq
-eq_finite nan v f g h = absurd f.fine
-eq_finite (inf s) v f g h = absurd f.fine
-eq_finite (fin s m e) nan f g h = absurd h
-eq_finite (fin s m e) (inf t) f g h = absurd h
-eq_finite (fin s m e) (fin t n d) f g h = record { fine = tt; fit = g }
-
 imply : (a b : Bool) → (T a → T b) → T (implies a b)
 imply true b h = h tt
 imply false b h = tt
@@ -229,7 +221,10 @@ module _ (p : Vec3) (w : T (fits binary32 p.x)) where
   row_45 : Sides p (4 ∷ 5 ∷ []) (narrow_ends 4 5 p.x)
   unfolding side flank level end below above outermost keep every_of or_list first hall714 positions714
   row_45 = record {
-    is = λ right. elim right as (λ b. first (side b hall714 p (4 ∷ 5 ∷ [])) ≡ side_of b (narrow_ends 4 5 p.x)) [ false ↦ pair_is 4 5 four.0 false | true ↦ pair_is 4 5 four.0 true ];
+    is = λ right. elim right as (λ b. first (side b hall714 p (4 ∷ 5 ∷ [])) ≡ side_of b (narrow_ends 4 5 p.x)) [
+      | false ↦ pair_is 4 5 four.0 false
+      | true ↦ pair_is 4 5 four.0 true
+    ];
   }
 
   row_67 : Sides p (6 ∷ 7 ∷ []) (wide_ends 6 7 p.x)
@@ -247,7 +242,10 @@ module _ (p : Vec3) (w : T (fits binary32 p.x)) where
   row_1011 : Sides p (10 ∷ 11 ∷ []) (narrow_ends 10 11 p.x)
   unfolding side flank level end below above outermost keep every_of or_list first hall714 positions714
   row_1011 = record {
-    is = λ right. elim right as (λ b. first (side b hall714 p (10 ∷ 11 ∷ [])) ≡ side_of b (narrow_ends 10 11 p.x)) [ false ↦ pair_is 10 11 four.3 false | true ↦ pair_is 10 11 four.3 true ];
+    is = λ right. elim right as (λ b. first (side b hall714 p (10 ∷ 11 ∷ [])) ≡ side_of b (narrow_ends 10 11 p.x)) [
+      | false ↦ pair_is 10 11 four.3 false
+      | true ↦ pair_is 10 11 four.3 true
+    ];
   }
 
   thirds : Bool → ℕ
@@ -316,57 +314,3 @@ module _ (p : Vec3) (w : T (fits binary32 p.x)) where
   pub chosen_is : chosen (cube714 p) ≡ corner hall714 full_range p
   unfolding corner
   chosen_is = fun_ext (λ c. sym ((cube_sides c.top c.front).is c.right))
-
--- ---- all of them are channels
-record Few (e : Ends) : Type 0 where
-  low : e.low < 12
-  high : e.high < 12
-
-few_of : (b : Bool) {m n : ℕ} → m < 12 → n < 12 → cond b m n < 12
-few_of true h i = h
-few_of false h i = i
-
-few_either : (b : Bool) {e f : Ends} → Few e → Few f → Few (cond b e f)
-few_either true h i = h
-few_either false h i = i
-
-few_pair : (left right : ℕ) (a b x : Float) → left < 12 → right < 12 → Few (pair_ends left right a b x)
-few_pair left right a b x h i = record { low = few_of (le b x) i h; high = few_of (lt a x) i h }
-
-module _ (z x : Float) where
-  few_front : Few (front_ends x)
-  few_front = record {
-    low = few_of (le (diagonal false) x) (lit< tt) (few_of (le 0·0 x) (lit< tt) (lit< tt));
-    high = few_of (lt 0·0 x) (lit< tt) (few_of (lt (diagonal true) x) (lit< tt) (lit< tt));
-  }
-
-  few_narrow : Few (narrow_ends 4 5 x)
-  few_narrow = few_pair 4 5 (diagonal true) (diagonal false) x (lit< tt) (lit< tt)
-
-  few_wide : Few (wide_ends 6 7 x)
-  few_wide = few_pair 6 7 (one true) (one false) x (lit< tt) (lit< tt)
-
-  few_floor : Few (floor_ends z x).front × Few (floor_ends z x).rear
-  few_floor = (
-    few_either (le (one true) z) (few_either (le (surround true) z) few_front few_wide) few_narrow,
-    few_either (le (one false) z) few_front (few_either (le (surround true) z) few_wide few_narrow),
-  )
-
-  few_ceiling : Few (ceiling_ends z x).front × Few (ceiling_ends z x).rear
-  few_ceiling =
-      let wide = few_pair 8 9 (one true) (one false) x (lit< tt) (lit< tt) in
-      let narrow = few_pair 10 11 (diagonal true) (diagonal false) x (lit< tt) (lit< tt) in
-      (few_either (le (one true) z) wide narrow, few_either (le (surround false) z) wide narrow)
-
-  few_layer : (b : Bool) → let r = cond b (ceiling_ends z x) (floor_ends z x) in Few r.front × Few r.rear
-  few_layer true = few_ceiling
-  few_layer false = few_floor
-
-pub inside : (p : Vec3) → Inside (cube714 p)
-inside p =
-    let b = few_layer p.z p.x (le (one false) p.y) in
-    let t = few_layer p.z p.x (le 0·0 p.y) in
-    record {
-      bottom = record { fl = b.0.low; fr = b.0.high; rl = b.1.low; rr = b.1.high };
-      top = record { fl = t.0.low; fr = t.0.high; rl = t.1.low; rr = t.1.high };
-    }

@@ -19,9 +19,9 @@ use Rattle.roots.specs.Root.{root}
 use Rattle.roots.proofs.Theorems.{root_nearest}
 use Rattle.vectors.specs.declared.Vec3.{Vec3}
 use Rattle.panning.specs.declared.Panned.{Panned}
-use Rattle.panning.specs.Choice.{Corner, corner, corners, 0·0, 1·0}
+use Rattle.corners.specs.Choice.{Corner, corner, corners, 0·0, 1·0}
 use Rattle.panning.specs.Terms.{up, ahead, across, part, row_weight, coefficient, inner_gain, extra, nothing, panned, Term, term, audible, paired, spread, corner_terms, terms}
-use Rattle.panning.specs.Table.{Table, Position, 8·0, between}
+use Rattle.corners.specs.Table.{Table, Position, 8·0, between}
 use Rattle.panning.specs.Facts.{Pans}
 use Rattle.panning.specs.Coefficients.{Each, squares, AddsUp}
 use Rattle.panning.proofs.Tables.{Gain8, gain8, size1}

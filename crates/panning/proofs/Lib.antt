@@ -1,6 +1,4 @@
 pub mod Answers
-pub mod Corners714
-pub mod Lists
 pub mod Axis
 pub mod Tables
 pub mod SharesInUnit
@@ -12,6 +10,7 @@ pub mod Audible
 pub mod Roots
 pub mod Facts
 pub mod Speakers
+pub mod Corners714
 pub mod Setup
 pub mod Shared
 pub mod Theorems

@@ -9,10 +9,11 @@ use lib.Ieee.{Float, le, eq, unlike}
 use Rattle.ieee.proofs.Constants.{zero_mag}
 use Rattle.ieee.specs.Units.{F32, P}
 use Rattle.vectors.specs.declared.Vec3.{Vec3}
-use Rattle.panning.specs.Choice.{Corner, differ, first, layer, row_among, side, corner}
+use Rattle.corners.specs.Choice.{Corner, differ, first, layer, row_among, side, corner}
 use Rattle.panning.specs.Terms.{ratio, corner_at, up, ahead, across}
-use Rattle.panning.specs.Table.{Table, Position}
-use Rattle.panning.proofs.Tables.{Tame3, Gain8, all_tame}
+use Rattle.corners.specs.Table.{Table, Position}
+use Rattle.corners.proofs.Tables.{Tame3, all_tame}
+use Rattle.panning.proofs.Tables.{Gain8}
 use Rattle.panning.proofs.SharesInUnit.{eq_self, ratio_zero}
 use Rattle.panning.proofs.Corners.{layers, rows, corner_in_row, corner_in_layer, corner_in}
 use Rattle.panning.proofs.Weighing.{weight, no_up, no_ahead, no_across}

@@ -19,9 +19,9 @@ use Rattle.ieee.proofs.Compare.{le→, eq→}
 use Rattle.ieee.proofs.Share.{left_over}
 use Rattle.roots.specs.Root.{root}
 use Rattle.vectors.specs.declared.Vec3.{Vec3}
-use Rattle.panning.specs.Choice.{Corner, corner, 0·0, 1·0}
+use Rattle.corners.specs.Choice.{Corner, corner, 0·0, 1·0}
 use Rattle.panning.specs.Terms.{across, part, row_weight, weighted, coefficient, inner_gain, extra}
-use Rattle.panning.specs.Table.{Table, Position}
+use Rattle.corners.specs.Table.{Table, Position}
 use Rattle.panning.proofs.Tables.{Gain8, Size1}
 use Rattle.panning.proofs.Weighing.{Plus, Product, product, eight_grid, eight_less, weight, weights, zero_left}
 

@@ -1,37 +1,53 @@
--- The shares of the chosen speakers are those of the rules, and so lie from 0 to 1. Assumes nothing.
+-- The shares of the chosen speakers are those of the rules, and so lie from 0 to 1; and the chosen speakers are channels. Assumes nothing.
 use mathlib.Core.Path.{◌≡◌, sym, ap, ◌∙◌, subst}
 use mathlib.Core.Bool.{Bool, true, false}
-use Prim.Native.Nat.{ℕ}
+use mathlib.Core.List.{List, Memᴰ}
+use mathlib.Core.Logic.{∥∥₁_elim}
+use native.Mathlib.Nat.{ℕ_set}
+use Prim.Native.Nat.{ℕ, ◌<◌}
 use lib.Ieee.{Float}
 use Rattle.vectors.specs.declared.Vec3.{Vec3}
-use Rattle.panning.specs.declared.Cube.{Cube}
+use Rattle.corners.specs.declared.Cube.{Cube}
+use Rattle.corners.specs.declared.SortedSpeakers.{SortedSpeakers}
+use Rattle.corners.specs.Choice.{Corner, corner}
+use Rattle.corners.specs.Sorted.{StandIn}
+use Rattle.corners.specs.Found.{layer_of, chosen, Inside}
 use Rattle.panning.specs.declared.LayerShares.{LayerShares}
 use Rattle.panning.specs.declared.Shares.{Shares}
-use Rattle.panning.specs.Choice.{Corner, corner}
-use Rattle.panning.specs.Table.{Position}
 use Rattle.panning.specs.Terms.{ratio, up, ahead, across}
-use Rattle.panning.specs.Speakers.{hall714, full_range}
-use Rattle.panning.specs.Found.{layer_of, chosen}
-use Rattle.panning.specs.Corners714.{cube714}
+use Rattle.panning.specs.Facts.{Pans}
 use Rattle.panning.specs.Shares.{layer_shares, Part, LayerSharesOf, SharesOf}
-use Rattle.panning.proofs.Corners714.{chosen_is}
-use Rattle.panning.proofs.Speakers.{pans714}
 
-module _ (c : Cube) (p : Vec3) (q : Position p) (h : c ≡ cube714 p) (s : Shares) where
+module _ {sp : ℕ → Vec3} {l : List ℕ} {n : Float} {p : Vec3} (a : Pans sp l n p) {c : Cube} (h : chosen c ≡ corner sp l p) where
+  pub inside : ((k : ℕ) → Memᴰ k l → k < 12) → Inside c
+  inside few = record {
+    bottom = record { fl = at false true false; fr = at false true true; rl = at false false false; rr = at false false true };
+    top = record { fl = at true true false; fr = at true true true; rl = at true false false; rr = at true false true };
+  }
+    where
+      at : (top front right : Bool) → chosen c (record { top = top; front = front; right = right }) < 12
+      at top front right =
+          let k : Corner = record { top = top; front = front; right = right } in
+          subst (λ (ch : Corner → ℕ). ch k < 12) (sym h) (few (corner sp l p k) (a.corners k))
+
   -- a share of the corners that the rules choose, at those that the code has chosen
-  part : (f : (Corner → ℕ) → Float) {x : Float} → Part (f (corner hall714 full_range p)) → x ≡ f (chosen c) → (x ≡ f (chosen c)) × Part x
-  part f k e = (e, subst Part (sym (e ∙ ap f (ap chosen h ∙ chosen_is p q.x))) k)
+  part : (f : (Corner → ℕ) → Float) {x : Float} → Part (f (corner sp l p)) → x ≡ f (chosen c) → (x ≡ f (chosen c)) × Part x
+  part f k e = (e, subst Part (sym (e ∙ ap f h)) k)
 
-  layer_are : (top : Bool) {r : LayerShares} → r ≡ layer_shares (layer_of top c) p → LayerSharesOf c p top r
+  layer_are : (top : Bool) {r : LayerShares} → r ≡ layer_shares sp (layer_of top c) p → LayerSharesOf sp c p top r
   unfolding ahead across
-  layer_are top e =
-      let n = pans714 p q in
-      record {
-        ahead = part (λ ch. ahead hall714 ch p top) (n.ahead top) (ap (λ (l : LayerShares). l.ahead) e);
-        front = part (λ ch. across hall714 ch p top true) (n.across top true) (ap (λ (l : LayerShares). l.front) e);
-        rear = part (λ ch. across hall714 ch p top false) (n.across top false) (ap (λ (l : LayerShares). l.rear) e);
-      }
+  layer_are top e = record {
+    ahead = part (λ ch. ahead sp ch p top) (a.ahead top) (ap (λ (l : LayerShares). l.ahead) e);
+    front = part (λ ch. across sp ch p top true) (a.across top true) (ap (λ (l : LayerShares). l.front) e);
+    rear = part (λ ch. across sp ch p top false) (a.across top false) (ap (λ (l : LayerShares). l.rear) e);
+  }
 
-  pub shares_are : s.up ≡ ratio (hall714 c.bottom.front.low).y (hall714 c.top.front.low).y p.y → s.bottom ≡ layer_shares c.bottom p → s.top ≡ layer_shares c.top p → SharesOf c p s
+  pub shares_are : {s : Shares} → s.up ≡ ratio (sp c.bottom.front.low).y (sp c.top.front.low).y p.y → s.bottom ≡ layer_shares sp c.bottom p →
+      s.top ≡ layer_shares sp c.top p → SharesOf sp c p s
   unfolding up
-  shares_are u b t = record { up = part (λ ch. up hall714 ch p) (pans714 p q).up u; bottom = layer_are false b; top = layer_are true t }
+  shares_are u b t = record { up = part (λ ch. up sp ch p) a.up u; bottom = layer_are false b; top = layer_are true t }
+
+-- what the walk of a hall has found, for whoever stands in it
+pub found : {sp : ℕ → Vec3} {l : List ℕ} (p : Vec3) (h : SortedSpeakers) {c : Cube} → ∥ StandIn sp l h ∥₁ →
+    ((sp : ℕ → Vec3) (l : List ℕ) → StandIn sp l h → chosen c ≡ corner sp l p) → chosen c ≡ corner sp l p
+found {sp} {l} p h t f = ∥∥₁_elim t (hlevel ℕ_set) (λ s. f sp l s)

@@ -13,7 +13,7 @@ use Rattle.ieee.proofs.Constants.{zero_f32, zero_mag, whole_grid, whole_less}
 use Rattle.ieee.proofs.Ops.{small}
 use Rattle.ieee.proofs.Compare.{le→, →le, →lt, →eq}
 use Rattle.ieee.proofs.Share.{Shared, left_over, share}
-use Rattle.panning.specs.Choice.{0·0, 1·0}
+use Rattle.corners.specs.Choice.{0·0, 1·0}
 use Rattle.panning.specs.Terms.{ratio}
 
 -- the ends a and b of an axis about v

@@ -1,4 +1,4 @@
--- The 7.1.4 hall is a table, and so is each part of a table that has a speaker. So the facts on panning hold in it. Assumes nothing.
+-- The speakers of the 7.1.4 hall are a table, and so is each part of a table that has a speaker. Assumes nothing.
 use mathlib.Core.Bool.{Bool, true, false, not, ◌&&◌, cond}
 use mathlib.Core.List.{List, [], ◌∷◌}
 use Prim.Native.Nat.{ℕ}
@@ -6,20 +6,14 @@ use lib.Dec.{T, eqb}
 use lib.Ieee.{fits, lt, le, eq}
 use lib.Ieee.Fits.{and_i, and_l, and_r}
 use Rattle.vectors.specs.declared.Vec3.{Vec3}
-use Rattle.panning.specs.Choice.{keep, every_of}
-use Rattle.panning.specs.Table.{Table, Position, between, placed_inside, alike, distinct, occupied}
-use Rattle.panning.specs.Speakers.{positions714, hall714, full_range, 12·0}
-use Rattle.panning.specs.Facts.{Pans}
-use Rattle.panning.proofs.Lists.{keep→, every→, →every}
-use Rattle.panning.proofs.Facts.{pans}
+use Rattle.corners.specs.Choice.{keep, every_of}
+use Rattle.corners.specs.Table.{Table, between, placed_inside, alike, distinct, occupied}
+use Rattle.panning.specs.Speakers.{positions714, hall714, full_range}
+use Rattle.corners.proofs.Lists.{keep→, every→, →every}
 
 pub hall714_table : Table hall714 full_range
 unfolding positions714 hall714 every_of distinct between fits lt le eq
 hall714_table = record { some = tt; placed = tt; distinct = tt }
-
-pub pans714 : (p : Vec3) → Position p → Pans hall714 full_range 12·0 p
-unfolding fits lt le eq
-pans714 p q = pans hall714 full_range hall714_table p q 12·0 (record { fine = tt; fit = tt }) tt
 
 -- ---- halls with fewer speakers
 module _ (sp : ℕ → Vec3) (f : ℕ → Bool) where

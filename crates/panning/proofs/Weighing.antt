@@ -14,9 +14,9 @@ use Rattle.ieee.proofs.Ops.{small, mul_rounds}
 use Rattle.ieee.proofs.Signed.{not_negative, at_most}
 use Rattle.ieee.proofs.Constants.{one_less, whole_grid, whole_less}
 use Rattle.vectors.specs.declared.Vec3.{Vec3}
-use Rattle.panning.specs.Choice.{corner}
+use Rattle.corners.specs.Choice.{corner}
 use Rattle.panning.specs.Terms.{up, ahead, across, part, row_weight}
-use Rattle.panning.specs.Table.{Table, Position}
+use Rattle.corners.specs.Table.{Table, Position}
 use Rattle.panning.proofs.Tables.{Gain8}
 use Rattle.panning.proofs.SharesInUnit.{Part}
 use Rattle.panning.proofs.Corners.{up_part, ahead_part, across_part}

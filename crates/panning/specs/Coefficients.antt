@@ -1,16 +1,11 @@
--- What is said of the coefficients that are mixed: that each lies between two numbers, and what their squares add up to. Assumes nothing.
-use Rattle.std.specs.Prelude.{ℕ, ◌+◌, ◌*◌, Bool, ◌&&◌, Float}
+-- What is said of the coefficients that are mixed: what their squares add up to. Assumes nothing.
+use Rattle.std.specs.Prelude.{ℕ, ◌+◌, ◌*◌, Float}
 use mathlib.Core.List.{List, [], ◌∷◌, Memᴰ}
-use Rattle.std.specs.Float.{binary32}
-use Rattle.std.specs.Float.Ieee.{fits, le}
 use Rattle.ieee.specs.Units.{One, mag, P}
 use Rattle.ieee.specs.Bounds.{DifferBy}
 pub use Rattle.ieee.specs.Numbers.{8·0}
+unfoldable pub use Rattle.corners.specs.Table.{between}
 use Rattle.panning.specs.Terms.{Term, on_channel}
-
--- an f32 from lo to hi
-unfoldable pub between : Float → Float → Float → Bool
-between lo hi x = fits binary32 x && (le lo x && le x hi)
 
 -- the sum of the exact squares of a channel's coefficients, and of those of the channels l, in units of 2 ^ -298
 unfoldable pub square_sum : List Float → ℕ

@@ -1,13 +1,18 @@
--- A reader may skip this file: the corners of the 7.1.4 hall, by its coordinates. The floor's rows are 4 and 5, 6 and 7, then 0, 2 and 1; the ceiling's 10 and 11, then 8 and
--- 9. That they are the corners of specs/Choice is `chosen_is` of proofs/Corners714. Assumes nothing.
-use Rattle.std.specs.Prelude.{ℕ, true, false, cond, Float}
+-- A reader may skip this file: how the code finds the corners in a hall, and those of the 7.1.4 hall, by its coordinates. The floor's rows are 4 and 5, 6 and 7, then 0, 2 and 1;
+-- the ceiling's 10 and 11, then 8 and 9. That they are the corners of specs/Choice is `chosen_is` of proofs/Corners714. Assumes nothing.
+use Rattle.std.specs.Prelude.{ℕ, ◌≡◌, true, false, cond, List, MatchOption, Float}
+use Rattle.std.specs.declared.option.Option.{Option}
 use Rattle.std.specs.Float.Ieee.{le, lt}
 use Rattle.vectors.specs.declared.Vec3.{Vec3}
-use Rattle.panning.specs.declared.Ends.{Ends}
-use Rattle.panning.specs.declared.Layer.{Layer}
-use Rattle.panning.specs.declared.Cube.{Cube}
-use Rattle.panning.specs.Choice.{0·0}
-use Rattle.panning.specs.Speakers.{diagonal, surround, one}
+use Rattle.corners.specs.declared.Ends.{Ends}
+use Rattle.corners.specs.declared.Layer.{Layer}
+use Rattle.corners.specs.declared.Cube.{Cube}
+use Rattle.corners.specs.Choice.{0·0}
+use Rattle.corners.specs.declared.SortedSpeakers.{SortedSpeakers}
+use Rattle.corners.specs.Axes.{place_among}
+use Rattle.corners.specs.Sorted.{CanWalk, StandIn}
+use Rattle.panning.specs.Speakers.{diagonal, surround, one, positions714}
+use Rattle.panning.specs.Setup.{speakers_in}
 
 -- a row of two speakers, at a and b
 abbrev pub pair_ends : ℕ → ℕ → Float → Float → Float → Ends
@@ -43,3 +48,7 @@ cube714 p = record {
   bottom = cond (le (one false) p.y) (ceiling_ends p.z p.x) (floor_ends p.z p.x);
   top = cond (le 0·0 p.y) (ceiling_ends p.z p.x) (floor_ends p.z p.x);
 }
+
+-- the corners in a hall of layout n: with no sorted speakers it is 7.1.4 with the built-in places, else these are its speakers
+abbrev pub FoundBy : ℕ → List Vec3 → Option SortedSpeakers → Type 0
+FoundBy n places o = MatchOption o ((n ≡ 0) × (places ≡ positions714)) (λ s. CanWalk s × ∥ StandIn (place_among places) (speakers_in n) s ∥₁)

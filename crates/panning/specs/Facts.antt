@@ -4,7 +4,7 @@ use Rattle.std.specs.Prelude.{ℕ, ◌≤◌, ◌≡◌, Bool, T, length, Float}
 use mathlib.Core.List.{List, [], Memᴰ}
 use Rattle.std.specs.Float.Ieee.{eq}
 use Rattle.vectors.specs.declared.Vec3.{Vec3}
-use Rattle.panning.specs.Choice.{Corner, corner, 0·0, 1·0}
+use Rattle.corners.specs.Choice.{Corner, corner, 0·0, 1·0}
 use Rattle.panning.specs.Terms as t
 use Rattle.panning.specs.Terms.{Term, panned, terms, corner_terms, on_channel}
 use Rattle.panning.specs.Coefficients.{between, 8·0, squares, AddsUp, Each}

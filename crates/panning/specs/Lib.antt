@@ -1,10 +1,13 @@
-pub mod Choice
 pub mod Terms
 pub mod Coefficients
-pub mod Table
 pub mod Speakers
-pub mod Setup
 pub mod Corners714
-pub mod Found
+pub mod Setup
+pub mod Hall
 pub mod Facts
 pub mod Shares
+-- what the clauses cite of the crate below
+pub use Rattle.corners.specs.Choice
+pub use Rattle.corners.specs.Table
+pub use Rattle.corners.specs.Axes
+pub use Rattle.corners.specs.Sorted

@@ -1,13 +1,13 @@
--- A hall as a renderer has it: which of the twelve channels have a speaker, and where the speakers stand; and what is mixed of an object in it. Document 02, R-5 and R-6. Until
--- R-5 every renderer has the hall `built_in`, which is that of specs/Speakers (`terms_built_in` of proofs/Setup). Assumes nothing.
-use Rattle.std.specs.Prelude.{ℕ, ◌+◌, ◌*◌, ◌≤◌, ◌<◌, ◌≡◌, Bool, false, not, ◌&&◌, List, [], ◌∷◌, pos, T, eqb, ltb, get_or, Float}
+-- A hall as a renderer has it: which of the twelve channels have a speaker, and where the speakers stand; and what is mixed of an object in it. Document 02, R-5 and R-6. Every
+-- renderer has one with the built-in table, whose places are those of specs/Speakers (`built_in_places` of proofs/Setup). Assumes nothing.
+use Rattle.std.specs.Prelude.{ℕ, ◌+◌, ◌*◌, ◌≤◌, ◌≡◌, Bool, false, not, ◌&&◌, List, [], ◌∷◌, pos, T, eqb, ltb, get_or, Float}
 use Rattle.std.specs.Float.{fin, binary32}
 use Rattle.std.specs.Float.Ieee.{of_bits, to_bits}
 use Rattle.vectors.specs.declared.Vec3.{Vec3}
 use Rattle.panning.specs.declared.Panned.{Panned}
-use Rattle.panning.specs.Choice.{keep, every_of}
+use Rattle.corners.specs.Choice.{keep, every_of}
 use Rattle.panning.specs.Coefficients.{8·0}
-use Rattle.panning.specs.Table.{Table}
+use Rattle.corners.specs.Table.{Table}
 use Rattle.panning.specs.Terms.{Term, panned, terms, on_channel}
 use Rattle.panning.specs.Speakers.{positions714, full_range, 12·0}
 
@@ -50,33 +50,43 @@ abbrev pub 6·0 : Float
 unfoldable pub divisor_in : ℕ → Float
 divisor_in n = get_or (12·0 ∷ 10·0 ∷ 8·0 ∷ 6·0 ∷ []) n 12·0
 
--- channel k is one of them: there, one of the twelve, and not the bass channel
+-- which of the twelve channels layout n has, as the code marks them
+abbrev pub marks_of : ℕ → List Bool
+marks_of n =
+    present n 0 ∷ present n 1 ∷ present n 2 ∷ present n 3 ∷ present n 4 ∷ present n 5 ∷ present n 6 ∷ present n 7 ∷ present n 8 ∷ present n 9 ∷ present n 10 ∷ present n 11 ∷ []
+
+-- channel k is one of them, and not the bass channel
 abbrev pub SpeakerOf : ℕ → ℕ → Type 0
-SpeakerOf n k = T (present n k) × (k < 12) × (k ≡ 3 → ⊥)
+SpeakerOf n k = T (present n k) × (k ≡ 3 → ⊥)
 
 -- the speakers of layout n are l, and a size is divided by d (`layouts` of proofs/Setup has the four)
 pub record LayoutIs (n : ℕ) (l : List ℕ) (d : Float) : Type 0 where
   pub speakers : speakers_in n ≡ l
   pub divisor : divisor_in n ≡ d
 
--- ---- the hall of document 01: 7.1.4, "the built-in table"
+-- ---- the halls with "the built-in table", of which that of document 01 is 7.1.4
 
 unfoldable pub table_of : List Vec3 → List ℕ
 table_of [] = []
 table_of (v ∷ vs) = to_bits binary32 v.x ∷ to_bits binary32 v.y ∷ to_bits binary32 v.z ∷ table_of vs
 
+-- where a table of these places has each channel
+abbrev pub table_places : List Vec3 → ℕ → Vec3
+table_places vs = place_in (record { layout = 0; table = table_of vs })
+
 abbrev pub built_in_table : List ℕ
 built_in_table = table_of positions714
 
-abbrev pub built_in : Setup
-built_in = record { layout = 0; table = built_in_table }
+-- a layout with it
+abbrev pub hall_with : ℕ → Setup
+hall_with n = record { layout = n; table = built_in_table }
 
 -- ---- a hall that may be panned in: one of the four layouts, and a full table, "even where the layout lacks some speakers"
 pub record HallFits (s : Setup) : Type 0 where
   pub layout : s.layout ≤ 3
   pub table : Table (place_in s) full_range
 
--- ---- what is mixed of an object at the place p, for the gain g and the size z
+-- ---- document 01, item 4: "`render_object_timeslot_to_714`": what is mixed of an object at the place p, for the gain g and the size z
 
 abbrev pub panned_in : Setup → Vec3 → Float → Float → Panned
 panned_in s p g z = panned (place_in s) (speakers_in s.layout) (divisor_in s.layout) p g z

@@ -1,10 +1,8 @@
--- The speakers of the 7.1.4 hall, `RENDER_714_CHANNEL_POSITIONS`, and what is mixed of an object in it. Assumes nothing.
+-- The speakers of the 7.1.4 hall, `RENDER_714_CHANNEL_POSITIONS`. Assumes nothing.
 use Rattle.std.specs.Prelude.{ℕ, Bool, true, false, List, [], ◌∷◌, pos, negsuc, get_or, Float}
 use Rattle.std.specs.Float.{nan, fin}
 use Rattle.vectors.specs.declared.Vec3.{Vec3}
-use Rattle.panning.specs.declared.Panned.{Panned}
-use Rattle.panning.specs.Choice.{0·0}
-use Rattle.panning.specs.Terms.{Term, panned, terms, on_channel}
+use Rattle.corners.specs.Choice.{0·0}
 
 -- 0.70710677, 0.48368952 and 1, with a sign
 abbrev pub diagonal : Bool → Float
@@ -42,15 +40,3 @@ full_range = 0 ∷ 1 ∷ 2 ∷ 4 ∷ 5 ∷ 6 ∷ 7 ∷ 8 ∷ 9 ∷ 10 ∷ 11 ∷
 -- "√(s/12)": how many channels there are, the bass channel too
 abbrev pub 12·0 : Float
 12·0 = fin false 3 (pos 2)
-
--- ---- document 01, item 4: "`render_object_timeslot_to_714`", at the place p, for the gain g and the size s
-
-abbrev pub panned714 : Vec3 → Float → Float → Panned
-panned714 p g s = panned hall714 full_range 12·0 p g s
-
-abbrev pub terms714 : Vec3 → Float → Float → List Term
-terms714 p g s = terms full_range (panned714 p g s)
-
--- the coefficients that it adds on channel c
-abbrev pub pan714 : Vec3 → Float → Float → ℕ → List Float
-pan714 p g s c = on_channel c (terms714 p g s)

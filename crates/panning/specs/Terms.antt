@@ -6,7 +6,7 @@ use Rattle.std.specs.Float.Ieee.{sub, mul, div, eq, ne}
 use Rattle.vectors.specs.declared.Vec3.{Vec3}
 use Rattle.roots.specs.Root.{root}
 use Rattle.panning.specs.declared.Panned.{Panned}
-use Rattle.panning.specs.Choice.{Corner, corner, corners, 0·0, 1·0}
+use Rattle.corners.specs.Choice.{Corner, corner, corners, 0·0, 1·0}
 
 -- ---- shares
 

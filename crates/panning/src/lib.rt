@@ -1,197 +1,28 @@
 // SPDX-License-Identifier: Apache-2.0
 // Translated from libstarmine_ad render.rs; changed.
 
-// Panning in the 7.1.4 hall: which speakers a place falls between, and what each gets.
+// Panning in a hall: which speakers a place falls between, and what each gets.
 #![tactic(auto)]
 
-ghost use Rattle.std.specs.Prelude.{◌≡◌, true, false, cond, map, ◌<◌};
-ghost use Rattle.panning.specs.Choice.{corners};
+ghost use Rattle.std.specs.Prelude.{◌≡◌, map, ◌<◌};
+ghost use Rattle.corners.specs.Choice.{corner, corners};
+ghost use Rattle.corners.specs.Axes.{place_among};
+ghost use Rattle.corners.specs.Found.{chosen, LayerInside, Inside};
 ghost use Rattle.panning.specs.Terms.{ratio, weighted, inner_gain, extra, coefficient};
-ghost use Rattle.panning.specs.Speakers.{hall714, 12·0};
-ghost use Rattle.panning.specs.Corners714.{pair_ends, front_ends, floor_ends, ceiling_ends, cube714};
-ghost use Rattle.panning.specs.Found.{chosen, LayerInside, Inside, PannedIs};
+ghost use Rattle.panning.specs.Setup.{speakers_in};
+ghost use Rattle.panning.specs.Hall.{setup_of, PannedIs};
 ghost use Rattle.panning.specs.Shares.{row_coefficients, layer_coefficients, layer_shares, SharesOf};
 
+use corners::{Cube, Ends, Layer};
 use roots::sqrt;
 use vectors::Vec3;
 
-const DIAGONAL: f32 = 0.70710677;
+mod corners_714;
+mod hall;
+mod halls;
 
-const SURROUND: f32 = 0.48368952;
-
-// `RENDER_714_CHANNEL_POSITIONS`, in channel order.
-pub static SPEAKERS: [Vec3; 12] = [
-    Vec3 {
-        x: -DIAGONAL,
-        y: 0.0,
-        z: 1.0,
-    },
-    Vec3 {
-        x: DIAGONAL,
-        y: 0.0,
-        z: 1.0,
-    },
-    Vec3 {
-        x: 0.0,
-        y: 0.0,
-        z: 1.0,
-    },
-    Vec3 {
-        x: 0.0,
-        y: 0.0,
-        z: 1.0,
-    },
-    Vec3 {
-        x: -DIAGONAL,
-        y: 0.0,
-        z: -1.0,
-    },
-    Vec3 {
-        x: DIAGONAL,
-        y: 0.0,
-        z: -1.0,
-    },
-    Vec3 {
-        x: -1.0,
-        y: 0.0,
-        z: -SURROUND,
-    },
-    Vec3 {
-        x: 1.0,
-        y: 0.0,
-        z: -SURROUND,
-    },
-    Vec3 {
-        x: -1.0,
-        y: 1.0,
-        z: SURROUND,
-    },
-    Vec3 {
-        x: 1.0,
-        y: 1.0,
-        z: SURROUND,
-    },
-    Vec3 {
-        x: -DIAGONAL,
-        y: 1.0,
-        z: -1.0,
-    },
-    Vec3 {
-        x: DIAGONAL,
-        y: 1.0,
-        z: -1.0,
-    },
-];
-
-// The two sides of a row.
-#[derive(Clone, Copy)]
-pub struct Ends {
-    pub low: usize,
-    pub high: usize,
-}
-
-#[derive(Clone, Copy)]
-pub struct Layer {
-    pub front: Ends,
-    pub rear: Ends,
-}
-
-// The eight corners.
-#[derive(Clone, Copy)]
-pub struct Cube {
-    pub bottom: Layer,
-    pub top: Layer,
-}
-
-impl Cube {
-    // The corners in the order in which they are mixed.
-    pub fn channels(self) -> [usize; 8]
-        ensures { result ≡ map (chosen self) corners }
-    {
-        [
-            self.bottom.front.low,
-            self.bottom.front.high,
-            self.bottom.rear.low,
-            self.bottom.rear.high,
-            self.top.front.low,
-            self.top.front.high,
-            self.top.rear.low,
-            self.top.rear.high,
-        ]
-    }
-}
-
-// Speaker k. That a speaker is one of twelve is asked of plain numbers: a type of it would be wrapped at each literal below and taken off each of the eight corners, and the
-// high end of a walk of `corners`, whose sides are `Ends` too, may be none.
-fn speaker(k: usize) -> Vec3
-    requires { k < 12 }
-    ensures { result ≡ hall714 k }
-{
-    SPEAKERS[k]
-}
-
-// A function and no `if`: a proof loses what an `if` chose where two of them join (tried: where two stand in one literal the proof does not close).
-fn choose<T: Copy>(test: bool, yes: T, no: T) -> T
-    ensures { result ≡ cond test yes no }
-{
-    if test { yes } else { no }
-}
-
-// The sides about x of a row of two speakers.
-fn pair_ends(left: usize, right: usize, x: f32) -> Ends
-    requires { (left < 12) × (right < 12) }
-    ensures { result ≡ pair_ends left right (hall714 left).x (hall714 right).x x }
-{
-    Ends {
-        low: choose(speaker(right).x <= x, right, left),
-        high: choose(speaker(left).x < x, right, left),
-    }
-}
-
-// Those of the floor's front row, which has a centre.
-fn front_ends(x: f32) -> Ends
-    ensures { result ≡ front_ends x }
-{
-    Ends {
-        low: choose(DIAGONAL <= x, 1, choose(0.0 <= x, 2, 0)),
-        high: choose(0.0 < x, 1, choose(-DIAGONAL < x, 2, 0)),
-    }
-}
-
-fn floor_ends(z: f32, x: f32) -> Layer
-    ensures { result ≡ floor_ends z x }
-{
-    let front = front_ends(x);
-    let middle = pair_ends(6, 7, x);
-    let rear = pair_ends(4, 5, x);
-    Layer {
-        front: choose(-1.0 <= z, choose(-SURROUND <= z, front, middle), rear),
-        rear: choose(1.0 <= z, front, choose(-SURROUND <= z, middle, rear)),
-    }
-}
-
-fn ceiling_ends(z: f32, x: f32) -> Layer
-    ensures { result ≡ ceiling_ends z x }
-{
-    let front = pair_ends(8, 9, x);
-    let rear = pair_ends(10, 11, x);
-    Layer {
-        front: choose(-1.0 <= z, front, rear),
-        rear: choose(SURROUND <= z, front, rear),
-    }
-}
-
-// The corners about a place.
-fn cube_714(place: Vec3) -> Cube
-    ensures { result ≡ cube714 place }
-{
-    let ceiling = ceiling_ends(place.z, place.x);
-    let floor = floor_ends(place.z, place.x);
-    Cube {
-        bottom: choose(1.0 <= place.y, ceiling, floor),
-        top: choose(0.0 <= place.y, ceiling, floor),
-    }
-}
+pub use hall::Hall;
+pub use halls::{LAST_LAYOUT, SPEAKERS, marks};
 
 // The share of b where v lies between a and b.
 #[tactic(auto, unfolding(crate::specs::Terms::ratio))]
@@ -215,11 +46,11 @@ fn inner_gain(gain: f32, size: f32) -> f32
 
 // What the size adds to every speaker but the bass.
 #[tactic(auto, unfolding(crate::specs::Terms::extra))]
-fn extra(gain: f32, size: f32) -> f32
-    ensures { result ≡ extra 12·0 gain size }
+fn extra(gain: f32, size: f32, divisor: f32) -> f32
+    ensures { result ≡ extra divisor gain size }
 {
     if size != 0.0 {
-        gain * sqrt(size / 12.0)
+        gain * sqrt(size / divisor)
     } else {
         0.0
     }
@@ -267,49 +98,45 @@ struct Shares {
 }
 
 // The share of a row's right side.
-fn across(row: Ends, x: f32) -> f32
+fn across(places: &[Vec3; 12], row: Ends, x: f32) -> f32
     requires { (row.low < 12) × (row.high < 12) }
-    ensures { result ≡ ratio (hall714 row.low).x (hall714 row.high).x x }
+    ensures { result ≡ ratio (place_among places.now row.low).x (place_among places.now row.high).x x }
 {
-    ratio(speaker(row.low).x, speaker(row.high).x, x)
+    ratio(places[row.low].x, places[row.high].x, x)
 }
 
-fn layer_shares(layer: Layer, place: Vec3) -> LayerShares
+fn layer_shares(places: &[Vec3; 12], layer: Layer, place: Vec3) -> LayerShares
     requires { LayerInside layer }
-    ensures { result ≡ layer_shares layer place }
+    ensures { result ≡ layer_shares (place_among places.now) layer place }
 {
     LayerShares {
-        ahead: ratio(
-            speaker(layer.rear.low).z,
-            speaker(layer.front.low).z,
-            place.z,
-        ),
-        front: across(layer.front, place.x),
-        rear: across(layer.rear, place.x),
+        ahead: ratio(places[layer.rear.low].z, places[layer.front.low].z, place.z),
+        front: across(places, layer.front, place.x),
+        rear: across(places, layer.rear, place.x),
     }
 }
 
-fn shares_at(c: Cube, place: Vec3) -> Shares
-    requires { Inside c × (c ≡ cube714 place) }
-    ensures { SharesOf c place result }
+fn shares_at(hall: &Hall, c: Cube, place: Vec3) -> Shares
+    requires { Inside c × (chosen c ≡ corner (place_among hall.now.places) (speakers_in hall.now.layout) place) }
+    ensures { SharesOf (place_among hall.now.places) c place result }
 {
     Shares {
         up: ratio(
-            speaker(c.bottom.front.low).y,
-            speaker(c.top.front.low).y,
+            hall.places[c.bottom.front.low].y,
+            hall.places[c.top.front.low].y,
             place.y,
         ),
-        bottom: layer_shares(c.bottom, place),
-        top: layer_shares(c.top, place),
+        bottom: layer_shares(&hall.places, c.bottom, place),
+        top: layer_shares(&hall.places, c.top, place),
     }
 }
 
 // The coefficients at the corners c, for the gain g that they share.
-fn coefficients(c: Cube, place: Vec3, g: f32) -> [f32; 8]
-    requires { Inside c × (c ≡ cube714 place) }
-    ensures { result ≡ map (coefficient hall714 (chosen c) place g) corners }
+fn coefficients(hall: &Hall, c: Cube, place: Vec3, g: f32) -> [f32; 8]
+    requires { Inside c × (chosen c ≡ corner (place_among hall.now.places) (speakers_in hall.now.layout) place) }
+    ensures { result ≡ map (coefficient (place_among hall.now.places) (chosen c) place g) corners }
 {
-    let s = shares_at(c, place);
+    let s = shares_at(hall, c, place);
     let [bfl, bfr, brl, brr] = s.bottom.coefficients(1.0 - s.up, g);
     let [tfl, tfr, trl, trr] = s.top.coefficients(s.up, g);
     [bfl, bfr, brl, brr, tfl, tfr, trl, trr]
@@ -330,17 +157,17 @@ const SILENT: Panned = Panned {
     extra: 0.0,
 };
 
-// What `render_object_timeslot_to_714` mixes of an object.
-pub fn pan(place: Vec3, gain: f32, size: f32) -> Panned
-    ensures { PannedIs place gain size result }
+// What `render_object_timeslot_to_714` mixes of an object, in a hall.
+pub fn pan(hall: &Hall, place: Vec3, gain: f32, size: f32) -> Panned
+    ensures { PannedIs (setup_of hall.now) place gain size result }
 {
     if gain == 0.0 {
         return SILENT;
     }
-    let cube = cube_714(place);
+    let cube = hall.corners(place);
     Panned {
         corners: cube.channels(),
-        coefficients: coefficients(cube, place, inner_gain(gain, size)),
-        extra: extra(gain, size),
+        coefficients: coefficients(hall, cube, place, inner_gain(gain, size)),
+        extra: extra(gain, size, hall.divisor),
     }
 }

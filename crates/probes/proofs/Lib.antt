@@ -1,2 +1,3 @@
+pub mod Halls
 pub mod ProbeAnswers
 pub mod Timed

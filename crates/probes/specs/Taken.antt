@@ -1,6 +1,6 @@
 -- A reader may skip this file: which arguments a probe takes, as a test, and the zeros that it answers for others. A probe's contract is `cond test rule otherwise`, with the
 -- leaf's rule; a slice that is lent to be written stays as it was where the test fails. Assumes nothing.
-use Rattle.std.specs.Prelude.{ℕ, ◌+◌, ◌*◌, ◌/◌, Bool, false, ◌&&◌, List, eqb, leb, ltb, pos, length, Float}
+use Rattle.std.specs.Prelude.{ℕ, ◌+◌, ◌*◌, ◌/◌, Bool, true, false, ◌&&◌, List, [], ◌∷◌, eqb, leb, ltb, pos, length, Float}
 use Rattle.std.specs.Float.{fin}
 use Rattle.angles.specs.declared.Turn.{Turn}
 use Rattle.angles.specs.declared.filter.Coefficients.{Coefficients}
@@ -26,9 +26,13 @@ abbrev pub has_room : List ℕ → ℕ → ℕ → List ℕ → ℕ → ℕ → 
 has_room places n rate out step to =
     eqb (length places) 3072 && leb n 64 && leb rate 16777216 && leb (12 * step) (length out) && leb (to + 4 * n) step
 
+-- each of the twelve channels is there
+abbrev pub all_here : List Bool
+all_here = true ∷ true ∷ true ∷ true ∷ true ∷ true ∷ true ∷ true ∷ true ∷ true ∷ true ∷ true ∷ []
+
 -- the limiter with the next gain h, and the meters of the block of n samples that met g, which the probe does not answer
 abbrev pub with_gain : Float → Float → ℕ → List ℕ → Limited
-with_gain h g n places = record { limiter = record { gain = h }; meters = block_meters g (channels_at 12 n places 0) }
+with_gain h g n places = record { limiter = record { gain = h }; meters = block_meters g (channels_at all_here n places 0) }
 
 -- ---- zeros
 

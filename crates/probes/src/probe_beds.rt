@@ -1,22 +1,38 @@
-ghost use Rattle.std.specs.Prelude.{◌≡◌, cond, leb, length};
-ghost use Rattle.beds.specs.Routes.{route_of, bass_gain};
+ghost use Rattle.std.specs.Prelude.{◌≡◌, cond, leb, length, min};
+ghost use Rattle.beds.specs.Routes.{route_of, route_in, bass_gain};
 ghost use Rattle.beds.specs.Positions.{bed_position};
 ghost use Rattle.beds.specs.Matching.{matches, matching, counted};
+ghost use Rattle.panning.specs.Setup.{present};
 ghost use Rattle.probes.specs.Beds.{route_number, found_number};
 
 use beds::{Codes, Route};
 use vectors::Vec3;
 
-#[unsafe(no_mangle)]
-pub extern "C" fn probe_route_of(code: u8) -> u64
-    ensures { result ≡ route_number (route_of code) }
+fn number_of(route: Route) -> u64
+    ensures { result ≡ route_number route }
 {
-    match beds::route_of(code) {
+    match route {
         Route::Direct(k) => k as u64,
         Route::Bass => 100,
         Route::Folded => 101,
         Route::Unsupported => 102,
     }
+}
+
+#[unsafe(no_mangle)]
+pub extern "C" fn probe_route_of(code: u8) -> u64
+    ensures { result ≡ route_number (route_of code) }
+{
+    number_of(beds::route_of(code))
+}
+
+// In the hall of a layout; a code above 3 is taken for 3.
+#[unsafe(no_mangle)]
+pub extern "C" fn probe_route_in(layout: u32, code: u8) -> u64
+    ensures { result ≡ route_number (route_in (present (min layout 3)) code) }
+{
+    let present = panning::marks(layout.min(3));
+    number_of(beds::route_in(code, &present))
 }
 
 #[unsafe(no_mangle)]

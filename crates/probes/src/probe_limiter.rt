@@ -1,7 +1,7 @@
 ghost use Rattle.std.specs.Prelude.{◌≡◌, cond, ◌*◌, eqb, length};
 ghost use Rattle.limiter.specs.Limiter.{peak, scaled};
 ghost use Rattle.limiter.specs.ChannelPlaces.{with_floats, Given};
-ghost use Rattle.probes.specs.Taken.{has_room, with_gain};
+ghost use Rattle.probes.specs.Taken.{all_here, has_room, with_gain};
 
 use limiter::Limiter;
 use limiter::places::Taken;
@@ -36,14 +36,18 @@ pub extern "C" fn probe_apply_output_limiter_block(
     to: usize,
 ) -> f32
     ensures { cond (has_room places.now samples rate out.old step to)
-        (Given gain samples rate places.now step to out.old (with_gain result gain samples places.now) out.new)
+        (Given gain all_here samples rate places.now step to out.old (with_gain result gain samples places.now) out.new)
         ((result ≡ gain) × (out.new ≡ out.old)) }
 {
     let known = places.len() == 3072 && samples <= 64 && rate <= 16777216;
     if !(known && step <= out.len() / 12 && to <= step && 4 * samples <= step - to) {
         return gain;
     }
-    let taken = Taken { samples };
+    let present = [true; 12];
+    let taken = Taken {
+        samples,
+        present: &present,
+    };
     let done = Limiter { gain }.apply_output_limiter_block(places, taken, rate, out, step, to);
     done.limiter.gain
 }

@@ -2,7 +2,7 @@
 
 -- a refusal is found
 pub use Rattle.refusals.proofs.Cleared.{not_clear, is_none_is}
--- the small part of a block, with the block's infos and places, is what the block decodes to
+-- the small part of a block, with the block's infos, places and hall, is what the block decodes to
 pub use Rattle.refusals.proofs.Loaded.{loaded}
 -- 1 to 8: the first test that does not hold is what is found; where all hold nothing is
 pub use Rattle.refusals.proofs.LowestFirst.{tests, refuses, refuses_none}

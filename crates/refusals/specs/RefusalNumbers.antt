@@ -8,7 +8,7 @@ use Rattle.refusals.specs.declared.Stop.{Stop}
 use Rattle.refusals.specs.declared.Refusal.{Refusal}
 use Rattle.refusals.specs.declared.Refusal.TheVariants.{Lent, Sizes, Rate, StreamEnd, Records, Ranges, Samples}
 use Rattle.refusals.specs.declared.Refusal.TheVariants.{SampleRateChanged, MissingOamd, ObjectCountMismatch}
-use Rattle.refusals.specs.declared.Refusal.TheVariants.{UnsupportedSampleCount, BedChannelCountMismatch, UnsupportedBedChannel}
+use Rattle.refusals.specs.declared.Refusal.TheVariants.{UnsupportedSampleCount, BedChannelCountMismatch, UnsupportedBedChannel, Layout}
 
 -- "A refusal gives its number and two counts, zero where unnamed."
 abbrev pub numbers : ℕ → ℕ → ℕ → Stop
@@ -28,6 +28,7 @@ numbers_of (ObjectCountMismatch expected provided) = numbers 11 expected provide
 numbers_of UnsupportedSampleCount = numbers 12 0 0
 numbers_of (BedChannelCountMismatch expected) = numbers 13 expected 0
 numbers_of (UnsupportedBedChannel code) = numbers 14 code 0
+numbers_of Layout = numbers 15 0 0
 
 abbrev pub stop_of : Refusal → Found
 stop_of r = let n = numbers_of r in stop n.number n.first n.second

@@ -19,7 +19,7 @@ use records::metadata::{Fault, Metadata};
 use shapes::present_of;
 use store::renderer::Renderer714;
 
-// The refusals of a push: `stop` gives document 01's number and counts of each.
+// The refusals of a push, and that of a making call: `stop` gives document 01's number and counts of each.
 #[derive(Clone, Copy, PartialEq, Eq, Debug)]
 pub enum Refusal {
     // 1 to 8; 7 is not in use
@@ -37,6 +37,8 @@ pub enum Refusal {
     UnsupportedSampleCount,
     BedChannelCountMismatch(u32),
     UnsupportedBedChannel(u32),
+    // 15, of a making call
+    Layout,
 }
 
 // What is told of a refusal: document 01's number and two counts, zero where unnamed. (a) Numbers, since they cross to C and are printed.
@@ -78,6 +80,7 @@ impl Refusal {
             Refusal::UnsupportedSampleCount => Stop::new(12, 0, 0),
             Refusal::BedChannelCountMismatch(expected) => Stop::new(13, expected, 0),
             Refusal::UnsupportedBedChannel(code) => Stop::new(14, code, 0),
+            Refusal::Layout => Stop::new(15, 0, 0),
         }
     }
 }

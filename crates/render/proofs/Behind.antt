@@ -1,12 +1,13 @@
 -- Rows written behind the pending samples: read as words, each channel's 64 places are `laid`, as the rules have it. Assumes nothing.
 use mathlib.Core.Path.{◌≡◌, refl, sym, ap, ap₂, ◌∙◌, subst}
+use mathlib.Core.Bool.{Bool, true, false, cond}
 use mathlib.Core.List.{List, [], ◌∷◌}
-use Prim.Native.Nat.{ℕ, zero, suc, ◌+◌, ◌*◌, ◌^◌, ◌<◌, ◌≤◌}
+use Prim.Native.Nat.{ℕ, zero, suc, ◌+◌, ◌*◌, ◌^◌, ◌<◌, ◌≤◌, zero-le, suc-le-suc}
 use native.Mathlib.Omega.{arith}
 use native.Mathlib.Nat.{not-suc-le-zero}
 use lib.Dec.{T}
-use lib.ListN.{length, get_or, set, take, drop, length-drop, get_or-eq_default}
-use lib.Seq.{length-take-le, drop-drop}
+use lib.ListN.{length, get_or, set, take, drop, get_or-eq_default}
+use lib.Seq.{drop-drop}
 use lib.Ieee.{Float, binary32, fits, to_bits}
 use lib.Ieee.Bits.{to_bits-lt}
 use Rattle.ieee.specs.Bounds.{All}
@@ -31,6 +32,11 @@ fit_drop : (k : ℕ) (xs : List Float) → Fit xs → Fit (drop k xs)
 fit_drop zero xs h = h
 fit_drop (suc k) [] h = tt
 fit_drop (suc k) (x ∷ xs) h = fit_drop k xs h.1
+
+take_short : {A : Type 0} (k : ℕ) (xs : List A) → length (take k xs) ≤ k
+take_short zero xs = zero-le
+take_short (suc k) [] = zero-le
+take_short (suc k) (x ∷ xs) = suc-le-suc (take_short k xs)
 
 -- ---- one word, and a run of floats
 
@@ -98,37 +104,50 @@ channels_keep cs to s =
       past = λ i h. get_or-eq_default (with_channels cs 256 to s) 0 (omega arith) ∙ sym (get_or-eq_default s 0 h);
     }
 
+-- channel c behind its pending samples: none of it where it is not there
 module _ (k pending : ℕ) (short : pending + k ≤ 64) where
-  channel_laid : (left base : ℕ) (xs : List Float) (s : List ℕ) → Fit xs → base + 256 * left ≤ length s → 64 * left ≤ length xs → (c : ℕ) → c < left
-      → words_at (with_channels (channels left k xs) 256 (base + 4 * pending) s) (base + 256 * c) 64 ≡ laid pending (take k (drop (64 * c) xs)) (words_at s (base + 256 * c) 64)
+  row_fit : (h : Bool) (xs : List Float) → Fit xs → Fit (cond h (take k xs) [])
+  row_fit true xs f = fit_take k xs f
+  row_fit false xs f = tt
+
+  row_short : (h : Bool) (xs : List Float) → pending + length (cond h (take k xs) []) ≤ 64
+  row_short true xs = let t = take_short k xs in omega arith
+  row_short false xs = omega arith
+
+  channel_laid : (here : List Bool) (base : ℕ) (xs : List Float) (s : List ℕ) → Fit xs → base + 256 * length here ≤ length s → (c : ℕ) → c < length here
+      → words_at (with_channels (channels here k xs) 256 (base + 4 * pending) s) (base + 256 * c) 64
+      ≡ laid pending (cond (get_or here c false) (take k (drop (64 * c) xs)) []) (words_at s (base + 256 * c) 64)
   unfolding channels with_channels
-  channel_laid zero base xs s f h m c l = absurd (not-suc-le-zero l)
-  channel_laid (suc left) base xs s f h m zero l =
-      let new = with_floats s (base + 4 * pending) (take k xs) in
-      let d : length (take k xs) ≡ k = length-take-le k xs (omega arith) in
+  channel_laid [] base xs s f h c l = absurd (not-suc-le-zero l)
+  channel_laid (b ∷ here) base xs s f h zero l =
+      let ys = cond b (take k xs) [] in
+      let new = with_floats s (base + 4 * pending) ys in
+      let d : pending + length ys ≤ 64 = row_short b xs in
       let e : base + 256 * 0 ≡ base = omega arith in
-      ap (λ (u : ℕ). words_at (with_channels (channels left k (drop 64 xs)) 256 (base + 4 * pending + 256) new) u 64) e
-      ∙ words_before (channels_keep (channels left k (drop 64 xs)) (base + 4 * pending + 256) new) base 64 (omega arith)
-      ∙ floats_laid (take k xs) 64 pending base s (fit_take k xs f) (omega arith) (omega arith)
-      ∙ ap (λ (u : ℕ). laid pending (take k xs) (words_at s u 64)) (sym e)
-  channel_laid (suc left) base xs s f h m (suc c) l =
-      let new = with_floats s (base + 4 * pending) (take k xs) in
-      let cs = channels left k (drop 64 xs) in
-      let d : length (take k xs) ≡ k = length-take-le k xs (omega arith) in
-      let w : length new ≡ length s = length_floats (take k xs) (base + 4 * pending) s in
+      ap (λ (u : ℕ). words_at (with_channels (channels here k (drop 64 xs)) 256 (base + 4 * pending + 256) new) u 64) e
+      ∙ words_before (channels_keep (channels here k (drop 64 xs)) (base + 4 * pending + 256) new) base 64 (omega arith)
+      ∙ floats_laid ys 64 pending base s (row_fit b xs f) (omega arith) d
+      ∙ ap (λ (u : ℕ). laid pending ys (words_at s u 64)) (sym e)
+  channel_laid (b ∷ here) base xs s f h (suc c) l =
+      let ys = cond b (take k xs) [] in
+      let new = with_floats s (base + 4 * pending) ys in
+      let cs = channels here k (drop 64 xs) in
+      let d : pending + length ys ≤ 64 = row_short b xs in
+      let w : length new ≡ length s = length_floats ys (base + 4 * pending) s in
       let e : base + 4 * pending + 256 ≡ base + 256 + 4 * pending = omega arith in
       let g : base + 256 * suc c ≡ base + 256 + 256 * c = omega arith in
       let o : 64 + 64 * c ≡ 64 * suc c = omega arith in
       ap₂ (λ (u v : ℕ). words_at (with_channels cs 256 u new) v 64) e g
-      ∙ channel_laid left (base + 256) (drop 64 xs) new (fit_drop 64 xs f) (omega arith) (rw length-drop (omega arith)) c (omega arith)
-      ∙ ap₂ (λ (ys : List Float) (ws : List ℕ). laid pending (take k ys) ws) (drop-drop (64 * c) 64 xs)
-      (words_past (floats_keep (take k xs) (base + 4 * pending) s) (base + 256 + 256 * c) 64 (omega arith))
-      ∙ ap₂ (λ (u v : ℕ). laid pending (take k (drop u xs)) (words_at s v 64)) o (sym g)
+      ∙ channel_laid here (base + 256) (drop 64 xs) new (fit_drop 64 xs f) (omega arith) c (omega arith)
+      ∙ ap₂ (λ (zs : List Float) (ws : List ℕ). laid pending (cond (get_or here c false) (take k zs) []) ws) (drop-drop (64 * c) 64 xs)
+      (words_past (floats_keep ys (base + 4 * pending) s) (base + 256 + 256 * c) 64 (omega arith))
+      ∙ ap₂ (λ (u v : ℕ). laid pending (cond (get_or here c false) (take k (drop u xs)) []) (words_at s v 64)) o (sym g)
 
   -- what `append_rows` leaves, read channel by channel
-  pub append_laid : (rows : List Float) (s : List ℕ) → Fit rows → length s ≡ 3072 → length rows ≡ 768 → (c : ℕ) → c < 12
-      → words_at (with_channels (channels 12 k rows) 256 (4 * pending) s) (256 * c) 64 ≡ laid pending (take k (drop (64 * c) rows)) (words_at s (256 * c) 64)
-  append_laid rows s f h m c l =
+  pub append_laid : (here : List Bool) → length here ≡ 12 → (rows : List Float) (s : List ℕ) → Fit rows → length s ≡ 3072 → (c : ℕ) → c < 12
+      → words_at (with_channels (channels here k rows) 256 (4 * pending) s) (256 * c) 64
+      ≡ laid pending (cond (get_or here c false) (take k (drop (64 * c) rows)) []) (words_at s (256 * c) 64)
+  append_laid here e rows s f h c l =
       let p : 0 + 4 * pending ≡ 4 * pending = omega arith in
       let q : 0 + 256 * c ≡ 256 * c = omega arith in
-      rw (p, q) at (channel_laid 12 0 rows s f (omega arith) (omega arith) c l)
+      rw (p, q) at (channel_laid here 0 rows s f (omega arith) c (omega arith))

@@ -1,3 +1,4 @@
+pub mod Marks
 pub mod MixedTerms
 pub mod ChannelRows
 pub mod BedTerms

@@ -9,7 +9,7 @@ use lib.Seq.{drop-cons}
 use lib.Ieee.{Float, nan}
 use Rattle.beds.specs.Matching.{matching}
 use Rattle.timed.specs.declared.state.DynamicSourceState.{DynamicSourceState}
-use Rattle.panning.specs.Setup.{built_in}
+use Rattle.panning.specs.Setup.{Setup}
 use Rattle.rules.specs.Mix.{added_terms}
 use Rattle.render.specs.MixedRows.{mixed_terms}
 use Rattle.render.specs.declared.Span.{Span}
@@ -18,25 +18,25 @@ use Rattle.render.specs.MixedSources.{bed_terms, channel_row, mixed_found, mixed
 
 -- ---- beds and objects
 
-module _ (pcm : List ℕ) (s : Span) where
+module _ (h : Setup) (pcm : List ℕ) (s : Span) where
   pub bed_step : (codes : List ℕ) (j : ℕ) (cs : List ℕ) (gs os : List Float) {new end : List Float} → j < length cs → j < length gs
-      → new ≡ mixed_found pcm s (bed_terms (bed_with (get_or cs j 0) (get_or gs j nan))) (matching (get_or cs j 0) codes) os
-      → mixed_beds pcm s codes (zipped (drop j cs) (drop j gs)) os ≡ end
-      → mixed_beds pcm s codes (zipped (drop (j + 1) cs) (drop (j + 1) gs)) new ≡ end
-  bed_step codes j cs gs os h l p q = rw (add-one j, p) (rw (drop-cons cs j 0 h, drop-cons gs j nan l) at q)
+      → new ≡ mixed_found pcm s (bed_terms h (bed_with (get_or cs j 0) (get_or gs j nan))) (matching (get_or cs j 0) codes) os
+      → mixed_beds h pcm s codes (zipped (drop j cs) (drop j gs)) os ≡ end
+      → mixed_beds h pcm s codes (zipped (drop (j + 1) cs) (drop (j + 1) gs)) new ≡ end
+  bed_step codes j cs gs os k l p q = rw (add-one j, p) (rw (drop-cons cs j 0 k, drop-cons gs j nan l) at q)
 
   pub beds_done : (codes : List ℕ) (j : ℕ) (cs : List ℕ) (gs os : List Float) {end : List Float} → length cs ≤ j
-      → mixed_beds pcm s codes (zipped (drop j cs) (drop j gs)) os ≡ end → os ≡ end
-  beds_done codes j cs gs os h q = rw (drop_of_length-le cs h) at q
+      → mixed_beds h pcm s codes (zipped (drop j cs) (drop j gs)) os ≡ end → os ≡ end
+  beds_done codes j cs gs os k q = rw (drop_of_length-le cs k) at q
 
   pub object_step : (first j : ℕ) (d : DynamicSourceState) (ds : List DynamicSourceState) (os : List Float) {new end : List Float} → j < length ds
-      → new ≡ mixed_terms (channel_row pcm s (first + j)) (added_terms built_in (plain_source (get_or ds j d))) os
-      → mixed_objects pcm s (first + j) (map plain_source (drop j ds)) os ≡ end
-      → mixed_objects pcm s (first + (j + 1)) (map plain_source (drop (j + 1) ds)) new ≡ end
-  object_step first j d ds os h p q =
+      → new ≡ mixed_terms (channel_row pcm s (first + j)) (added_terms h (plain_source (get_or ds j d))) os
+      → mixed_objects h pcm s (first + j) (map plain_source (drop j ds)) os ≡ end
+      → mixed_objects h pcm s (first + (j + 1)) (map plain_source (drop (j + 1) ds)) new ≡ end
+  object_step first j d ds os k p q =
       let f : first + (j + 1) ≡ suc (first + j) = omega arith in
-      rw (p, f, add-one j) (rw (drop-cons ds j d h) at q)
+      rw (p, f, add-one j) (rw (drop-cons ds j d k) at q)
 
   pub objects_done : (i j : ℕ) (ds : List DynamicSourceState) (os : List Float) {end : List Float} → length ds ≤ j
-      → mixed_objects pcm s i (map plain_source (drop j ds)) os ≡ end → os ≡ end
-  objects_done i j ds os h q = rw (drop_of_length-le ds h) at q
+      → mixed_objects h pcm s i (map plain_source (drop j ds)) os ≡ end → os ≡ end
+  objects_done i j ds os k q = rw (drop_of_length-le ds k) at q

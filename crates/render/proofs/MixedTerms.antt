@@ -13,7 +13,8 @@ use Rattle.mixing.specs.Part.{on_part}
 use Rattle.mixing.proofs.Theorems.{full_zero}
 use Rattle.panning.specs.Terms.{Term, term, terms, audible, paired, spread}
 use Rattle.panning.specs.declared.Panned.{Panned}
-use Rattle.render.specs.MixedRows.{up_from, mixed_term, mixed_terms}
+use Rattle.render.specs.MixedRows.{mixed_term, mixed_terms}
+use Rattle.render.proofs.Marks.{sounds_on, marked_from}
 
 module _ (xs : List Float) where
   -- ---- nothing to add
@@ -60,15 +61,26 @@ module _ (xs : List Float) where
 
   -- ---- one more of a loop, and all of them: what is left to mix still gives `end`
 
-  pub range_step : (c to : ℕ) (g : Float) (os : List Float) {new end : List Float} → c < to → new ≡ mixed_term xs (term c g) os
-      → mixed_terms xs (spread (up_from c (to - c)) g) os ≡ end → mixed_terms xs (spread (up_from (c + 1) (to - (c + 1))) g) new ≡ end
-  range_step c to g os h p q =
-      let e : to - c ≡ suc (to - (c + 1)) = omega arith in
-      rw (add-one c, p) (rw (e, add-one c) at q)
+  -- channel c, which sounds
+  pub spread_step : (ms : List Bool) (c : ℕ) (g : Float) (os : List Float) {new end : List Float} → c < 12 → sounds_on ms c ≡ true → new ≡ mixed_term xs (term c g) os
+      → mixed_terms xs (spread (marked_from ms c (12 - c)) g) os ≡ end → mixed_terms xs (spread (marked_from ms (c + 1) (12 - (c + 1))) g) new ≡ end
+  unfolding marked_from
+  spread_step ms c g os h b p q =
+      let e : 12 - c ≡ suc (12 - (c + 1)) = omega arith in
+      rw (p, add-one c) (rw (e, add-one c, b) at q)
 
-  pub range_done : (c to : ℕ) (g : Float) (os : List Float) {end : List Float} → to ≤ c → mixed_terms xs (spread (up_from c (to - c)) g) os ≡ end → os ≡ end
-  range_done c to g os h q =
-      let e : to - c ≡ 0 = omega arith in
+  -- and one that does not
+  pub spread_skip : (ms : List Bool) (c : ℕ) (g : Float) (os : List Float) {new end : List Float} → c < 12 → sounds_on ms c ≡ false → new ≡ os
+      → mixed_terms xs (spread (marked_from ms c (12 - c)) g) os ≡ end → mixed_terms xs (spread (marked_from ms (c + 1) (12 - (c + 1))) g) new ≡ end
+  unfolding marked_from
+  spread_skip ms c g os h b p q =
+      let e : 12 - c ≡ suc (12 - (c + 1)) = omega arith in
+      rw (p, add-one c) (rw (e, add-one c, b) at q)
+
+  pub spread_done : (ms : List Bool) (c : ℕ) (g : Float) (os : List Float) {end : List Float} → 12 ≤ c → mixed_terms xs (spread (marked_from ms c (12 - c)) g) os ≡ end → os ≡ end
+  unfolding marked_from
+  spread_done ms c g os h q =
+      let e : 12 - c ≡ 0 = omega arith in
       rw e at q
 
   pub corner_step : (j : ℕ) (ks : List ℕ) (cs os : List Float) {new end : List Float} → j < length ks → j < length cs → new ≡ mixed_term xs (term (get_or ks j 0) (get_or cs j nan)) os

@@ -4,7 +4,8 @@ use Rattle.std.specs.Float.{nan}
 use Rattle.formats.specs.Areas.{row_count, row_places, place_count}
 use Rattle.lowpass.specs.Lowpass.{next}
 use Rattle.lowpass.specs.declared.BiquadLowpassState.{BiquadLowpassState}
-use Rattle.panning.specs.Setup.{built_in}
+use Rattle.panning.specs.Setup.{Setup}
+use Rattle.panning.specs.Hall.{setup_of}
 use Rattle.timed.specs.declared.state.DynamicSourceState.{DynamicSourceState}
 use Rattle.rules.specs.Parts.{0·0}
 use Rattle.rules.specs.Leaves.{Source, Bed}
@@ -43,11 +44,11 @@ sources_of m ds = map plain_source (take m ds)
 -- ---- moments
 
 -- Document 01: "PCM comes channel after channel, beds then objects". The moment at sample t of a frame of n samples a channel, in the
--- built-in hall.
-abbrev pub moment_of : List Bed → List Source → List ℕ → List ℕ → ℕ → ℕ → Moment
-moment_of beds objects codes pcm n t =
+-- hall h.
+abbrev pub moment_of : Setup → List Bed → List Source → List ℕ → List ℕ → ℕ → ℕ → Moment
+moment_of h beds objects codes pcm n t =
     record {
-      hall = built_in;
+      hall = h;
       beds = beds;
       objects = objects;
       codes = codes;
@@ -56,7 +57,7 @@ moment_of beds objects codes pcm n t =
     }
 
 abbrev pub scene_at : Scene → List ℕ → List ℕ → ℕ → ℕ → Moment
-scene_at s = moment_of (zipped s.codes.now s.gains.now) (map plain_source s.sources.now)
+scene_at s = moment_of (setup_of s.hall.now) (zipped s.codes.now s.gains.now) (map plain_source s.sources.now)
 
 abbrev pub moments_in : Run → ℕ → Moment
 moments_in r = scene_at r.scene r.input.codes.list.now r.input.pcm.now r.input.span.frame

@@ -12,6 +12,7 @@ mod terms;
 
 use beds::Codes;
 use formats::areas;
+use panning::Hall;
 use timed::state::DynamicSourceState;
 
 // Twelve rows of 64 places, row c from place 64 c on.
@@ -38,9 +39,10 @@ pub struct Input<'a> {
     ghost framed: { Framed pcm.now (length codes.list.now + objects) span.frame },
 }
 
-// What sounds in a run: the beds' codes and gains, two slices, since they are two tables of the block; and the objects.
+// What sounds in a run, and in which hall: the beds' codes and gains, two slices, since they are two tables of the block; and the objects.
 #[derive(Clone, Copy)]
 pub struct Scene<'a> {
+    pub hall: &'a Hall,
     pub codes: &'a [u8],
     pub gains: &'a [f32],
     pub sources: &'a [DynamicSourceState],

@@ -2,15 +2,16 @@
 // Translated from libstarmine_ad render.rs; changed.
 
 // The terms of one source, mixed one after another into twelve rows of 64 places.
-ghost use Rattle.std.specs.Prelude.{◌≡◌, ◌-◌, ◌<◌, ◌≤◌, length};
+ghost use Rattle.std.specs.Prelude.{◌≡◌, ◌<◌, ◌≤◌, length};
 ghost use Rattle.formats.specs.Areas.{row_places};
-ghost use Rattle.panning.specs.Speakers.{full_range, terms714};
 ghost use Rattle.panning.specs.Terms.{term, paired, spread};
-ghost use Rattle.render.specs.MixedRows.{AmongTwelve, up_from, mixed_term, mixed_terms};
+ghost use Rattle.panning.specs.Setup.{terms_in};
+ghost use Rattle.panning.specs.Hall.{setup_of};
+ghost use Rattle.render.specs.MixedRows.{AmongTwelve, speakers_marked, mixed_term, mixed_terms};
 
 use crate::Rows;
 use formats::areas;
-use panning::Panned;
+use panning::{Hall, Panned};
 use vectors::Vec3;
 
 // The bass channel.
@@ -33,26 +34,18 @@ impl Samples<'_> {
         mixing::mix_segment(self.list, rows, areas::ROW_PLACES * channel, gain);
     }
 
-    // The same gain on the channels of a range.
-    fn mix_range(self, rows: &mut Rows, from: usize, to: usize, gain: f32)
-        requires { (from ≤ to) × (to ≤ 12) }
-        ensures { rows.new ≡ mixed_terms self.entry.list.now (spread (up_from from (to - from)) gain) rows.old }
-    {
-        for c in from..to {
-            self.mix_term(rows, c, gain);
-        }
-    }
-
-    // What the size adds: the same gain on every channel but 3.
-    #[tactic(auto, using(crate::proofs::MixedTerms::term_none))]
-    fn mix_spread(self, rows: &mut Rows, gain: f32)
-        ensures { rows.new ≡ mixed_terms self.entry.list.now (spread full_range gain) rows.old }
+    // What the size adds: the same gain on every channel but 3 that the hall has.
+    fn mix_spread(self, rows: &mut Rows, present: &[bool; 12], gain: f32)
+        ensures { rows.new ≡ mixed_terms self.entry.list.now (spread (speakers_marked present.now) gain) rows.old }
     {
         if gain == 0.0 {
             return;
         }
-        self.mix_range(rows, 0, BASS, gain);
-        self.mix_range(rows, BASS + 1, areas::ROW_COUNT, gain);
+        for c in 0..areas::ROW_COUNT {
+            if c != BASS && present[c] {
+                self.mix_term(rows, c, gain);
+            }
+        }
     }
 
     // The eight corners in order.
@@ -66,11 +59,11 @@ impl Samples<'_> {
     }
 
     // A source at a place: panned once, then the size's part and the corners.
-    pub fn mix_object(self, rows: &mut Rows, place: Vec3, gain: f32, size: f32)
-        ensures { rows.new ≡ mixed_terms self.entry.list.now (terms714 place gain size) rows.old }
+    pub fn mix_object(self, rows: &mut Rows, hall: &Hall, place: Vec3, gain: f32, size: f32)
+        ensures { rows.new ≡ mixed_terms self.entry.list.now (terms_in (setup_of hall.now) place gain size) rows.old }
     {
-        let p = panning::pan(place, gain, size);
-        self.mix_spread(rows, p.extra);
+        let p = panning::pan(hall, place, gain, size);
+        self.mix_spread(rows, &hall.present, p.extra);
         self.mix_corners(rows, &p);
     }
 }

@@ -23,15 +23,15 @@ use Rattle.updates.specs.Applied as updates
 use Rattle.rules.specs.Samples.{Renderer, applied_at, updated, slotted}
 use Rattle.rules.specs.Ranges.{Ranged}
 use Rattle.store.specs.declared.renderer.Renderer714.{Renderer714}
-use Rattle.store.specs.Layout.{size, assembled, infos_of, places_of}
+use Rattle.store.specs.Layout.{size, assembled, infos_of, places_of, setup_in}
 use Rattle.theorem.specs.Instance.{Sent, hall, sent_at, sent_of}
 use Rattle.theorem.proofs.Theorems.{Within}
 use Rattle.formats.specs.Areas.{infos_bytes}
 use Rattle.store.specs.Steps.{with_state}
-use Rattle.chunk.specs.ChunkRows.{small_bytes}
+use Rattle.chunk.specs.ChunkRows.{small_bytes, hall_bytes_of}
 use Rattle.rendering.specs.Held.{held, IsNext}
 use Rattle.rendering.specs.Begin.{restated, CanStart, NoneSent, Starts}
-use Rattle.rendering.proofs.Changed.{changed, changed_small, changed_held}
+use Rattle.rendering.proofs.Changed.{changed, changed_small, changed_hall, changed_held}
 
 -- ---- one update
 
@@ -43,7 +43,7 @@ module _ (t : ℕ) (u : Update) (s : Renderer714) (b : List ℕ) where
   before = record { state = s.state; infos = infos_of b }
 
   by_start : (new : Bool) (m : Timed) → (not s.state.initialized || eqb t 0) ≡ new → updates.applied s.clock.position.0 u before ≡ m
-      → assembled (restated new s m.state) m.infos (places_of b) ≡ applied_at hall t (sent t u) (held s b)
+      → assembled (restated new s m.state) m.infos (places_of b) (setup_in b) ≡ applied_at hall t (sent t u) (held s b)
   by_start true m e f = rw (e, f)
   by_start false m e f = rw (e, f)
 
@@ -54,6 +54,7 @@ module _ (t : ℕ) (u : Update) (s : Renderer714) (b : List ℕ) where
       record {
         holds = changed_held b is whole long r ∙ rw (q, h.state, h.infos) (by_start new _ e refl);
         small = changed_small b is whole long;
+        hall = changed_hall b is whole long;
       }
 
 -- ---- the slot
@@ -61,17 +62,17 @@ module _ (t : ℕ) (u : Update) (s : Renderer714) (b : List ℕ) where
 module _ (s : Renderer714) (b : List ℕ) where
   by_slot : (on : Bool) (m : Timed) → (s.state.initialized && eqb s.clock.phase 0) ≡ on
       → cond on (slot_at s.clock.start.0 (record { state = s.state; infos = infos_of b })) (record { state = s.state; infos = infos_of b }) ≡ m
-      → assembled (with_state s m.state) m.infos (places_of b) ≡ slotted hall (held s b)
+      → assembled (with_state s m.state) m.infos (places_of b) (setup_in b) ≡ slotted hall (held s b)
   by_slot true m e f = rw (e, f)
   by_slot false m e f = rw (e, f)
 
   -- no slot starts
   pub slot_rests : (s.state.initialized && eqb s.clock.phase 0) ≡ false → IsNext (slotted hall (held s b)) b s b
-  slot_rests e = record { holds = by_slot false _ e refl; small = refl }
+  slot_rests e = record { holds = by_slot false _ e refl; small = refl; hall = refl }
 
   -- a slot starts that changes nothing
   pub slot_changes_nothing : Starts s → rests_at s.clock.start.0 s.state ≡ true → IsNext (slotted hall (held s b)) b s b
-  slot_changes_nothing e h = record { holds = by_slot true (record { state = s.state; infos = infos_of b }) e (timed.slot_rests _ _ h); small = refl }
+  slot_changes_nothing e h = record { holds = by_slot true (record { state = s.state; infos = infos_of b }) e (timed.slot_rests _ _ h); small = refl; hall = refl }
 
   pub slot_starts :
       (m : MetadataRendererState) (is : List ℕ) (r : Renderer714) → length b ≡ size → length is ≡ infos_bytes → Starts s →
@@ -80,6 +81,7 @@ module _ (s : Renderer714) (b : List ℕ) where
       record {
         holds = changed_held b is whole long r ∙ rw (q, h.state, h.infos) (by_slot true _ e refl);
         small = changed_small b is whole long;
+        hall = changed_hall b is whole long;
       }
 
 -- ---- those sent for one time
@@ -130,6 +132,7 @@ module _ (m : List ℕ) (l : records.Layout) (t : ℕ) (all : Renderer Timed) (b
   -- where the walk stands, from the block b₀: the updates from i on lead to `all`
   pub record Standing (i : ℕ) (s : Renderer714) (b : List ℕ) : Type 0 where
     pub small : small_bytes b ≡ small_bytes b₀
+    pub hall : hall_bytes_of b ≡ hall_bytes_of b₀
     pub left : rest t (sent_at m) l.count i (held s b) ≡ all
 
   module _ (g : IsLayout m l) where
@@ -143,6 +146,7 @@ module _ (m : List ℕ) (l : records.Layout) (t : ℕ) (all : Renderer Timed) (b
         let one : held r c ≡ applied_at hall t (sent_at m i) (held s b) = next.holds ∙ rw (same.0, same.1) in
         record {
           small = next.small ∙ h.small;
+          hall = next.hall ∙ h.hall;
           left = rw (add-one, one) (sym (rest_here t (sent_at m) l.count i (held s b) low o) ∙ h.left);
         }
 
@@ -152,11 +156,12 @@ module _ (m : List ℕ) (l : records.Layout) (t : ℕ) (all : Renderer Timed) (b
         let k : i < count m = omega (arith, g.counted) in
         record {
           small = h.small;
+          hall = h.hall;
           left = rw add-one (sym (rest_past t (sent_at m) l.count i (held s b) low (λ o. off (g.offsets i k ∙ o))) ∙ h.left);
         }
 
     pub ends : (i : ℕ) (s : Renderer714) (b : List ℕ) → l.count ≤ i → Standing i s b → IsNext all b₀ s b
-    ends i s b low h = record { holds = sym (rest_none t (sent_at m) l.count i (held s b) low) ∙ h.left; small = h.small }
+    ends i s b low h = record { holds = sym (rest_none t (sent_at m) l.count i (held s b) low) ∙ h.left; small = h.small; hall = h.hall }
 
 -- all of them
 pub from_first : (m : List ℕ) (l : records.Layout) → IsLayout m l → (t : ℕ) (r : Renderer Timed) → rest t (sent_at m) l.count 0 r ≡ updated hall t (sent_of m) r
@@ -168,7 +173,7 @@ from_first m l g t r =
 -- ---- the slot after them
 
 pub slotted_after : {x : Renderer Timed} {s r : Renderer714} {b₀ b c : List ℕ} → IsNext x b₀ s b → IsNext (slotted hall (held s b)) b r c → IsNext (slotted hall x) b₀ r c
-slotted_after h g = record { holds = g.holds ∙ ap (slotted hall) h.holds; small = g.small ∙ h.small }
+slotted_after h g = record { holds = g.holds ∙ ap (slotted hall) h.holds; small = g.small ∙ h.small; hall = g.hall ∙ h.hall }
 
 -- a renderer within document 01's ranges
 pub ranged_starts : (r : Renderer Timed) → Ranged hall Within r → CanStart r
@@ -192,4 +197,4 @@ none_applied m l g t s b h =
     let e : 0 + l.count ≡ l.count = omega arith in
     let z = skip t (sent_at m) l.count l.count 0 (held s b) (omega arith) (λ k p q o. h.none k p (omega arith) (g.offsets k (omega (arith, g.counted)) ∙ o)) in
     ends m l t all b g l.count s b (omega arith)
-    (record { small = refl; left = sym (rw e at z) ∙ from_first m l g t (held s b) })
+    (record { small = refl; hall = refl; left = sym (rw e at z) ∙ from_first m l g t (held s b) })

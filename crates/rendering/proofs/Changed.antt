@@ -1,4 +1,4 @@
--- The infos of a block, lent and changed: the small part's bytes and the places stay. Assumes nothing.
+-- The infos of a block, lent and changed: the small part's bytes, the places and the hall stay. Assumes nothing.
 use Prim.Native.Nat.{ℕ, ◌+◌, ◌≤◌}
 use mathlib.Core.Path.{◌≡◌, sym, ap, ◌∙◌, subst}
 use mathlib.Core.List.{List, ◌++◌}
@@ -7,10 +7,10 @@ use lib.Dec.{lit≤}
 use lib.ListN.{length, take, drop}
 use lib.Seq.{length-take-le, take_at, drop_at, drop-drop}
 use Rattle.store.specs.declared.renderer.Renderer714.{Renderer714}
-use Rattle.store.specs.Layout.{infos_at, size, assembled, infos_of, places_of}
-use Rattle.store.proofs.Theorems.{places_beside}
-use Rattle.formats.specs.Areas.{infos_bytes}
-use Rattle.chunk.specs.ChunkRows.{small_bytes}
+use Rattle.store.specs.Layout.{infos_at, places_at, size, assembled, infos_of, places_of, setup_in}
+use Rattle.store.proofs.Theorems.{places_beside, setup_beside}
+use Rattle.formats.specs.Areas.{infos_bytes, places_bytes}
+use Rattle.chunk.specs.ChunkRows.{small_bytes, hall_bytes_of}
 use Rattle.rendering.specs.Held.{held}
 
 -- a block with other infos
@@ -50,8 +50,17 @@ module _ (b is : List ℕ) (whole : length b ≡ size) (long : length is ≡ inf
   changed_infos : infos_of (changed b is) ≡ is
   changed_infos = put_part infos_at infos_bytes b is within long
 
-  changed_places : places_of (changed b is) ≡ places_of b
-  changed_places = places_beside b (changed b is) (put_past infos_at infos_bytes b is within long)
+  past : drop places_at (changed b is) ≡ drop places_at b
+  past = put_past infos_at infos_bytes b is within long
 
-  pub changed_held : (s : Renderer714) → held s (changed b is) ≡ assembled s is (places_of b)
-  changed_held s = λ i. assembled s (changed_infos i) (changed_places i)
+  changed_places : places_of (changed b is) ≡ places_of b
+  changed_places = places_beside b (changed b is) past
+
+  pub changed_hall : hall_bytes_of (changed b is) ≡ hall_bytes_of b
+  changed_hall = sym (drop-drop places_bytes places_at (changed b is)) ∙ ap (drop places_bytes) past ∙ drop-drop places_bytes places_at b
+
+  changed_setup : setup_in (changed b is) ≡ setup_in b
+  changed_setup = setup_beside b (changed b is) changed_hall
+
+  pub changed_held : (s : Renderer714) → held s (changed b is) ≡ assembled s is (places_of b) (setup_in b)
+  changed_held s = λ i. assembled s (changed_infos i) (changed_places i) (changed_setup i)

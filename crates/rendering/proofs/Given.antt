@@ -1,11 +1,12 @@
 -- A block that the limiter gave out is what the rules give, behind the samples that are ready. Assumes nothing.
 use mathlib.Core.Path.{◌≡◌, refl, sym, ap, ap₂, ◌∙◌}
+use mathlib.Core.Bool.{Bool, true, false, cond}
 use mathlib.Core.List.{List, [], ◌∷◌, map}
 use Prim.Native.Nat.{ℕ, zero, suc, ◌+◌, ◌*◌, ◌<◌, ◌≤◌}
 use native.Mathlib.Nat.{not-suc-le-zero, le_of_suc-le-suc}
 use native.Mathlib.Omega.{arith}
-use lib.ListN.{length, take, drop, length-drop}
-use lib.Seq.{take_all, drop-drop}
+use lib.ListN.{take, drop}
+use lib.Seq.{take-nil, drop-drop}
 use lib.Ieee.{Float, binary32, of_bits, to_bits}
 use Rattle.words.specs.Words.{word, float_at, with_float, words_at, with_words}
 use Rattle.limiter.specs.Limiter.{block_gain, scaled, scaled_block, grown}
@@ -13,14 +14,15 @@ use Rattle.limiter.specs.Meters.{block_meters, meets, meets_all}
 use Rattle.limiter.specs.declared.meters.Meters.{Meters}
 use Rattle.limiter.specs.declared.Limited.{Limited}
 use Rattle.limiter.specs.ChannelPlaces.{floats_at, with_floats, channels, channels_at, with_channels, Given}
+use Rattle.panning.specs.Setup.{present, marks_of}
 use Rattle.rules.specs.Parts.{Channels, none, twelve, floats}
-use Rattle.rules.specs.Samples.{limited, metered, gain_after, flushed}
+use Rattle.rules.specs.Samples.{sounding, limited, metered, gain_after, flushed}
 use Rattle.rules.specs.BlockCalls.{written_from, written}
 use Rattle.formats.specs.Areas.{places_bytes}
 use Rattle.store.specs.declared.renderer.Renderer714.{Renderer714}
-use Rattle.store.specs.Layout.{places_at, size, places_of}
+use Rattle.store.specs.Layout.{places_at, places_of, layout_of, setup_in}
 use Rattle.store.specs.Steps.{emptied_by}
-use Rattle.store.proofs.Theorems.{places_row, words_drop}
+use Rattle.store.proofs.Theorems.{places_row, words_drop, words_front}
 use Rattle.rendering.specs.declared.Rendering.{Rendering}
 use Rattle.rendering.specs.Held.{held}
 use Rattle.rendering.specs.Out.{behind_from, behind}
@@ -54,13 +56,14 @@ listed_twelve : (f : Channels) → listed 12 0 f ≡ twelve f
 unfolding listed
 listed_twelve f = refl
 
-channels_listed : (f : Channels) (s : List ℕ) (n : ℕ) → ((c : ℕ) → c < 12 → floats_at s (256 * c) n ≡ f c) → (k c : ℕ) → c + k ≤ 12 → channels_at k n s (256 * c) ≡ listed k c f
-unfolding channels_at listed
-channels_listed f s n e zero c h = refl
-channels_listed f s n e (suc k) c h =
-    let a : 256 * c + 256 ≡ 256 * suc c = omega arith in
-    ap₂ (λ (x : List Float) (xs : List (List Float)). x ∷ xs) (e c (omega arith))
-    (ap (channels_at k n s) a ∙ channels_listed f s n e k (suc c) (omega arith))
+-- the marks of k channels from c on; `marks_of` are all twelve
+marks : ℕ → ℕ → ℕ → List Bool
+marks layout zero c = []
+marks layout (suc k) c = present layout c ∷ marks layout k (suc c)
+
+marks_twelve : (layout : ℕ) → marks layout 12 0 ≡ marks_of layout
+unfolding marks
+marks_twelve layout = refl
 
 module _ (g : Float) (f : Channels) (stride ready : ℕ) where
   channels_behind : (k c : ℕ) (out : List ℕ) → with_channels (scaled_block g (listed k c f)) (4 * stride) (4 * (c * stride + ready)) out
@@ -85,11 +88,20 @@ block_behind g f stride ready out =
     ∙ channels_behind (block_gain g (listed 12 0 f)) f stride ready 12 0 out
     ∙ ap (λ (cs : List (List Float)). behind_from 12 0 ready (λ c. scaled (block_gain g cs) (f c)) stride out) (listed_twelve f)
 
-module _ (f : Channels) (s : List ℕ) (n : ℕ) (e : (c : ℕ) → c < 12 → floats_at s (256 * c) n ≡ f c) where
-  channels_twelve : channels_at 12 n s 0 ≡ twelve f
-  channels_twelve = channels_listed f s n e 12 0 (omega arith) ∙ listed_twelve f
+module _ (f : Channels) (s : List ℕ) (layout n : ℕ) (e : (c : ℕ) → c < 12 → cond (present layout c) (floats_at s (256 * c) n) [] ≡ f c) where
+  channels_listed : (k c : ℕ) → c + k ≤ 12 → channels_at (marks layout k c) n s (256 * c) ≡ listed k c f
+  unfolding channels_at marks listed
+  channels_listed zero c h = refl
+  channels_listed (suc k) c h =
+      let a : 256 * c + 256 ≡ 256 * suc c = omega arith in
+      ap₂ (λ (x : List Float) (xs : List (List Float)). x ∷ xs) (e c (omega arith))
+      (ap (channels_at (marks layout k (suc c)) n s) a ∙ channels_listed k (suc c) (omega arith))
 
-  module _ (stride ready : ℕ) {g : Float} {rate : ℕ} {out : List ℕ} {l : Limited} {out' : List ℕ} (given : Given g n rate s (4 * stride) (4 * ready) out l out') where
+  channels_twelve : channels_at (marks_of layout) n s 0 ≡ twelve f
+  channels_twelve = ap (λ (here : List Bool). channels_at here n s 0) (sym (marks_twelve layout)) ∙ channels_listed 12 0 (omega arith) ∙ listed_twelve f
+
+  module _ (stride ready : ℕ) {g : Float} {rate : ℕ} {out : List ℕ} {l : Limited} {out' : List ℕ}
+      (given : Given g (marks_of layout) n rate s (4 * stride) (4 * ready) out l out') where
     pub gain_after_is : l.limiter.gain ≡ gain_after n rate g f
     gain_after_is = given.gain ∙ ap (λ (cs : List (List Float)). grown n rate (block_gain g cs)) channels_twelve
 
@@ -103,61 +115,68 @@ module _ (f : Channels) (s : List ℕ) (n : ℕ) (e : (c : ℕ) → c < 12 → f
         ∙ block_behind g f stride ready out
 
 -- the same in rows
-module _ (f : Channels) (ys : List Float) (e : (c : ℕ) → c < 12 → take 64 (drop (64 * c) ys) ≡ f c) where
-  rows_listed : (k c : ℕ) → c + k ≤ 12 → channels k 64 (drop (64 * c) ys) ≡ listed k c f
-  unfolding channels listed
+module _ (f : Channels) (ys : List Float) (layout : ℕ) (e : (c : ℕ) → c < 12 → cond (present layout c) (take 64 (drop (64 * c) ys)) [] ≡ f c) where
+  rows_listed : (k c : ℕ) → c + k ≤ 12 → channels (marks layout k c) 64 (drop (64 * c) ys) ≡ listed k c f
+  unfolding channels marks listed
   rows_listed zero c h = refl
   rows_listed (suc k) c h =
       let a : 64 * c + 64 ≡ 64 * suc c = omega arith in
       ap₂ (λ (x : List Float) (xs : List (List Float)). x ∷ xs) (e c (omega arith))
-      (ap (channels k 64) (drop-drop 64 (64 * c) ys ∙ ap (λ (i : ℕ). drop i ys) a) ∙ rows_listed k (suc c) (omega arith))
+      (ap (channels (marks layout k (suc c)) 64) (drop-drop 64 (64 * c) ys ∙ ap (λ (i : ℕ). drop i ys) a) ∙ rows_listed k (suc c) (omega arith))
 
-  rows_twelve : channels 12 64 ys ≡ twelve f
-  rows_twelve = rows_listed 12 0 (omega arith) ∙ listed_twelve f
+  rows_twelve : channels (marks_of layout) 64 ys ≡ twelve f
+  rows_twelve = ap (λ (here : List Bool). channels here 64 ys) (sym (marks_twelve layout)) ∙ rows_listed 12 0 (omega arith) ∙ listed_twelve f
 
 -- ---- the places of a block
 
--- the samples that wait
+-- the samples that wait, of the channels that are there
 waiting : ℕ → List ℕ → Channels
-waiting n b c = take n (floats (places_of b) c)
+waiting n b c = take n (sounding (setup_in b) (floats (places_of b)) c)
 
-waiting_at : (n : ℕ) (b : List ℕ) → n ≤ 64 → length b ≡ size → (c : ℕ) → c < 12 → floats_at (take places_bytes (drop places_at b)) (256 * c) n ≡ waiting n b c
+waiting_at : (n : ℕ) (b : List ℕ) → n ≤ 64 → (c : ℕ) → c < 12
+    → cond (present (layout_of b) c) (floats_at (take places_bytes (drop places_at b)) (256 * c) n) [] ≡ waiting n b c
 unfolding waiting
-waiting_at n b h l c m =
-    let d : length (drop places_at b) ≤ places_bytes = rw length-drop (omega arith) in
-    ap (λ (s : List ℕ). floats_at s (256 * c) n) (take_all places_bytes (drop places_at b) d)
-    ∙ floats_words (drop places_at b) (256 * c) n
-    ∙ ap (map (of_bits binary32)) (sym (words_drop b places_at (256 * c) n))
-    ∙ sym (floats_take b (places_at + 256 * c) n 64 h)
-    ∙ ap (λ (ws : List ℕ). take n (map (of_bits binary32) ws)) (sym (places_row b c m))
+waiting_at n b h c m = of_mark (present (layout_of b) c)
+  where
+    part : List ℕ
+    part = take places_bytes (drop places_at b)
+
+    of_mark : (here : Bool) → cond here (floats_at part (256 * c) n) [] ≡ take n (cond here (floats (places_of b) c) [])
+    of_mark true =
+        floats_words part (256 * c) n
+        ∙ ap (map (of_bits binary32)) (words_front (drop places_at b) (256 * c) n places_bytes (omega arith) ∙ sym (words_drop b places_at (256 * c) n))
+        ∙ sym (floats_take b (places_at + 256 * c) n 64 h)
+        ∙ ap (λ (ws : List ℕ). take n (map (of_bits binary32) ws)) (sym (places_row b c m))
+    of_mark false = sym (take-nil n)
 
 -- what `give` leaves
-pub gave : (w : Rendering) (b out : List ℕ) (stride : ℕ) {l : Limited} {r : Rendering} {out' : List ℕ} → length b ≡ size → w.renderer.pending ≤ 64
+pub gave : (w : Rendering) (b out : List ℕ) (stride : ℕ) {l : Limited} {r : Rendering} {out' : List ℕ} → w.renderer.pending ≤ 64
     → r.renderer ≡ emptied_by w.renderer l.limiter → r.ready ≡ w.ready + w.renderer.pending → r.meters ≡ meets w.meters l.meters
-    → Given w.renderer.limiter.gain w.renderer.pending w.renderer.rate (take places_bytes (drop places_at b)) (4 * stride) (4 * w.ready) out l out'
+    → Given w.renderer.limiter.gain (marks_of (layout_of b)) w.renderer.pending w.renderer.rate (take places_bytes (drop places_at b)) (4 * stride) (4 * w.ready) out l out'
     → Gave w b stride out r out'
 unfolding flushed waiting
-gave w b out stride l m p n o given =
+gave w b out stride m p n o given =
     let s = w.renderer in
-    let e = waiting_at s.pending b m l in
+    let e = waiting_at s.pending b m in
     let f = waiting s.pending b in
     let part = take places_bytes (drop places_at b) in
     record {
-      next = ap (λ (r : Renderer714). held r b) (p ∙ ap (λ (g : Float). emptied_by s (record { gain = g })) (gain_after_is f part s.pending e stride w.ready given));
-      given = given_behind f part s.pending e stride w.ready given;
+      next = ap (λ (r : Renderer714). held r b) (p ∙ ap (λ (g : Float). emptied_by s (record { gain = g })) (gain_after_is f part (layout_of b) s.pending e stride w.ready given));
+      given = given_behind f part (layout_of b) s.pending e stride w.ready given;
       ready = n;
-      meters = o ∙ ap (meets_all w.meters) (meters_of f part s.pending e stride w.ready given);
+      meters = o ∙ ap (meets_all w.meters) (meters_of f part (layout_of b) s.pending e stride w.ready given);
     }
 
--- what `give_rows` leaves, where the block's places are the rows
+-- what `give_rows` leaves, where the block's places of the channels that are there are the rows
 pub gave_rows : (w : Rendering) (b : List ℕ) (ys : List Float) (out : List ℕ) (stride : ℕ) {r : Rendering} {out' : List ℕ} → w.renderer.pending ≡ 64
-    → ((c : ℕ) → c < 12 → take 64 (drop (64 * c) ys) ≡ take w.renderer.pending (floats (places_of b) c)) → GaveRows w ys stride out r out' → Gave w b stride out r out'
+    → ((c : ℕ) → c < 12 → present (layout_of b) c ≡ true → take 64 (drop (64 * c) ys) ≡ take w.renderer.pending (floats (places_of b) c))
+    → GaveRows (marks_of (layout_of b)) w ys stride out r out' → Gave w b stride out r out'
 unfolding flushed
 gave_rows w b ys out stride z e given =
     let s = w.renderer in
     let g = s.limiter.gain in
-    let f : Channels = λ c. take s.pending (floats (places_of b) c) in
-    let t = rows_twelve f ys e in
+    let f : Channels = λ c. take s.pending (sounding (setup_in b) (floats (places_of b)) c) in
+    let t = rows_twelve f ys (layout_of b) (λ c l. of_mark c l (present (layout_of b) c) refl) in
     record {
       next = ap (λ (r : Renderer714). held r b)
           (given.renderer ∙ ap₂ (λ (n : ℕ) (cs : List (List Float)). emptied_by s (record { gain = grown n s.rate (block_gain g cs) })) (sym z) t);
@@ -166,6 +185,11 @@ gave_rows w b ys out stride z e given =
       ready = given.ready ∙ ap (λ (n : ℕ). w.ready + n) (sym z);
       meters = given.meters ∙ ap (λ (cs : List (List Float)). meets w.meters (block_meters g cs)) t;
     }
+  where
+    of_mark : (c : ℕ) → c < 12 → (here : Bool) → present (layout_of b) c ≡ here
+        → cond here (take 64 (drop (64 * c) ys)) [] ≡ take w.renderer.pending (cond here (floats (places_of b) c) [])
+    of_mark c l true h = e c l h
+    of_mark c l false h = sym (take-nil w.renderer.pending)
 
 -- ---- nothing behind others, and behind nothing
 

@@ -4,10 +4,10 @@ use Rattle.std.specs.Float.{nan}
 use Rattle.formats.specs.Areas.{row_count, row_places}
 use Rattle.rules.specs.Parts.{0·0}
 use Rattle.rules.specs.Mix.{Moment}
-use Rattle.rules.specs.Samples.{built_in, Frame, moment}
+use Rattle.rules.specs.Samples.{Frame, moment}
 use Rattle.theorem.specs.Instance.{Sent, hall}
 use Rattle.store.specs.declared.renderer.Renderer714.{Renderer714}
-use Rattle.store.specs.Layout.{infos_of}
+use Rattle.store.specs.Layout.{infos_of, setup_in}
 use Rattle.store.specs.Steps.{settled_by}
 use Rattle.render.specs.Run.{filter_after, row_run}
 use Rattle.rendering.specs.declared.Rendering.{Rendering}
@@ -27,7 +27,7 @@ frame_with rate us codes objects pcm n = record { rate = rate; samples = n; code
 
 module _ (f : Frame Sent) (t k : ℕ) (s : Renderer714) (b : List ℕ) where
   abbrev pub moment_here : ℕ → Moment
-  moment_here t = moment hall f t built_in (record { state = s.state; infos = infos_of b })
+  moment_here t = moment hall f t (setup_in b) (record { state = s.state; infos = infos_of b })
 
 -- the k samples from t on of the moments m, in the rows, each with +0.0 past them: they wait on r, which was w
 pub record Waits (m : ℕ → Moment) (w : Rendering) (t k : ℕ) (rows : List Float) (r : Rendering) : Type 0 where

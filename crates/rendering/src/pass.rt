@@ -3,24 +3,27 @@
 
 // A chunk of a frame: samples within which no update falls and no slot starts.
 ghost use Rattle.std.specs.Prelude.{◌≡◌, List, ℕ};
+ghost use Rattle.panning.specs.Hall.{setup_of};
+ghost use Rattle.store.specs.Layout.{setup_in};
 ghost use Rattle.theorem.specs.Instance.{Sent};
 ghost use Rattle.render.specs.Run.{silent_rows};
 ghost use Rattle.rendering.specs.Pass.{CanPass, frame_with, moment_here, Waits};
 
 use crate::Rendering;
 use chunk::mix;
+use panning::Hall;
 use render::{Input, Rows};
 
 impl Rendering {
-    // The input's span of a frame, mixed into the rows; its samples wait then.
-    pub fn pass(self, rows: &mut Rows, input: Input) -> Rendering
+    // The input's span of a frame, mixed into the rows in the hall; its samples wait then.
+    pub fn pass(self, hall: &Hall, rows: &mut Rows, input: Input) -> Rendering
         requires { CanPass self.renderer input.objects input.span.count × (rows.old ≡ silent_rows) }
-        ensures { (rate : ℕ) (us : List Sent) (b : List ℕ)
+        ensures { (rate : ℕ) (us : List Sent) (b : List ℕ) → setup_of hall.now ≡ setup_in b
             → Waits (moment_here (frame_with rate us input.entry.codes.list.now input.entry.objects input.entry.pcm.now input.entry.span.frame)
             input.entry.span.first input.entry.span.count self.renderer b) self input.entry.span.first input.entry.span.count rows.new result }
     {
         let mut filter = self.renderer.filter;
-        mix(&self.renderer.state, &mut filter, rows, input);
+        mix(hall, &self.renderer.state, &mut filter, rows, input);
         Rendering {
             renderer: self.renderer.settle(filter, input.span.count as u32),
             ..self

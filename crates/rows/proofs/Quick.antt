@@ -5,6 +5,7 @@ use mathlib.Core.List.{List, [], ◌∷◌, ◌++◌, map}
 use lib.Dec.{ltb, leb, eqb}
 use lib.ListN.{length, get_or}
 use lib.Ieee.{Float, binary32, to_bits}
+use Rattle.words.specs.Words.{word}
 use Rattle.lowpass.specs.Lowpass.{output, next}
 use Rattle.mixing.specs.Sums as sums
 use Rattle.mixing.specs.Sums.{total}
@@ -20,9 +21,9 @@ use Rattle.rules.specs.Parts.{0·0, Channels, Places, none as silent, joined}
 use Rattle.rules.specs.Leaves.{Source, Bed, started}
 use Rattle.rules.specs.Mix.{send_of, sample_at, Moment}
 use Rattle.rules.specs.Samples as rules
-use Rattle.rules.specs.Samples.{Setup, Frame, State, After, opened, updated, slotted, sampled, moment, closing}
+use Rattle.rules.specs.Samples.{Setup, Frame, State, After, sounding, opened, updated, slotted, sampled, moment, closing}
 use Rattle.rules.specs.Refusals.{Args, Found, clear, stop}
-use Rattle.rules.specs.Calls.{Call, push, flush, reset, Answer, refused, rendered, nothing, cleared, Result, frame_of, found, answered, step}
+use Rattle.rules.specs.Calls.{Call, push, flush, reset, make, Answer, refused, rendered, nothing, cleared, Result, frame_of, found, answered, step}
 use Rattle.rules.specs.BlockCalls.{written, out_of, stride_of}
 use Rattle.theorem.specs.Instance.{hall, Sent}
 use Rattle.rows.specs.Rows.{Said, refusal, ready, none, renewed, samples_on, Row, starting_at, calls}
@@ -139,7 +140,7 @@ mixed f k t =
 -- the rules' `passed`, from the sums
 unfoldable pub passing : (ℕ → Float) → List Moment → State hall → After hall
 passing h ms r =
-    closing hall (rules.settled hall 1 (next r.filter (h 3)) (λ c. cond (eqb c 3) (output r.filter (h 3) ∷ []) (h c ∷ [])) r) ms
+    closing hall (rules.settled hall 1 (next r.filter (h 3)) (sounding r.setup (λ c. cond (eqb c 3) (output r.filter (h 3) ∷ []) (h c ∷ []))) r) ms
 
 -- an update is sent for t, or a slot starts there
 unfoldable pub sent_for : ℕ → List Sent → Bool
@@ -170,21 +171,23 @@ unfoldable pub small : List ℕ → Bool
 small [] = true
 small (w ∷ ws) = ltb w (2 ^ 32) && small ws
 
--- the k channels from c on have n words each
+-- the k channels from c on have at most n words each
 unfoldable pub level : ℕ → ℕ → ℕ → Places → Bool
 unfolding small
 level zero c n ws = true
-level (suc k) c n ws = (eqb (length (ws c)) n && small (ws c)) && level k (suc c) n ws
+level (suc k) c n ws = (leb (length (ws c)) n && small (ws c)) && level k (suc c) n ws
 
--- sample i on the k channels from c on; the n samples from i on
-unfoldable pub line : ℕ → ℕ → ℕ → Places → List ℕ
-line zero c i ws = []
-line (suc k) c i ws = get_or (ws c) i (to_bits binary32 0·0) ∷ line k (suc c) i ws
+-- sample i on the k channels from c on, which is what the output had where a channel is not there; the n samples from i on
+unfoldable pub line : ℕ → ℕ → ℕ → List ℕ → ℕ → Places → List ℕ
+line zero c stride out i ws = []
+line (suc k) c stride out i ws =
+    let kept = word out (4 * (c * stride + i)) in
+    cond (ltb i (length (ws c))) (get_or (ws c) i (to_bits binary32 0·0)) kept ∷ line k (suc c) stride out i ws
 
-unfoldable pub lines : ℕ → ℕ → Places → List (List ℕ)
+unfoldable pub lines : ℕ → ℕ → List ℕ → ℕ → Places → List (List ℕ)
 unfolding line
-lines zero i ws = []
-lines (suc n) i ws = line 12 0 i ws ∷ lines n (suc i) ws
+lines zero stride out i ws = []
+lines (suc n) stride out i ws = line 12 0 stride out i ws ∷ lines n stride out (suc i) ws
 
 abbrev pub words_of : Channels → Places
 words_of g c = map (to_bits binary32) (g c)
@@ -194,8 +197,8 @@ unfoldable pub reading : Channels → Places → ℕ → List ℕ → List (List
 unfolding level lines
 reading g ws stride out =
     let n = length (g 0) in
-    elim (leb n stride && (leb (48 * stride) (length out) && level 12 0 n ws)) [
-      | true ↦ lines n 0 ws
+    elim (leb (48 * stride) (length out) && level 12 0 stride ws) [
+      | true ↦ lines n stride out 0 ws
       | false ↦ samples_on n 0 stride (written g stride out)
     ]
 
@@ -214,6 +217,7 @@ unfolding asked
 stepped run r (push a) = asked run (found hall r a) a r
 stepped run r (flush out stride) = step hall r (flush out stride)
 stepped run r reset = step hall r reset
+stepped run r (make n) = step hall r (make n)
 
 unfoldable pub said_of : Answer → ℕ → List ℕ → Said
 unfolding read

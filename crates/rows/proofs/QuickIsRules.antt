@@ -2,15 +2,15 @@
 use Prim.Native.Nat.{ℕ, zero, suc, ◌+◌, ◌*◌, ◌^◌, ◌≤◌, ◌<◌, zero-le}
 use native.Mathlib.Nat.{not-suc-le-zero, zero-add}
 use native.Mathlib.Omega.{arith}
-use mathlib.Core.Path.{◌≡◌, refl, sym, ap, ap₂, ◌∙◌, fun_ext}
+use mathlib.Core.Path.{◌≡◌, refl, sym, ap, ap₂, subst, ◌∙◌, fun_ext}
 use mathlib.Core.Bool.{Bool, true, false, cond, ◌&&◌, ◌||◌, true≢false}
 use mathlib.Core.List.{List, [], ◌∷◌, ◌++◌}
-use lib.Dec.{T, ltb, leb, eqb, ltb→lt, leb→le, eqb→eq}
+use lib.Dec.{T, ltb, leb, eqb, ltb→lt, leb→le, lit<}
 use lib.ListN.{get_or, length, get_or-map}
 use lib.Ieee.{Float, binary32, to_bits}
 use lib.Ieee.Fits.{and_l, and_r}
-use borrow.Author.Tests.{ltb-true}
-use Rattle.words.specs.Words.{Words}
+use borrow.Author.Tests.{ltb-true, ltb-false, lt-ltb}
+use Rattle.words.specs.Words.{Words, number, word}
 use Rattle.mixing.specs.Sums as sums
 use Rattle.mixing.specs.Sums.{total}
 use Rattle.std.specs.Prelude.{Option, Some, None}
@@ -27,9 +27,10 @@ use Rattle.rules.specs.Mix.{object_terms, adds_of, added_terms, object_adds, sam
 use Rattle.rules.specs.Samples.{Setup, Frame, State, After, opened, updated, slotted, moment, sampled, framed, pushed}
 use Rattle.rules.specs.Refusals.{Args, Found, clear, stop}
 use Rattle.rules.specs.Calls as rules
-use Rattle.rules.specs.Calls.{Call, push, flush, reset, Answer, refused, rendered, nothing, cleared, Result, frame_of, found, step}
+use Rattle.rules.specs.Calls.{Call, push, flush, reset, make, Answer, refused, rendered, nothing, cleared, Result, frame_of, found, step}
 use Rattle.rules.specs.BlockCalls.{written, out_of, stride_of, left, told}
 use Rattle.rules.proofs.Theorems.{written_reads, length_map}
+use Rattle.rules.proofs.Written.{written_beside}
 use Rattle.theorem.specs.Instance.{hall, block, Sent}
 use Rattle.rows.specs.Rows.{ready, words_on, samples_on, said, all_said, Row, starting_at, calls, seen}
 use Rattle.rows.proofs.Quick.{firsts, memo, with_places, settled, both, Run, samples, plain, Feed, feeds, fed_from, bed_feeds, all_terms, object_feeds}
@@ -191,54 +192,91 @@ small_words_is [] h = tt
 small_words_is (w ∷ ws) h = (ltb→lt w (2 ^ 32) (and_l (ltb w (2 ^ 32)) (small ws) h), small_words_is ws (and_r (ltb w (2 ^ 32)) (small ws) h))
 
 abbrev Level : ℕ → Places → ℕ → Type 0
-Level n ws c = T (eqb (length (ws c)) n && small (ws c))
+Level n ws c = T (leb (length (ws c)) n && small (ws c))
 
 level_each : (k c n : ℕ) (ws : Places) → T (level k c n ws) → Each (Level n ws) c k
 unfolding level
 level_each zero c n ws h = tt
 level_each (suc k) c n ws h =
-    let here = eqb (length (ws c)) n && small (ws c) in
+    let here = leb (length (ws c)) n && small (ws c) in
     (and_l here (level k (suc c) n ws) h, level_each k (suc c) n ws (and_r here (level k (suc c) n ws) h))
 
-module _ (g : Channels) (stride : ℕ) (out : List ℕ) (n : ℕ) (few : n ≤ stride) (room : 48 * stride ≤ length out) (even : Each (Level n (words_of g)) 0 12) where
-  here : (c : ℕ) → c < 12 → Level n (words_of g) c
-  here c l = between (Level n (words_of g)) 0 12 even c zero-le l
+-- bytes that are the same make the same number
+number_of_bytes : (s t : List ℕ) (at n : ℕ) → ((i : ℕ) → i < n → get_or s (at + i) 0 ≡ get_or t (at + i) 0) → number s at n ≡ number t at n
+unfolding number
+number_of_bytes s t at zero h = refl
+number_of_bytes s t at (suc n) h =
+    ap₂ (λ (x y : ℕ). x + y * 256 ^ n) (number_of_bytes s t at n (λ i l. h i (omega arith))) (h n (omega arith))
+
+module _ (g : Channels) (stride : ℕ) (out : List ℕ) (room : 48 * stride ≤ length out) (even : Each (Level stride (words_of g)) 0 12) where
+  here : (c : ℕ) → c < 12 → Level stride (words_of g) c
+  here c l = between (Level stride (words_of g)) 0 12 even c zero-le l
 
   bits : (c : ℕ) → c < 12 → Words (words_of g c)
-  bits c l = small_words_is (words_of g c) (and_r (eqb (length (words_of g c)) n) (small (words_of g c)) (here c l))
+  bits c l = small_words_is (words_of g c) (and_r (leb (length (words_of g c)) stride) (small (words_of g c)) (here c l))
 
-  long : (c : ℕ) → c < 12 → length (g c) ≡ n
-  long c l =
+  words_long : (c : ℕ) → length (words_of g c) ≡ length (g c)
+  words_long c = length_map (to_bits binary32) (g c)
+
+  most : (c : ℕ) → c < 12 → length (g c) ≤ stride
+  most c l =
       let ws = words_of g c in
-      sym (length_map (to_bits binary32) (g c)) ∙ eqb→eq (length ws) n (and_l (eqb (length ws) n) (small ws) (here c l))
+      subst (λ (n : ℕ). n ≤ stride) (words_long c) (leb→le (length ws) stride (and_l (leb (length ws) stride) (small ws) (here c l)))
 
-  line_is : (k c i : ℕ) → c + k ≤ 12 → i < n → line k c i (words_of g) ≡ words_on k c stride i (written g stride out)
+  -- how many samples channel c has, of the twelve
+  abbrev n : ℕ → ℕ
+  n c = cond (ltb c 12) (length (g c)) 0
+
+  few : (c : ℕ) → n c ≤ stride
+  few c = by (ltb c 12) refl
+    where
+      by : (b : Bool) → ltb c 12 ≡ b → cond b (length (g c)) 0 ≤ stride
+      by true e = most c (ltb-true c 12 e)
+      by false e = zero-le
+
+  long : (c : ℕ) → c < 12 → length (g c) ≡ n c
+  long c l = sym (ap (λ (b : Bool). cond b (length (g c)) 0) (lt-ltb c 12 l))
+
+  sample_is : (c i : ℕ) → c < 12 → i < stride
+      → cond (ltb i (length (words_of g c))) (get_or (words_of g c) i (to_bits binary32 0·0)) (word out (4 * (c * stride + i))) ≡ word (written g stride out) (4 * (c * stride + i))
+  sample_is c i l h = by (ltb i (length (words_of g c))) refl
+    where
+      by : (b : Bool) → ltb i (length (words_of g c)) ≡ b
+          → cond b (get_or (words_of g c) i (to_bits binary32 0·0)) (word out (4 * (c * stride + i))) ≡ word (written g stride out) (4 * (c * stride + i))
+      by true e =
+          let short : i < n c = subst (λ (k : ℕ). i < k) (words_long c ∙ long c l) (ltb-true i (length (words_of g c)) e) in
+          get_or-map (to_bits binary32) (g c) i 0·0 ∙ sym (written_reads g stride n few bits long out room c i l short)
+      by false e =
+          let past : n c ≤ i = subst (λ (k : ℕ). k ≤ i) (words_long c ∙ long c l) (ltb-false i (length (words_of g c)) e) in
+          number_of_bytes out (written g stride out) (4 * (c * stride + i)) 4
+          (λ k j. ap (λ (at : ℕ). get_or out at 0) (let e : 4 * (c * stride + i) + k ≡ 4 * (c * stride) + (4 * i + k) = omega arith in e)
+          ∙ sym (written_beside g stride n few long out c (4 * i + k) l (omega arith) (omega arith))
+          ∙ ap (λ (at : ℕ). get_or (written g stride out) at 0) (let e : 4 * (c * stride) + (4 * i + k) ≡ 4 * (c * stride + i) + k = omega arith in e))
+
+  line_is : (k c i : ℕ) → c + k ≤ 12 → i < stride → line k c stride out i (words_of g) ≡ words_on k c stride i (written g stride out)
   unfolding line
   line_is zero c i l h = refl
-  line_is (suc k) c i l h =
-      ap₂ ◌∷◌ (get_or-map (to_bits binary32) (g c) i 0·0 ∙ sym (written_reads g stride n few bits long out room c i (omega arith) h))
-      (line_is k (suc c) i (omega arith) h)
+  line_is (suc k) c i l h = ap₂ ◌∷◌ (sample_is c i (omega arith) h) (line_is k (suc c) i (omega arith) h)
 
-  lines_are : (m i : ℕ) → i + m ≤ n → lines m i (words_of g) ≡ samples_on m i stride (written g stride out)
+  lines_are : (m i : ℕ) → i + m ≤ stride → lines m stride out i (words_of g) ≡ samples_on m i stride (written g stride out)
   unfolding lines
   lines_are zero i l = refl
   lines_are (suc m) i l = ap₂ ◌∷◌ (line_is 12 0 i (omega arith) (omega arith)) (lines_are m (suc i) (omega arith))
 
 reading_is : (g : Channels) (stride : ℕ) (out : List ℕ) → reading g (words_of g) stride out ≡ samples_on (length (g 0)) 0 stride (written g stride out)
 unfolding reading
-reading_is g stride out = by (leb n stride && (leb (48 * stride) (length out) && level 12 0 n (words_of g))) (λ h. h)
+reading_is g stride out = by (leb (48 * stride) (length out) && level 12 0 stride (words_of g)) (λ h. h)
   where
     n : ℕ
     n = length (g 0)
 
-    by : (b : Bool) → (T b → T (leb n stride && (leb (48 * stride) (length out) && level 12 0 n (words_of g))))
-        → (elim b [ true ↦ lines n 0 (words_of g) | false ↦ samples_on n 0 stride (written g stride out) ]) ≡ samples_on n 0 stride (written g stride out)
+    by : (b : Bool) → (T b → T (leb (48 * stride) (length out) && level 12 0 stride (words_of g)))
+        → (elim b [ true ↦ lines n stride out 0 (words_of g) | false ↦ samples_on n 0 stride (written g stride out) ]) ≡ samples_on n 0 stride (written g stride out)
     by true h =
-        let few = and_l (leb n stride) _ (h tt) in
-        let rest = and_r (leb n stride) _ (h tt) in
-        let room = and_l (leb (48 * stride) (length out)) _ rest in
-        let even = level_each 12 0 n (words_of g) (and_r (leb (48 * stride) (length out)) _ rest) in
-        lines_are g stride out n (leb→le n stride few) (leb→le (48 * stride) (length out) room) even n 0 (omega arith)
+        let room = leb→le (48 * stride) (length out) (and_l (leb (48 * stride) (length out)) _ (h tt)) in
+        let even = level_each 12 0 stride (words_of g) (and_r (leb (48 * stride) (length out)) _ (h tt)) in
+        let few = most g stride out room even 0 (lit< tt) in
+        lines_are g stride out room even n 0 (omega arith)
     by false h = refl
 
 read_is : (g : Channels) (stride : ℕ) (out : List ℕ) → read g stride out ≡ samples_on (length (g 0)) 0 stride (written g stride out)
@@ -269,6 +307,7 @@ module _ (run : Run) (is : (f : Frame Sent) (r : State hall) → run f r ≡ pus
   stepped_is r (push a) = asked_is (found hall r a) a r
   stepped_is r (flush out stride) = refl
   stepped_is r reset = refl
+  stepped_is r (make n) = refl
 
   all_said_is : (r : State hall) (cs : List Call) → said_by run r cs ≡ all_said cs (told hall block r cs)
   unfolding said_by

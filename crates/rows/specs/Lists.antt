@@ -1,6 +1,6 @@
 -- The rows. `cargo run --release --offline -p compare --bin rows` in rust/ writes this file: the calls are that program's, what is seen of them is the oracle's. Assumes nothing.
 use Rattle.std.specs.Prelude.{List, [], ◌∷◌, ◌++◌, replicate}
-use Rattle.rules.specs.Calls.{reset}
+use Rattle.rules.specs.Calls.{reset, make}
 use Rattle.rows.specs.Rows.{Row, ◌⇒◌, refusal, ready, none, renewed}
 use Rattle.rows.specs.Notation.{concat, as_row, row_at, sent, sent_by, of_bed, of_object, flush_at, short, quiet, diagonal_words, silence, only}
 use Rattle.rows.specs.Notation.{update, bed, spoilt, element, at_once, block_from, minus, object, at, valid_position, place, differential, gain, distance, with_size}
@@ -640,11 +640,107 @@ abbrev pub slots : List Row
 slots =
     second_slot ∷ ramp ∷ []
 
+-- ---- halls
+
+-- 15: a layout code above 3; the renderer stays as it was
+abbrev pub no_layout : Row
+no_layout =
+    as_row
+    (of_bed (bed (0 ∷ []) ∷ []) ⇒ ready []
+    ∷ make 4 ⇒ refusal 15 0 0
+    ∷ make 4294967295 ⇒ refusal 15 0 0
+    ∷ flush_at 64 ⇒ ready (only 0 0x3eb4fdf4 ∷ [])
+    ∷ [])
+
+-- a making call starts anew: nothing waits, and any rate is the first
+abbrev pub made_again : Row
+made_again =
+    as_row
+    (of_bed (bed (0 ∷ []) ∷ []) ⇒ ready []
+    ∷ make 0 ⇒ renewed
+    ∷ flush_at 64 ⇒ none
+    ∷ sent_by 64 96000 1 (0 ∷ []) 0 (0x3f000000 ∷ []) (bed (0 ∷ []) ∷ []) ⇒ ready []
+    ∷ [])
+
+-- a reset keeps the layout: beds whose speakers are absent, before and after
+abbrev pub same_layout : Row
+same_layout =
+    as_row
+    (make 3 ⇒ renewed
+    ∷ sent 6 (7 ∷ 8 ∷ 9 ∷ 10 ∷ 13 ∷ 14 ∷ []) 0 (diagonal_words 6 0x3f000000) (bed (7 ∷ 8 ∷ 9 ∷ 10 ∷ 13 ∷ 14 ∷ []) ∷ []) ⇒ ready []
+    ∷ reset ⇒ renewed
+    ∷ sent 6 (7 ∷ 8 ∷ 9 ∷ 10 ∷ 13 ∷ 14 ∷ []) 0 (diagonal_words 6 0x3f000000) (bed (7 ∷ 8 ∷ 9 ∷ 10 ∷ 13 ∷ 14 ∷ []) ∷ []) ⇒ ready []
+    ∷ flush_at 64 ⇒ ready (only 6 0x3ed740d4 ∷ only 7 0x3ed740d4 ∷ only 0 0x3ed740d4 ∷ only 1 0x3ed740d4 ∷ only 6 0x3ed740d4 ∷ only 7 0x3ed740d4 ∷ [])
+    ∷ [])
+
+-- each bed that has no speaker is panned, the others are not
+abbrev pub lacked_beds : Row
+lacked_beds =
+    as_row
+    (make 1 ⇒ renewed
+    ∷ sent 6 (7 ∷ 8 ∷ 9 ∷ 10 ∷ 13 ∷ 14 ∷ []) 0 (diagonal_words 6 0x3f000000) (bed (7 ∷ 8 ∷ 9 ∷ 10 ∷ 13 ∷ 14 ∷ []) ∷ []) ⇒ ready []
+    ∷ flush_at 64 ⇒ ready (only 6 0x3ed740d4 ∷ only 7 0x3ed740d4 ∷ only 8 0x3eb4fdf4 ∷ only 9 0x3eb4fdf4 ∷ only 10 0x3eb4fdf4 ∷ only 11 0x3eb4fdf4 ∷ [])
+    ∷ make 2 ⇒ renewed
+    ∷ sent 6 (7 ∷ 8 ∷ 9 ∷ 10 ∷ 13 ∷ 14 ∷ []) 0 (diagonal_words 6 0x3f000000) (bed (7 ∷ 8 ∷ 9 ∷ 10 ∷ 13 ∷ 14 ∷ []) ∷ []) ⇒ ready []
+    ∷ flush_at 64 ⇒ ready (only 4 0x3eb4fdf4 ∷ only 5 0x3eb4fdf4 ∷ only 0 0x3ed740d4 ∷ only 1 0x3ed740d4 ∷ only 4 0x3ed740d4 ∷ only 5 0x3ed740d4 ∷ [])
+    ∷ [])
+
+-- all beds at once in each layout
+abbrev pub beds_together : Row
+beds_together =
+    as_row
+    (make 1 ⇒ renewed
+    ∷ sent 1 (0 ∷ 1 ∷ 2 ∷ 3 ∷ 4 ∷ 5 ∷ 7 ∷ 8 ∷ 9 ∷ 10 ∷ 11 ∷ 12 ∷ 13 ∷ 14 ∷ 15 ∷ 16 ∷ 17 ∷ []) 0 (0x3d000000 ∷ 0x3d800000 ∷ 0x3dc00000 ∷ 0x3e000000 ∷ 0x3e200000 ∷ 0x3e400000 ∷
+    0x3e600000 ∷ 0x3e800000 ∷ 0x3e900000 ∷ 0x3ea00000 ∷ 0x3eb00000 ∷ 0x3ec00000 ∷ 0x3ed00000 ∷ 0x3ee00000 ∷ 0x3ef00000 ∷ 0x3f000000 ∷ 0x3f080000 ∷ [])
+    (bed (0 ∷ 1 ∷ 2 ∷ 3 ∷ 4 ∷ 5 ∷ 7 ∷ 8 ∷ 9 ∷ 10 ∷ 11 ∷ 12 ∷ 13 ∷ 14 ∷ 15 ∷ 16 ∷ 17 ∷ []) ∷ []) ⇒ ready []
+    ∷ flush_at 64 ⇒ ready ((0x3ebdd4e2 ∷ 0x3ed50b7e ∷ 0x3d87be77 ∷ 0x37162fd9 ∷ 0 ∷ 0 ∷ 0x3ef4d42c ∷ 0x3f09eeff ∷ 0x3edf4d07 ∷ 0x3ef5a860 ∷ 0x3ee78d37 ∷ 0x3efa8b89 ∷ []) ∷ [])
+    ∷ make 2 ⇒ renewed
+    ∷ sent 1 (0 ∷ 1 ∷ 2 ∷ 3 ∷ 4 ∷ 5 ∷ 7 ∷ 8 ∷ 9 ∷ 10 ∷ 11 ∷ 12 ∷ 13 ∷ 14 ∷ 15 ∷ 16 ∷ 17 ∷ []) 0 (0x3d000000 ∷ 0x3d800000 ∷ 0x3dc00000 ∷ 0x3e000000 ∷ 0x3e200000 ∷ 0x3e400000 ∷
+    0x3e600000 ∷ 0x3e800000 ∷ 0x3e900000 ∷ 0x3ea00000 ∷ 0x3eb00000 ∷ 0x3ec00000 ∷ 0x3ed00000 ∷ 0x3ee00000 ∷ 0x3ef00000 ∷ 0x3f000000 ∷ 0x3f080000 ∷ [])
+    (bed (0 ∷ 1 ∷ 2 ∷ 3 ∷ 4 ∷ 5 ∷ 7 ∷ 8 ∷ 9 ∷ 10 ∷ 11 ∷ 12 ∷ 13 ∷ 14 ∷ 15 ∷ 16 ∷ 17 ∷ []) ∷ []) ⇒ ready []
+    ∷ flush_at 64 ⇒ ready ((0x3f45b41d ∷ 0x3f5be0aa ∷ 0x3d87be77 ∷ 0x37162fd9 ∷ 0x3efe13c7 ∷ 0x3f0b6bda ∷ 0x3f0812fe ∷ 0x3f16639d ∷ 0 ∷ 0 ∷ 0 ∷ 0 ∷ []) ∷ [])
+    ∷ make 3 ⇒ renewed
+    ∷ sent 1 (0 ∷ 1 ∷ 2 ∷ 3 ∷ 4 ∷ 5 ∷ 7 ∷ 8 ∷ 9 ∷ 10 ∷ 11 ∷ 12 ∷ 13 ∷ 14 ∷ 15 ∷ 16 ∷ 17 ∷ []) 0 (0x3d000000 ∷ 0x3d800000 ∷ 0x3dc00000 ∷ 0x3e000000 ∷ 0x3e200000 ∷ 0x3e400000 ∷
+    0x3e600000 ∷ 0x3e800000 ∷ 0x3e900000 ∷ 0x3ea00000 ∷ 0x3eb00000 ∷ 0x3ec00000 ∷ 0x3ed00000 ∷ 0x3ee00000 ∷ 0x3ef00000 ∷ 0x3f000000 ∷ 0x3f080000 ∷ [])
+    (bed (0 ∷ 1 ∷ 2 ∷ 3 ∷ 4 ∷ 5 ∷ 7 ∷ 8 ∷ 9 ∷ 10 ∷ 11 ∷ 12 ∷ 13 ∷ 14 ∷ 15 ∷ 16 ∷ 17 ∷ []) ∷ []) ⇒ ready []
+    ∷ flush_at 64 ⇒ ready ((0x3f18a9b3 ∷ 0x3f29c906 ∷ 0x3d51a347 ∷ 0x36e7f160 ∷ 0 ∷ 0 ∷ 0x3f50f538 ∷ 0x3f666666 ∷ 0 ∷ 0 ∷ 0 ∷ 0 ∷ []) ∷ [])
+    ∷ [])
+
+-- low and high objects in each layout, and sizes, one alone after another
+abbrev pub hall_objects : Row
+hall_objects =
+    as_row
+    (make 1 ⇒ renewed
+    ∷ sent 4 [] 4 (diagonal_words 4 0x3f000000) (update 0 [] 4 (at_once 0 (at 0x3e99999a 0x3ecccccd 0x3e4ccccd ∷ at 0x3e4ccccd 0x3f666666 0x3f333333 ∷
+    with_size 0x3e800000 (at 0x3e99999a 0x3ecccccd 0x3e4ccccd) ∷ with_size 0x3f800000 (gain 0x3f000000 (at 0x3f666666 0x3ecccccd 0x3f4ccccd)) ∷ []) ∷ []) ∷ []) ⇒ ready []
+    ∷ flush_at 64 ⇒ ready ((0x3e44980c ∷ 0 ∷ 0x3e2c429a ∷ 0 ∷ 0 ∷ 0 ∷ 0x3e6c902d ∷ 0x3e1addf2 ∷ 0x3e10dd62 ∷ 0x3dbdac2b ∷ 0x3d94f97b ∷ 0x3d1cecca ∷ []) ∷
+    (0 ∷ 0 ∷ 0 ∷ 0 ∷ 0 ∷ 0 ∷ 0x3e52e77c ∷ 0x3dd2e77c ∷ 0x3dec902f ∷ 0x3d6c902f ∷ 0x3ea10c46 ∷ 0x3db8672e ∷ []) ∷
+    (0x3e637d72 ∷ 0x3d64f054 ∷ 0x3e4e6a97 ∷ 0 ∷ 0 ∷ 0 ∷ 0x3e830d5e ∷ 0x3e3f5a7a ∷ 0x3e36b0f7 ∷ 0x3e0b5d84 ∷ 0x3df37c31 ∷ 0x3db66b7e ∷ []) ∷
+    (0x3da1e89b ∷ 0x3da1e89b ∷ 0x3da1e89b ∷ 0 ∷ 0 ∷ 0 ∷ 0x3da1e89b ∷ 0x3da1e89b ∷ 0x3da1e89b ∷ 0x3da1e89b ∷ 0x3da1e89b ∷ 0x3da1e89b ∷ []) ∷ [])
+    ∷ make 2 ⇒ renewed
+    ∷ sent 4 [] 4 (diagonal_words 4 0x3f000000) (update 0 [] 4 (at_once 0 (at 0x3e99999a 0x3ecccccd 0x3e4ccccd ∷ at 0x3e4ccccd 0x3f666666 0x3f333333 ∷
+    with_size 0x3e800000 (at 0x3e99999a 0x3ecccccd 0x3e4ccccd) ∷ with_size 0x3f800000 (gain 0x3f000000 (at 0x3f666666 0x3ecccccd 0x3f4ccccd)) ∷ []) ∷ []) ∷ []) ⇒ ready []
+    ∷ flush_at 64 ⇒ ready ((0x3e5bcc76 ∷ 0 ∷ 0x3e4097bb ∷ 0 ∷ 0 ∷ 0 ∷ 0x3e843e2b ∷ 0x3e2d2583 ∷ 0 ∷ 0 ∷ 0 ∷ 0 ∷ []) ∷
+    (0 ∷ 0 ∷ 0 ∷ 0 ∷ 0x3ea1f9b2 ∷ 0x3db97707 ∷ 0x3e6fa75e ∷ 0x3defa75d ∷ 0 ∷ 0 ∷ 0 ∷ 0 ∷ []) ∷
+    (0x3e7e5772 ∷ 0x3d7ff61b ∷ 0x3e66c7d0 ∷ 0 ∷ 0x3d7ff61b ∷ 0x3d7ff61b ∷ 0x3e928555 ∷ 0x3e55f08c ∷ 0 ∷ 0 ∷ 0 ∷ 0 ∷ []) ∷
+    (0x3db504f3 ∷ 0x3db504f3 ∷ 0x3db504f3 ∷ 0 ∷ 0x3db504f3 ∷ 0x3db504f3 ∷ 0x3db504f3 ∷ 0x3db504f3 ∷ 0 ∷ 0 ∷ 0 ∷ 0 ∷ []) ∷ [])
+    ∷ make 3 ⇒ renewed
+    ∷ sent 4 [] 4 (diagonal_words 4 0x3f000000) (update 0 [] 4 (at_once 0 (at 0x3e99999a 0x3ecccccd 0x3e4ccccd ∷ at 0x3e4ccccd 0x3f666666 0x3f333333 ∷
+    with_size 0x3e800000 (at 0x3e99999a 0x3ecccccd 0x3e4ccccd) ∷ with_size 0x3f800000 (gain 0x3f000000 (at 0x3f666666 0x3ecccccd 0x3f4ccccd)) ∷ []) ∷ []) ∷ []) ⇒ ready []
+    ∷ flush_at 64 ⇒ ready ((0x3e5bcc76 ∷ 0 ∷ 0x3e4097bb ∷ 0 ∷ 0 ∷ 0 ∷ 0x3e843e2b ∷ 0x3e2d2583 ∷ 0 ∷ 0 ∷ 0 ∷ 0 ∷ []) ∷
+    (0 ∷ 0 ∷ 0 ∷ 0 ∷ 0 ∷ 0 ∷ 0x3ec08742 ∷ 0x3e408741 ∷ 0 ∷ 0 ∷ 0 ∷ 0 ∷ []) ∷ (0x3e841ed6 ∷ 0x3d93c784 ∷ 0x3e70ae0b ∷ 0 ∷ 0 ∷ 0 ∷ 0x3e977872 ∷ 0x3e5fd6c7 ∷ 0 ∷ 0 ∷ 0 ∷ 0 ∷ []) ∷
+    (0x3dd105ec ∷ 0x3dd105ec ∷ 0x3dd105ec ∷ 0 ∷ 0 ∷ 0 ∷ 0x3dd105ec ∷ 0x3dd105ec ∷ 0 ∷ 0 ∷ 0 ∷ 0 ∷ []) ∷ [])
+    ∷ [])
+
+abbrev pub halls : List Row
+halls =
+    no_layout ∷ made_again ∷ same_layout ∷ lacked_beds ∷ beds_together ∷ hall_objects ∷ []
+
 -- ---- all
 
 abbrev pub groups : List (List Row)
 groups =
-    refusals ∷ outputs ∷ block_rows ∷ bed_rows ∷ object_rows ∷ updates ∷ slots ∷ []
+    refusals ∷ outputs ∷ block_rows ∷ bed_rows ∷ object_rows ∷ updates ∷ slots ∷ halls ∷ []
 
 abbrev pub rows : List Row
 rows = concat groups

@@ -1,7 +1,7 @@
 -- How the rows are written: metadata, calls, samples. A float is given by its bits, a negative number by `minus`. Assumes nothing.
 use Rattle.std.specs.Prelude.{ℕ, zero, suc, ◌+◌, ◌-◌, ◌*◌, ◌/◌, ◌%◌, ◌^◌, List, [], ◌∷◌, ◌++◌, length, get_or, take, drop, set, replicate}
 use Rattle.rules.specs.Refusals.{args_of}
-use Rattle.rules.specs.Calls.{Call, push, flush, reset}
+use Rattle.rules.specs.Calls.{Call, push, flush, reset, make}
 use Rattle.rows.specs.Rows.{Turn, Row}
 
 -- ---- bytes
@@ -132,6 +132,7 @@ abbrev pub short : Call → Call
 short (push a) = push (args_of a.pcm a.meta (drop 1 a.out) a.codes a.rate a.samples a.objects a.stride)
 short (flush out stride) = flush (drop 1 out) stride
 short reset = reset
+short (make n) = make n
 
 -- ---- samples
 

@@ -1,7 +1,7 @@
 -- A row: calls in turn, each with what the host sees of it. `Holds`: that is what it sees by the definitions alone, with no block and no code. Assumes nothing.
 use Rattle.std.specs.Prelude.{ℕ, zero, suc, ◌+◌, ◌*◌, ◌≡◌, List, [], ◌∷◌, map, length}
 use Rattle.words.specs.Words.{word}
-use Rattle.rules.specs.Samples.{built_in, State, fresh}
+use Rattle.rules.specs.Samples.{hall_with, State, fresh}
 use Rattle.rules.specs.Calls.{Call, Answer, refused, rendered, nothing, cleared}
 use Rattle.rules.specs.BlockCalls.{Seen, stride_of, told}
 use Rattle.theorem.specs.Instance.{hall, block}
@@ -15,7 +15,7 @@ pub data Said : Type 0 where
   ready : List (List ℕ) → Said
   -- a flush with nothing pending
   none : Said
-  -- a reset
+  -- a reset, or a renderer made
   renewed : Said
 
 -- the words of an output at sample i, on the n channels from c on
@@ -53,14 +53,14 @@ abbrev pub ◌⇒◌ : Call → Said → Turn
 c ⇒ s = record { call = c; says = s }
 
 pub record Row : Type 0 where
-  -- the stream's position before the first call; all else is as reset leaves it
+  -- the stream's position before the first call; all else is as the making call of layout 0 leaves it
   pub start : ℕ
   pub turns : List Turn
 
--- a fresh renderer, but for the stream's position
+-- a new renderer of layout 0, but for the stream's position
 abbrev pub starting_at : ℕ → State hall
 starting_at n =
-    let r = fresh hall built_in in
+    let r = fresh hall (hall_with 0) in
     record {
       setup = r.setup;
       rate = r.rate;

@@ -1,4 +1,4 @@
--- Channels that a hall lacks: beds whose speaker is one of them are panned, and nothing is heard there. In the built-in hall each bed is routed as document 01 says. Assumes
+-- Channels that a hall lacks: beds whose speaker is one of them are panned, and nothing is heard there. In 7.1.4 each bed is routed as document 01 says. Assumes
 -- nothing.
 use mathlib.Core.Path.{◌≡◌, refl, sym, ap, ap₂, ◌∙◌, subst}
 use mathlib.Core.Bool.{Bool, true, false, cond}
@@ -19,17 +19,17 @@ use Rattle.beds.specs.Matching.{matching}
 use Rattle.beds.specs.BedTerms.{alone, routed, bed_adds}
 use Rattle.beds.proofs.Theorems.{route_all_here}
 use Rattle.panning.specs.Choice.{keep, every_of}
-use Rattle.panning.specs.Setup.{Setup, HallFits, built_in, present, pan_in}
+use Rattle.panning.specs.Table.{Position}
+use Rattle.panning.specs.Setup.{Setup, HallFits, present, pan_in}
 use Rattle.panning.proofs.Theorems.{no_speaker, bass_present, all_present}
 use Rattle.rules.specs.Parts.{0·0}
 use Rattle.rules.specs.Leaves.{Source, Bed}
 use Rattle.rules.specs.Mix.{object_terms, object_adds, adds_of, scaled_by, fed_by, beds_on, objects_on, Moment, heard}
-use Rattle.rules.proofs.Owed.{InHall}
 use Rattle.rules.proofs.ChannelBound.{bed_place}
 use Rattle.rules.proofs.Sends.{panned_alone}
 
-pub route_built_in : (code : ℕ) → route_in (present built_in.layout) code ≡ route_of code
-route_built_in code = route_all_here (present 0) all_present code
+pub routed_714 : (code : ℕ) → route_in (present 0) code ≡ route_of code
+routed_714 code = route_all_here (present 0) all_present code
 
 -- ---- which beds are panned in each layout
 
@@ -51,6 +51,10 @@ absent_beds = (refl, refl, refl, refl)
 
 -- ---- nothing is heard on an absent channel
 
+-- its place is of f32 values
+abbrev pub Placed : Source → Type 0
+Placed s = Position s.place
+
 module _ (hall : Setup) (f : HallFits hall) (c : ℕ) (away : T (present hall.layout c) → ⊥) where
   -- it is not one that is there
   other : (k : ℕ) → T (present hall.layout k) → eqb c k ≡ false
@@ -65,7 +69,7 @@ module _ (hall : Setup) (f : HallFits hall) (c : ℕ) (away : T (present hall.la
   abbrev here : ℕ → Bool
   here = present hall.layout
 
-  bed_absent : (b : Bed) → adds_of hall b c ≡ []
+  pub bed_absent : (b : Bed) → adds_of hall b c ≡ []
   unfolding bed_adds route_in
   bed_absent b = go (route_of b.code)
     where
@@ -89,19 +93,21 @@ module _ (hall : Setup) (f : HallFits hall) (c : ℕ) (away : T (present hall.la
       ap₂ (λ (s t : List sums.Addend). s ++ t)
       (ap (λ (ks : List Float). fed_by ks (matching b.code codes) inputs) (bed_absent b) ∙ fed_none (matching b.code codes) inputs) (beds_absent bs codes inputs)
 
-  object_absent : (s : Source) → InHall s → object_adds hall s c ≡ []
+  pub object_absent : (s : Source) → Position s.place → object_adds hall s c ≡ []
   unfolding object_terms
-  object_absent s h =
-      panned_alone hall s c (other 3 (bass_present hall.layout f.layout)) ∙ no_speaker hall f s.place h.place c (λ k. away k.0) s.gain s.size
+  object_absent s p =
+      panned_alone hall s c (other 3 (bass_present hall.layout f.layout)) ∙ no_speaker hall f s.place p c (λ k. away k.0) s.gain s.size
 
-  objects_absent : (ss : List Source) (own : List Float) → All InHall ss → objects_on hall c ss own ≡ []
+  objects_absent : (ss : List Source) (own : List Float) → All Placed ss → objects_on hall c ss own ≡ []
   objects_absent [] own h = refl
   objects_absent (s ∷ ss) [] h = refl
   objects_absent (s ∷ ss) (x ∷ own) h =
       ap₂ (λ (s t : List sums.Addend). s ++ t) (ap (λ (ks : List Float). scaled_by ks x) (object_absent s h.0)) (objects_absent ss own h.1)
 
-pub absent_unheard : (m : Moment) → HallFits m.hall → All InHall m.objects → (c : ℕ) → (T (present m.hall.layout c) → ⊥) → heard m c ≡ 0·0
+-- with gains, sizes and sends of any bits
+pub absent_unheard : (m : Moment) → HallFits m.hall → All Placed m.objects → (c : ℕ) → present m.hall.layout c ≡ false → heard m c ≡ 0·0
 unfolding heard
-absent_unheard m f h c away =
+absent_unheard m f h c e =
+    let away : T (present m.hall.layout c) → ⊥ = subst T e in
     ap₂ (λ (s t : List sums.Addend). total 0·0 (s ++ t)) (beds_absent m.hall f c away m.beds m.codes m.inputs)
     (objects_absent m.hall f c away m.objects m.own h)

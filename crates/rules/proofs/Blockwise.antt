@@ -1,9 +1,10 @@
 -- Blocks of 64 samples, one behind the other: what is known of the first n blocks depends on their samples alone, and a sample that is laid behind those that wait is read there.
 -- Assumes nothing.
 use mathlib.Core.Path.{◌≡◌, refl, sym, ap, ap₂, ◌∙◌}
-use mathlib.Core.List.{List, [], ◌∷◌, ◌++◌, map}
+use mathlib.Core.Logic.{◌⊎◌, inl, inr}
+use mathlib.Core.List.{List, [], ◌∷◌, ◌++◌, map, append-nil}
 use Prim.Native.Nat.{ℕ, zero, suc, ◌+◌, ◌*◌, ◌≤◌, ◌<◌}
-use native.Mathlib.Nat.{suc-add, not-suc-le-zero, le_of_suc-le-suc}
+use native.Mathlib.Nat.{suc-add, suc-ne-zero, not-suc-le-zero, le_of_suc-le-suc, le_trans}
 use native.Mathlib.Omega.{arith}
 use lib.Dec.{T, lit<}
 use lib.ListN.{length, take, drop, set, length-drop}
@@ -36,32 +37,54 @@ same_gain n r e h = λ i. grown n (r i) (block_gain (e i) (same_twelve h i))
 pub same_metered : {f g : Channels} {x y : Float} → x ≡ y → Same f g → metered x f ≡ metered y g
 same_metered e h = λ i. block_meters (e i) (same_twelve h i) ∷ []
 
--- ---- samples g behind those of f change none of the n blocks that f has
+-- ---- samples g behind those of f change none of the n blocks that f has: a channel has as many, or nothing is behind it
+empty : (xs : List Float) → length xs ≡ 0 → xs ≡ []
+empty [] e = refl
+empty (x ∷ xs) e = absurd (suc-ne-zero (length xs) e)
+
+none_behind : (xs ys : List Float) → length ys ≡ 0 → xs ≡ xs ++ ys
+none_behind xs ys e = sym (append-nil xs) ∙ ap (λ (l : List Float). xs ++ l) (sym (empty ys e))
+
+pub drop_behind : (xs ys : List Float) (n : ℕ) → (n ≤ length xs) ⊎ (length ys ≡ 0) → drop n (xs ++ ys) ≡ drop n xs ++ ys
+drop_behind xs ys n (inl h) = drop-append-le n xs ys h
+drop_behind xs ys n (inr h) = ap (drop n) (sym (none_behind xs ys h)) ∙ none_behind (drop n xs) ys h
+
+abbrev pub Enough : Channels → Channels → ℕ → Type 0
+Enough f g n = (c : ℕ) → c < 12 → (n ≤ length (f c)) ⊎ (length (g c) ≡ 0)
+
 module _ (f g : Channels) where
   abbrev pub behind : Channels
   behind c = f c ++ g c
 
-  block_behind : (k : ℕ) → ((c : ℕ) → c < 12 → 64 * suc k ≤ length (f c)) → Same (nth_block f k) (nth_block behind k)
-  block_behind k long c l =
-      let w = long c l in
-      let d = length-drop (64 * k) (f c) in
-      sym (ap (take 64) (drop-append-le (64 * k) (f c) (g c) (omega arith)) ∙ take-append-le 64 (drop (64 * k) (f c)) (g c) (omega arith))
+  enough_fewer : (n m : ℕ) → m ≤ n → Enough f g n → Enough f g m
+  enough_fewer n m h long c l = elim (long c l) [ inl w ↦ inl (le_trans h w) | inr w ↦ inr w ]
+
+  one_fewer : (n : ℕ) → Enough f g (64 * suc n) → Enough f g (64 * n)
+  one_fewer n long = enough_fewer (64 * suc n) (64 * n) (let h : 64 * n ≤ 64 * suc n = omega arith in h) long
+
+  block_behind : (k : ℕ) → Enough f g (64 * suc k) → Same (nth_block f k) (nth_block behind k)
+  block_behind k long c l = elim (long c l) [
+    | inl w ↦
+        let d = length-drop (64 * k) (f c) in
+        sym (ap (take 64) (drop-append-le (64 * k) (f c) (g c) (omega arith)) ∙ take-append-le 64 (drop (64 * k) (f c)) (g c) (omega arith))
+    | inr w ↦ ap (λ (xs : List Float). take 64 (drop (64 * k) xs)) (none_behind (f c) (g c) w)
+  ]
 
   module _ (rate : ℕ) (x : Float) where
-    pub gain_behind : (n : ℕ) → ((c : ℕ) → c < 12 → 64 * n ≤ length (f c)) → gain_before rate x f n ≡ gain_before rate x behind n
+    pub gain_behind : (n : ℕ) → Enough f g (64 * n) → gain_before rate x f n ≡ gain_before rate x behind n
     gain_behind zero long = refl
-    gain_behind (suc n) long = same_gain 64 refl (gain_behind n (λ c l. let w = long c l in omega arith)) (block_behind n long)
+    gain_behind (suc n) long = same_gain 64 refl (gain_behind n (one_fewer n long)) (block_behind n long)
 
-    pub blocks_behind : (n : ℕ) → ((c : ℕ) → c < 12 → 64 * n ≤ length (f c)) → Same (limited_blocks rate x f n) (limited_blocks rate x behind n)
+    pub blocks_behind : (n : ℕ) → Enough f g (64 * n) → Same (limited_blocks rate x f n) (limited_blocks rate x behind n)
     blocks_behind zero long c l = refl
     blocks_behind (suc n) long c l =
-        let fewer : (c : ℕ) → c < 12 → 64 * n ≤ length (f c) = λ c l. let w = long c l in omega arith in
+        let fewer = one_fewer n long in
         ap₂ (λ (u v : List Float). u ++ v) (blocks_behind n fewer c l) (same_limited (gain_behind n fewer) (block_behind n long) c l)
 
-    pub metered_behind : (n : ℕ) → ((c : ℕ) → c < 12 → 64 * n ≤ length (f c)) → blocks_metered rate x f n ≡ blocks_metered rate x behind n
+    pub metered_behind : (n : ℕ) → Enough f g (64 * n) → blocks_metered rate x f n ≡ blocks_metered rate x behind n
     metered_behind zero long = refl
     metered_behind (suc n) long =
-        let fewer : (c : ℕ) → c < 12 → 64 * n ≤ length (f c) = λ c l. let w = long c l in omega arith in
+        let fewer = one_fewer n long in
         ap₂ (λ (u v : List Meters). u ++ v) (metered_behind n fewer) (same_metered (gain_behind n fewer) (block_behind n long))
 
 -- ---- a sample behind the p that wait

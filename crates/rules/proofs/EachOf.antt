@@ -1,15 +1,19 @@
 -- What holds of each element of a list, and of the lists of places. Assumes nothing.
-use mathlib.Core.Path.{◌≡◌, refl, ap, ◌∙◌, subst}
+use mathlib.Core.Path.{◌≡◌, refl, ap, ap₂, ◌∙◌, subst}
+use mathlib.Core.Logic.{◌⊎◌, inl, inr}
 use mathlib.Core.Bool.{Bool, true, false, cond, ◌||◌}
 use mathlib.Core.List.{List, [], ◌∷◌, ◌++◌, map}
-use Prim.Native.Nat.{ℕ, zero, suc, ◌+◌, ◌<◌}
-use native.Mathlib.Nat.{not-suc-le-zero, le_of_suc-le-suc}
+use Prim.Native.Nat.{ℕ, zero, suc, ◌+◌, ◌≤◌, ◌<◌, zero-le}
+use native.Mathlib.Nat.{not-suc-le-zero, le_of_suc-le-suc, le_refl}
 use borrow.Author.Tests.{lt-ltb, leb-false}
 use lib.Dec.{T, leb, lit<}
 use lib.ListN.{length, get_or, set, take, replicate, length-set}
 use lib.Ieee.{Float, binary32, to_bits}
 use Rattle.ieee.specs.Bounds.{All}
-use Rattle.rules.specs.Parts.{laid, zeros}
+use Rattle.panning.specs.Setup.{Setup, present}
+use Rattle.rules.specs.Parts.{Channels, laid, zeros}
+use Rattle.rules.specs.Samples.{sounding}
+use Rattle.rules.specs.Promises.{count_on}
 
 -- P in both branches
 pub either {ℓ} : {A : Type ℓ} (P : A → Type 0) (b : Bool) {x y : A} → P x → P y → P (cond b x y)
@@ -20,6 +24,10 @@ either P false p q = q
 pub both {ℓ} : {A : Type ℓ} (R : A → A → Type 0) (b : Bool) {x y x' y' : A} → R x x' → R y y' → R (cond b x y) (cond b x' y')
 both R true p q = p
 both R false p q = q
+
+pub T_true : (b : Bool) → T b → b ≡ true
+T_true true t = refl
+T_true false t = absurd t
 
 pub neither : (a b : Bool) → (a || b) ≡ false → (a ≡ false) × (b ≡ false)
 neither true b e = absurd (subst T e tt)
@@ -71,6 +79,51 @@ all_laid P k (x ∷ xs) ws h p = all_laid P (suc k) xs (set ws k (to_bits binary
 pub length_laid : (k : ℕ) (xs : List Float) (ws : List ℕ) → length (laid k xs ws) ≡ length ws
 length_laid k [] ws = refl
 length_laid k (x ∷ xs) ws = length_laid (suc k) xs (set ws k (to_bits binary32 x)) ∙ length-set ws k (to_bits binary32 x)
+
+-- ---- channels that a hall may lack
+module _ (h : Setup) where
+  -- how many samples a channel has, by those that the ones that are there have
+  pub length_sounding : (f : Channels) (n c : ℕ) → length (f c) ≡ n → length (sounding h f c) ≡ count_on h n c
+  length_sounding f n c e = go (present h.layout c)
+    where
+      go : (b : Bool) → length (cond b (f c) []) ≡ cond b n 0
+      go true = e
+      go false = refl
+
+  pub all_sounding : (P : Float → Type 0) (f : Channels) (c : ℕ) → All P (f c) → All P (sounding h f c)
+  all_sounding P f c a = either (All P) (present h.layout c) a tt
+
+  pub count_most : (n c : ℕ) → count_on h n c ≤ n
+  count_most n c = either (λ (k : ℕ). k ≤ n) (present h.layout c) (le_refl n) zero-le
+
+  pub count_sum : (i j c : ℕ) {u v : ℕ} → u ≡ count_on h i c → v ≡ count_on h j c → u + v ≡ count_on h (i + j) c
+  count_sum i j c p q = ap₂ (λ (u v : ℕ). u + v) p q ∙ go (present h.layout c)
+    where
+      go : (b : Bool) → cond b i 0 + cond b j 0 ≡ cond b (i + j) 0
+      go true = refl
+      go false = refl
+
+  pub none_count : (c : ℕ) → ◌≡◌ {A = ℕ} (count_on h 0 c) 0
+  none_count c = go (present h.layout c)
+    where
+      go : (b : Bool) → ◌≡◌ {A = ℕ} (cond b 0 0) 0
+      go true = refl
+      go false = refl
+
+  pub here_count : (n c : ℕ) → T (present h.layout c) → count_on h n c ≡ n
+  here_count n c t = go (present h.layout c) t
+    where
+      go : (b : Bool) → T b → cond b n 0 ≡ n
+      go true t = refl
+      go false t = absurd t
+
+  -- it is there, or it has none
+  pub all_or_none : (n c : ℕ) {u : ℕ} → u ≡ count_on h n c → (u ≡ n) ⊎ ((present h.layout c ≡ false) × (u ≡ 0))
+  all_or_none n c {u} e = go (present h.layout c) refl e
+    where
+      go : (b : Bool) → present h.layout c ≡ b → u ≡ cond b n 0 → (u ≡ n) ⊎ ((present h.layout c ≡ false) × (u ≡ 0))
+      go true p q = inl q
+      go false p q = inr (p, q)
 
 -- ---- places and their count
 pub zeros_long : (c : ℕ) → c < 12 → length (zeros c) ≡ 64

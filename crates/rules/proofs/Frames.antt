@@ -1,29 +1,34 @@
 -- A frame and a flush keep the invariant: a frame gives out whole blocks of 64, a flush what was pending. Assumes nothing beyond `Facts`.
 use mathlib.Core.Path.{◌≡◌, refl, sym, ap, ap₂, ◌∙◌, subst}
+use mathlib.Core.Logic.{◌⊎◌, inl, inr}
+use mathlib.Core.Bool.{Bool, true, false, cond}
+use mathlib.Core.List.{[]}
 use Prim.Native.Nat.{ℕ, zero, suc, ◌+◌, ◌*◌, ◌≤◌, ◌<◌}
 use native.Mathlib.Nat.{le_of_lt, le_of_eq, le_refl, le_trans, not-suc-le-zero}
 use native.Mathlib.Omega.{arith}
 use lib.Dec.{lit<}
 use lib.ListN.{length, take, length-append}
-use lib.Seq.{length-take-le}
+use lib.Seq.{length-take-le, take-nil}
 use lib.Ieee.{binary32, of_bits}
 use Rattle.ieee.specs.Units.{F32, Unitary}
 use Rattle.ieee.specs.Bounds.{All}
 use Rattle.words.specs.Words.{Bytes}
 use Rattle.limiter.specs.Range.{MetersInRange}
-use Rattle.rules.specs.Parts.{Channels, floats}
+use Rattle.panning.specs.Setup.{Setup, present}
+use Rattle.rules.specs.Parts.{floats}
 use Rattle.rules.specs.Leaves.{Leaves}
-use Rattle.rules.specs.Samples.{Pending, Frame, State, limited, updated, slotted, moment, After, sampled, framed, opened, pushed, flushed}
+use Rattle.rules.specs.Samples.{Pending, Frame, State, sounding, limited, updated, slotted, moment, After, sampled, framed, opened, pushed, waiting, flushed}
 use Rattle.rules.specs.Sounds.{AllMetered}
+use Rattle.rules.specs.Promises.{count_on}
 use Rattle.rules.specs.Refusals.{Args}
 use Rattle.rules.specs.Calls.{frame_of}
 use Rattle.rules.specs.BlockCalls.{Layout}
-use Rattle.rules.proofs.EachOf.{all_map, all_take, all_append, length_map}
+use Rattle.rules.proofs.EachOf.{all_map, all_take, all_append, length_map, all_sounding, count_most, count_sum, none_count, all_or_none}
 use Rattle.rules.proofs.Owed.{Facts}
 use Rattle.rules.proofs.Judged.{Passed, is_listed, sample_in, samples_in}
 use Rattle.rules.proofs.Limited.{limited_tame, limited_metered, meters_kept, gain_kept, length_limited}
 use Rattle.rules.proofs.Metered.{one_metered, metered_joined}
-use Rattle.rules.proofs.Clock.{untouched}
+use Rattle.rules.proofs.Clock.{untouched, setup_kept}
 use Rattle.rules.proofs.Invariant.{Admitted, Good, Rest, Fine, before_good, opened_good, moment_hearable, passed_fine}
 
 module _ (L : Leaves) (B : Layout L) (F : Facts L B) where
@@ -39,19 +44,21 @@ module _ (L : Leaves) (B : Layout L) (F : Facts L B) where
       }
 
   module _ (f : Frame L.Update) (k : Admitted L B F f) where
-    pub sampled_fine : (t : ℕ) → t < f.samples → (r : State L) → Good L B F r → Fine L B F r.pending.count 1 (sampled L f t r)
+    pub sampled_fine : (t : ℕ) → t < f.samples → (r : State L) → Good L B F r → Fine L B F r.setup r.pending.count 1 (sampled L f t r)
     sampled_fine t h r g =
         let s = slotted L (updated L t f.updates r) in
         let i = before_good L B F t f.updates r k.updates g in
-        subst (λ (p : Pending). Fine L B F p.count 1 (sampled L f t r)) (untouched L t f.updates r).pending
-        (passed_fine L B F (moment L f t s.setup s.meta) (moment_hearable L B F f k t h s.setup i.steady.hall s.meta i.steady.meta) s i)
+        let u = untouched L t f.updates r in
+        subst (λ (p : Pending). Fine L B F r.setup p.count 1 (sampled L f t r)) u.pending
+        (subst (λ (e : Setup). Fine L B F e s.pending.count 1 (sampled L f t r)) u.setup
+        (passed_fine L B F (moment L f t s.setup s.meta) (moment_hearable L B F f k t h s.setup i.steady.hall s.meta i.steady.meta) s i))
 
-    pub framed_fine : (n t : ℕ) → t + n ≤ f.samples → (r : State L) → Good L B F r → Fine L B F r.pending.count n (framed L f n t r)
+    pub framed_fine : (n t : ℕ) → t + n ≤ f.samples → (r : State L) → Good L B F r → Fine L B F r.setup r.pending.count n (framed L f n t r)
     framed_fine zero t h r g = record {
       next = g;
       given = λ c l. tt;
       blocks = 0;
-      length = λ c l. refl;
+      length = λ c l. sym (none_count r.setup c);
       all = omega arith;
       count = refl;
       meters = tt;
@@ -61,36 +68,55 @@ module _ (L : Leaves) (B : Layout L) (F : Facts L B) where
         let x = sampled L f t r in
         let a = sampled_fine t (omega arith) r g in
         let y = framed L f n (suc t) x.next in
-        let d = framed_fine n (suc t) (omega arith) x.next a.next in
+        let d = subst (λ (e : Setup). Fine L B F e x.next.pending.count n y) (setup_kept L f 1 t r) (framed_fine n (suc t) (omega arith) x.next a.next) in
         record {
           next = d.next;
           given = λ c l. all_append Unitary (x.given c) (y.given c) (a.given c l) (d.given c l);
           blocks = a.blocks + d.blocks;
-          length = λ c l. length-append (x.given c) (y.given c) ∙ sums a.blocks d.blocks (a.length c l) (d.length c l);
+          length = λ c l. length-append (x.given c) (y.given c) ∙ count_sum r.setup (64 * a.blocks) (64 * d.blocks) c (a.length c l) (d.length c l)
+              ∙ ap (λ (n : ℕ). count_on r.setup n c) (sums a.blocks d.blocks);
           all = total a.blocks d.blocks x.next.pending.count y.next.pending.count r.pending.count a.all d.all;
           count = length-append x.meters y.meters ∙ ap₂ (λ (i j : ℕ). i + j) a.count d.count;
           meters = all_append MetersInRange x.meters y.meters a.meters d.meters;
-          within = metered_joined x.meters y.meters x.given y.given (λ c l. a.length c l ∙ ap (λ (i : ℕ). 64 * i) (sym a.count)) a.within d.within;
+          within = metered_joined x.meters y.meters x.given y.given (λ c l. whole_or_none c d.blocks a.count (a.length c l) (d.length c l)) a.within d.within;
         }
       where
-        sums : (i j : ℕ) {u v : ℕ} → u ≡ 64 * i → v ≡ 64 * j → u + v ≡ 64 * (i + j)
-        sums i j p q = omega arith
+        sums : (i j : ℕ) → 64 * i + 64 * j ≡ 64 * (i + j)
+        sums i j = omega arith
+
+        whole_or_none : (c j : ℕ) {i m u v : ℕ} → m ≡ i → u ≡ count_on r.setup (64 * i) c → v ≡ count_on r.setup (64 * j) c → (u ≡ 64 * m) ⊎ ((u ≡ 0) × (v ≡ 0))
+        whole_or_none c j {i} {m} {u} {v} e p q = elim (all_or_none r.setup (64 * i) c p) [
+          | inl w ↦ inl (w ∙ ap (λ (n : ℕ). 64 * n) (sym e))
+          | inr w ↦ inr (w.1, q ∙ ap (λ (b : Bool). cond b (64 * j) 0) w.0)
+        ]
 
         total : (i j u v w : ℕ) → 64 * i + u ≡ w + 1 → 64 * j + v ≡ u + n → 64 * (i + j) + v ≡ w + suc n
         total i j u v w p q = omega arith
 
   pub pushed_fine : (r : State L) (a : Args) → Bytes a.pcm → Bytes a.meta → Passed L r a → Rest L B F r
-      → Fine L B F r.pending.count a.samples (pushed L (frame_of L a) r)
+      → Fine L B F r.setup r.pending.count a.samples (pushed L (frame_of L a) r)
   unfolding pushed
   pushed_fine r a b m p g =
       let k = admitted r a b m p in
       framed_fine (frame_of L a) k a.samples 0 (omega arith) (opened L a.rate r) (opened_good L B F a.rate r k.rate g)
 
   -- ---- flush
+
+  -- how many samples of a channel wait
+  pub length_waiting : (r : State L) (c : ℕ) → r.pending.count ≤ 64 → length (r.pending.places c) ≡ 64 → length (waiting L r c) ≡ count_on r.setup r.pending.count c
+  length_waiting r c few long = go (present r.setup.layout c)
+    where
+      e : length (floats r.pending.places c) ≡ 64
+      e = length_map (of_bits binary32) (r.pending.places c) ∙ long
+
+      go : (b : Bool) → length (take r.pending.count (cond b (floats r.pending.places c) [])) ≡ cond b r.pending.count 0
+      go true = length-take-le r.pending.count (floats r.pending.places c) (omega (arith, e, few))
+      go false = ap length (take-nil r.pending.count)
+
   pub record Drained (r : State L) (a : After L) : Type 0 where
     pub next : Good L B F a.next
     pub given : (c : ℕ) → c < 12 → All Unitary (a.given c)
-    pub length : (c : ℕ) → c < 12 → length (a.given c) ≡ r.pending.count
+    pub length : (c : ℕ) → c < 12 → length (a.given c) ≡ count_on r.setup r.pending.count c
     pub meters : All MetersInRange a.meters
     pub within : AllMetered a.meters a.given
 
@@ -98,13 +124,12 @@ module _ (L : Leaves) (B : Layout L) (F : Facts L B) where
   unfolding flushed
   flushed_fine r g =
       let s = g.steady in
-      let waiting : Channels = λ c. take r.pending.count (floats r.pending.places c) in
-      let w : (c : ℕ) → All F32 (waiting c) = λ c. all_take F32 r.pending.count (floats r.pending.places c)
-      (all_map F32 (of_bits binary32) (r.pending.places c) (s.places c)) in
+      let waits = waiting L r in
+      let w : (c : ℕ) → All F32 (waits c) = λ c. all_take F32 r.pending.count (sounding r.setup (floats r.pending.places) c)
+      (all_sounding r.setup F32 (floats r.pending.places) c (all_map F32 (of_bits binary32) (r.pending.places c) (s.places c))) in
       let few = le_of_lt s.few in
-      let long : (c : ℕ) → c < 12 → length (limited r.limiter.gain waiting c) ≡ r.pending.count = λ c l.
-      let e = length_map (of_bits binary32) (r.pending.places c) ∙ s.long c l in
-      length_limited r.limiter.gain waiting c ∙ length-take-le r.pending.count (floats r.pending.places c) (omega (arith, e, few)) in
+      let long : (c : ℕ) → c < 12 → length (limited r.limiter.gain waits c) ≡ count_on r.setup r.pending.count c = λ c l.
+      length_limited r.limiter.gain waits c ∙ length_waiting r c few (s.long c l) in
       record {
         next = record {
           rate = g.rate;
@@ -112,15 +137,15 @@ module _ (L : Leaves) (B : Layout L) (F : Facts L B) where
           steady = record {
             hall = g.steady.hall;
             meta = s.meta;
-            gain = gain_kept waiting w r.pending.count r.rate g.rate few r.limiter.gain s.gain;
+            gain = gain_kept waits w r.pending.count r.rate g.rate few r.limiter.gain s.gain;
             places = s.places;
             long = s.long;
             few = lit< tt;
           };
         };
-        given = limited_tame waiting w r.pending.count r.rate g.rate few r.limiter.gain s.gain;
+        given = limited_tame waits w r.pending.count r.rate g.rate few r.limiter.gain s.gain;
         length = long;
-        meters = meters_kept waiting w r.pending.count r.rate g.rate few r.limiter.gain s.gain;
-        within = one_metered r.limiter.gain waiting (λ c l. le_trans (le_of_eq (long c l)) few)
-            (limited_metered waiting w r.pending.count r.rate g.rate few r.limiter.gain s.gain);
+        meters = meters_kept waits w r.pending.count r.rate g.rate few r.limiter.gain s.gain;
+        within = one_metered r.limiter.gain waits (λ c l. le_trans (le_of_eq (long c l)) (le_trans (count_most r.setup r.pending.count c) few))
+            (limited_metered waits w r.pending.count r.rate g.rate few r.limiter.gain s.gain);
       }

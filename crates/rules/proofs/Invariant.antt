@@ -4,7 +4,7 @@ use mathlib.Core.Logic.{◌⊎◌, inl, inr}
 use mathlib.Core.Bool.{Bool, true, false, cond, ◌&&◌}
 use mathlib.Core.List.{List, [], ◌∷◌}
 use Prim.Native.Nat.{ℕ, ◌+◌, ◌*◌, ◌<◌}
-use native.Mathlib.Nat.{le_of_eq, not-suc-le-zero}
+use native.Mathlib.Nat.{le_of_eq, le_trans, not-suc-le-zero}
 use native.Mathlib.Omega.{arith}
 use borrow.Author.Tests.{leb-true, eq-eqb}
 use lib.Dec.{eqb, leb, ltb, lit≤, lit<}
@@ -22,13 +22,14 @@ use Rattle.limiter.specs.Range.{MetersInRange}
 use Rattle.limiter.specs.declared.meters.Meters.{Meters}
 use Rattle.limiter.proofs.Theorems.{one_gain}
 use Rattle.panning.specs.Setup.{Setup, HallFits}
-use Rattle.rules.specs.Parts.{none, Places, floats, laid, zeros}
+use Rattle.rules.specs.Parts.{Channels, none, Places, floats, laid, zeros}
 use Rattle.rules.specs.Leaves.{Leaves, started}
 use Rattle.rules.specs.Mix.{sample_at, Moment, heard, fed}
-use Rattle.rules.specs.Samples.{Frame, State, fresh, limited, metered, row, applied_at, updated, slotted, moment, After, passed, opened}
+use Rattle.rules.specs.Samples.{Frame, State, fresh, sounding, limited, metered, row, applied_at, updated, slotted, moment, After, passed, opened}
 use Rattle.rules.specs.Sounds.{AllMetered}
+use Rattle.rules.specs.Promises.{count_on}
 use Rattle.rules.specs.BlockCalls.{Layout}
-use Rattle.rules.proofs.EachOf.{either, all_laid, length_laid, all_same, all_map, length_map, zeros_long, few_left}
+use Rattle.rules.proofs.EachOf.{either, all_laid, length_laid, all_same, all_map, length_map, length_sounding, all_sounding, count_most, none_count, zeros_long, few_left}
 use Rattle.rules.proofs.Owed.{Mixable, Facts}
 use Rattle.rules.proofs.ChannelBound.{Most, most_range, Hearable, heard_bounded}
 use Rattle.rules.proofs.Limited.{limited_tame, limited_metered, meters_kept, gain_kept, length_limited}
@@ -149,15 +150,15 @@ module _ (L : Leaves) (B : Layout L) (F : Facts L B) where
       go true = x
       go false = record { few_beds = lit≤ tt; beds = tt; few_objects = lit≤ tt; objects = tt }
 
-  -- n samples from p pending: what was given out, in how many blocks, and what is left
-  pub record Fine (p n : ℕ) (a : After L) : Type 0 where
+  -- n samples from p pending, in the hall h: what was given out, in how many blocks, and what is left
+  pub record Fine (h : Setup) (p n : ℕ) (a : After L) : Type 0 where
     pub next : Good a.next
     pub given : (c : ℕ) → c < 12 → All Unitary (a.given c)
     pub blocks : ℕ
     pub count : length a.meters ≡ blocks
     pub meters : All MetersInRange a.meters
     pub within : AllMetered a.meters a.given
-    pub length : (c : ℕ) → c < 12 → length (a.given c) ≡ 64 * blocks
+    pub length : (c : ℕ) → c < 12 → length (a.given c) ≡ count_on h (64 * blocks) c
     pub all : 64 * blocks + a.next.pending.count ≡ p + n
 
   module _ (m : Moment) (h : Hearable m) (r : State L) (g : Good r) where
@@ -169,20 +170,29 @@ module _ (L : Leaves) (B : Layout L) (F : Facts L B) where
         )
         (stored (heard m c) (heard_bounded m h c).f32, tt)
 
+    abbrev laid_row : Channels
+    laid_row = sounding r.setup (row m r.filter)
+
     abbrev places : Places
-    places c = laid r.pending.count (row m r.filter c) (r.pending.places c)
+    places c = laid r.pending.count (laid_row c) (r.pending.places c)
 
     places_finite : (c : ℕ) → All Finite (places c)
-    places_finite c = all_laid Finite r.pending.count (row m r.filter c) (r.pending.places c) (row_finite c) (g.steady.places c)
+    places_finite c =
+        all_laid Finite r.pending.count (laid_row c) (r.pending.places c)
+        (all_sounding r.setup (λ (x : Float). Finite (to_bits binary32 x)) (row m r.filter) c (row_finite c)) (g.steady.places c)
 
     places_long : (c : ℕ) → c < 12 → length (places c) ≡ 64
-    places_long c l = length_laid r.pending.count (row m r.filter c) (r.pending.places c) ∙ g.steady.long c l
+    places_long c l = length_laid r.pending.count (laid_row c) (r.pending.places c) ∙ g.steady.long c l
 
-    floats_finite : (c : ℕ) → All F32 (floats places c)
-    floats_finite c = all_map F32 (of_bits binary32) (places c) (places_finite c)
+    -- the block that the limiter meets
+    abbrev block : Channels
+    block = sounding r.setup (floats places)
 
-    floats_long : (c : ℕ) → c < 12 → length (floats places c) ≡ 64
-    floats_long c l = length_map (of_bits binary32) (places c) ∙ places_long c l
+    block_finite : (c : ℕ) → All F32 (block c)
+    block_finite c = all_sounding r.setup F32 (floats places) c (all_map F32 (of_bits binary32) (places c) (places_finite c))
+
+    block_long : (c : ℕ) → c < 12 → length (block c) ≡ count_on r.setup 64 c
+    block_long c l = length_sounding r.setup (floats places) 64 c (length_map (of_bits binary32) (places c) ∙ places_long c l)
 
     passed_good : Good (passed L m r).next
     passed_good =
@@ -192,7 +202,7 @@ module _ (L : Leaves) (B : Layout L) (F : Facts L B) where
           steady = record {
             hall = g.steady.hall;
             meta = g.steady.meta;
-            gain = either Gain (leb 64 (r.pending.count + 1)) (gain_kept (floats places) floats_finite 64 r.rate g.rate (lit≤ tt) r.limiter.gain g.steady.gain)
+            gain = either Gain (leb 64 (r.pending.count + 1)) (gain_kept block block_finite 64 r.rate g.rate (lit≤ tt) r.limiter.gain g.steady.gain)
                 g.steady.gain;
             places = places_finite;
             long = places_long;
@@ -201,39 +211,39 @@ module _ (L : Leaves) (B : Layout L) (F : Facts L B) where
         }
 
     abbrev meters : List Meters
-    meters = metered r.limiter.gain (floats places)
+    meters = metered r.limiter.gain block
 
-    pub passed_fine : Fine r.pending.count 1 (passed L m r)
+    pub passed_fine : Fine r.setup r.pending.count 1 (passed L m r)
     passed_fine = go (leb 64 (r.pending.count + 1)) refl
       where
-        go : (b : Bool) → leb 64 (r.pending.count + 1) ≡ b → Fine r.pending.count 1 (passed L m r)
+        go : (b : Bool) → leb 64 (r.pending.count + 1) ≡ b → Fine r.setup r.pending.count 1 (passed L m r)
         go true e =
             let few = g.steady.few in
             let most = leb-true 64 (r.pending.count + 1) e in
             record {
               next = passed_good;
-              given = λ c l. subst (λ (b : Bool). All Unitary (cond b (limited r.limiter.gain (floats places)) none c)) (sym e)
-                  (limited_tame (floats places) floats_finite 64 r.rate g.rate (lit≤ tt) r.limiter.gain g.steady.gain c l);
+              given = λ c l. subst (λ (b : Bool). All Unitary (cond b (limited r.limiter.gain block) none c)) (sym e)
+                  (limited_tame block block_finite 64 r.rate g.rate (lit≤ tt) r.limiter.gain g.steady.gain c l);
               blocks = 1;
-              length = λ c l. ap (λ (b : Bool). length (cond b (limited r.limiter.gain (floats places)) none c)) e ∙ length_limited r.limiter.gain (floats places) c
-                  ∙ floats_long c l;
+              length = λ c l. ap (λ (b : Bool). length (cond b (limited r.limiter.gain block) none c)) e ∙ length_limited r.limiter.gain block c
+                  ∙ block_long c l;
               all = ap (λ (b : Bool). 64 * 1 + cond b 0 (r.pending.count + 1)) e ∙ (omega arith);
               count = ap (λ (b : Bool). length (cond b meters [])) e;
               meters = subst (λ (b : Bool). All MetersInRange (cond b meters [])) (sym e)
-                  (meters_kept (floats places) floats_finite 64 r.rate g.rate (lit≤ tt) r.limiter.gain g.steady.gain);
-              within = subst (λ (b : Bool). AllMetered (cond b meters []) (cond b (limited r.limiter.gain (floats places)) none)) (sym e)
-                  (one_metered r.limiter.gain (floats places) (λ c l. le_of_eq (length_limited r.limiter.gain (floats places) c ∙ floats_long c l))
-                  (limited_metered (floats places) floats_finite 64 r.rate g.rate (lit≤ tt) r.limiter.gain g.steady.gain));
+                  (meters_kept block block_finite 64 r.rate g.rate (lit≤ tt) r.limiter.gain g.steady.gain);
+              within = subst (λ (b : Bool). AllMetered (cond b meters []) (cond b (limited r.limiter.gain block) none)) (sym e)
+                  (one_metered r.limiter.gain block (λ c l. le_trans (le_of_eq (length_limited r.limiter.gain block c ∙ block_long c l)) (count_most r.setup 64 c))
+                  (limited_metered block block_finite 64 r.rate g.rate (lit≤ tt) r.limiter.gain g.steady.gain));
             }
         go false e =
             record {
               next = passed_good;
-              given = λ c l. subst (λ (b : Bool). All Unitary (cond b (limited r.limiter.gain (floats places)) none c)) (sym e) tt;
+              given = λ c l. subst (λ (b : Bool). All Unitary (cond b (limited r.limiter.gain block) none c)) (sym e) tt;
               blocks = 0;
-              length = λ c l. ap (λ (b : Bool). length (cond b (limited r.limiter.gain (floats places)) none c)) e;
+              length = λ c l. ap (λ (b : Bool). length (cond b (limited r.limiter.gain block) none c)) e ∙ sym (none_count r.setup c);
               all = ap (λ (b : Bool). 64 * 0 + cond b 0 (r.pending.count + 1)) e ∙ (omega arith);
               count = ap (λ (b : Bool). length (cond b meters [])) e;
               meters = subst (λ (b : Bool). All MetersInRange (cond b meters [])) (sym e) tt;
-              within = subst (λ (b : Bool). AllMetered (cond b meters []) (cond b (limited r.limiter.gain (floats places)) none)) (sym e)
+              within = subst (λ (b : Bool). AllMetered (cond b meters []) (cond b (limited r.limiter.gain block) none)) (sym e)
                   (λ c i l h. absurd (not-suc-le-zero h));
             }

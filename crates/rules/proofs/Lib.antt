@@ -27,6 +27,7 @@ pub mod PushShapes
 pub mod Quiet
 pub mod Bass
 pub mod Energy
+pub mod BedsHeard
 pub mod Pushes
 pub mod Ringing
 pub mod Clean
@@ -35,4 +36,5 @@ pub mod Flushes
 pub mod Keeps
 pub mod Demand3FromFacts
 pub mod Absent
+pub mod Unread
 pub mod Theorems

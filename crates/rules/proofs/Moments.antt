@@ -8,7 +8,6 @@ use lib.ListN.{length, get_or}
 use Rattle.rules.specs.Leaves.{Leaves}
 use Rattle.rules.specs.Mix.{Moment}
 use Rattle.rules.specs.Samples.{Frame, State, After, updated, slotted, moment, sampled, framed}
-use Rattle.rules.specs.Sounds.{silent}
 
 module _ (L : Leaves) (f : Frame L.Update) where
   -- what sample t is heard with
@@ -45,12 +44,12 @@ module _ (L : Leaves) (f : Frame L.Update) where
         ∙ sym (append_assoc (listed a) (listed d) (listed (sampled L f (t + suc k) d.next)))
         ∙ sym (ap (λ (xs : List A). xs ++ listed (sampled L f (t + suc k) d.next)) (joins k t r))
 
-  moment_from : (n t k : ℕ) (r : State L) → k < n → get_or (framed L f n t r).moments k silent ≡ moment_of (t + k) (framed L f k t r).next
-  moment_from zero t k r h = absurd (not-suc-le-zero h)
-  moment_from (suc n) t zero r h = ap (λ (u : ℕ). moment_of u r) (let e : t ≡ t + 0 = omega arith in e)
-  moment_from (suc n) t (suc k) r h =
+  moment_from : (n t k : ℕ) (r : State L) (d : Moment) → k < n → get_or (framed L f n t r).moments k d ≡ moment_of (t + k) (framed L f k t r).next
+  moment_from zero t k r d h = absurd (not-suc-le-zero h)
+  moment_from (suc n) t zero r d h = ap (λ (u : ℕ). moment_of u r) (let e : t ≡ t + 0 = omega arith in e)
+  moment_from (suc n) t (suc k) r d h =
       let s = (sampled L f t r).next in
-      moment_from n (suc t) k s (omega arith) ∙ ap (λ (u : ℕ). moment_of u (framed L f k (suc t) s).next) (let e : suc t + k ≡ t + suc k = omega arith in e)
+      moment_from n (suc t) k s d (omega arith) ∙ ap (λ (u : ℕ). moment_of u (framed L f k (suc t) s).next) (let e : suc t + k ≡ t + suc k = omega arith in e)
 
   -- ---- from the frame's start
   module _ (r : State L) where
@@ -70,8 +69,8 @@ module _ (L : Leaves) (f : Frame L.Update) where
         more_listed (λ (x : After L). x.meters) (λ t r. refl) (λ n t r. refl) t 0 r
         ∙ ap (λ (u : ℕ). (framed L f t 0 r).meters ++ (sampled L f u (at t)).meters) (zero-add t)
 
-    pub moment_at_is : (n t : ℕ) → t < n → get_or (framed L f n 0 r).moments t silent ≡ moment_of t (at t)
-    moment_at_is n t h = moment_from n 0 t r h ∙ ap (λ (u : ℕ). moment_of u (at t)) (zero-add t)
+    pub moment_at_is : (n t : ℕ) (d : Moment) → t < n → get_or (framed L f n 0 r).moments t d ≡ moment_of t (at t)
+    moment_at_is n t d h = moment_from n 0 t r d h ∙ ap (λ (u : ℕ). moment_of u (at t)) (zero-add t)
 
     -- what each sample keeps
     pub along : (n : ℕ) (Inv : ℕ → State L → Type 0) → ((t : ℕ) (s : State L) → t < n → Inv t s → Inv (suc t) (sampled L f t s).next) → Inv 0 r → (t : ℕ) → t ≤ n → Inv t (at t)

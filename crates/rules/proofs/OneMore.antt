@@ -8,14 +8,15 @@ use lib.ListN.{set}
 use lib.Ieee.{Float, binary32, to_bits}
 use Rattle.lowpass.specs.Lowpass.{output}
 use Rattle.lowpass.specs.declared.BiquadLowpassState.{BiquadLowpassState}
+use Rattle.panning.specs.Setup.{Setup, present}
 use Rattle.rules.specs.Parts.{laid}
 use Rattle.rules.specs.Leaves.{Leaves}
 use Rattle.rules.specs.Mix.{Moment, heard, fed}
 use Rattle.rules.specs.Samples.{Frame, State, row, updated, slotted, After, passed, sampled, framed, opened, pushed}
 use Rattle.rules.specs.Refusals.{Args}
 use Rattle.rules.specs.Calls.{frame_of}
-use Rattle.rules.specs.Sounds.{before, met, moment_at, sound_at}
-use Rattle.rules.proofs.Clock.{untouched}
+use Rattle.rules.specs.Sounds.{silent, before, met, moment_at, sound_at}
+use Rattle.rules.proofs.Clock.{untouched, setup_kept}
 use Rattle.rules.proofs.Moments.{moment_of, next_at, given_at, meters_at, moment_at_is}
 
 -- ---- a row is one sample
@@ -69,7 +70,7 @@ module _ (L : Leaves) where
 
     pub moment_is : (t : ℕ) → t < a.samples → moment_at L r a t ≡ moment_of L f t (s t)
     unfolding pushed
-    moment_is t h = moment_at_is L f start a.samples t h
+    moment_is t h = moment_at_is L f start a.samples t (silent r.setup) h
 
     -- one sample more
     abbrev pub more : ℕ → After L
@@ -87,6 +88,13 @@ module _ (L : Leaves) where
     pub meters_are : (t : ℕ) → t < a.samples → (framed L f (suc t) 0 start).meters ≡ (framed L f t 0 start).meters ++ (more t).meters
     meters_are t h = meters_at L f start t ∙ ap (λ (x : After L). (framed L f t 0 start).meters ++ x.meters) (sampled_is t h)
 
+    -- no sample changes the hall
+    pub hall_at : (t : ℕ) → (s t).setup ≡ r.setup
+    hall_at t = setup_kept L f t 0 start
+
     -- the sample is laid behind those that wait
-    pub places_are : (t c : ℕ) → (more t).next.pending.places c ≡ set ((s t).pending.places c) (s t).pending.count (to_bits binary32 (sound_at L r a c t))
-    places_are t c = ap (λ (xs : List Float). laid (s t).pending.count xs ((s t).pending.places c)) (row_is (moment_at L r a t) (s t).filter c)
+    pub places_are : (t c : ℕ) → present r.setup.layout c ≡ true
+        → (more t).next.pending.places c ≡ set ((s t).pending.places c) (s t).pending.count (to_bits binary32 (sound_at L r a c t))
+    places_are t c e =
+        ap (λ (xs : List Float). laid (s t).pending.count xs ((s t).pending.places c))
+        (ap (λ (b : Bool). cond b (row (moment_at L r a t) (s t).filter c) []) (ap (λ (h : Setup). present h.layout c) (hall_at t) ∙ e) ∙ row_is (moment_at L r a t) (s t).filter c)

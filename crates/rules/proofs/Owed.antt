@@ -9,11 +9,10 @@ use Rattle.ieee.specs.Bounds.{All}
 use Rattle.words.specs.Words.{Bytes}
 use Rattle.panning.specs.Choice.{1·0}
 use Rattle.panning.specs.Table.{between, 8·0, Position}
-use Rattle.panning.specs.Setup.{built_in}
 use Rattle.rules.specs.Parts.{0·0}
 use Rattle.rules.specs.Leaves.{Leaves, Source, Bed, started}
 use Rattle.rules.specs.Samples.{State}
-use Rattle.rules.specs.Ranges.{Ranged}
+use Rattle.rules.specs.Ranges.{HallRanged, Ranged}
 use Rattle.rules.specs.BlockCalls.{Layout}
 
 -- a gain from 0 to 8, a size from 0 to 1, a place of f32 values, a send from 0 to 1
@@ -52,11 +51,12 @@ pub record Facts (L : Leaves) (B : Layout L) : Type 1 where
   pub within_later : (n k : ℕ) (m : L.Meta) → n ≤ k → Within n m → Within k m
   pub within_apply : (n : ℕ) (u : L.Update) (m : L.Meta) → n ≤ 1099511627776 → Checked u → Within n m → Within n (L.apply n u m)
   pub within_slot : (n start : ℕ) (m : L.Meta) → start ≤ n → n ≤ 1099511627776 → Within n m → Within n (L.slot start m)
-  -- whatever its bytes, a block holds a renderer for the built-in hall
-  pub setup : (b : List ℕ) → (B.decode b).setup ≡ built_in
+  -- a block whose hall is in its range holds a renderer for such a hall
+  pub setup : (b : List ℕ) → Bytes b → B.hall_valid b ≡ true → HallRanged (B.decode b).setup
   -- the block of a renderer in its ranges is as long as it should be, valid, and gives the renderer back; a valid block holds a renderer in its ranges
   pub size : (r : State L) → Ranged L Within r → length (B.encode r) ≡ B.size
   pub valid : (r : State L) → Ranged L Within r → B.valid (B.encode r) ≡ true
+  pub hall_valid : (r : State L) → Ranged L Within r → B.hall_valid (B.encode r) ≡ true
   pub back : (r : State L) → Ranged L Within r → B.decode (B.encode r) ≡ r
   pub decoded : (b : List ℕ) → Bytes b → B.valid b ≡ true → Ranged L Within (B.decode b)
 

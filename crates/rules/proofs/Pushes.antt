@@ -12,15 +12,16 @@ use lib.ListN.{length, get_or, get_or-eq_default}
 use Rattle.ieee.specs.Bounds.{All}
 use Rattle.words.specs.Words.{Bytes}
 use Rattle.ieee.proofs.Grid.{le_or_lt}
+use Rattle.panning.specs.Table.{between, 8·0}
 use Rattle.panning.specs.Setup.{HallFits}
-use Rattle.panning.proofs.Theorems.{built_in_fits}
-use Rattle.rules.specs.Leaves.{Leaves, Source, started}
+use Rattle.rules.specs.Parts.{0·0}
+use Rattle.rules.specs.Leaves.{Leaves, Source, Bed, started}
 use Rattle.rules.specs.Mix.{Moment, fed}
 use Rattle.rules.specs.Samples.{Frame, State, slotted, updated, sampled, framed, opened, pushed}
 use Rattle.rules.specs.Refusals.{Args, Found, clear, unless}
 use Rattle.rules.specs.Calls.{frame_of, found, asked}
 use Rattle.rules.specs.Sounds.{silent, before, met, moment_at, whole}
-use Rattle.rules.specs.Promises.{nobody, unsent, Replaced, with_pcm, object_heard, begun, Matched, AtSample, PushHolds}
+use Rattle.rules.specs.Promises.{count_on, nobody, unsent, Replaced, with_pcm, object_heard, begun, Matched, AtSample, PushHolds}
 use Rattle.rules.specs.BlockCalls.{Layout}
 use Rattle.rules.proofs.EachOf.{all_at}
 use Rattle.rules.proofs.Owed.{InHall, Facts}
@@ -38,6 +39,9 @@ use Rattle.rules.proofs.Quiet.{Hush}
 use Rattle.rules.proofs.Sends.{sent_alone, send_zero}
 use Rattle.rules.proofs.Bass.{same_bass, row_before, same_own, still_clear}
 use Rattle.rules.proofs.Energy.{squared, stilled}
+use Rattle.rules.proofs.BedsHeard.{beds_heard}
+use Rattle.rules.proofs.Absent.{bed_absent, object_absent}
+use Rattle.rules.proofs.Unread.{framed_kept}
 
 -- whole blocks and the remainder
 halves : (blocks left all : ℕ) → 64 * blocks + left ≡ all → left < 64 → (blocks ≡ all / 64) × (left ≡ all % 64)
@@ -59,7 +63,7 @@ module _ (L : Leaves) (B : Layout L) (F : Facts L B) (r : State L) (a : Args) (b
   pub good : Good L B F start
   good = opened_good L B F a.rate r k.rate rest
 
-  fine : Fine L B F r.pending.count a.samples (pushed L f r)
+  fine : Fine L B F r.setup r.pending.count a.samples (pushed L f r)
   fine = pushed_fine L B F r a b m passes rest
 
   counts : (fine.blocks ≡ whole L r a) × ((pushed L f r).next.pending.count ≡ (r.pending.count + a.samples) % 64)
@@ -107,19 +111,28 @@ module _ (L : Leaves) (B : Layout L) (F : Facts L B) (r : State L) (a : Args) (b
           count = ap (length {A = Source}) objects_are ∙ objects_there L B F r a passes k good t h;
           enters = enters_at L B F r a k good at_rate t h;
           sounds = sounds_at L B F r a k good at_rate t h;
+          absent = framed_kept L f (suc t) 0 start;
           quiet = silence.quiet L B F r a passes k good at_rate hush t h;
         }
 
   -- ---- every object that is there is one of the hall
   hall : (t : ℕ) → All InHall (moment_at L r a t).objects
   hall t = elim (le_or_lt a.samples t) [
-    | inl l ↦ subst (λ (x : Moment). All InHall x.objects) (sym (get_or-eq_default (pushed L f r).moments silent (le_trans (le_of_eq count) l))) tt
+    | inl l ↦ subst (λ (x : Moment). All InHall x.objects) (sym (get_or-eq_default (pushed L f r).moments (silent r.setup) (le_trans (le_of_eq count) l))) tt
     | inr h ↦ (hearable_at L B F r a k good at_rate t h).sources.objects
+  ]
+
+  -- and every bed has a gain from 0 to 8
+  bed_gains : (t : ℕ) → All (λ (b : Bed). T (between 0·0 8·0 b.gain)) (moment_at L r a t).beds
+  bed_gains t = elim (le_or_lt a.samples t) [
+    | inl l ↦ subst (λ (x : Moment). All (λ (b : Bed). T (between 0·0 8·0 b.gain)) x.beds)
+        (sym (get_or-eq_default (pushed L f r).moments (silent r.setup) (le_trans (le_of_eq count) l))) tt
+    | inr h ↦ (hearable_at L B F r a k good at_rate t h).sources.beds
   ]
 
   fits_at : (t : ℕ) → HallFits (moment_at L r a t).hall
   fits_at t = elim (le_or_lt a.samples t) [
-    | inl l ↦ subst (λ (x : Moment). HallFits x.hall) (sym (get_or-eq_default (pushed L f r).moments silent (le_trans (le_of_eq count) l))) built_in_fits
+    | inl l ↦ subst (λ (x : Moment). HallFits x.hall) (sym (get_or-eq_default (pushed L f r).moments (silent r.setup) (le_trans (le_of_eq count) l))) good.steady.hall
     | inr h ↦ (hearable_at L B F r a k good at_rate t h).hall
   ]
 
@@ -149,7 +162,7 @@ module _ (L : Leaves) (B : Layout L) (F : Facts L B) (r : State L) (a : Args) (b
         let q = (met_alike L t f.updates s u (alike t)).meta in
         let i = hearable_at L B F r a k good at_rate t h in
         let here = moment_is L r a t h in
-        ap fed (moment_at_is L g start a.samples t h)
+        ap fed (moment_at_is L g start a.samples t (silent r.setup) h)
         ∙ sym (same_bass (moment_of L f t s) (moment_of L g t u)
         (record {
           hall = (met_alike L t f.updates s u (alike t)).setup;
@@ -172,7 +185,7 @@ module _ (L : Leaves) (B : Layout L) (F : Facts L B) (r : State L) (a : Args) (b
         answer = ap (λ (v : Found). (asked L v a r).answer) e;
         next = ap (λ (v : Found). (asked L v a r).next) e;
         setup = setup_kept L f a.samples 0 start;
-        ready = λ c l. fine.length c l ∙ ap (λ (n : ℕ). 64 * n) counts.0;
+        ready = λ c l. fine.length c l ∙ ap (λ (n : ℕ). count_on r.setup (64 * n) c) counts.0;
         waits = counts.1;
         position = i.position;
         rate = i.rate;
@@ -186,6 +199,9 @@ module _ (L : Leaves) (B : Layout L) (F : Facts L B) (r : State L) (a : Args) (b
         bass = λ t j h l z qcm p. (still_clear L r a (length a.codes + j) qcm p e, fed_same j qcm p t h z);
         sends = λ t j h. sent_alone (object_heard L r a t j) (in_hall t j h) r.setup good.steady.hall;
         alone = λ t z. send_zero (moment_at L r a t) (fits_at t) (hall t) z;
+        put_out = λ t. beds_heard r.setup good.steady.hall (moment_at L r a t).beds (bed_gains t);
+        beds_absent = λ c away b. bed_absent r.setup good.steady.hall c (subst T away) b;
+        objects_absent = λ c away t j h. object_absent r.setup good.steady.hall c (subst T away) (object_heard L r a t j) (in_hall t j h).place;
         squares = λ t j h z. squared r.setup good.steady.hall (object_heard L r a t j) (in_hall t j h) z;
         still = λ t j h z. stilled r.setup good.steady.hall (object_heard L r a t j) (in_hall t j h) z;
       }

@@ -12,16 +12,16 @@ use lib.Ieee.{binary32, fits}
 use lib.Ieee.Fits.{sub-fits}
 use Rattle.ieee.specs.Bounds.{All}
 use Rattle.words.specs.Words.{Bytes, Words}
-use Rattle.rules.specs.Parts.{laid}
+use Rattle.rules.specs.Parts.{Channels, laid}
 use Rattle.rules.specs.Leaves.{Leaves, started}
 use Rattle.rules.specs.Mix.{Moment}
-use Rattle.rules.specs.Samples.{Frame, State, fresh, row, applied_at, updated, slotted, moment, passed, sampled, framed, opened, pushed, flushed}
+use Rattle.rules.specs.Samples.{Frame, State, fresh, row, sounding, applied_at, updated, slotted, moment, passed, sampled, framed, opened, pushed, flushed}
 use Rattle.rules.specs.Refusals.{Args, listed}
-use Rattle.panning.specs.Setup.{Setup, built_in}
-use Rattle.rules.specs.Ranges.{Fits, FilterFits, Ranged}
+use Rattle.panning.specs.Setup.{Setup}
+use Rattle.rules.specs.Ranges.{Fits, FilterFits, HallRanged, Ranged}
 use Rattle.rules.specs.Calls.{frame_of}
 use Rattle.rules.specs.BlockCalls.{Layout}
-use Rattle.rules.proofs.EachOf.{either, length_laid, zeros_long, few_left}
+use Rattle.rules.proofs.EachOf.{either, length_laid, all_sounding, zeros_long, few_left}
 use Rattle.rules.proofs.Owed.{Facts}
 use Rattle.rules.proofs.FloatsFit.{heard_fits, grown_fits, new_fits, laid_words, laid_none, same_words, row_fits}
 use Rattle.rules.proofs.Judged.{Passed}
@@ -31,7 +31,7 @@ module _ (L : Leaves) (B : Layout L) (F : Facts L B) where
   abbrev pub R : State L → Type 0
   R = Ranged L F.Within
 
-  pub fresh_ranged : (h : Setup) → h ≡ built_in → R (fresh L h)
+  pub fresh_ranged : (h : Setup) → HallRanged h → R (fresh L h)
   unfolding fits
   fresh_ranged h e = record {
     setup = e;
@@ -118,11 +118,14 @@ module _ (L : Leaves) (B : Layout L) (F : Facts L B) where
         meta = F.within_later r.clock.position (r.clock.position + 1) r.meta (omega arith) g.meta;
         pending = few_left r.pending.count (leb 64 (r.pending.count + 1)) refl;
         idle = λ e. absurd (subst T (sym l ∙ ap listed e) tt);
-        long = λ c k. length_laid r.pending.count (row m r.filter c) (r.pending.places c) ∙ g.long c k;
-        words = λ c. laid_words r.pending.count (row m r.filter c) (r.pending.places c) (row_fits m r.filter c) (g.words c);
-        none = λ c k. ap (laid r.pending.count (row m r.filter c)) (g.none c k) ∙ laid_none r.pending.count (row m r.filter c);
+        long = λ c k. length_laid r.pending.count (laid_row c) (r.pending.places c) ∙ g.long c k;
+        words = λ c. laid_words r.pending.count (laid_row c) (r.pending.places c) (all_sounding r.setup Fits (row m r.filter) c (row_fits m r.filter c)) (g.words c);
+        none = λ c k. ap (laid r.pending.count (laid_row c)) (g.none c k) ∙ laid_none r.pending.count (laid_row c);
       }
     where
+      laid_row : Channels
+      laid_row = sounding r.setup (row m r.filter)
+
       slot_kept : (run last : Bool) → leb 64 (r.clock.phase + 1) ≡ last
           → (cond run (cond last 0 (r.clock.phase + 1)) r.clock.phase < 64) ×
           (cond (run && last) (r.clock.start + 64) r.clock.start + cond run (cond last 0 (r.clock.phase + 1)) r.clock.phase ≤ r.clock.position + 1)

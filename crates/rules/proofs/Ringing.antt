@@ -8,7 +8,7 @@ use Prim.Native.Nat.{ℕ, zero, suc, ◌≤◌, ◌<◌}
 use native.Mathlib.Nat.{le_trans, le_of_eq, le_of_lt, le_refl, not-suc-le-zero}
 use native.Mathlib.Omega.{arith}
 use borrow.Author.Tests.{eq-eqb, ne_eqb}
-use lib.Dec.{eqb}
+use lib.Dec.{eqb, leb}
 use lib.ListN.{length, take, get_or-map}
 use lib.Seq.{take-suc, take_all}
 use lib.Ieee.{Float}
@@ -18,12 +18,12 @@ use Rattle.angles.specs.Angle.{Listed}
 use Rattle.lowpass.specs.Lowpass.{next, new, after_all}
 use Rattle.lowpass.specs.declared.BiquadLowpassState.{BiquadLowpassState}
 use Rattle.lowpass.proofs.Theorems.{within_back, fed_more, lowpass_twice, lowpass_forgets}
-use Rattle.panning.specs.Setup.{Setup}
+use Rattle.panning.specs.Setup.{Setup, hall_with}
 use Rattle.rules.specs.Leaves.{Leaves}
 use Rattle.rules.specs.Mix.{fed}
 use Rattle.rules.specs.Samples.{State, idle, fresh, opened, pushed, flushed}
 use Rattle.rules.specs.Refusals.{Args, Found, clear, stop, room}
-use Rattle.rules.specs.Calls.{Call, push, flush, reset, frame_of, found, asked, drained, step}
+use Rattle.rules.specs.Calls.{Call, push, flush, reset, make, is_refused, frame_of, found, asked, drained, making, step}
 use Rattle.rules.specs.Sounds.{silent, before, moment_at, sound_at}
 use Rattle.rules.specs.Ringing.{fed_since, Rings, CallRings}
 use Rattle.rules.specs.BlockCalls.{Layout}
@@ -67,8 +67,8 @@ module _ (L : Leaves) where
       one_more : (t : ℕ) → t < a.samples → up_to (suc t) ≡ up_to t ++ (fed (moment_at L r a t) ∷ [])
       one_more t h =
           ap (λ (ys : List Float). xs ++ ys)
-          (take-suc fs t (fed silent) (le_trans h (le_of_eq (sym long)))
-          ∙ ap (λ (x : Float). take t fs ++ (x ∷ [])) (get_or-map fed (pushed L (frame_of L a) r).moments t silent))
+          (take-suc fs t (fed (silent r.setup)) (le_trans h (le_of_eq (sym long)))
+          ∙ ap (λ (x : Float). take t fs ++ (x ∷ [])) (get_or-map fed (pushed L (frame_of L a) r).moments t (silent r.setup)))
           ∙ sym (append_assoc xs (take t fs) (fed (moment_at L r a t) ∷ []))
 
       opened_filter : Since xs r → (opened L a.rate r).filter ≡ after_all (new a.rate) xs
@@ -146,12 +146,18 @@ module _ (L : Leaves) where
     drained_fed true true was = was
     drained_fed true false was = record { modest = was.modest; since = was.since }
 
+    made_fed : (t : Bool) (n : ℕ) → Fed xs r → Fed (cond (is_refused (making L t n r).answer) xs []) (making L t n r).next
+    made_fed false n was = was
+    made_fed true n was = fresh_fed (hall_with n)
+
     pub call_rings : (c : Call) → Lent c → Rest L B F r → Fed xs r → CallRings L xs r c
     call_rings (push a) h rest was = asked_rings a h rest was (found L r a) refl
     call_rings (flush out stride) h rest was = tt
     call_rings reset h rest was = tt
+    call_rings (make n) h rest was = tt
 
     pub step_fed : (c : Call) → Lent c → Rest L B F r → Fed xs r → Fed (fed_since L xs r c) (step L r c).next
     step_fed (push a) h rest was = asked_fed a h rest was (found L r a) refl
     step_fed (flush out stride) h rest was = drained_fed (room stride (length out)) (eqb r.pending.count 0) was
     step_fed reset h rest was = fresh_fed r.setup
+    step_fed (make n) h rest was = made_fed (leb n 3) n was

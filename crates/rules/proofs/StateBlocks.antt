@@ -1,17 +1,17 @@
 -- On the block of a renderer a call is what the rules say of the renderer, and leaves the next renderer's block; refused calls count as never sent, to the byte. Assumes nothing
 -- beyond `Facts`.
-use Prim.Native.Nat.{ℕ}
-use mathlib.Core.Path.{◌≡◌, refl, sym, ap, ◌∙◌, subst}
-use mathlib.Core.Bool.{Bool, true, false, cond}
+use Prim.Native.Nat.{ℕ, ◌≤◌}
+use mathlib.Core.Path.{◌≡◌, refl, sym, ap, ap₂, ◌∙◌, subst}
+use mathlib.Core.Bool.{Bool, true, false, cond, ◌&&◌}
 use mathlib.Core.List.{List, [], ◌∷◌}
-use lib.Dec.{T, eqb}
+use lib.Dec.{T, eqb, leb}
 use lib.ListN.{length}
-use borrow.Author.Tests.{eq-eqb}
-use Rattle.panning.specs.Setup.{Setup, built_in}
+use borrow.Author.Tests.{eq-eqb, eqb-true, le-leb, leb-true}
+use Rattle.panning.specs.Setup.{hall_with}
 use Rattle.rules.specs.Leaves.{Leaves}
 use Rattle.rules.specs.Samples.{State, fresh}
 use Rattle.rules.specs.Refusals.{Args, Found, clear, stop, room}
-use Rattle.rules.specs.Calls.{Call, push, flush, reset, Answer, refused, rendered, nothing, cleared, found, Result, is_refused, asked, drained, step}
+use Rattle.rules.specs.Calls.{Call, push, flush, reset, make, Answer, refused, rendered, nothing, cleared, found, Result, is_refused, asked, drained, making, step}
 use Rattle.rules.specs.BlockCalls.{Layout, Outcome, left, out_of, stride_of, takes, made, run_on, final_on, kept_on, accepted_on, as_seen}
 use Rattle.rules.proofs.Owed.{Facts, InRanges}
 
@@ -32,10 +32,15 @@ module _ (L : Leaves) where
   drained_means true true r = refl
   drained_means true false r = tt
 
+  making_means : (b : Bool) (n : ℕ) (r : State L) → Means L (making L b n r).answer (making L b n r).next r
+  making_means false n r = refl
+  making_means true n r = tt
+
   step_means : (r : State L) (c : Call) → Means L (step L r c).answer (step L r c).next r
   step_means r (push a) = asked_means (found L r a) a r
   step_means r (flush out stride) = drained_means (room stride (length out)) (eqb r.pending.count 0) r
   step_means r reset = tt
+  step_means r (make n) = making_means (leb n 3) n r
 
 module _ (L : Leaves) (B : Layout L) where
   -- ---- a refused call leaves the block as it was, byte for byte
@@ -85,18 +90,36 @@ module _ (L : Leaves) (B : Layout L) where
       go true e h = subst (λ (s : List ℕ). final_on L B s (kept_on L B b' cs) ≡ final_on L B b' cs) (made_stays c b (subst T (sym e) tt)) h
       go false e h = h
 
-  module _ (F : Facts L B) where
-    -- ---- what reset leaves of a block of the right length
-    pub reset_block : (b : List ℕ) → length b ≡ B.size → (made L B reset b).state ≡ B.encode (fresh L built_in)
-    reset_block b e =
-        ap (λ (t : Bool). (cond t (left L B cleared (fresh L (B.decode b).setup) [] 0 b) (record { answer = refused 1 0 0; state = b; out = [] })).state)
-        (eq-eqb (length b) B.size e)
-        ∙ ap (λ (h : Setup). B.encode (fresh L h)) (F.setup b)
+  -- ---- a renderer is made in a block of the right length, for each of the four layouts
+  pub made_new : (b : List ℕ) → length b ≡ B.size → (n : ℕ) → n ≤ 3
+      → made L B (make n) b ≡ (record { answer = cleared; state = B.encode (fresh L (hall_with n)); out = [] })
+  made_new b e n h =
+      ap (λ (t : Bool). cond t (by (leb n 3)) (record { answer = refused 1 0 0; state = b; out = [] })) (eq-eqb (length b) B.size e) ∙ ap by (le-leb n 3 h)
+    where
+      by : Bool → Outcome
+      by t = left L B (making L t n (B.decode b)).answer (making L t n (B.decode b)).next [] 0 b
 
+  -- and in no other, and for no other
+  pub made_right : (b : List ℕ) (n : ℕ) → is_refused (made L B (make n) b).answer ≡ false → (length b ≡ B.size) × (n ≤ 3)
+  made_right b n = go (eqb (length b) B.size) (leb n 3) refl refl
+    where
+      good : Bool → Outcome
+      good t = left L B (making L t n (B.decode b)).answer (making L t n (B.decode b)).next [] 0 b
+
+      bad : Outcome
+      bad = record { answer = refused 1 0 0; state = b; out = [] }
+
+      go : (x t : Bool) → eqb (length b) B.size ≡ x → leb n 3 ≡ t → is_refused (cond x (good t) bad).answer ≡ false → (length b ≡ B.size) × (n ≤ 3)
+      go true true p q e = (eqb-true (length b) B.size p, leb-true n 3 q)
+      go true false p q e = absurd (subst T e tt)
+      go false t p q e = absurd (subst T e tt)
+
+  module _ (F : Facts L B) where
     takes_it : (c : Call) (r : State L) → InRanges F r → takes L B c (B.encode r) ≡ true
     takes_it (push a) r g = F.valid r g
     takes_it (flush out stride) r g = F.valid r g
-    takes_it reset r g = eq-eqb (length (B.encode r)) B.size (F.size r g)
+    takes_it reset r g = ap₂ (λ (x y : Bool). x && y) (eq-eqb (length (B.encode r)) B.size (F.size r g)) (F.hall_valid r g)
+    takes_it (make n) r g = eq-eqb (length (B.encode r)) B.size (F.size r g)
 
     -- on the block of r, a call is what the rules say of r
     pub made_is : (c : Call) (r : State L) → InRanges F r → made L B c (B.encode r) ≡ left L B (step L r c).answer (step L r c).next (out_of c) (stride_of c) (B.encode r)

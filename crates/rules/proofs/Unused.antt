@@ -12,7 +12,7 @@ use Rattle.rules.specs.Leaves.{Leaves, Shape}
 use Rattle.rules.specs.Samples.{State}
 use Rattle.rules.specs.Refusals.{Args, Found, clear, stop, ◌then◌, unless, room, sized, listed, early, beds_found, Announced, objects_match, counts_at, shape_at, walk, none_sent}
 use Rattle.rules.specs.Refusals.{later}
-use Rattle.rules.specs.Calls.{Call, push, flush, reset, Answer, refused, rendered, nothing, cleared, announced, found, asked, drained, step}
+use Rattle.rules.specs.Calls.{Call, push, flush, reset, make, Answer, refused, rendered, nothing, cleared, announced, found, asked, drained, making, step}
 use Rattle.rules.specs.BlockCalls.{Layout, out_of, stride_of, left, takes, made}
 
 -- ---- what stops, if anything, is not 7
@@ -109,10 +109,15 @@ module _ (L : Leaves) (B : Layout L) where
   of_flush true true r e = omega arith
   of_flush true false r e = omega arith
 
+  of_making : (t : Bool) (n : ℕ) (r : State L) → number_of (making L t n r).answer ≡ 7 → ⊥
+  of_making false n r e = omega arith
+  of_making true n r e = omega arith
+
   of_step : (r : State L) (c : Call) → number_of (step L r c).answer ≡ 7 → ⊥
   of_step r (push a) e = of_push (found L r a) a r (free_found L r a) e
   of_step r (flush out stride) e = of_flush (room stride (length out)) (eqb r.pending.count 0) r e
   of_step r reset e = omega arith
+  of_step r (make n) e = of_making (leb n 3) n r e
 
   as_answered : (x : Answer) (s : State L) (out : List ℕ) (stride : ℕ) (b : List ℕ) → (left L B x s out stride b).answer ≡ x
   as_answered (refused n x y) s out stride b = refl

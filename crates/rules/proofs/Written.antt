@@ -30,7 +30,7 @@ pub bits_words : (xs : List Float) → All units.Unitary xs → Words (map (to_b
 bits_words [] h = tt
 bits_words (x ∷ xs) h = (to_bits-lt binary32 x h.0.f32.fit, bits_words xs h.1)
 
-module _ (given : Channels) (stride n : ℕ) (few : n ≤ stride) where
+module _ (given : Channels) (stride : ℕ) (n : ℕ → ℕ) (few : (c : ℕ) → n c ≤ stride) where
   written_length : (k c : ℕ) (out : List ℕ) → length (written_from k c given stride out) ≡ length out
   written_length zero c out = refl
   written_length (suc k) c out =
@@ -45,43 +45,47 @@ module _ (given : Channels) (stride n : ℕ) (few : n ≤ stride) where
       let m : c * stride ≤ suc c * stride = mul-le-mul_right stride (let l : c ≤ suc c = omega arith in l) in
       before k (suc c) (with_words out (4 * (c * stride)) ws) at (omega arith) ∙ reads_before (words_keep out (4 * (c * stride)) ws) at 4 h
 
-  module _ (long : (c : ℕ) → c < 12 → length (given c) ≡ n) where
-    -- a byte outside of every channel's n samples
-    outside : (k c : ℕ) (out : List ℕ) (at : ℕ) → c + k ≤ 12 → ((d : ℕ) → c ≤ d → d < c + k → (at < 4 * (d * stride)) ⊎ (4 * (d * stride) + 4 * n ≤ at))
+  module _ (long : (c : ℕ) → c < 12 → length (given c) ≡ n c) where
+    -- a byte outside of every channel's samples
+    outside : (k c : ℕ) (out : List ℕ) (at : ℕ) → c + k ≤ 12 → ((d : ℕ) → c ≤ d → d < c + k → (at < 4 * (d * stride)) ⊎ (4 * (d * stride) + 4 * n d ≤ at))
         → get_or (written_from k c given stride out) at 0 ≡ get_or out at 0
     outside zero c out at l h = refl
     outside (suc k) c out at l h =
         let ws = map (to_bits binary32) (given c) in
-        let e : length ws ≡ n = length_map (to_bits binary32) (given c) ∙ long c (omega arith) in
+        let e : length ws ≡ n c = length_map (to_bits binary32) (given c) ∙ long c (omega arith) in
         let kept = words_keep out (4 * (c * stride)) ws in
         outside k (suc c) (with_words out (4 * (c * stride)) ws) at (omega arith) (λ d a b. h d (omega arith) (omega arith))
-        ∙ ⊎_elim (λ (b : at < 4 * (c * stride)). kept.before at b) (λ (b : 4 * (c * stride) + 4 * n ≤ at). kept.past at (omega arith)) (h c (le_refl c) (omega arith))
+        ∙ ⊎_elim (λ (b : at < 4 * (c * stride)). kept.before at b) (λ (b : 4 * (c * stride) + 4 * n c ≤ at). kept.past at (omega arith)) (h c (le_refl c) (omega arith))
 
-    pub written_beside : (out : List ℕ) (c i : ℕ) → c < 12 → 4 * n ≤ i → i < 4 * stride
+    pub written_beside : (out : List ℕ) (c i : ℕ) → c < 12 → 4 * n c ≤ i → i < 4 * stride
         → get_or (written given stride out) (4 * (c * stride) + i) 0 ≡ get_or out (4 * (c * stride) + i) 0
     unfolding written
     written_beside out c i l h u = outside 12 0 out (4 * (c * stride) + i) (le_refl 12) (λ d a b. apart d (le_or_lt d c))
       where
-        apart : (d : ℕ) → (d ≤ c) ⊎ (c < d) → (4 * (c * stride) + i < 4 * (d * stride)) ⊎ (4 * (d * stride) + 4 * n ≤ 4 * (c * stride) + i)
-        apart d (inl a) = let m : d * stride ≤ c * stride = mul-le-mul_right stride a in inr (omega arith)
+        apart : (d : ℕ) → (d ≤ c) ⊎ (c < d) → (4 * (c * stride) + i < 4 * (d * stride)) ⊎ (4 * (d * stride) + 4 * n d ≤ 4 * (c * stride) + i)
+        apart d (inl a) = elim (eq-or-lt_of_le a) [
+          | inl e ↦ subst (λ (k : ℕ). (4 * (c * stride) + i < 4 * (k * stride)) ⊎ (4 * (k * stride) + 4 * n k ≤ 4 * (c * stride) + i)) (sym e) (inr (omega arith))
+          | inr e ↦ let m : suc d * stride ≤ c * stride = mul-le-mul_right stride e in let f = few d in inr (omega arith)
+        ]
         apart d (inr a) = let m : suc c * stride ≤ d * stride = mul-le-mul_right stride a in inl (omega arith)
 
     pub written_past : (out : List ℕ) (i : ℕ) → 48 * stride ≤ i → get_or (written given stride out) i 0 ≡ get_or out i 0
     unfolding written
-    written_past out i h = outside 12 0 out i (le_refl 12) (λ d a b. let m : suc d * stride ≤ 12 * stride = mul-le-mul_right stride b in inr (omega arith))
+    written_past out i h = outside 12 0 out i (le_refl 12) (λ d a b. let m : suc d * stride ≤ 12 * stride = mul-le-mul_right stride b in let f = few d in inr (omega arith))
 
-  module _ (bits : (c : ℕ) → c < 12 → Words (map (to_bits binary32) (given c))) (long : (c : ℕ) → c < 12 → length (given c) ≡ n) where
+  module _ (bits : (c : ℕ) → c < 12 → Words (map (to_bits binary32) (given c))) (long : (c : ℕ) → c < 12 → length (given c) ≡ n c) where
     -- the channel that is written first
-    first : (c : ℕ) (out : List ℕ) (i : ℕ) → c < 12 → i < n → 4 * (suc c * stride) ≤ length out
+    first : (c : ℕ) (out : List ℕ) (i : ℕ) → c < 12 → i < n c → 4 * (suc c * stride) ≤ length out
         → word (with_words out (4 * (c * stride)) (map (to_bits binary32) (given c))) (4 * (c * stride) + 4 * i) ≡ to_bits binary32 (get_or (given c) i 0·0)
     first c out i l h r =
         let ws = map (to_bits binary32) (given c) in
-        let e : length ws ≡ n = length_map (to_bits binary32) (given c) ∙ long c l in
+        let e : length ws ≡ n c = length_map (to_bits binary32) (given c) ∙ long c l in
+        let f = few c in
         sym (word_at (with_words out (4 * (c * stride)) ws) (4 * (c * stride)) (length ws) i (to_bits binary32 0·0) (omega arith))
         ∙ ap (λ (l : List ℕ). get_or l i (to_bits binary32 0·0)) (words_read_back out (4 * (c * stride)) ws (omega arith) (bits c l))
         ∙ get_or-map (to_bits binary32) (given c) i 0·0
 
-    reads : (k c d : ℕ) (out : List ℕ) (i : ℕ) → c ≤ d → d < c + k → d < 12 → i < n → 4 * ((c + k) * stride) ≤ length out
+    reads : (k c d : ℕ) (out : List ℕ) (i : ℕ) → c ≤ d → d < c + k → d < 12 → i < n d → 4 * ((c + k) * stride) ≤ length out
         → word (written_from k c given stride out) (4 * (d * stride + i)) ≡ to_bits binary32 (get_or (given d) i 0·0)
     reads zero c d out i l u t h r = absurd (omega arith)
     reads (suc k) c d out i l u t h r = elim (eq-or-lt_of_le l) [
@@ -98,10 +102,12 @@ module _ (given : Channels) (stride n : ℕ) (few : n ≤ stride) where
         here : c ≡ d → word (written_from k (suc c) given stride next) (4 * (d * stride + i)) ≡ to_bits binary32 (get_or (given d) i 0·0)
         here e =
             let m : suc c * stride ≤ (c + suc k) * stride = mul-le-mul_right stride (let l : suc c ≤ c + suc k = omega arith in l) in
+            let b : i < n c = subst (λ (d : ℕ). i < n d) (sym e) h in
+            let f = few c in
             subst (λ (d : ℕ). word (written_from k (suc c) given stride next) (4 * (d * stride + i)) ≡ to_bits binary32 (get_or (given d) i 0·0)) e
             (before k (suc c) next (4 * (c * stride + i)) (omega arith)
             ∙ ap (word next) (let p : 4 * (c * stride + i) ≡ 4 * (c * stride) + 4 * i = omega arith in p)
-            ∙ first c out i (omega arith) h (omega arith))
+            ∙ first c out i (omega arith) b (omega arith))
 
         room : 4 * ((suc c + k) * stride) ≤ length next
         room =
@@ -110,13 +116,13 @@ module _ (given : Channels) (stride n : ℕ) (few : n ≤ stride) where
             omega arith
 
     -- sample i of channel c
-    pub written_reads : (out : List ℕ) → 48 * stride ≤ length out → (c i : ℕ) → c < 12 → i < n
+    pub written_reads : (out : List ℕ) → 48 * stride ≤ length out → (c i : ℕ) → c < 12 → i < n c
         → word (written given stride out) (4 * (c * stride + i)) ≡ to_bits binary32 (get_or (given c) i 0·0)
     unfolding written
     written_reads out r c i l h = reads 12 0 c out i zero-le l l h (omega arith)
 
-  pub written_tame : ((c : ℕ) → c < 12 → All units.Unitary (given c)) → ((c : ℕ) → c < 12 → length (given c) ≡ n) → (out : List ℕ) → 48 * stride ≤ length out
-      → (c i : ℕ) → c < 12 → i < n → Tame (float_at (written given stride out) (4 * (c * stride + i)))
+  pub written_tame : ((c : ℕ) → c < 12 → All units.Unitary (given c)) → ((c : ℕ) → c < 12 → length (given c) ≡ n c) → (out : List ℕ) → 48 * stride ≤ length out
+      → (c i : ℕ) → c < 12 → i < n c → Tame (float_at (written given stride out) (4 * (c * stride + i)))
   unfolding float_at
   written_tame tamed long out r c i l h =
       let x = get_or (given c) i 0·0 in
@@ -126,4 +132,4 @@ module _ (given : Channels) (stride n : ℕ) (few : n ≤ stride) where
 
 pub length_written : (given : Channels) (stride : ℕ) (out : List ℕ) → length (written given stride out) ≡ length out
 unfolding written
-length_written given stride out = written_length given stride 0 zero-le 12 0 out
+length_written given stride out = written_length given stride (λ c. 0) (λ c. zero-le) 12 0 out

@@ -1,17 +1,19 @@
 -- The calls as the host makes them, on the bytes of a state block. Assumes nothing.
-use Rattle.std.specs.Prelude.{ℕ, zero, suc, ◌*◌, Bool, cond, List, [], ◌∷◌, map, eqb, length}
+use Rattle.std.specs.Prelude.{ℕ, zero, suc, ◌*◌, Bool, ◌&&◌, cond, List, [], ◌∷◌, map, eqb, length}
 use Rattle.std.specs.Float.{binary32}
 use Rattle.std.specs.Float.Ieee.{to_bits}
 use Rattle.words.specs.Words.{with_words}
 use Rattle.rules.specs.Parts.{Channels}
 use Rattle.rules.specs.Leaves.{Leaves}
 use Rattle.rules.specs.Samples.{State}
-use Rattle.rules.specs.Calls.{Call, push, flush, reset, Answer, refused, rendered, nothing, cleared, is_refused, step}
+use Rattle.rules.specs.Calls.{Call, push, flush, reset, make, Answer, refused, rendered, nothing, cleared, is_refused, step}
 
--- The block's layout: how long it is, which blocks have every field in its range, the renderer that a block holds, and the block that holds a renderer.
+-- The block's layout: how long it is, which blocks have every field in its range, which have the layout's code in its range, the renderer that a block holds, and the block that
+-- holds a renderer.
 pub record Layout (L : Leaves) : Type 0 where
   pub size : ℕ
   pub valid : List ℕ → Bool
+  pub hall_valid : List ℕ → Bool
   pub decode : List ℕ → State L
   pub encode : State L → List ℕ
 
@@ -33,25 +35,28 @@ abbrev pub out_of : Call → List ℕ
 out_of (push a) = a.out
 out_of (flush out stride) = out
 out_of reset = []
+out_of (make n) = []
 
 abbrev pub stride_of : Call → ℕ
 stride_of (push a) = a.stride
 stride_of (flush out stride) = stride
 stride_of reset = 0
+stride_of (make n) = 0
 
 module _ (L : Leaves) (B : Layout L) where
-  -- only an answer with samples, and a reset, change the block
+  -- only an answer with samples, a reset and a making call change the block
   abbrev pub left : Answer → State L → List ℕ → ℕ → List ℕ → Outcome
   left (refused n x y) s out stride b = record { answer = refused n x y; state = b; out = out }
   left (rendered g m) s out stride b = record { answer = rendered g m; state = B.encode s; out = written g stride out }
   left nothing s out stride b = record { answer = nothing; state = b; out = out }
   left cleared s out stride b = record { answer = cleared; state = B.encode s; out = out }
 
-  -- "a state block of wrong length, or with a field outside its range"; "reset refuses only a block of wrong length"
+  -- "a state block of wrong length, or with a field outside its range"; R-5: reset "refuses by 1 a block whose code is above 3", and a making call one of "a wrong length"
   abbrev pub takes : Call → List ℕ → Bool
   takes (push a) b = B.valid b
   takes (flush out stride) b = B.valid b
-  takes reset b = eqb (length b) B.size
+  takes reset b = eqb (length b) B.size && B.hall_valid b
+  takes (make n) b = eqb (length b) B.size
 
   -- a call on a block: what the entries' contracts say
   abbrev pub made : Call → List ℕ → Outcome

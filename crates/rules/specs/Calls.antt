@@ -1,7 +1,8 @@
 -- Calls in a row: what each answers, gives out and leaves, on a renderer. Assumes nothing.
-use Rattle.std.specs.Prelude.{ℕ, Bool, true, false, cond, List, [], ◌∷◌, map, eqb, length}
+use Rattle.std.specs.Prelude.{ℕ, Bool, true, false, cond, List, [], ◌∷◌, map, eqb, leb, length}
 use Rattle.limiter.specs.Meters.{call_meters, idle_meters}
 use Rattle.limiter.specs.declared.meters.Meters.{Meters}
+use Rattle.panning.specs.Setup.{hall_with}
 use Rattle.rules.specs.Parts.{Channels, none}
 use Rattle.rules.specs.Leaves.{Leaves}
 use Rattle.rules.specs.Mix.{Moment}
@@ -14,6 +15,8 @@ pub data Call : Type 0 where
   -- output and stride
   flush : List ℕ → ℕ → Call
   reset : Call
+  -- R-5: "A call of its own now makes a renderer in a block": the layout's code
+  make : ℕ → Call
 
 pub data Answer : Type 0 where
   -- number and two counts
@@ -22,7 +25,7 @@ pub data Answer : Type 0 where
   rendered : Channels → Meters → Answer
   -- a flush with nothing pending
   nothing : Answer
-  -- a reset
+  -- a reset, or a renderer made
   cleared : Answer
 
 abbrev pub is_refused : Answer → Bool
@@ -78,11 +81,17 @@ module _ (L : Leaves) where
   drained true true r = record { answer = nothing; next = r; moments = [] }
   drained true false r = let d = flushed L r in record { answer = answered d; next = d.next; moments = [] }
 
+  -- R-5: "15, a layout code above 3, when a renderer is made"; else it is a new one, whatever was there
+  abbrev pub making : Bool → ℕ → State L → Result
+  making false n r = record { answer = refused 15 0 0; next = r; moments = [] }
+  making true n r = record { answer = cleared; next = fresh L (hall_with n); moments = [] }
+
   -- reset starts anew in the hall that the renderer has
   abbrev pub step : State L → Call → Result
   step r (push a) = asked (found r a) a r
   step r (flush out stride) = drained (room stride (length out)) (eqb r.pending.count 0) r
   step r reset = record { answer = cleared; next = fresh L r.setup; moments = [] }
+  step r (make n) = making (leb n 3) n r
 
   -- the list's results, each call being handed what the one before left
   abbrev pub run : State L → List Call → List Result

@@ -13,3 +13,4 @@ pub mod Promises
 pub mod Ringing
 pub mod BlockCalls
 pub mod Demand3
+pub mod Absent

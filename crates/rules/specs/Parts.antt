@@ -9,7 +9,7 @@ pub record Tame (x : Float) : Type 0 where
   pub low : T (le (neg 1·0) x)
   pub high : T (le x 1·0)
 
--- The samples of each channel, in order. There are twelve channels; any further one is empty.
+-- The samples of each channel, in order. There are twelve channels; any further one is empty, and so is one that a hall lacks.
 abbrev pub Channels : Type 0
 Channels = ℕ → List Float
 
@@ -36,6 +36,6 @@ abbrev pub laid : ℕ → List Float → List ℕ → List ℕ
 laid k [] ws = ws
 laid k (x ∷ xs) ws = laid (suc k) xs (set ws k (to_bits binary32 x))
 
--- the 64 places of each channel, as reset leaves them
+-- the 64 places of each channel, as making and reset leave them
 abbrev pub zeros : Places
 zeros c = cond (ltb c 12) (replicate 64 0) []

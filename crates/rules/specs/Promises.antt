@@ -1,4 +1,4 @@
--- What each call promises on the renderer that it finds: a push that was accepted, a flush, a reset. Assumes nothing.
+-- What each call promises on the renderer that it finds: a push that was accepted, a flush, a reset, a making call. Assumes nothing.
 use Rattle.std.specs.Prelude.{ℕ, suc, ◌+◌, ◌*◌, ◌%◌, ◌≤◌, ◌<◌, ◌≡◌, Bool, true, false, cond, ◌||◌, List, [], ◌∷◌, T, leb, length, get_or, drop, Some}
 use Rattle.std.specs.Float.{binary32}
 use Rattle.std.specs.Float.Ieee.{eq, to_bits}
@@ -7,17 +7,25 @@ use Rattle.ieee.specs.Bounds.{All}
 use Rattle.mixing.specs.FrameSamples.{all_pass}
 use Rattle.lowpass.specs.Lowpass.{next}
 use Rattle.limiter.specs.Meters.{call_meters}
+use Rattle.beds.specs.declared.Route.TheVariants.{Bass, Folded, Direct}
+use Rattle.beds.specs.Routes.{route_of, bass_gain}
+use Rattle.beds.specs.Positions.{bed_position}
 use Rattle.beds.specs.Matching.{matching}
+use Rattle.beds.specs.BedTerms.{alone}
 use Rattle.panning.specs.Coefficients.{between, 8·0, squares, AddsUp, Each}
-use Rattle.panning.specs.Setup.{Setup, SpeakerOf, speakers_in}
+use Rattle.panning.specs.Setup.{Setup, hall_with, present, SpeakerOf, speakers_in, terms_in, pan_in}
 use Rattle.rules.specs.Parts.{0·0}
 use Rattle.rules.specs.Leaves.{Leaves, Source, Bed, started}
-use Rattle.rules.specs.Mix.{object_terms, send_of, object_adds, sample_at, samples_at, fed, fed_by_beds}
+use Rattle.rules.specs.Mix.{object_terms, send_of, object_adds, adds_of, sample_at, samples_at, fed, fed_by_beds}
 use Rattle.rules.specs.Samples.{State, fresh, limited, metered, gain_after, slotted, pushed, waiting}
 use Rattle.rules.specs.Refusals.{Args, clear, stop, room}
-use Rattle.rules.specs.Calls.{Call, push, flush, reset, refused, rendered, nothing, cleared, given, frame_of, found, answered, Result, step}
+use Rattle.rules.specs.Calls.{Call, push, flush, reset, make, refused, rendered, nothing, cleared, given, frame_of, found, answered, Result, step}
 use Rattle.rules.specs.Order.{at_offset}
 use Rattle.rules.specs.Sounds.{gain_before, limited_blocks, blocks_metered, AllMetered, applied_all, before, met, moment_at, sound_at, unlimited, whole}
+
+-- how many samples channel c has where those that are there have n: none where the hall lacks it
+abbrev pub count_on : Setup → ℕ → ℕ → ℕ
+count_on h n c = cond (present h.layout c) n 0
 
 -- ---- an object
 
@@ -45,6 +53,20 @@ pub record Matched (codes : List ℕ) (b : Bed) : Type 0 where
   pub there : input < length codes
   pub feeds : matching b.code codes ≡ Some input
   pub supported : b.code ≡ 6 → ⊥
+
+-- Panned at its place, as an object of size zero: its terms are on the speakers that are there, and the squares of its coefficients add up to its gain.
+pub record BedPanned (h : Setup) (b : Bed) : Type 0 where
+  pub adds : (c : ℕ) → adds_of h b c ≡ pan_in h (bed_position b.code) b.gain 0·0 c
+  pub channels : Each (λ t. SpeakerOf h.layout t.channel) (terms_in h (bed_position b.code) b.gain 0·0)
+  pub sum : AddsUp (squares (speakers_in h.layout) (terms_in h (bed_position b.code) b.gain 0·0)) b.gain
+
+-- What a bed adds in the hall h. "The two LFE codes .. go to channel 3" and a bed whose speaker is there to that one, with its gain. R-5: "A bed whose speaker is absent is panned
+-- at its `bed_channel_position`", as codes 11, 12, 15 and 16 always are. So none is left out.
+pub record BedHeard (h : Setup) (b : Bed) : Type 0 where
+  pub bass : route_of b.code ≡ Bass → (c : ℕ) → adds_of h b c ≡ alone 3 (bass_gain b.gain) c
+  pub direct : (k : ℕ) → route_of b.code ≡ Direct k → present h.layout k ≡ true → (c : ℕ) → adds_of h b c ≡ alone k b.gain c
+  pub panned : (k : ℕ) → route_of b.code ≡ Direct k → present h.layout k ≡ false → BedPanned h b
+  pub folded : route_of b.code ≡ Folded → BedPanned h b
 
 -- ---- a push that was accepted, on the renderer r that the rules worked out from the list's start
 
@@ -89,8 +111,10 @@ module _ (L : Leaves) where
     pub count : length (moment_at L r a t).objects ≡ cond (begun r a t) a.objects 0
     -- the sum of channel 3 enters the low-pass
     pub enters : (before L r a (suc t)).filter ≡ next (before L r a t).filter (fed (moment_at L r a t))
-    -- what each channel sounds like is laid behind the samples that wait
-    pub sounds : (c : ℕ) → c < 12 → get_or ((before L r a (suc t)).pending.places c) ((r.pending.count + t) % 64) 0 ≡ to_bits binary32 (sound_at L r a c t)
+    -- what each channel sounds like is laid behind the samples that wait; the places of a channel that the hall lacks stay
+    pub sounds : (c : ℕ) → c < 12 → T (present r.setup.layout c)
+        → get_or ((before L r a (suc t)).pending.places c) ((r.pending.count + t) % 64) 0 ≡ to_bits binary32 (sound_at L r a c t)
+    pub absent : (c : ℕ) → present r.setup.layout c ≡ false → (before L r a (suc t)).pending.places c ≡ r.pending.places c
     -- "Samples before the first update are silent."
     pub quiet : begun r a t ≡ false → (c : ℕ) → sound_at L r a c t ≡ 0·0
 
@@ -106,8 +130,8 @@ module _ (L : Leaves) where
     pub next : (step L r (push a)).next ≡ (pushed L (frame_of L a) r).next
     -- in the same hall
     pub setup : (pushed L (frame_of L a) r).next.setup ≡ r.setup
-    -- whole blocks are ready on each channel and the remainder waits; the stream has moved by the push's samples, at the push's rate
-    pub ready : (c : ℕ) → c < 12 → length ((pushed L (frame_of L a) r).given c) ≡ 64 * whole L r a
+    -- whole blocks are ready on each channel that is there and the remainder waits; the stream has moved by the push's samples, at the push's rate
+    pub ready : (c : ℕ) → c < 12 → length ((pushed L (frame_of L a) r).given c) ≡ count_on r.setup (64 * whole L r a) c
     pub waits : (pushed L (frame_of L a) r).next.pending.count ≡ (r.pending.count + a.samples) % 64
     pub position : (pushed L (frame_of L a) r).next.clock.position ≡ r.clock.position + a.samples
     pub rate : (pushed L (frame_of L a) r).next.rate ≡ a.rate
@@ -128,11 +152,15 @@ module _ (L : Leaves) where
     -- "sample × (gain × send)" is all that an object adds there; where none is sent, the beds alone are fed, as in the Rust
     pub sends : (t j : ℕ) → j < length (moment_at L r a t).objects → object_adds r.setup (object_heard r a t j) 3 ≡ send_of (object_heard r a t j) ∷ []
     pub alone : (t : ℕ) → All (λ (s : Source). T (unsent s)) (moment_at L r a t).objects → fed (moment_at L r a t) ≡ fed_by_beds (moment_at L r a t)
+    -- R-5: each bed is put out to its speaker, or panned where that is absent; every term of a bed or an object is on a channel that the hall has, 3 or a speaker that is there
+    pub put_out : (t : ℕ) → All (BedHeard r.setup) (moment_at L r a t).beds
+    pub beds_absent : (c : ℕ) → present r.setup.layout c ≡ false → (b : Bed) → adds_of r.setup b c ≡ []
+    pub objects_absent : (c : ℕ) → present r.setup.layout c ≡ false → (t j : ℕ) → j < length (moment_at L r a t).objects → object_adds r.setup (object_heard r a t j) c ≡ []
     -- objects that are there and of size zero: the squares; "at gain 0 the coefficients are zero", at any size
     pub squares : (t j : ℕ) → j < length (moment_at L r a t).objects → T (eq (object_heard r a t j).size 0·0) → Squares r.setup (object_heard r a t j)
     pub still : (t j : ℕ) → j < length (moment_at L r a t).objects → T (eq (object_heard r a t j).gain 0·0) → object_terms r.setup (object_heard r a t j) ≡ []
 
-  -- ---- a flush with room for its samples, and a reset
+  -- ---- a flush with room for its samples, a reset, and a renderer made
 
   -- s is r but for the limiter's gain and what is pending
   pub record Drained (r s : State L) : Type 0 where
@@ -144,12 +172,13 @@ module _ (L : Leaves) where
     pub meta : s.meta ≡ r.meta
     pub places : s.pending.places ≡ r.pending.places
 
-  -- "with nothing pending says none"; "Flush treats the remainder as one shorter block": as many samples as were pending on each channel, and nothing is pending after
+  -- "with nothing pending says none"; "Flush treats the remainder as one shorter block": as many samples as were pending on each channel that is there, and nothing is pending
+  -- after
   pub record FlushHolds (r : State L) (x : Result L) : Type 0 where
     pub none : r.pending.count ≡ 0 → (x.answer ≡ nothing) × (x.next ≡ r)
     pub gives : 0 < r.pending.count → x.answer ≡ rendered (limited r.limiter.gain (waiting L r)) (call_meters (metered r.limiter.gain (waiting L r)))
     pub within : 0 < r.pending.count → AllMetered (metered r.limiter.gain (waiting L r)) (limited r.limiter.gain (waiting L r))
-    pub ready : 0 < r.pending.count → (c : ℕ) → c < 12 → length (given x.answer c) ≡ r.pending.count
+    pub ready : 0 < r.pending.count → (c : ℕ) → c < 12 → length (given x.answer c) ≡ count_on r.setup r.pending.count c
     pub gain : 0 < r.pending.count → x.next.limiter.gain ≡ gain_after r.pending.count r.rate r.limiter.gain (waiting L r)
     pub untouched : 0 < r.pending.count → Drained r x.next
 
@@ -157,11 +186,17 @@ module _ (L : Leaves) where
     pub answer : x.answer ≡ cleared
     pub next : x.next ≡ fresh L r.setup
 
+  -- R-5: a new renderer of that layout, whatever renderer it was
+  pub record MakeHolds (n : ℕ) (x : Result L) : Type 0 where
+    pub answer : x.answer ≡ cleared
+    pub next : x.next ≡ fresh L (hall_with n)
+
   abbrev pub CallHolds : State L → Call → Type 0
   CallHolds r (push a) = ((n x y : ℕ) → found L r a ≡ stop n x y → Refuses r n x y (step L r (push a))) × (found L r a ≡ clear → PushHolds r a)
   CallHolds r (flush out stride) =
       (room stride (length out) ≡ false → Refuses r 1 0 0 (step L r (flush out stride))) × (room stride (length out) ≡ true → FlushHolds r (step L r (flush out stride)))
   CallHolds r reset = ResetHolds r (step L r reset)
+  CallHolds r (make n) = (3 < n → Refuses r 15 0 0 (step L r (make n))) × (n ≤ 3 → MakeHolds n (step L r (make n)))
 
   -- of each call of the list, each handed what the one before left
   abbrev pub AllHold : State L → List Call → Type 0

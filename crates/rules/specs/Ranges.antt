@@ -5,7 +5,7 @@ use Rattle.std.specs.Float.{binary32}
 use Rattle.std.specs.Float.Ieee.{fits}
 use Rattle.words.specs.Words.{Words}
 use Rattle.lowpass.specs.declared.BiquadLowpassState.{BiquadLowpassState}
-use Rattle.panning.specs.Setup.{built_in}
+use Rattle.panning.specs.Setup.{Setup, hall_with}
 use Rattle.rules.specs.Leaves.{Leaves}
 use Rattle.rules.specs.Samples.{State}
 use Rattle.rules.specs.Refusals.{listed}
@@ -25,10 +25,14 @@ pub record FilterFits (f : BiquadLowpassState) : Type 0 where
   pub y1 : Fits f.y1
   pub y2 : Fits f.y2
 
+-- R-5: "layout code 0 for 7.1.4, then 1, 2, 3"; the speakers stand in their built-in places
+pub record HallRanged (h : Setup) : Type 0 where
+  pub layout : h.layout ≤ 3
+  pub built : h ≡ hall_with h.layout
+
 -- `Within n m`: the timed state m lies in its ranges at the stream position n
 pub record Ranged (L : Leaves) (Within : ℕ → L.Meta → Type 0) (r : State L) : Type 0 where
-  -- until R-5 there is one hall
-  pub setup : r.setup ≡ built_in
+  pub setup : HallRanged r.setup
   pub rate : (r.rate ≡ 0) ⊎ (listed r.rate ≡ true)
   pub position : r.clock.position ≤ 1099511627776
   pub phase : r.clock.phase < 64

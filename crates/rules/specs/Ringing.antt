@@ -1,7 +1,7 @@
 -- The low-pass along a list of calls: what it has been fed since the renderer was new or reset, and what it gives. Document 02, R-7: "the magnitude of the filter's output
 -- never exceeds twice the largest it has been fed since the renderer was new or reset, where that largest lies from 2^-100 to 2^20." And a loud past leaves: whatever calls came
 -- before, after so many samples in a row each of which feeds at most X, the output is at most 2 X. Assumes nothing.
-use Rattle.std.specs.Prelude.{ℕ, suc, ◌*◌, ◌^◌, ◌≤◌, ◌<◌, ◌≡◌, List, [], ◌∷◌, ◌++◌, map, length, take, Float}
+use Rattle.std.specs.Prelude.{ℕ, suc, ◌*◌, ◌^◌, ◌≤◌, ◌<◌, ◌≡◌, cond, List, [], ◌∷◌, ◌++◌, map, length, take, Float}
 use Rattle.lowpass.specs.Lowpass.{new, after_all}
 use Rattle.lowpass.specs.Bound.{Bounded, Range, largest}
 use Rattle.lowpass.specs.Forgets.{Subsided}
@@ -9,7 +9,7 @@ use Rattle.rules.specs.Leaves.{Leaves}
 use Rattle.rules.specs.Mix.{fed}
 use Rattle.rules.specs.Samples.{State}
 use Rattle.rules.specs.Refusals.{Args}
-use Rattle.rules.specs.Calls.{Call, push, flush, reset, step}
+use Rattle.rules.specs.Calls.{Call, push, flush, reset, make, is_refused, step}
 use Rattle.rules.specs.Sounds.{before, sound_at}
 
 module _ (L : Leaves) where
@@ -22,6 +22,7 @@ module _ (L : Leaves) where
   fed_since xs r (push a) = xs ++ feed r a
   fed_since xs r (flush out stride) = xs
   fed_since xs r reset = []
+  fed_since xs r (make n) = cond (is_refused (step L r (make n)).answer) xs []
 
   -- sample t of a push, ys being what has been fed, that sample included
   pub record Rings (r : State L) (a : Args) (t : ℕ) (ys : List Float) : Type 0 where
@@ -38,6 +39,7 @@ module _ (L : Leaves) where
   CallRings xs r (push a) = (t : ℕ) → t < length (feed r a) → Rings r a t (xs ++ take (suc t) (feed r a))
   CallRings xs r (flush out stride) = Unit {0}
   CallRings xs r reset = Unit {0}
+  CallRings xs r (make n) = Unit {0}
 
   -- of each call of the list, each handed what the one before left and had been fed
   abbrev pub AllRing : List Float → State L → List Call → Type 0

@@ -6,7 +6,8 @@ use Rattle.limiter.specs.Limiter.{block_gain, scaled, grown}
 use Rattle.limiter.specs.Meters.{block_meters}
 use Rattle.limiter.specs.declared.meters.Meters.{Meters}
 use Rattle.limiter.specs.declared.Limiter.{Limiter}
-pub use Rattle.panning.specs.Setup.{Setup, built_in}
+pub use Rattle.panning.specs.Setup.{Setup, hall_with}
+use Rattle.panning.specs.Setup.{present}
 use Rattle.rules.specs.Parts.{0·0, 1·0, Channels, none, joined, twelve, Places, floats, laid, zeros}
 use Rattle.rules.specs.Leaves.{Leaves, started}
 use Rattle.rules.specs.Mix.{sample_at, samples_at, Moment, heard, fed}
@@ -38,12 +39,12 @@ ticked run n k =
     let end = leb 64 (k.phase + n) in
     record { position = k.position + n; phase = cond run (cond end 0 (k.phase + n)) k.phase; start = cond (run && end) (k.start + 64) k.start }
 
--- the samples that wait for a whole block: how many, and 64 places of each channel for them, of which they fill the first
+-- the samples that wait for a whole block: how many of each channel that is there, and 64 places of each channel, of which they fill the first
 pub record Pending : Type 0 where
   pub count : ℕ
   pub places : Places
 
--- n samples of each channel more, behind those that wait
+-- n samples more of each channel that is there, behind those that wait
 abbrev pub appended : ℕ → Channels → Pending → Pending
 appended n xs p = record { count = p.count + n; places = λ c. laid p.count (xs c) (p.places c) }
 
@@ -54,7 +55,7 @@ emptied whole p = record { count = cond whole 0 p.count; places = p.places }
 -- ---- the renderer
 
 pub record Renderer (M : Type 0) : Type 0 where
-  -- the hall that it renders for: every step keeps it
+  -- the hall that it renders for: every call but an accepted making call keeps it
   pub setup : Setup
   -- 0: none yet
   pub rate : ℕ
@@ -67,6 +68,10 @@ pub record Renderer (M : Type 0) : Type 0 where
 -- no rate yet: no coefficients and nothing fed
 abbrev pub idle : BiquadLowpassState
 idle = record { a1 = 0·0; a2 = 0·0; b0 = 0·0; b1 = 0·0; b2 = 0·0; x1 = 0·0; x2 = 0·0; y1 = 0·0; y2 = 0·0 }
+
+-- R-5: "5.1.4 lacks channels 4 and 5, ..": a channel that the hall lacks has no samples
+abbrev pub sounding : Setup → Channels → Channels
+sounding h f c = cond (present h.layout c) (f c) []
 
 -- ---- the limiter on twelve channels
 
@@ -155,7 +160,7 @@ module _ (L : Leaves) where
     pub meters : List Meters
     pub moments : List Moment
 
-  -- n samples of each channel more: the low-pass after them, and the samples, which wait; the clock goes on from the first update
+  -- n samples more of each channel that is there: the low-pass after them, and the samples, which wait; the clock goes on from the first update
   abbrev pub settled : ℕ → BiquadLowpassState → Channels → State → State
   settled n low xs r =
       record {
@@ -172,7 +177,7 @@ module _ (L : Leaves) where
   abbrev pub closing : State → List Moment → After
   closing r ms =
       let whole = leb 64 r.pending.count in
-      let block = floats r.pending.places in
+      let block = sounding r.setup (floats r.pending.places) in
       record {
         next = record {
           setup = r.setup;
@@ -190,7 +195,7 @@ module _ (L : Leaves) where
 
   -- a sample more
   abbrev pub passed : Moment → State → After
-  passed m r = closing (settled 1 (next r.filter (fed m)) (row m r.filter) r) (m ∷ [])
+  passed m r = closing (settled 1 (next r.filter (fed m)) (sounding r.setup (row m r.filter)) r) (m ∷ [])
 
   abbrev pub sampled : Frame L.Update → ℕ → State → After
   sampled f t r = let s = slotted (updated t f.updates r) in passed (moment f t s.setup s.meta) s
@@ -224,7 +229,7 @@ module _ (L : Leaves) where
 
   -- the samples that wait for a whole block
   abbrev pub waiting : State → Channels
-  waiting r c = take r.pending.count (floats r.pending.places c)
+  waiting r c = take r.pending.count (sounding r.setup (floats r.pending.places) c)
 
   -- "Flush treats the remainder as one shorter block."
   unfoldable pub flushed : State → After

@@ -4,11 +4,11 @@ use Rattle.lowpass.specs.Lowpass.{output}
 use Rattle.limiter.specs.Meters.{idle_meters}
 use Rattle.limiter.specs.declared.meters.Meters.{Meters}
 use Rattle.limiter.specs.Range.{Metered}
-use Rattle.panning.specs.Setup.{built_in}
+use Rattle.panning.specs.Setup.{Setup}
 use Rattle.rules.specs.Parts.{0·0, Channels, none, joined}
 use Rattle.rules.specs.Leaves.{Leaves}
 use Rattle.rules.specs.Mix.{Moment, heard, fed}
-use Rattle.rules.specs.Samples.{State, limited, metered, gain_after, applied_at, updated, slotted, framed, opened, pushed, waiting}
+use Rattle.rules.specs.Samples.{State, sounding, limited, metered, gain_after, applied_at, updated, slotted, framed, opened, pushed, waiting}
 use Rattle.rules.specs.Refusals.{Args}
 use Rattle.rules.specs.Calls.{frame_of}
 
@@ -45,8 +45,9 @@ abbrev pub applied_all : (L : Leaves) → ℕ → List L.Update → State L → 
 applied_all L t [] r = r
 applied_all L t (u ∷ us) r = applied_all L t us (applied_at L t u r)
 
-abbrev pub silent : Moment
-silent = record { hall = built_in; beds = []; objects = []; codes = []; inputs = λ i. 0·0; own = [] }
+-- silence in the hall h
+abbrev pub silent : Setup → Moment
+silent h = record { hall = h; beds = []; objects = []; codes = []; inputs = λ i. 0·0; own = [] }
 
 module _ (L : Leaves) (r : State L) (a : Args) where
   -- before sample t; and what sample t finds: the updates at t applied, a slot begun where one begins
@@ -58,16 +59,16 @@ module _ (L : Leaves) (r : State L) (a : Args) where
 
   -- what is heard at sample t
   abbrev pub moment_at : ℕ → Moment
-  moment_at t = get_or (pushed L (frame_of L a) r).moments t silent
+  moment_at t = get_or (pushed L (frame_of L a) r).moments t (silent r.setup)
 
   -- channel c at sample t, before the limiter: the sum, on channel 3 the low-pass's output
   abbrev pub sound_at : ℕ → ℕ → Float
   sound_at c t = cond (eqb c 3) (output (before t).filter (fed (moment_at t))) (heard (moment_at t) c)
 
-  -- the first n samples
+  -- the first n samples, of the channels that the hall has
   abbrev pub sounds : ℕ → Channels
   sounds zero c = []
-  sounds (suc n) c = sounds n c ++ (sound_at c n ∷ [])
+  sounds (suc n) c = sounds n c ++ sounding r.setup (λ c. sound_at c n ∷ []) c
 
   -- what the limiter meets, in order: the samples that waited, then the push's; how many whole blocks these are
   abbrev pub unlimited : Channels

@@ -5,7 +5,7 @@ use mathlib.Core.List.{List}
 use Prim.Native.Nat.{ℕ, ◌+◌, ◌*◌, ◌≤◌}
 use native.Mathlib.Omega.{arith}
 use borrow.Author.Tests.{eq-eqb, ne_eqb}
-use lib.Dec.{T, eqb, leb}
+use lib.Dec.{T, eqb, leb, leb→le}
 use lib.ListN.{length, get_or}
 pub use Rattle.formats.proofs.Theorems.{and_in}
 use Rattle.formats.specs.Areas.{info_count}
@@ -18,8 +18,8 @@ use Rattle.formats.proofs.Theorems.{most, all_same, all_both, all_any, and_true,
 use Rattle.store.specs.Fields.{longest, source_format, block_format, track_format, element_format, tables_format, small_format, small_of}
 use Rattle.store.specs.FieldPlaces.{phase_at, position_at, start_at, pending_at, objects_at, isf_at, beds_at, in_use_at}
 use Rattle.store.specs.FieldPlaces.{tables_at, gains_at, sources_at, placed_in, flags_in, remaining_in, first_at, second_at}
-use Rattle.store.specs.Layout.{small_width, size, infos_of}
-use Rattle.store.specs.ValidBlocks.{clock_in, counts_in, least, element_in, related, small_valid, heads_valid, valid}
+use Rattle.store.specs.Layout.{small_width, size, infos_of, layout_of}
+use Rattle.store.specs.ValidBlocks.{clock_in, counts_in, least, element_in, related, small_valid, heads_valid, hall_valid, valid}
 use Rattle.store.proofs.SmallPartBack.{lawful_small, lawful_small_part}
 
 module _ (w : List ℕ) where
@@ -107,15 +107,25 @@ module _ (b : List ℕ) (h : length b ≡ size) where
 module _ (b : List ℕ) where
   pub wrong_length : (length b ≡ size → ⊥) → valid b ≡ false
   unfolding valid
-  wrong_length h = ap (λ (x : Bool). x && small_valid (words_at b 0 small_width) && heads_valid (infos_of b) 0 info_count) (ne_eqb (length b) size h)
+  wrong_length h = ap (λ (x : Bool). x && small_valid (words_at b 0 small_width) && heads_valid (infos_of b) 0 info_count && hall_valid b) (ne_eqb (length b) size h)
 
   pub bad_heads : heads_valid (infos_of b) 0 info_count ≡ false → valid b ≡ false
   unfolding valid
-  bad_heads e = and_false (eqb (length b) size && small_valid (words_at b 0 small_width)) (heads_valid (infos_of b) 0 info_count) e
+  bad_heads e = ap (λ (x : Bool). x && hall_valid b) (and_false (eqb (length b) size && small_valid (words_at b 0 small_width)) (heads_valid (infos_of b) 0 info_count) e)
 
-  pub good_heads : length b ≡ size → heads_valid (infos_of b) 0 info_count ≡ true → valid b ≡ small_valid (in_words b)
+  pub bad_hall : hall_valid b ≡ false → valid b ≡ false
   unfolding valid
-  good_heads h e =
-      and_true (eqb (length b) size && small_valid (words_at b 0 small_width)) (heads_valid (infos_of b) 0 info_count) e
+  bad_hall e = and_false (eqb (length b) size && small_valid (words_at b 0 small_width) && heads_valid (infos_of b) 0 info_count) (hall_valid b) e
+
+  pub good_beside : length b ≡ size → heads_valid (infos_of b) 0 info_count ≡ true → hall_valid b ≡ true → valid b ≡ small_valid (in_words b)
+  unfolding valid
+  good_beside h e f =
+      and_true (eqb (length b) size && small_valid (words_at b 0 small_width) && heads_valid (infos_of b) 0 info_count) (hall_valid b) f
+      ∙ and_true (eqb (length b) size && small_valid (words_at b 0 small_width)) (heads_valid (infos_of b) 0 info_count) e
       ∙ ap (λ (x : Bool). x && small_valid (words_at b 0 small_width)) (eq-eqb (length b) size h)
       ∙ sym (valid_in_block b h)
+
+  -- the layout's code, where it is in its range
+  pub layout_most : hall_valid b ≡ true → layout_of b ≤ 3
+  unfolding hall_valid
+  layout_most e = leb→le (layout_of b) 3 (subst T (sym e) tt)

@@ -15,16 +15,18 @@ use Rattle.words.proofs.Small.{run_small}
 use Rattle.timed.specs.Slot.{middle, InRange, no_block}
 use Rattle.timed.specs.State.{no_element}
 use Rattle.timed.specs.State as timed
+use Rattle.panning.specs.Setup.{Setup}
 use Rattle.rules.specs.Parts.{Places}
+use Rattle.rules.specs.Ranges.{HallRanged}
 use Rattle.formats.specs.Areas.{info_count, infos_bytes, row_places, row_bytes}
 use Rattle.store.specs.declared.renderer.Renderer714.{Renderer714}
 use Rattle.store.specs.Singles.{Brief}
-use Rattle.store.specs.Fields.{element_format, small_of}
-use Rattle.store.specs.Layout.{small_width, infos_at, places_at, size, assembled, infos_of, places_of, decode}
-use Rattle.store.specs.ValidBlocks.{clock_in, counts_in, element_related, least_flags, small_part, small_valid, heads_valid, valid}
+use Rattle.store.specs.Fields.{element_format, small_of, hall_format}
+use Rattle.store.specs.Layout.{small_width, infos_at, places_at, hall_at, size, assembled, infos_of, places_of, setup_in, decode}
+use Rattle.store.specs.ValidBlocks.{clock_in, counts_in, element_related, least_flags, small_part, small_valid, heads_valid, hall_valid, valid}
 use Rattle.store.specs.Ranged.{ElementRanged, StateRanged, InfosRanged, PlacesRanged, BlockRanged}
 use Rattle.store.proofs.PendingRows.{places_row, no_places}
-use Rattle.store.proofs.SmallPartBack.{lawful_small_part}
+use Rattle.store.proofs.SmallPartBack.{lawful_small_part, lawful_hall}
 
 all_out : {A : Type 0} (P : A → Type 0) (d : A) (xs : List A) → All P xs → (i : ℕ) → i < length xs → P (get_or xs i d)
 all_out P d [] h i l = absurd (omega arith)
@@ -116,11 +118,11 @@ module _ (s : Renderer714) (h : small_part.In s) where
         elements = element_ranged;
       }
 
-  pub small_ranged : (is : List ℕ) (ps : Places) → InfosRanged is → PlacesRanged ps → BlockRanged (assembled s is ps)
-  small_ranged is ps i p =
+  pub small_ranged : (is : List ℕ) (ps : Places) (a : Setup) → InfosRanged is → PlacesRanged ps → HallRanged a → BlockRanged (assembled s is ps a)
+  small_ranged is ps a i p q =
       let (rate, (phase, (position, (start, (gain, (filter, pending)))))) = h.0.0 in
       record {
-        setup = refl;
+        setup = q;
         rate = rate;
         phase = phase;
         position = position;
@@ -149,19 +151,28 @@ pub words_long : (s : List ℕ) (at n : ℕ) → length (words_at s at n) ≡ n
 words_long s at zero = refl
 words_long s at (suc n) = ap suc (words_long s (at + 4) n)
 
+-- the hall of a block whose code is one of the four
+pub hall_ranged : (b : List ℕ) → T (hall_valid b) → HallRanged (setup_in b)
+unfolding hall_valid
+hall_ranged b h = record { layout = lawful_hall.within (words_at b hall_at hall_format.width) 0 h; built = refl }
+
 module _ (b : List ℕ) (bs : Bytes b) (v : T (valid b)) where
-  is_long : length b ≡ size
+  abbrev front : Bool
+  front = eqb (length b) size && small_valid (words_at b 0 small_width)
+
+  abbrev heads : Bool
+  heads = heads_valid (infos_of b) 0 info_count
+
+  front_true : T front
   unfolding valid
-  is_long =
-      eqb→eq (length b) size (and_l (eqb (length b) size) (small_valid (words_at b 0 small_width))
-      (and_l (eqb (length b) size && small_valid (words_at b 0 small_width)) (heads_valid (infos_of b) 0 info_count) v))
+  front_true = and_l front heads (and_l (front && heads) (hall_valid b) v)
+
+  is_long : length b ≡ size
+  is_long = eqb→eq (length b) size (and_l (eqb (length b) size) (small_valid (words_at b 0 small_width)) front_true)
 
   small_in : small_part.In (small_of (words_at b 0 small_width))
-  unfolding valid small_of
-  small_in =
-      lawful_small_part.within (words_at b 0 small_width) 0
-      (and_r (eqb (length b) size) (small_valid (words_at b 0 small_width))
-      (and_l (eqb (length b) size && small_valid (words_at b 0 small_width)) (heads_valid (infos_of b) 0 info_count) v))
+  unfolding small_valid small_of
+  small_in = lawful_small_part.within (words_at b 0 small_width) 0 (and_r (eqb (length b) size) (small_valid (words_at b 0 small_width)) front_true)
 
   infos_ranged : InfosRanged (infos_of b)
   unfolding valid
@@ -169,7 +180,7 @@ module _ (b : List ℕ) (bs : Bytes b) (v : T (valid b)) where
       record {
         length = length-take-le infos_bytes (drop infos_at b) (let e = is_long in simp length-drop (omega arith));
         bytes = bytes_take infos_bytes (drop infos_at b) (bytes_drop infos_at b bs);
-        heads = and_r (eqb (length b) size && small_valid (words_at b 0 small_width)) (heads_valid (infos_of b) 0 info_count) v;
+        heads = and_r front heads (and_l (front && heads) (hall_valid b) v);
       }
 
   places_ranged : PlacesRanged (places_of b)
@@ -180,6 +191,10 @@ module _ (b : List ℕ) (bs : Bytes b) (v : T (valid b)) where
         none = no_places b;
       }
 
+  pub hall_true : T (hall_valid b)
+  unfolding valid
+  hall_true = and_r (front && heads) (hall_valid b) v
+
   pub decode_ranged : BlockRanged (decode b)
   unfolding decode
-  decode_ranged = small_ranged (small_of (words_at b 0 small_width)) small_in (infos_of b) (places_of b) infos_ranged places_ranged
+  decode_ranged = small_ranged (small_of (words_at b 0 small_width)) small_in (infos_of b) (places_of b) (setup_in b) infos_ranged places_ranged (hall_ranged b hall_true)

@@ -1,8 +1,9 @@
--- A fresh renderer is in range, and its block is zeros but for three fields. Assumes nothing.
+-- A fresh renderer is in range, and its block is zeros but for four fields. Assumes nothing.
 use mathlib.Core.Path.{◌≡◌, refl, sym, ap, ap₂, subst, ◌∙◌}
 use mathlib.Core.Bool.{false}
-use mathlib.Core.List.{List, ◌∷◌, ◌++◌}
+use mathlib.Core.List.{List, [], ◌∷◌, ◌++◌, append_assoc}
 use Prim.Native.Nat.{ℕ, zero, suc, ◌+◌, ◌*◌, ◌^◌, ◌<◌, ◌≤◌}
+use native.Mathlib.Nat.{add-zero}
 use native.Mathlib.Omega.{arith}
 use borrow.Author.Tests.{lt-ltb, le-ltb}
 use lib.Dec.{T, lit<, lit≤}
@@ -15,18 +16,20 @@ use Rattle.timed.specs.Slot.{middle, InRange, no_block}
 use Rattle.timed.specs.State.{no_element}
 use Rattle.timed.specs.declared.state.BlockState.{BlockState}
 use Rattle.timed.specs.declared.state.MetadataRendererState.{MetadataRendererState}
+use Rattle.panning.specs.Setup.{Setup, hall_with}
 use Rattle.rules.specs.Parts.{zeros, 0·0, 1·0}
+use Rattle.rules.specs.Ranges.{HallRanged}
 use Rattle.formats.specs.Areas.{info_count, info_bytes, infos_bytes, row_count, row_places, row_bytes, places_bytes}
 use Rattle.formats.specs.Format.{puts}
 use Rattle.store.specs.Bytes.{bytes_of}
 use Rattle.store.specs.Fields.{small_words}
-use Rattle.store.specs.FieldPlaces.{limiter_gain_at, remaining_in, first_at, second_at, infos_at}
-use Rattle.store.specs.Layout.{size, small, place_bytes, encode, still, no_blocks, blank, fresh_renderer}
+use Rattle.store.specs.FieldPlaces.{limiter_gain_at, remaining_in, first_at, second_at, infos_at, hall_at}
+use Rattle.store.specs.Layout.{size, small, place_bytes, layout_bytes, encode, still, no_blocks, blank, fresh_renderer}
 use Rattle.store.specs.Filled.{marked, filled}
 use Rattle.store.specs.ValidBlocks.{least_flags, head_valid, heads_valid}
 use Rattle.store.specs.Ranged.{Single, Singles, SourceSingles, TrackSingles, ElementRanged, StateRanged, InfosRanged, PlacesRanged, BlockRanged}
 use Rattle.store.proofs.PendingRows.{rows_bytes, place_bytes_is}
-use Rattle.store.proofs.Bytes.{written_front}
+use Rattle.store.proofs.Bytes.{written_past, written_front}
 use Rattle.formats.proofs.Theorems.{and_in}
 
 -- ---- zeros
@@ -135,11 +138,11 @@ state_fresh =
           (subst (λ (n : ℕ). ElementRanged n no_blocks) (sym (none_less i blank.state refl)) blocks_ranged);
     }
 
-pub fresh_ranged : BlockRanged fresh_renderer
+pub fresh_ranged : (h : Setup) → HallRanged h → BlockRanged (fresh_renderer h)
 unfolding blank
-fresh_ranged =
+fresh_ranged h e =
     record {
-      setup = refl;
+      setup = e;
       rate = tt;
       phase = lit< tt;
       position = lit≤ tt;
@@ -158,7 +161,7 @@ fresh_ranged =
             y2 = zero_single;
           };
       pending = lit< tt;
-      idle = λ e. refl;
+      idle = λ z. refl;
       state = state_fresh;
       infos = infos_fresh infos_bytes refl;
       places = places_fresh;
@@ -191,9 +194,15 @@ marked_front s t l =
     ∙ ap (λ (x : List ℕ). with_long x Q middle) (written_front a t R 8 middle (omega arith))
     ∙ written_front b t Q 8 middle (omega arith)
 
-small_fresh : bytes_of (small_words (small fresh_renderer)) ≡ marked (replicate infos_at 0)
+marked_long : (s : List ℕ) → length (marked s) ≡ length s
+marked_long s =
+    let a = with_word s (4 * limiter_gain_at) 0x3f80_0000 in
+    let b = with_long a (4 * (first_at + remaining_in)) middle in
+    length_kept b (4 * (second_at + remaining_in)) 8 middle ∙ length_kept a (4 * (first_at + remaining_in)) 8 middle ∙ length_kept s (4 * limiter_gain_at) 4 0x3f80_0000
+
+small_fresh : (h : Setup) → bytes_of (small_words (small (fresh_renderer h))) ≡ marked (replicate infos_at 0)
 unfolding bytes_of small_words puts blank with_number to_bits
-small_fresh = refl
+small_fresh h = refl
 
 tail_fresh : (n m : ℕ) → n ≡ infos_bytes → m ≡ row_count → replicate n 0 ++ place_bytes zeros ≡ replicate (n + m * row_bytes) 0
 tail_fresh n m e f =
@@ -201,14 +210,36 @@ tail_fresh n m e f =
     (place_bytes_is zeros places_fresh.lengths ∙ ap (λ (k : ℕ). rows_bytes k 0 zeros) (sym f) ∙ zero_rows m 0 (omega arith))
     ∙ replicate-append-replicate n (m * row_bytes) 0
 
-pub encode_fresh : encode fresh_renderer ≡ filled
-unfolding encode blank filled
-encode_fresh =
-    ap₂ (λ (a b : List ℕ). a ++ b) small_fresh (tail_fresh infos_bytes row_count refl refl)
+front_fresh : (h : Setup) → bytes_of (small_words (small (fresh_renderer h))) ++ (blank.infos ++ place_bytes zeros) ≡ marked (replicate hall_at 0)
+unfolding blank
+front_fresh h =
+    ap₂ (λ (a b : List ℕ). a ++ b) (small_fresh h) (tail_fresh infos_bytes row_count refl refl)
     ∙ sym (marked_front (replicate infos_at 0) (replicate (infos_bytes + places_bytes) 0) (subst (λ (n : ℕ). infos_at ≤ n) (sym (length-replicate {A = ℕ} infos_at 0)) (lit≤ tt)))
     ∙ ap marked (replicate-append-replicate infos_at (infos_bytes + places_bytes) 0)
 
--- what reset writes
-pub refilled : (n : ℕ) → n ≡ size → marked (replicate n 0) ≡ encode fresh_renderer
+-- n zeros and four, marked, and then the word behind the n
+filled_behind : (n layout : ℕ) → infos_at ≤ n → with_word (marked (replicate (n + 4) 0)) n layout ≡ marked (replicate n 0) ++ layout_bytes layout
+unfolding layout_bytes bytes_of
+filled_behind n layout l =
+    let z = replicate {A = ℕ} n 0 in
+    let f = length-replicate {A = ℕ} n 0 in
+    let e : n ≡ length (marked z) + 0 = sym (add-zero n) ∙ ap (λ (k : ℕ). k + 0) (sym (marked_long z ∙ f)) in
+    ap (λ (s : List ℕ). with_word (marked s) n layout) (sym (replicate-append-replicate n 4 0))
+    ∙ ap (λ (s : List ℕ). with_word s n layout) (marked_front z (0 ∷ 0 ∷ 0 ∷ 0 ∷ []) (omega arith))
+    ∙ ap (λ (k : ℕ). with_word (marked z ++ (0 ∷ 0 ∷ 0 ∷ 0 ∷ [])) k layout) e
+    ∙ written_past (marked z) (0 ∷ 0 ∷ 0 ∷ 0 ∷ []) 0 4 layout
+
+pub encode_fresh : (layout : ℕ) → encode (fresh_renderer (hall_with layout)) ≡ filled layout
+unfolding encode filled
+encode_fresh layout =
+    let w = bytes_of (small_words (small (fresh_renderer (hall_with layout)))) in
+    let l = layout_bytes layout in
+    ap (λ (t : List ℕ). w ++ t) (sym (append_assoc blank.infos (place_bytes zeros) l))
+    ∙ sym (append_assoc w (blank.infos ++ place_bytes zeros) l)
+    ∙ ap (λ (t : List ℕ). t ++ l) (front_fresh (hall_with layout))
+    ∙ sym (filled_behind hall_at layout (lit≤ tt))
+
+-- what `make` writes
+pub refilled : (n layout : ℕ) → n ≡ size → with_word (marked (replicate n 0)) hall_at layout ≡ encode (fresh_renderer (hall_with layout))
 unfolding filled
-refilled n e = ap (λ (k : ℕ). marked (replicate k 0)) e ∙ sym encode_fresh
+refilled n layout e = ap (λ (k : ℕ). with_word (marked (replicate k 0)) hall_at layout) e ∙ sym (encode_fresh layout)

@@ -1,9 +1,8 @@
 -- The places of a block, by their format: a channel's row is the words of its bytes, past the last channel there is none, and the bytes of places are those of their rows, one
 -- after the other. Assumes nothing.
-use mathlib.Core.Path.{◌≡◌, refl, ap, ap₂, sym, ◌∙◌}
+use mathlib.Core.Path.{◌≡◌, refl, ap, ap₂, ◌∙◌}
 use mathlib.Core.List.{List, [], ◌++◌}
 use Prim.Native.Nat.{ℕ, zero, suc, ◌+◌, ◌*◌, ◌<◌, ◌≤◌}
-use native.Mathlib.Nat.{add-zero}
 use native.Mathlib.Omega.{arith}
 use lib.Dec.{lit≤}
 use lib.ListN.{length, get_or, drop}
@@ -11,10 +10,12 @@ use Rattle.words.specs.Words.{words_at}
 use Rattle.formats.specs.Format.{puts}
 use Rattle.formats.specs.Areas.{row_count, row_places, row_format, places_format, row_bytes, place_count}
 use Rattle.formats.proofs.Theorems.{words_put, row_got, no_row_got}
+use Rattle.panning.specs.Setup.{hall_with}
 use Rattle.rules.specs.Parts.{Places}
 use Rattle.store.specs.Bytes.{bytes_of}
-use Rattle.store.specs.Layout.{places_at, places_of, rows_from, place_bytes}
-use Rattle.store.proofs.Bytes.{words_drop, bytes_joined}
+use Rattle.store.specs.Fields.{hall_format}
+use Rattle.store.specs.Layout.{places_at, places_of, hall_at, setup_in, rows_from, place_bytes}
+use Rattle.store.proofs.Bytes.{words_beside, bytes_joined}
 
 module _ (b : List ℕ) where
   pub places_row : (c : ℕ) → c < row_count → places_of b c ≡ words_at b (places_at + row_bytes * c) row_places
@@ -25,10 +26,11 @@ module _ (b : List ℕ) where
 
   -- what is before the places plays no part
   pub places_beside : (d : List ℕ) → drop places_at d ≡ drop places_at b → places_of d ≡ places_of b
-  places_beside d e =
-      ap {B = Places} (λ (ws : List ℕ) (c : ℕ). get_or (places_format.get ws 0) c [])
-      (ap (λ (at : ℕ). words_at d at place_count) (sym (add-zero places_at)) ∙ words_drop d places_at 0 place_count ∙ ap (λ (s : List ℕ). words_at s 0 place_count) e
-      ∙ sym (words_drop b places_at 0 place_count) ∙ ap (λ (at : ℕ). words_at b at place_count) (add-zero places_at))
+  places_beside d e = ap {B = Places} (λ (ws : List ℕ) (c : ℕ). get_or (places_format.get ws 0) c []) (words_beside b d places_at place_count e)
+
+  -- what is before the hall plays no part
+  pub setup_beside : (d : List ℕ) → drop hall_at d ≡ drop hall_at b → setup_in d ≡ setup_in b
+  setup_beside d e = ap (λ (ws : List ℕ). hall_with (hall_format.get ws 0)) (words_beside b d hall_at hall_format.width e)
 
 -- ---- as bytes
 

@@ -1,4 +1,4 @@
--- The formats of the small part are lawful: it is read back from its words. Assumes nothing.
+-- The formats of the small part and of the hall are lawful: they are read back from their words. Assumes nothing.
 use mathlib.Core.Path.{◌≡◌, refl}
 use mathlib.Core.Bool.{Bool, true, false, ◌||◌}
 use Prim.Native.Nat.{ℕ, ◌≤◌}
@@ -10,14 +10,14 @@ use Rattle.words.specs.Words.{Words}
 use Rattle.formats.specs.Lawful.{Lawful}
 use Rattle.formats.specs.Format.{u8_to, flag, float, usize_to, u64_to, u32_below, u32_where, array}
 use Rattle.formats.proofs.Theorems.{stands_all}
-use Rattle.formats.proofs.Theorems.{lawful_u32_where, lawful_u32_below, lawful_usize_to, lawful_u8_to, lawful_flag, lawful_float, lawful_u64_to}
+use Rattle.formats.proofs.Theorems.{lawful_u32_to, lawful_u32_where, lawful_u32_below, lawful_usize_to, lawful_u8_to, lawful_flag, lawful_float, lawful_u64_to}
 use Rattle.formats.proofs.Theorems.{lawful_pair, lawful_array, lawful_struct, lawful_ranged, lawful_such}
 use Rattle.rates.specs.Rates.{lowest, highest, listed}
 use Rattle.store.specs.declared.renderer.Renderer714.{Renderer714}
 use Rattle.store.specs.Singles.{FilterSingles}
 use Rattle.store.specs.Fields.{longest, small_words, small_of}
 use Rattle.store.specs.Fields.{source_format, element_format}
-use Rattle.store.specs.Fields.{filter_format, payload_format, counts_format, tables_format, state_format, basics_format, small_format}
+use Rattle.store.specs.Fields.{filter_format, payload_format, counts_format, tables_format, state_format, basics_format, small_format, hall_format}
 pub use Rattle.store.specs.Entries.{lawful_source, lawful_block, lawful_track, lawful_head, lawful_element}
 use Rattle.store.specs.Layout.{small_width}
 use Rattle.store.specs.ValidBlocks.{related, small_part}
@@ -74,6 +74,9 @@ lawful_small = lawful_struct _ _ _ (λ s. refl) (λ y. refl) (lawful_pair basics
 
 pub lawful_small_part : Lawful small_part
 lawful_small_part = lawful_such related small_format lawful_small
+
+pub lawful_hall : Lawful hall_format
+lawful_hall = lawful_u32_to 3 (lit< tt)
 
 -- ---- the whole
 

@@ -1,7 +1,7 @@
 -- A renderer in range is read back from its block, which has the block's size. Assumes nothing.
 use mathlib.Core.Path.{◌≡◌, refl, sym, ap, ap₂, subst, ◌∙◌}
 use mathlib.Core.Bool.{Bool, true, false, not, ◌&&◌, ◌||◌}
-use mathlib.Core.List.{List, [], ◌∷◌, ◌++◌}
+use mathlib.Core.List.{List, [], ◌∷◌, ◌++◌, append-nil, append_assoc}
 use Prim.Native.Nat.{ℕ, zero, suc, ◌+◌, ◌-◌, ◌*◌, ◌<◌, ◌≤◌}
 use native.Mathlib.Nat.{zero-add, add-zero}
 use native.Mathlib.Omega.{arith}
@@ -17,18 +17,20 @@ use Rattle.timed.specs.State.{Timed, no_element}
 use Rattle.timed.specs.State as timed
 use Rattle.timed.specs.declared.state.ElementRendererState.{ElementRendererState}
 use Rattle.timed.specs.declared.state.MetadataRendererState.{MetadataRendererState}
+use Rattle.panning.specs.Setup.{hall_with}
 use Rattle.rules.specs.Parts.{Places}
 use Rattle.rules.specs.Samples.{Renderer}
-use Rattle.formats.specs.Areas.{infos_bytes, row_count, row_places, places_format, row_bytes}
+use Rattle.formats.specs.Areas.{infos_bytes, row_count, row_places, places_format, row_bytes, places_bytes}
 use Rattle.store.specs.Bytes.{bytes_of}
 use Rattle.store.specs.Singles.{Brief}
-use Rattle.store.specs.Fields.{element_format, state_format, small_words, small_of}
-use Rattle.store.specs.Layout.{small_width, infos_at, places_at, size, small, assembled, infos_of, places_of, decode, rows_from, place_bytes, encode}
+use Rattle.store.specs.Fields.{element_format, state_format, small_words, small_of, hall_format}
+use Rattle.store.specs.Layout.{small_width, infos_at, places_at, hall_at, size, small, assembled, infos_of, places_of, layout_of, decode}
+use Rattle.store.specs.Layout.{rows_from, place_bytes, layout_bytes, encode}
 use Rattle.store.specs.ValidBlocks.{clock_in, counts_in, least_flags, related, element_related}
 use Rattle.store.specs.Ranged.{ElementRanged, StateRanged, PlacesRanged, BlockRanged}
 use Rattle.store.proofs.Bytes.{words_drop, bytes_length, bytes_bytes, bytes_back, stored}
 use Rattle.store.proofs.PendingRows.{places_row, no_places, rows_bytes, place_bytes_is}
-use Rattle.store.proofs.SmallPartBack.{SmallFull, small_long, small_words_is, small_back}
+use Rattle.store.proofs.SmallPartBack.{SmallFull, lawful_hall, small_long, small_words_is, small_back}
 
 -- ---- what is in range fits its words
 
@@ -114,18 +116,25 @@ module _ (p : Places) (h : PlacesRanged p) where
   rows_long (suc n) k l =
       length-append (bytes_of (p k)) (rows_bytes n (suc k) p) ∙ (let a = row_long k (omega arith) in let b = rows_long n (suc k) (omega arith) in omega arith)
 
-  rows_back : (n k c : ℕ) → n + k ≤ row_count → c < n → words_at (rows_bytes n k p) (row_bytes * c) row_places ≡ p (k + c)
+  -- a row, with anything behind the rows
+  rows_back : (n k c : ℕ) (t : List ℕ) → n + k ≤ row_count → c < n → words_at (rows_bytes n k p ++ t) (row_bytes * c) row_places ≡ p (k + c)
   unfolding rows_bytes
-  rows_back zero k c l m = absurd (omega arith)
-  rows_back (suc n) k zero l m =
-      ap (λ (w : ℕ). words_at (bytes_of (p k) ++ rows_bytes n (suc k) p) 0 w) (sym (h.lengths k (omega arith)))
-      ∙ bytes_back (p k) (rows_bytes n (suc k) p) (h.words k (omega arith)) ∙ ap p (sym (add-zero k))
-  rows_back (suc n) k (suc c) l m =
+  rows_back zero k c t l m = absurd (omega arith)
+  rows_back (suc n) k zero t l m =
+      let rest = rows_bytes n (suc k) p in
+      ap₂ (λ (s : List ℕ) (w : ℕ). words_at s 0 w) (append_assoc (bytes_of (p k)) rest t) (sym (h.lengths k (omega arith)))
+      ∙ bytes_back (p k) (rest ++ t) (h.words k (omega arith)) ∙ ap p (sym (add-zero k))
+  rows_back (suc n) k (suc c) t l m =
       let e : row_bytes * suc c ≡ row_bytes + row_bytes * c = omega arith in
       let f : suc k + c ≡ k + suc c = omega arith in
       let rest = rows_bytes n (suc k) p in
-      rw (e, words_drop (bytes_of (p k) ++ rest) row_bytes (row_bytes * c) row_places, drop_at (bytes_of (p k)) rest row_bytes (row_long k (omega arith)))
-      (rows_back n (suc k) c (omega arith) (omega arith) ∙ ap p f)
+      rw (
+        e,
+        append_assoc (bytes_of (p k)) rest t,
+        words_drop (bytes_of (p k) ++ (rest ++ t)) row_bytes (row_bytes * c) row_places,
+        drop_at (bytes_of (p k)) (rest ++ t) row_bytes (row_long k (omega arith)),
+      )
+      (rows_back n (suc k) c t (omega arith) (omega arith) ∙ ap p f)
 
 -- ---- the block
 
@@ -133,8 +142,14 @@ module _ (r : Renderer Timed) (h : BlockRanged r) where
   abbrev W : List ℕ
   W = small_words (small r)
 
+  abbrev P : List ℕ
+  P = place_bytes r.pending.places
+
+  abbrev L : List ℕ
+  L = layout_bytes r.setup.layout
+
   abbrev R : List ℕ
-  R = place_bytes r.pending.places
+  R = P ++ L
 
   front_long : length (bytes_of W) ≡ infos_at
   front_long = bytes_length W ∙ ap (λ (n : ℕ). 4 * n) (small_long (small r) (small_full r h))
@@ -154,6 +169,28 @@ module _ (r : Renderer Timed) (h : BlockRanged r) where
   rows_at : drop places_at (encode r) ≡ R
   rows_at = sym (drop-drop infos_bytes infos_at (encode r)) ∙ rw rest_back (drop_at r.meta.infos R infos_bytes h.infos.length)
 
+  rows_are : P ≡ rows_bytes row_count 0 r.pending.places
+  rows_are = place_bytes_is r.pending.places h.places.lengths
+
+  places_long : length P ≡ places_bytes
+  places_long = ap length rows_are ∙ rows_long r.pending.places h.places row_count 0 (lit≤ tt)
+
+  layout_long : length L ≡ 4
+  unfolding layout_bytes
+  layout_long = bytes_length (hall_format.put r.setup.layout)
+
+  -- the hall is behind the places
+  layout_at : drop hall_at (encode r) ≡ L
+  layout_at = sym (drop-drop places_bytes places_at (encode r)) ∙ ap (drop places_bytes) rows_at ∙ drop_at P L places_bytes places_long
+
+  pub layout_back : layout_of (encode r) ≡ r.setup.layout
+  unfolding layout_bytes
+  layout_back =
+      let w = hall_format.put r.setup.layout in
+      ap (λ (s : List ℕ). hall_format.get s 0)
+      (ap (λ (at : ℕ). words_at (encode r) at 1) (sym (add-zero hall_at)) ∙ words_drop (encode r) hall_at 0 1
+      ∙ ap (λ (s : List ℕ). words_at s 0 1) (layout_at ∙ sym (append-nil L)) ∙ bytes_back w [] (lawful_hall.words r.setup.layout h.setup.layout))
+
   place_back : (c : ℕ) → places_of (encode r) c ≡ r.pending.places c
   place_back c = by (ltb c row_count) refl
     where
@@ -162,15 +199,15 @@ module _ (r : Renderer Timed) (h : BlockRanged r) where
           let l = ltb-true c row_count e in
           places_row (encode r) c l
           ∙ words_drop (encode r) places_at (row_bytes * c) row_places
-          ∙ ap (λ (s : List ℕ). words_at s (row_bytes * c) row_places) (rows_at ∙ place_bytes_is r.pending.places h.places.lengths)
-          ∙ rows_back r.pending.places h.places row_count 0 c (lit≤ tt) l ∙ ap r.pending.places (zero-add c)
+          ∙ ap (λ (s : List ℕ). words_at s (row_bytes * c) row_places) (rows_at ∙ ap (λ (s : List ℕ). s ++ L) rows_are)
+          ∙ rows_back r.pending.places h.places row_count 0 c L (lit≤ tt) l ∙ ap r.pending.places (zero-add c)
       by false e = let l = ltb-false c row_count e in no_places (encode r) c l ∙ sym (h.places.none c l)
 
   pub decode_encode : decode (encode r) ≡ r
   unfolding decode
   decode_encode =
-      (λ i. assembled ((ap small_of words_back ∙ small_back (small r) (small_full r h)) i) (infos_back i) (λ c. place_back c i))
-      ∙ (λ i. record { setup = sym h.setup i; rate = r.rate; clock = r.clock; limiter = r.limiter; filter = r.filter; meta = r.meta; pending = r.pending })
+      (λ i. assembled ((ap small_of words_back ∙ small_back (small r) (small_full r h)) i) (infos_back i) (λ c. place_back c i) (hall_with (layout_back i)))
+      ∙ (λ i. record { setup = sym h.setup.built i; rate = r.rate; clock = r.clock; limiter = r.limiter; filter = r.filter; meta = r.meta; pending = r.pending })
 
   pub encode_long : length (encode r) ≡ size
   unfolding encode
@@ -178,7 +215,7 @@ module _ (r : Renderer Timed) (h : BlockRanged r) where
       length-append (bytes_of W) (r.meta.infos ++ R)
       ∙ ap₂ (λ (m n : ℕ). m + n) front_long
       (length-append r.meta.infos R ∙ ap₂ (λ (m n : ℕ). m + n) h.infos.length
-      (ap length (place_bytes_is r.pending.places h.places.lengths) ∙ rows_long r.pending.places h.places row_count 0 (lit≤ tt)))
+      (length-append P L ∙ ap₂ (λ (m n : ℕ). m + n) places_long layout_long))
 
 -- ---- bytes
 
@@ -188,20 +225,23 @@ bytes_append (x ∷ a) b p q zero = p 0
 bytes_append (x ∷ a) b p q (suc i) = bytes_append a b (λ j. p (suc j)) q i
 
 pub encode_bytes : (r : Renderer Timed) → Bytes r.meta.infos → Bytes (encode r)
-unfolding encode place_bytes
+unfolding encode place_bytes layout_bytes
 encode_bytes r h =
-    bytes_append (bytes_of (small_words (small r))) (r.meta.infos ++ place_bytes r.pending.places) (bytes_bytes (small_words (small r)))
-    (bytes_append r.meta.infos (place_bytes r.pending.places) h (bytes_bytes (places_format.put (rows_from row_count 0 r.pending.places))))
+    let p = place_bytes r.pending.places in
+    let l = layout_bytes r.setup.layout in
+    bytes_append (bytes_of (small_words (small r))) (r.meta.infos ++ (p ++ l)) (bytes_bytes (small_words (small r)))
+    (bytes_append r.meta.infos (p ++ l) h
+    (bytes_append p l (bytes_bytes (places_format.put (rows_from row_count 0 r.pending.places))) (bytes_bytes (hall_format.put r.setup.layout))))
 
 -- ---- a block that was saved
 
--- the small part of r stored into a block that has r's infos and places
+-- the small part of r stored into a block that has r's infos, places and hall
 pub saved_encode : (b : List ℕ) (r : Renderer Timed) → length b ≡ size → length (small_words (small r)) ≡ small_width → infos_of b ≡ r.meta.infos
-    → drop places_at b ≡ place_bytes r.pending.places
+    → drop places_at b ≡ place_bytes r.pending.places ++ layout_bytes r.setup.layout
     → with_words b 0 (small_words (small r)) ≡ encode r
 unfolding encode
 saved_encode b r l n i p =
     let w = small_words (small r) in
-    let t : drop infos_at b ≡ r.meta.infos ++ place_bytes r.pending.places =
+    let t : drop infos_at b ≡ r.meta.infos ++ (place_bytes r.pending.places ++ layout_bytes r.setup.layout) =
     sym (take-append-drop infos_bytes (drop infos_at b)) ∙ ap₂ (λ (x y : List ℕ). x ++ y) i (drop-drop infos_bytes infos_at b ∙ p) in
     stored w b (omega arith) ∙ ap (λ (k : ℕ). bytes_of w ++ drop (4 * k) b) n ∙ ap (λ (x : List ℕ). bytes_of w ++ x) t

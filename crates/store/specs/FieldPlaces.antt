@@ -2,7 +2,7 @@
 use Rattle.std.specs.Prelude.{ℕ, ◌+◌, ◌*◌}
 use Rattle.formats.specs.Areas.{infos_bytes, places_bytes}
 use Rattle.formats.specs.Format.{u8_to, float, array}
-use Rattle.store.specs.Fields.{vec_format, source_format, element_format, filter_format, counts_format, basics_format, small_format}
+use Rattle.store.specs.Fields.{vec_format, source_format, element_format, filter_format, counts_format, basics_format, small_format, hall_format}
 
 -- ---- in words: the rate, the clock, limiter and low-pass, what is pending
 
@@ -67,7 +67,7 @@ first_at = sources_at + (array 16 source_format).width
 abbrev pub second_at : ℕ
 second_at = first_at + element_format.width
 
--- ---- how many words the small part has; in bytes, where the infos and the places begin, and the whole
+-- ---- how many words the small part has; in bytes, where the infos, the places and the hall begin, and the whole
 
 abbrev pub small_width : ℕ
 small_width = small_format.width
@@ -78,5 +78,11 @@ infos_at = 4 * small_width
 abbrev pub places_at : ℕ
 places_at = infos_at + infos_bytes
 
+abbrev pub hall_at : ℕ
+hall_at = places_at + places_bytes
+
+abbrev pub hall_bytes : ℕ
+hall_bytes = 4 * hall_format.width
+
 abbrev pub size : ℕ
-size = places_at + places_bytes
+size = hall_at + hall_bytes

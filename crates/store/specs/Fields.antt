@@ -1,6 +1,6 @@
--- The small part of the state block: each struct's format, with each field's range. Document 01: "the renderer's state is a block of fixed length, its layout and each field's
--- range written in docs/, its floats of any bits". Its places, its words, what words say and the range test follow from these. What is added to a source goes last in it.
--- Assumes nothing.
+-- The small part of the state block and its hall: each struct's format, with each field's range. Document 01: "the renderer's state is a block of fixed length, its layout and
+-- each field's range written in docs/, its floats of any bits". Its places, its words, what words say and the range test follow from these. What is added to a source goes last
+-- in it. Assumes nothing.
 use Rattle.std.specs.Prelude.{ℕ, Bool, ◌||◌, List, eqb, Float}
 use Rattle.formats.specs.Format.{Format, u32_where, u32_to, u32_below, usize_to, u8_to, flag, float, u64_to, ◌⊗◌, array, struct, ranged}
 pub use Rattle.formats.specs.Vector.{vec_format}
@@ -147,3 +147,8 @@ small_words = small_format.put
 
 unfoldable pub small_of : List ℕ → Renderer714
 small_of w = small_format.get w 0
+
+-- ---- the hall. R-5: "layout code 0 for 7.1.4, then 1, 2, 3"
+
+abbrev pub hall_format : Format ℕ
+hall_format = u32_to 3

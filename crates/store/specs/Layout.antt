@@ -1,5 +1,5 @@
--- The state block, from a renderer and to one. Document 01: "the renderer's state is a block of fixed length". It is 29,072 bytes: the small part's words (1,424), the object
--- infos as they are (24,576), 12 rows of 64 places for pending samples (3,072). What is added later stands behind these. Assumes nothing.
+-- The state block, from a renderer and to one. Document 01: "the renderer's state is a block of fixed length". It is 29,076 bytes: the small part's words (1,424), the object
+-- infos as they are (24,576), 12 rows of 64 places for pending samples (3,072), the code of the hall's layout (4). What is added later stands behind these. Assumes nothing.
 use Rattle.std.specs.Prelude.{ℕ, zero, suc, false, List, [], ◌∷◌, ◌++◌, get_or, take, drop, replicate}
 use Rattle.words.specs.Words.{words_at}
 use Rattle.formats.specs.Areas.{infos_bytes, row_count, places_format, place_count}
@@ -8,22 +8,23 @@ use Rattle.timed.specs.Slot.{middle}
 use Rattle.timed.specs.State.{Timed}
 use Rattle.timed.specs.declared.state.ElementRendererState.{ElementRendererState}
 use Rattle.rules.specs.Parts.{0·0, 1·0, Places, zeros}
-use Rattle.rules.specs.Samples.{built_in, Renderer, idle}
+use Rattle.panning.specs.Setup.{Setup, hall_with}
+use Rattle.rules.specs.Samples.{Renderer, idle}
 use Rattle.store.specs.declared.renderer.Renderer714.{Renderer714}
 use Rattle.store.specs.Bytes.{bytes_of}
-use Rattle.store.specs.Fields.{clock_of, clock_from, small_words, small_of}
-pub use Rattle.store.specs.FieldPlaces.{small_width, infos_at, places_at, size}
+use Rattle.store.specs.Fields.{clock_of, clock_from, small_words, small_of, hall_format}
+pub use Rattle.store.specs.FieldPlaces.{small_width, infos_at, places_at, hall_at, size}
 
 -- ---- a renderer's parts
 
 abbrev pub small : Renderer Timed → Renderer714
 small r = record { rate = r.rate; clock = clock_from r.clock; limiter = r.limiter; filter = r.filter; pending = r.pending.count; state = r.meta.state }
 
--- the small part, with infos and places; the hall is the built-in one, until R-5 puts it into the block
-abbrev pub assembled : Renderer714 → List ℕ → Places → Renderer Timed
-assembled s is ps =
+-- the small part, with infos, places and the hall
+abbrev pub assembled : Renderer714 → List ℕ → Places → Setup → Renderer Timed
+assembled s is ps h =
     record {
-      setup = built_in;
+      setup = h;
       rate = s.rate;
       clock = clock_of s.clock;
       limiter = s.limiter;
@@ -41,9 +42,16 @@ infos_of b = take infos_bytes (drop infos_at b)
 abbrev pub places_of : List ℕ → Places
 places_of b c = get_or (places_format.get (words_at b places_at place_count) 0) c []
 
+-- the layout's code, and the hall: its speakers stand in their built-in places
+abbrev pub layout_of : List ℕ → ℕ
+layout_of b = hall_format.get (words_at b hall_at hall_format.width) 0
+
+abbrev pub setup_in : List ℕ → Setup
+setup_in b = hall_with (layout_of b)
+
 unfoldable pub decode : List ℕ → Renderer Timed
 unfolding small_of
-decode b = assembled (small_of (words_at b 0 small_width)) (infos_of b) (places_of b)
+decode b = assembled (small_of (words_at b 0 small_width)) (infos_of b) (places_of b) (setup_in b)
 
 -- n rows from row c on
 unfoldable pub rows_from : ℕ → ℕ → Places → List (List ℕ)
@@ -54,11 +62,15 @@ unfoldable pub place_bytes : Places → List ℕ
 unfolding bytes_of rows_from
 place_bytes p = bytes_of (places_format.put (rows_from row_count 0 p))
 
-unfoldable pub encode : Renderer Timed → List ℕ
-unfolding small_words bytes_of place_bytes
-encode r = bytes_of (small_words (small r)) ++ (r.meta.infos ++ place_bytes r.pending.places)
+unfoldable pub layout_bytes : ℕ → List ℕ
+unfolding bytes_of
+layout_bytes n = bytes_of (hall_format.put n)
 
--- ---- a new renderer: "A new renderer is a block that reset has filled." No rate, the limiter's gain 1.0, all else 0
+unfoldable pub encode : Renderer Timed → List ℕ
+unfolding small_words bytes_of place_bytes layout_bytes
+encode r = bytes_of (small_words (small r)) ++ (r.meta.infos ++ (place_bytes r.pending.places ++ layout_bytes r.setup.layout))
+
+-- ---- a new renderer. R-5: "a block that a making call has filled". No rate, the limiter's gain 1.0, all else but the hall 0
 
 abbrev pub still : Vec3
 still = record { x = 0·0; y = 0·0; z = 0·0 }
@@ -92,11 +104,11 @@ blank =
       infos = replicate infos_bytes 0;
     }
 
--- `fresh` of the rules in the built-in hall, with `blank`; `encode_fresh` of proofs/Fresh: its block is what reset fills
-abbrev pub fresh_renderer : Renderer Timed
-fresh_renderer =
+-- `fresh` of the rules, with `blank`; `encode_fresh` of proofs/Fresh: its block is what making and reset fill
+abbrev pub fresh_renderer : Setup → Renderer Timed
+fresh_renderer h =
     record {
-      setup = built_in;
+      setup = h;
       rate = 0;
       clock = record { position = 0; phase = 0; start = 0 };
       limiter = record { gain = 1·0 };

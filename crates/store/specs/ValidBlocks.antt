@@ -10,8 +10,8 @@ use Rattle.timed.specs.Slot.{middle}
 use Rattle.timed.specs.State.{element_of}
 use Rattle.timed.specs.declared.state.MetadataRendererState.{MetadataRendererState}
 use Rattle.store.specs.declared.renderer.Renderer714.{Renderer714}
-use Rattle.store.specs.Fields.{small_format}
-use Rattle.store.specs.Layout.{small_width, size, infos_of}
+use Rattle.store.specs.Fields.{small_format, hall_format}
+use Rattle.store.specs.Layout.{small_width, hall_at, size, infos_of}
 pub use Rattle.store.specs.Fields.{longest}
 
 -- ---- what fields owe each other
@@ -52,7 +52,11 @@ small_part = such related small_format
 unfoldable pub small_valid : List ℕ → Bool
 small_valid w = small_part.test w 0
 
+-- R-5: "Reset .. refuses by 1 a block whose code is above 3"
+unfoldable pub hall_valid : List ℕ → Bool
+hall_valid b = hall_format.test (words_at b hall_at hall_format.width) 0
+
 -- "a state block of wrong length, or with a field outside its range": refusal 1
 unfoldable pub valid : List ℕ → Bool
-unfolding small_valid heads_valid
-valid b = eqb (length b) size && small_valid (words_at b 0 small_width) && heads_valid (infos_of b) 0 info_count
+unfolding small_valid heads_valid hall_valid
+valid b = eqb (length b) size && small_valid (words_at b 0 small_width) && heads_valid (infos_of b) 0 info_count && hall_valid b

@@ -4,11 +4,12 @@ ghost use Rattle.formats.specs.NumberWords.{in_words};
 ghost use Rattle.store.specs.Fields.{longest, head_format, element_format, counts_format, tables_format, basics_format, small_format, small_of};
 ghost use Rattle.store.specs.FieldPlaces.{state_at, tables_at};
 ghost use Rattle.store.specs.ValidBlocks as ranges;
-ghost use Rattle.store.specs.ValidBlocks.{clock_in, counts_in, least, element_in, small_valid, valid};
+ghost use Rattle.store.specs.ValidBlocks.{clock_in, counts_in, least, element_in, small_valid, hall_valid, valid};
 
 use crate::{Block, places};
 use formats::areas::heads_valid;
 use formats::{at_most, long, word_of};
+use panning::LAST_LAYOUT;
 use timed::slot::RAMP_OVER;
 
 // The longest stream; the largest offset of a block, and ramp, as they are kept.
@@ -152,13 +153,24 @@ fn small_valid(s: &Block) -> bool
     fields_valid(s) && related(s)
 }
 
+// Whether the layout's code is one of the four.
+#[tactic(auto, unfolding(crate::specs::ValidBlocks::hall_valid))]
+pub fn hall_valid(state: &Block) -> bool
+    ensures { result ≡ hall_valid state.now }
+{
+    crate::layout(state) <= LAST_LAYOUT
+}
+
 // Whether a block has the right length and every field in its range.
-#[tactic(auto, using(crate::proofs::BlockTests::wrong_length, crate::proofs::BlockTests::good_heads, crate::proofs::BlockTests::bad_heads))]
+#[tactic(auto, using(crate::proofs::BlockTests::wrong_length, crate::proofs::BlockTests::good_beside, crate::proofs::BlockTests::bad_heads, crate::proofs::BlockTests::bad_hall))]
 pub fn is_valid(state: &[u8]) -> bool
     ensures { result ≡ valid state.now }
 {
     let Some(block) = state.as_array::<{ crate::SIZE }>() else {
         return false;
     };
-    heads_valid(&block[crate::INFOS..crate::PLACES]) && small_valid(block)
+    if !heads_valid(&block[crate::INFOS..crate::PLACES]) {
+        return false;
+    }
+    hall_valid(block) && small_valid(block)
 }

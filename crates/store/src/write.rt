@@ -3,7 +3,7 @@ ghost use Rattle.std.specs.Prelude.{◌≡◌, ◌*◌};
 ghost use Rattle.words.specs.Words.{with_words};
 ghost use Rattle.store.specs.FieldPlaces.{state_at};
 ghost use Rattle.store.specs.Fields.{state_format, basics_format, basics_of, small_words};
-ghost use Rattle.store.specs.Layout.{assembled, infos_of, places_of, encode};
+ghost use Rattle.store.specs.Layout.{assembled, infos_of, places_of, setup_in, encode};
 
 use crate::entry::put_table;
 use crate::renderer::Renderer714;
@@ -73,7 +73,7 @@ fn put_state(s: &mut Block, x: &MetadataRendererState)
 // The small part of a block, whole; the rest of the block is kept, and so it is the block of a renderer with x for its small part.
 #[tactic(auto, using(crate::proofs::Stores::small_stored, crate::proofs::Saved::whole_stored))]
 pub fn save(state: &mut Block, x: Renderer714)
-    ensures { (state.new ≡ with_words state.old 0 (small_words x)) × (state.new ≡ encode (assembled x (infos_of state.old) (places_of state.old))) }
+    ensures { (state.new ≡ with_words state.old 0 (small_words x)) × (state.new ≡ encode (assembled x (infos_of state.old) (places_of state.old) (setup_in state.old))) }
 {
     put_basics(state, &x);
     put_state(state, &x.state);

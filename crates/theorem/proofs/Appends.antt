@@ -34,6 +34,12 @@ place_word b c i l h = sym (ap (λ (ws : List ℕ). get_or ws i 0) (places_row b
 pub encoded_word : (r : State hall) → Ranged hall Within r → (c i : ℕ) → c < row_count → i < row_places → word (encode r) (place_at c i) ≡ get_or (r.pending.places c) i 0
 encoded_word r g c i l h = place_word (encode r) c i l h ∙ ap (λ (x : State hall). get_or (x.pending.places c) i 0) (back_of r g)
 
+-- a place whose word the renderer keeps keeps its bytes
+pub place_kept : (b : List ℕ) → Bytes b → (r : State hall) → Ranged hall Within r → (c i k : ℕ) → c < row_count → i < row_places → k < 4
+    → get_or (r.pending.places c) i 0 ≡ get_or ((decode b).pending.places c) i 0 → get_or (encode r) (place_at c i + k) 0 ≡ get_or b (place_at c i + k) 0
+place_kept b bytes r g c i k l h j e =
+    same_bytes (encode r) b (encode_bytes r g.meta.infos.bytes) bytes (place_at c i) 4 (encoded_word r g c i l h ∙ e ∙ sym (place_word b c i l h)) k j
+
 module _ (b : List ℕ) (bytes : Bytes b) (a : Args) (lent : Bytes a.meta) (v : valid b ≡ true) (e : found hall (decode b) a ≡ clear) where
   abbrev r : State hall
   r = decode b
@@ -52,10 +58,8 @@ module _ (b : List ℕ) (bytes : Bytes b) (a : Args) (lent : Bytes a.meta) (v : 
   accepted_appends few =
       let q : Behind hall r a few before_ranged.long a.samples = behind hall r a few before_ranged.long a.samples (le_refl a.samples) in
       record {
-        new = λ c t l h. encoded_word next ranged c (r.pending.count + t) l (omega arith) ∙ q.new c t l h;
-        others = λ c i k l h j o.
-            same_bytes (encode next) b (encode_bytes next ranged.meta.infos.bytes) bytes (place_at c i) 4
-            (encoded_word next ranged c i l h ∙ q.others c i o ∙ sym (place_word b c i l h)) k j;
+        new = λ c t l here h. encoded_word next ranged c (r.pending.count + t) l (omega arith) ∙ q.new c t l (subst T (sym here) tt) h;
+        others = λ c i k l h j o. place_kept b bytes next ranged c i k l h j (q.others c i o);
       }
 
 -- ---- as the host calls it

@@ -14,6 +14,7 @@ use Rattle.timed.specs.State.{Timed, no_element}
 use Rattle.timed.specs.declared.state.Track.{Track}
 use Rattle.timed.specs.declared.state.ElementRendererState.{ElementRendererState}
 use Rattle.timed.proofs.Theorems as timed'
+use Rattle.panning.specs.Setup.{hall_with}
 use Rattle.store.specs.Layout.{still, no_blocks, blank}
 use Rattle.store.proofs.Fresh.{fresh_ranged}
 use Rattle.timed.specs.InfoSizes.{info_bytes, all_bytes, send_byte}
@@ -83,7 +84,7 @@ sound_blank =
     }
 
 pub within_blank : Within 0 blank
-within_blank = record { state = fresh_ranged.state; infos = fresh_ranged.infos }
+within_blank = let h = fresh_ranged (hall_with 0) (record { layout = lit≤ tt; built = refl }) in record { state = h.state; infos = h.infos }
 
 pub within_later : (n k : ℕ) (m : Timed) → n ≤ k → Within n m → Within k m
 within_later n k m l h =

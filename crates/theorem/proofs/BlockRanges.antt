@@ -13,7 +13,7 @@ use Rattle.timed.specs.State.{Timed}
 use Rattle.rules.specs.Parts.{Places}
 use Rattle.rules.specs.Refusals.{listed}
 use Rattle.rules.specs.Ranges as rules
-use Rattle.rules.specs.Samples.{built_in, Renderer}
+use Rattle.rules.specs.Samples.{Renderer}
 use Rattle.store.specs.Layout.{size, decode, encode}
 use Rattle.store.specs.ValidBlocks as store
 use Rattle.store.specs.Ranged.{PlacesRanged, BlockRanged}
@@ -93,7 +93,9 @@ back_of r h = whole.decode_encode r (ranged r h)
 pub decoded_of : (b : List ℕ) → Bytes b → store.valid b ≡ true → rules.Ranged hall Within (decode b)
 decoded_of b bs e = unranged (decode b) (decoded'.decode_ranged b bs (subst T (sym e) tt))
 
--- the block holds no hall of its own
-pub setup_of : (b : List ℕ) → (decode b).setup ≡ built_in
+pub hall_valid_of : (r : Renderer Timed) → rules.Ranged hall Within r → store.hall_valid (encode r) ≡ true
+hall_valid_of r h = is_true (store.hall_valid (encode r)) (valid'.hall_encode r (ranged r h))
+
+pub setup_of : (b : List ℕ) → Bytes b → store.hall_valid b ≡ true → rules.HallRanged (decode b).setup
 unfolding decode
-setup_of b = refl
+setup_of b bs e = decoded'.hall_ranged b (subst T (sym e) tt)

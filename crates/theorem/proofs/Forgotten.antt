@@ -9,7 +9,7 @@ use lib.Ieee.{Float, of_bits, binary32}
 use Rattle.ieee.specs.Units.{mag}
 use Rattle.lowpass.specs.Bound.{Bounded}
 use Rattle.lowpass.specs.Forgets.{Subsided}
-use Rattle.rules.specs.Samples.{built_in, fresh}
+use Rattle.rules.specs.Samples.{hall_with, fresh}
 use Rattle.rules.specs.Refusals.{Args}
 use Rattle.rules.specs.Calls.{push}
 use Rattle.rules.specs.Ringing.{feed}
@@ -17,7 +17,7 @@ use Rattle.rules.specs.Sounds.{sound_at}
 use Rattle.rules.specs.Demand3.{AllLent}
 use Rattle.theorem.specs.Instance.{hall, block}
 use Rattle.theorem.proofs.Blank.{zero_bytes}
-use Rattle.theorem.proofs.Demand3.{demand3}
+use Rattle.theorem.proofs.Demand3.{demand3_in}
 use Rattle.theorem.proofs.Opened.{everything}
 use Rattle.theorem.proofs.Heard.{small_bytes}
 
@@ -52,13 +52,13 @@ fed_loud = of_bits binary32 0x4064f054
 abbrev pub fed_quiet : Float
 fed_quiet = of_bits binary32 0x3fe4f054
 
-fed_falling : feed hall (fresh hall built_in) falling ≡ replicate 40 fed_loud ++ replicate 128 fed_quiet
+fed_falling : feed hall (fresh hall (hall_with 0)) falling ≡ replicate 40 fed_loud ++ replicate 128 fed_quiet
 unfolding everything
 fed_falling = refl
 
 -- sample t on channel 3, before the limiter
 abbrev pub bass_at : ℕ → Float
-bass_at t = sound_at hall (fresh hall built_in) falling 3 t
+bass_at t = sound_at hall (fresh hall (hall_with 0)) falling 3 t
 
 above : 2 * mag fed_quiet < mag (bass_at 39)
 unfolding everything
@@ -72,7 +72,7 @@ subsided : Subsided 8000 1 (mag fed_quiet) (replicate 40 fed_loud ++ replicate 1
 unfolding everything
 subsided = record { low = lit≤ tt; high = lit≤ tt; past = lit≤ tt; present = lit≤ tt }
 
-all_fed : 167 < length (feed hall (fresh hall built_in) falling)
+all_fed : 167 < length (feed hall (fresh hall (hall_with 0)) falling)
 all_fed = subst (λ (xs : List Float). 167 < length xs) (sym fed_falling) (lit< tt)
 
 lent : AllLent (push falling ∷ [])
@@ -81,6 +81,6 @@ lent = ((small_bytes falling.pcm tt, small_bytes falling.meta tt, zero_bytes 921
 -- above twice what the quiet samples feed; later no more than that, by demand 3; and not silent
 pub past_gone : (2 * mag fed_quiet < mag (bass_at 39)) × Bounded (2 * mag fed_quiet) (bass_at 167) × (0 < mag (bass_at 167))
 past_gone =
-    let rings = (demand3 (replicate block.size 0) (zero_bytes block.size) (length-replicate {A = ℕ} block.size 0) (push falling ∷ []) lent).rings in
-    let all : take 168 (feed hall (fresh hall built_in) falling) ≡ replicate 40 fed_loud ++ replicate 128 fed_quiet = ap (take 168) fed_falling in
+    let rings = (demand3_in (replicate block.size 0) (zero_bytes block.size) (length-replicate {A = ℕ} block.size 0) 0 (lit≤ tt) (push falling ∷ []) lent).rings in
+    let all : take 168 (feed hall (fresh hall (hall_with 0)) falling) ≡ replicate 40 fed_loud ++ replicate 128 fed_quiet = ap (take 168) fed_falling in
     (above, (rings.0 167 all_fed).forgets 1 (mag fed_quiet) (subst (Subsided 8000 1 (mag fed_quiet)) (sym all) subsided), sounds)

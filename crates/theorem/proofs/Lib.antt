@@ -13,10 +13,12 @@ pub mod Blank
 pub mod BlockRanges
 pub mod Demand3
 pub mod Appends
+pub mod AbsentKept
 pub mod Opened
 pub mod Heard
 pub mod Waiting
 pub mod Forgotten
 pub mod Players
+pub mod Unwritten
 pub mod Marked
 pub mod Theorems

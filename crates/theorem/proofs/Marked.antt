@@ -3,7 +3,7 @@ use Prim.Native.Nat.{ℕ, zero, suc}
 use mathlib.Core.Path.{◌≡◌, refl, ap, ap₂, ◌∙◌}
 use mathlib.Core.List.{List, [], ◌∷◌, map}
 use lib.Dec.{T}
-use lib.Ieee.{Float, binary32, fits, of_bits, sub, mul, le, ne}
+use lib.Ieee.{Float, binary32, fits, of_bits, to_bits, sub, mul, le, ne}
 use lib.Ieee.Bits.{of_bits-fits, is_true}
 use Rattle.words.specs.Words.{number, with_number, float_at}
 use Rattle.ieee.specs.Units.{mag}
@@ -17,7 +17,8 @@ use Rattle.timed.specs.State.{slot_at}
 use Rattle.updates.specs.Applied.{applied}
 use Rattle.panning.specs.Choice.{corner}
 use Rattle.panning.specs.Terms.{panned, audible, paired}
-use Rattle.panning.specs.Speakers.{hall714}
+use Rattle.panning.specs.Speakers.{positions714}
+use Rattle.panning.specs.Setup.{place_in, present, speakers_in, divisor_in, table_of}
 use Rattle.limiter.specs.Limiter.{scaled, lowered, block_peak}
 use Rattle.rules.specs.Parts.{1·0, Places, floats}
 use Rattle.store.specs.Layout.{blank}
@@ -40,6 +41,6 @@ same : (x : Float) → T (fits binary32 x) → mul binary32 x 1·0 ≡ x
 same x f = mul_one x (is_true (fits binary32 x) f)
 
 pub table : All Tells cases
-unfolding sub le ne of_bits mag absolute larger lowered block_peak root root_power number with_number float_at hall714 corner panned audible paired
-    room_anchored moved placed slot_at applied blank
+unfolding sub le ne of_bits to_bits mag absolute larger lowered block_peak root root_power number with_number float_at positions714 place_in present
+    speakers_in divisor_in table_of corner panned audible paired room_anchored moved placed slot_at applied blank
 table = (refl, (refl, (refl, (refl, (refl, (refl, (refl, (refl, (refl, (limits (alone 0x3f80_0000) refl same, (limits (alone 0x4000_0000) refl (λ x f. refl), tt)))))))))))

@@ -1,9 +1,13 @@
 -- What others may cite of this crate, a line each. Assumes nothing.
 
--- demand 3, a call leaves a valid block, the six players, the meters
-pub use Rattle.theorem.proofs.Demand3.{demand3, keeps}
+-- demand 3, each layout is made in each block, a call leaves a valid block, the six players, the meters
+pub use Rattle.theorem.proofs.Demand3.{demand3, makes_accepted, demand3_in, keeps}
 pub use Rattle.theorem.proofs.Players.{not_silent, not_all_refused, all_mixed, every_block, ready_counts, flush_gives}
 pub use Rattle.theorem.proofs.Heard.{meters_show}
+-- R-5: in a hall without a bed's speaker the bed is heard on another; no call writes an output's places of absent channels, no push and no flush a block's
+pub use Rattle.theorem.proofs.Heard.{absent_heard}
+pub use Rattle.theorem.proofs.Unwritten.{absent_unwritten}
+pub use Rattle.theorem.proofs.AbsentKept.{absent_kept}
 -- R-4: a push that completes no block leaves every place but those of its samples alone; two samples that stand behind each other
 pub use Rattle.theorem.proofs.Appends.{appends}
 pub use Rattle.theorem.proofs.Waiting.{both_wait}

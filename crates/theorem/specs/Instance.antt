@@ -13,7 +13,7 @@ use Rattle.updates.specs.Applied.{applied}
 use Rattle.rules.specs.Leaves.{Leaves, Source, Bed, Shape}
 use Rattle.rules.specs.BlockCalls.{Layout}
 use Rattle.store.specs.Layout as store
-use Rattle.store.specs.ValidBlocks.{valid}
+use Rattle.store.specs.ValidBlocks.{hall_valid, valid}
 
 -- an update with its sample offset
 pub record Sent : Type 0 where
@@ -55,4 +55,4 @@ hall =
     }
 
 abbrev pub block : Layout hall
-block = record { size = store.size; valid = valid; decode = store.decode; encode = store.encode }
+block = record { size = store.size; valid = valid; hall_valid = hall_valid; decode = store.decode; encode = store.encode }

@@ -1,3 +1,4 @@
 pub mod Instance
 pub mod Appends
+pub mod AbsentKept
 pub mod Marked

@@ -14,7 +14,7 @@ use Rattle.timed.specs.State.{slot_at}
 use Rattle.updates.specs.Said.{Update}
 use Rattle.updates.specs.Applied.{new_source, applied}
 use Rattle.panning.specs.Terms.{term}
-use Rattle.panning.specs.Speakers.{terms714}
+use Rattle.panning.specs.Setup.{hall_with, terms_in}
 use Rattle.limiter.specs.Limiter.{0·9, block_peak}
 use Rattle.rules.specs.Parts.{0·0, 1·0, twelve, Places, floats}
 use Rattle.rules.specs.Samples.{limited}
@@ -99,7 +99,7 @@ pub record Limits (p g : Float) (f : Float → Float) : Type 0 where
 -- ---- the proposition, and the cases
 
 abbrev pub Tells : Case → Type 0
-Tells (panning p g k cs) = terms714 p g 0·0 ≡ map (λ c. term c k) cs
+Tells (panning p g k cs) = terms_in (hall_with 0) p g 0·0 ≡ map (λ c. term c k) cs
 Tells (block offset timecode applies) = case_object offset timecode ≡ cond applies moved_object new_source
 Tells (power depth y r) = depth_power depth y ≡ r
 Tells (limiter p g f) = Limits p g f

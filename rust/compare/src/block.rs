@@ -12,6 +12,10 @@ pub const ELEMENT: usize = 368;
 pub const INFOS: usize = ELEMENTS + 2 * ELEMENT;
 pub const INFO: usize = 48;
 pub const PLACES: usize = INFOS + 512 * INFO;
+/// The places of a channel.
+pub const ROW: usize = 256;
+/// Where the layout's code stands.
+pub const LAYOUT: usize = PLACES + 12 * ROW;
 /// Where the send stands in a source and in an info.
 pub const SOURCE_SEND: usize = 24;
 pub const INFO_SEND: usize = 44;
@@ -53,7 +57,7 @@ impl Block<'_> {
     }
 
     fn same_pending(&self, channels: &[Vec<f32>]) -> bool {
-        let places = |(c, channel): (usize, &Vec<f32>)| self.holds(PLACES + 256 * c, channel);
+        let places = |(c, channel): (usize, &Vec<f32>)| self.holds(PLACES + ROW * c, channel);
         self.count(64) == channels[0].len() && channels.iter().enumerate().all(places)
     }
 
@@ -128,8 +132,9 @@ impl Block<'_> {
     }
 }
 
-/// The part of the block that is not the Rust's.
-pub fn difference(block: &[u8], state: &State) -> Option<&'static str> {
+/// The part of the block that is not the Rust's, in a hall of that layout. What waits in absent
+/// channels is not looked at.
+pub fn difference(block: &[u8], layout: u32, state: &State) -> Option<&'static str> {
     let block = Block(block);
     let metadata = &state.metadata;
     let source = |(i, s): (usize, &Source)| block.same_source(SOURCES + SOURCE * i, s);
@@ -149,11 +154,24 @@ pub fn difference(block: &[u8], state: &State) -> Option<&'static str> {
             "elements",
             metadata.elements.iter().enumerate().all(element),
         ),
+        ("layout", block.word(LAYOUT) == layout),
     ];
     parts.iter().find(|(_, same)| !same).map(|(name, _)| *name)
 }
 
-/// The state of the Rust that a block in range holds.
+/// The code that a block holds.
+pub fn layout(block: &[u8]) -> u32 {
+    Block(block).word(LAYOUT)
+}
+
+/// Whether a layout has a channel (document 02, R-5).
+pub fn has(layout: u32, channel: usize) -> bool {
+    const LACKS: [&[usize]; 4] = [&[], &[4, 5], &[8, 9, 10, 11], &[4, 5, 8, 9, 10, 11]];
+    !LACKS[layout as usize].contains(&channel)
+}
+
+/// The state of the Rust that a block in range holds; also what waits in channels that its layout
+/// lacks.
 pub fn state(block: &[u8]) -> State {
     let block = Block(block);
     let rate = block.word(0);
@@ -169,7 +187,7 @@ pub fn state(block: &[u8]) -> State {
         limiter_pending: (0..12)
             .map(|c| {
                 (0..pending)
-                    .map(|i| block.float(PLACES + 256 * c + 4 * i))
+                    .map(|i| block.float(PLACES + ROW * c + 4 * i))
                     .collect()
             })
             .collect(),

@@ -1,7 +1,7 @@
 //! Calls as a host makes them, over bytes.
 
 use crate::entry::{self, Answer};
-use crate::{Frames, Generator, records};
+use crate::{Frames, Generator, block, records};
 use oracle::frame::Frame;
 
 /// The arguments of a push but for what is lent to write.
@@ -34,6 +34,8 @@ pub enum Step {
     Push(Call),
     Flush,
     Reset,
+    /// By the layout's code.
+    Make(u32),
 }
 
 impl Step {
@@ -43,6 +45,15 @@ impl Step {
             Step::Push(call) => entry::push(state, call, out, stride),
             Step::Flush => entry::flush(state, out, stride),
             Step::Reset => entry::reset(state),
+            Step::Make(layout) => entry::make(state, *layout),
+        }
+    }
+
+    /// The layout behind the call, on a block as long as a block is.
+    pub fn layout(&self, state: &[u8]) -> u32 {
+        match self {
+            Step::Make(layout) => *layout,
+            _ => block::layout(state),
         }
     }
 }
@@ -65,6 +76,8 @@ pub fn bed_frame(samples: usize) -> Call {
 pub struct Calls {
     inputs: Generator,
     frames: Frames,
+    /// The layout that most making calls have, where there are such calls.
+    makes: Option<u32>,
 }
 
 impl Calls {
@@ -72,6 +85,7 @@ impl Calls {
         Calls {
             inputs: Generator::new(!seed),
             frames: Frames::new(seed, most_samples),
+            makes: None,
         }
     }
 
@@ -80,6 +94,7 @@ impl Calls {
         Calls {
             inputs: Generator::new(!seed),
             frames: Frames::for_entries(seed, most_samples),
+            makes: None,
         }
     }
 
@@ -88,6 +103,7 @@ impl Calls {
         Calls {
             inputs: Generator::new(!seed),
             frames: Frames::lifting(seed, most_samples),
+            makes: None,
         }
     }
 
@@ -96,12 +112,19 @@ impl Calls {
         Calls {
             inputs: Generator::new(!seed),
             frames: Frames::sending(seed, most_samples),
+            makes: None,
         }
     }
 
     /// All frames have sends to the bass feed, or none has.
     pub fn with_sends(mut self, sends: bool) -> Self {
         self.frames.set_sends(sends);
+        self
+    }
+
+    /// Half of the resets are making calls, mostly of that layout, also of others and of none.
+    pub fn with_making(mut self, layout: u32) -> Self {
+        self.makes = Some(layout);
         self
     }
 
@@ -112,10 +135,7 @@ impl Calls {
 
     pub fn next_step(&mut self) -> Step {
         match self.inputs.below(24) {
-            0 => {
-                self.frames.restart();
-                Step::Reset
-            }
+            0 => self.new_renderer(),
             1..4 => Step::Flush,
             _ => {
                 let mut call = Call::from(&self.frames.next_frame());
@@ -125,6 +145,24 @@ impl Calls {
                 Step::Push(call)
             }
         }
+    }
+}
+
+impl Calls {
+    fn new_renderer(&mut self) -> Step {
+        let Calls { inputs, makes, .. } = self;
+        let made = makes
+            .filter(|_| inputs.chance(2))
+            .map(|layout| match inputs.below(8) {
+                0 => inputs.pick(&[4, 5, 256, 1 << 31, u32::MAX]),
+                1 => inputs.below(4) as u32,
+                _ => layout,
+            });
+        // A refused one starts nothing.
+        if made.is_none_or(|layout| layout < 4) {
+            self.frames.restart();
+        }
+        made.map_or(Step::Reset, Step::Make)
     }
 }
 

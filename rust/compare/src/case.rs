@@ -30,11 +30,14 @@ impl Case {
         Seen { answer, state, out }
     }
 
-    /// The refusal among 1 to 8 but 7, by a reading that needs no Rust; else 0.
+    /// The refusal among 1 to 8 but 7, and 15, by a reading that needs no Rust; else 0.
     pub fn early(&self) -> u32 {
         let lent = || rightly_lent(&self.state, self.out.len(), self.stride);
         match &self.step {
-            Step::Reset => u32::from(self.state.len() != BLOCK),
+            _ if self.state.len() != BLOCK => 1,
+            Step::Make(layout) if *layout > 3 => 15,
+            Step::Make(_) => 0,
+            Step::Reset => u32::from(block::layout(&self.state) > 3),
             _ if !lent() => 1,
             Step::Flush => 0,
             Step::Push(call) => {
@@ -48,7 +51,9 @@ impl Case {
     /// What the documents and the Rust have it come to, with the renderer that it leaves.
     fn expected(&self) -> (Outcome, Option<Model>) {
         match (self.early(), &self.step) {
-            (0, Step::Reset) => (Outcome::Reset, None),
+            (0, step @ (Step::Reset | Step::Make(_))) => {
+                (Outcome::New(step.layout(&self.state)), None)
+            }
             (0, step) => {
                 let mut model = Model::of_block(&self.state);
                 (model.step(step, self.stride as usize), Some(model))
@@ -71,10 +76,12 @@ impl Case {
         assert!(written, "{name}: {outcome:?}: the output");
         match &outcome {
             Outcome::Ready(..) => assert!(ranges::hold(&seen.state), "{name}: the ranges"),
-            Outcome::Reset => assert!(seen.state == fresh(), "{name}: a new renderer"),
+            Outcome::New(layout) => {
+                assert!(seen.state == fresh(*layout), "{name}: a new renderer");
+            }
             _ => assert!(seen.state == self.state, "{name}: {outcome:?}: the block"),
         }
-        let differs = model.and_then(|model| block::difference(&seen.state, &model.state()));
+        let differs = model.and_then(|model| model.difference(&seen.state));
         assert_eq!(differs, None, "{name}: the renderer in the block");
         outcome
     }

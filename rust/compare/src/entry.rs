@@ -1,7 +1,9 @@
 //! The entries that crates/hall exports, over slices, with no guard around them.
 
 use crate::calls::Call;
-use voqlisna_sys::{hall_flush, hall_from_planes, hall_push, hall_reset, hall_to_planes};
+use voqlisna_sys::{
+    hall_flush, hall_from_planes, hall_make, hall_push, hall_reset, hall_to_planes,
+};
 
 pub use voqlisna_sys::Answer;
 
@@ -50,6 +52,12 @@ pub fn flush(state: &mut [u8], out: &mut [u8], stride: u32) -> Answer {
             stride,
         )
     }
+}
+
+/// `layout` is a code.
+pub fn make(state: &mut [u8], layout: u32) -> Answer {
+    // SAFETY: one slice that lives through the call.
+    unsafe { hall_make(state.as_mut_ptr(), state.len(), layout) }
 }
 
 pub fn reset(state: &mut [u8]) -> Answer {

@@ -5,17 +5,18 @@ use crate::entry::{self, Answer, BLOCK, same_answer};
 use crate::model::{Model, Outcome, STREAM_END};
 use crate::{Frames, same};
 
-/// What reset makes of any block.
-pub fn fresh() -> Vec<u8> {
+/// What making makes of any block.
+pub fn fresh(layout: u32) -> Vec<u8> {
     let mut state = vec![0xa5; BLOCK];
-    let answer = entry::reset(&mut state);
-    assert!(same_answer(answer, Outcome::Reset.answer()), "{answer:?}");
+    let answer = entry::make(&mut state, layout);
+    let made = Outcome::New(layout).answer();
+    assert!(same_answer(answer, made), "{answer:?}");
     state
 }
 
-/// A block after some calls.
+/// A block after some calls, of one layout after the other.
 pub fn used_block(seed: u64) -> Vec<u8> {
-    let mut host = Host::new(256);
+    let mut host = Host::in_layout(256, seed as u32 % 4);
     let mut frames = Frames::new(seed, 256);
     for _ in 0..6 {
         let call = Call::from(&frames.next_frame());
@@ -57,9 +58,15 @@ pub struct Host {
 }
 
 impl Host {
+    /// A new renderer of layout 0.
     pub fn new(stride: usize) -> Self {
+        Host::in_layout(stride, 0)
+    }
+
+    /// A new renderer of that layout.
+    pub fn in_layout(stride: usize, layout: u32) -> Self {
         Host {
-            state: fresh(),
+            state: fresh(layout),
             out: vec![0x5a; 48 * stride],
             stride,
         }
@@ -92,8 +99,8 @@ impl Host {
     pub fn step(&mut self, model: &mut Model, step: &Step, name: &str) -> Outcome {
         let outcome = model.step(step, self.stride);
         self.calls(&outcome, |s, o, n| step.call(s, o, n), name);
-        if outcome == Outcome::Reset {
-            assert!(self.state == fresh(), "{name}");
+        if let Outcome::New(layout) = outcome {
+            assert!(self.state == fresh(layout), "{name}");
         }
         outcome
     }

@@ -2,7 +2,9 @@
 //! which blocks are in range, and blocks drawn from all of these.
 
 use crate::Generator;
-use crate::block::{ELEMENT, ELEMENTS, INFO, INFO_SEND, INFOS, SOURCE, SOURCE_SEND, SOURCES};
+use crate::block::{
+    ELEMENT, ELEMENTS, INFO, INFO_SEND, INFOS, LAYOUT, SOURCE, SOURCE_SEND, SOURCES,
+};
 use crate::entry::BLOCK;
 use crate::model::STREAM_END;
 use std::sync::LazyLock;
@@ -75,6 +77,7 @@ fn table() -> Vec<Field> {
         let most = [63, 2, 3, 0];
         fields.extend((0..4).map(|k| field(head + k, 1, 0, most[k])));
     }
+    fields.push(layout());
     fields
 }
 
@@ -99,6 +102,11 @@ fn counts() -> [Field; 4] {
         field(88, 4, 0, 18),
         field(92, 4, 0, 2),
     ]
+}
+
+/// The layout's code.
+pub fn layout() -> Field {
+    field(LAYOUT, 4, 0, 3)
 }
 
 fn blocks(element: usize) -> Field {

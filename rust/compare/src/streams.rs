@@ -16,6 +16,7 @@ pub fn append(stream: &mut Vec<u8>, step: &Step) {
         Step::Push(call) => call,
         Step::Flush => return stream.extend(record(7)),
         Step::Reset => return stream.extend(record(8)),
+        Step::Make(_) => panic!("hallrender makes its renderer itself"),
     };
     let mut header = record(5);
     header[4..8].copy_from_slice(&call.rate.to_le_bytes());
@@ -149,7 +150,7 @@ fn print(text: &mut String, outcome: &Outcome) {
             writeln!(text, "refused {number} {first} {second}").unwrap();
         }
         Outcome::Nothing => text.push_str("none\n"),
-        Outcome::Reset => text.push_str("reset\n"),
+        Outcome::New(_) => text.push_str("reset\n"),
     }
 }
 

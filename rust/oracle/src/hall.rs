@@ -16,8 +16,13 @@ pub struct Hall {
 impl Hall {
     /// All channels, where the sources have them.
     pub fn built_in() -> Self {
+        Self::of_layout(0)
+    }
+
+    /// The channels of a layout, where the sources have them.
+    pub fn of_layout(layout: u8) -> Self {
         Self {
-            layout: 0,
+            layout,
             table: leaf::speakers(),
         }
     }

@@ -27,6 +27,7 @@ mod answer;
 pub mod exact;
 pub mod frame;
 mod hall;
+pub mod reading;
 pub mod state;
 
 /// A file of the sources, unchanged but for the nearest values.

@@ -3,6 +3,7 @@
 use crate::trouble::Trouble;
 use lexopt::{Arg, Parser, prelude::*};
 use std::ffi::OsString;
+use voqlisna::{Layout, UnknownLayout};
 
 /// What a refused frame does to a rendering.
 #[derive(Clone, Copy, PartialEq)]
@@ -13,7 +14,7 @@ pub enum Policy {
 
 #[derive(Clone, Copy)]
 pub enum Picture {
-    Map,
+    Map(Layout),
     Bass,
     Decay,
     Limiter,
@@ -34,6 +35,7 @@ pub struct Render {
     pub from: OsString,
     pub to: OsString,
     pub policy: Policy,
+    pub layout: Layout,
     pub rf64: bool,
     pub meters: Meters,
 }
@@ -41,6 +43,7 @@ pub struct Render {
 pub struct Demo {
     pub to: OsString,
     pub seconds: f64,
+    pub layout: Layout,
     pub meters: Meters,
 }
 
@@ -112,10 +115,11 @@ fn parse(mut parser: Parser) -> Result<Command, Trouble> {
         Some(other) => return Err(unknown(&other, &["help", "version"])),
     };
     let known: &[&str] = match name.as_str() {
-        "demo" => &["o", "s", "meters"],
-        "render" => &["o", "conceal", "stop", "rf64", "meters"],
+        "demo" => &["o", "s", "layout", "meters"],
+        "render" => &["o", "conceal", "stop", "layout", "rf64", "meters"],
         "unarchive" => &["o", "rf64"],
-        "undump" | "archive" | "map" | "plot" => &["o"],
+        "map" => &["o", "layout"],
+        "undump" | "archive" | "plot" => &["o"],
         _ => &[],
     };
     let given = Given::read(&mut parser, known)?;
@@ -136,7 +140,7 @@ fn command(name: &str, given: Given) -> Result<Command, Trouble> {
         "undump" => given.undump(),
         "archive" => given.archive(),
         "unarchive" => given.unarchive(),
-        "map" => given.none().and_then(|g| g.draw(Picture::Map)),
+        "map" => given.none().and_then(Given::map),
         "plot" => given.plot(),
         "version" => given.none().map(|_| Command::Version),
         "help" => given.none().map(|_| Command::Help),
@@ -153,6 +157,7 @@ struct Given {
     values: Vec<OsString>,
     to: Option<OsString>,
     seconds: Option<OsString>,
+    layout: Option<OsString>,
     /// The option, and its file where it names one.
     meters: Option<Option<OsString>>,
     conceal: bool,
@@ -171,6 +176,9 @@ impl Given {
                 }
                 Short('s') if known.contains(&"s") => {
                     given.seconds = Some(parser.value().map_err(wrong)?);
+                }
+                Long("layout") if known.contains(&"layout") => {
+                    given.layout = Some(parser.value().map_err(wrong)?);
                 }
                 Long("conceal") if known.contains(&"conceal") => given.conceal = true,
                 Long("stop") if known.contains(&"stop") => given.stop = true,
@@ -211,6 +219,18 @@ impl Given {
         })
     }
 
+    /// 7.1.4 where none is named.
+    fn layout(&self) -> Result<Layout, Trouble> {
+        let Some(name) = &self.layout else {
+            return Ok(Layout::Hall714);
+        };
+        let layout = name.to_str().and_then(|name| name.parse().ok());
+        layout.ok_or_else(|| {
+            let name = name.to_string_lossy();
+            Trouble::Wrong(format!("--layout {name}: {UnknownLayout}"))
+        })
+    }
+
     /// `to`: where the samples go.
     fn meters(&self, to: &OsString) -> Result<Meters, Trouble> {
         match &self.meters {
@@ -244,10 +264,11 @@ impl Given {
                 })?,
         };
         let to = given.to.clone().unwrap_or_else(|| "show.wav".into());
-        let meters = given.meters(&to)?;
+        let (layout, meters) = (given.layout()?, given.meters(&to)?);
         Ok(Command::Demo(Demo {
             to,
             seconds,
+            layout,
             meters,
         }))
     }
@@ -268,6 +289,7 @@ impl Given {
             } else {
                 Policy::Conceal
             },
+            layout: self.layout()?,
             rf64: self.rf64,
         }))
     }
@@ -303,6 +325,11 @@ impl Given {
             from: self.only("TEXT")?,
             to: self.to("a programme")?,
         })
+    }
+
+    fn map(self) -> Result<Command, Trouble> {
+        let layout = self.layout()?;
+        self.draw(Picture::Map(layout))
     }
 
     fn plot(self) -> Result<Command, Trouble> {
@@ -399,7 +426,7 @@ mod tests {
         }
     }
 
-    const TAKEN: [&str; 29] = [
+    const TAKEN: [&str; 33] = [
         "demo",
         "demo -o x -s 0.5",
         "demo -s20",
@@ -411,6 +438,10 @@ mod tests {
         "render a -o b --conceal",
         "render - -o - --stop",
         "render a -o b --rf64",
+        "render a -o b --layout 5.1.4",
+        "demo --layout=7.1.0",
+        "map --layout 5.1.0 -o b",
+        "map --layout 7.1.4 -o b",
         "check a",
         "dump -",
         "undump a -o b",
@@ -432,7 +463,7 @@ mod tests {
     ];
 
     /// Lines, and what is said of them.
-    const NOT: [(&str, &str); 24] = [
+    const NOT: [(&str, &str); 29] = [
         ("rendr a", "unknown command rendr; did you mean render?"),
         ("sing", "unknown command sing"),
         (
@@ -444,6 +475,17 @@ mod tests {
             "unknown option --meter; did you mean --meters?",
         ),
         ("check a --meters", "unknown option --meters"),
+        ("hex a --layout 5.1.4", "unknown option --layout"),
+        ("plot levels -o b --layout 5.1.4", "unknown option --layout"),
+        (
+            "render a -o b --layout 5.1",
+            "--layout 5.1: a layout is 7.1.4, 5.1.4, 7.1.0 or 5.1.0",
+        ),
+        (
+            "map -o b --layuot 5.1.0",
+            "unknown option --layuot; did you mean --layout?",
+        ),
+        ("demo --layout", "missing argument for option '--layout'"),
         ("render a -o b --meters c", "unexpected argument c"),
         (
             "render a -o b --meters=",

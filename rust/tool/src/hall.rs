@@ -4,7 +4,7 @@ use crate::arguments::Policy;
 use crate::programme::{Ask, Broken, Packet, Programme};
 use crate::trouble::Trouble;
 use std::collections::BTreeMap;
-use voqlisna::{Concealer, MakeError, Output, Refusal, Rendered, Renderer, Stride};
+use voqlisna::{Concealer, Layout, MakeError, Output, Refusal, Rendered, Renderer, Stride};
 
 /// A frame that was refused.
 pub struct Refused<'a> {
@@ -70,10 +70,10 @@ pub struct Hall {
 }
 
 impl Hall {
-    pub fn new() -> Result<Self, Trouble> {
+    pub fn new(layout: Layout) -> Result<Self, Trouble> {
         let stride = Stride::MAX;
         Ok(Self {
-            renderer: renderer()?,
+            renderer: renderer(layout)?,
             out: Output::new(stride),
             concealer: Concealer::new(stride),
             rate: None,
@@ -168,8 +168,8 @@ impl Hall {
 }
 
 /// A new renderer, if library and tool are of one version.
-pub fn renderer() -> Result<Renderer, Trouble> {
-    Renderer::new().map_err(|e| match e {
+pub fn renderer(layout: Layout) -> Result<Renderer, Trouble> {
+    Renderer::new(layout).map_err(|e| match e {
         MakeError::Version { expected, found } => Trouble::Wrong(format!(
             "the library is version {found} and this tool is for {expected}: run tools/staticlib hall again"
         )),

@@ -1,17 +1,17 @@
 // SPDX-License-Identifier: Apache-2.0
-//! Reads a WAVE file such as `wave` writes: twelve channels in f32, RIFF or RF64, sizes known or open.
-use crate::archive::{MOST, ROW};
+//! Reads a WAVE file such as `wave` writes: a layout's channels in f32, RIFF or RF64, sizes known or open.
+use crate::archive::MOST;
 use crate::numbers::grouped;
 use crate::programme::{Broken, Window};
-use crate::wave::format;
+use crate::wave::Format;
 use std::io::Read;
-use voqlisna::Rate;
+use voqlisna::{Layout, Rate};
 
 const CUT: &str = "the file ends before its samples";
 
 pub struct WaveReader<R> {
     window: Window<R>,
-    rate: Rate,
+    format: Format,
     /// Bytes of samples that are not read yet; none where the reader goes on to the end.
     left: Option<u64>,
 }
@@ -19,7 +19,7 @@ pub struct WaveReader<R> {
 /// What stood in the chunks before the samples.
 #[derive(Default)]
 struct Head {
-    rate: Option<Rate>,
+    format: Option<Format>,
     /// The size of the samples where 32 bits do not say it.
     long: Option<u64>,
 }
@@ -37,7 +37,7 @@ impl<R: Read> WaveReader<R> {
             let (name, size) = chunk(&mut window)?;
             match &name {
                 b"data" => return Self::begin(window, head, size),
-                b"fmt " => head.rate = Some(rate(&mut window, size)?),
+                b"fmt " => head.format = Some(format(&mut window, size)?),
                 b"ds64" => head.long = Some(long(&mut window)?),
                 _ => {}
             }
@@ -47,36 +47,43 @@ impl<R: Read> WaveReader<R> {
 
     /// The samples begin here.
     fn begin(window: Window<R>, head: Head, size: u32) -> Result<Self, Broken> {
-        let Some(rate) = head.rate else {
+        let Some(format) = head.format else {
             return Err(bad(&window, "samples before their format"));
         };
         let left = match size {
             u32::MAX => head.long,
             size => Some(size.into()),
         };
-        if left.is_some_and(|n| n % ROW as u64 != 0) {
-            return Err(bad(&window, "the samples are not whole rows of 48 bytes"));
+        let row = format.row();
+        if left.is_some_and(|n| n % row as u64 != 0) {
+            let why = format!("the samples are not whole rows of {row} bytes");
+            return Err(bad(&window, &why));
         }
-        Ok(Self { window, rate, left })
+        Ok(Self {
+            window,
+            format,
+            left,
+        })
     }
 
-    pub fn rate(&self) -> Rate {
-        self.rate
+    pub fn format(&self) -> Format {
+        self.format
     }
 
     /// Up to 1,536 samples, sample after sample; none at the end.
     pub fn next(&mut self, rows: &mut Vec<u8>) -> Result<bool, Broken> {
         rows.clear();
-        let most = self.left.unwrap_or(u64::MAX).min((ROW * MOST) as u64) as usize;
+        let row = self.format.row();
+        let most = self.left.unwrap_or(u64::MAX).min((row * MOST) as u64) as usize;
         let bytes = self.window.look(most).map_err(Broken::Read)?;
-        let (got, whole) = (bytes.len(), bytes.len() / ROW * ROW);
+        let (got, whole) = (bytes.len(), bytes.len() / row * row);
         rows.extend_from_slice(&bytes[..whole]);
         self.window.take(whole);
         self.left = self.left.map(|n| n - whole as u64);
         if whole > 0 || got == 0 && self.left.unwrap_or(0) == 0 {
             return Ok(whole > 0);
         }
-        let missing = self.left.map_or((ROW - got) as u64, |n| n - got as u64);
+        let missing = self.left.map_or((row - got) as u64, |n| n - got as u64);
         let why = format!(
             "the file ends inside its samples ({} bytes are missing)",
             grouped(missing)
@@ -99,8 +106,8 @@ fn chunk(window: &mut Window<impl Read>) -> Result<([u8; 4], u32), Broken> {
     Ok(told)
 }
 
-/// The rate, where the format is that of twelve channels in f32 with the speakers' mask.
-fn rate(window: &mut Window<impl Read>, size: u32) -> Result<Rate, Broken> {
+/// The format, where it is that of a layout's channels in f32 with the speakers' mask.
+fn format(window: &mut Window<impl Read>, size: u32) -> Result<Format, Broken> {
     let most = size.min(40) as usize;
     let told = window.look(most).map_err(Broken::Read)?;
     if told.len() < most {
@@ -110,15 +117,24 @@ fn rate(window: &mut Window<impl Read>, size: u32) -> Result<Rate, Broken> {
     let Some(rate) = hertz.and_then(|w| Rate::new(u32::from_le_bytes(w))) else {
         return Err(bad(window, "a rate outside 8,000 to 192,000 Hz"));
     };
-    let mut wanted = Vec::new();
-    format(rate.hertz(), &mut wanted);
-    match told == &wanted[8..] {
-        true => Ok(rate),
-        false => Err(bad(
+    let formats = Layout::ALL.map(|layout| Format {
+        rate: rate.hertz(),
+        layout,
+    });
+    let is_told = |format: &Format| {
+        let mut wanted = Vec::new();
+        format.write(&mut wanted);
+        told == &wanted[8..]
+    };
+    let format = formats.into_iter().find(is_told);
+    format.ok_or_else(|| {
+        let masks = Layout::ALL.map(|layout| format!("{:#x}", layout.wave_mask()));
+        let masks = masks.join(", ");
+        bad(
             window,
-            "not twelve channels in f32 with the speakers' mask 0x2d63f",
-        )),
-    }
+            &format!("not a layout's channels in f32 with their mask ({masks})"),
+        )
+    })
 }
 
 /// The size of the samples in 64 bits.

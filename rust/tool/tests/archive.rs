@@ -3,6 +3,7 @@
 mod common;
 use common::{Dice, Folder, feed, programme, run};
 use std::fs;
+use voqlisna::{Layout, Speaker};
 
 /// Bytes before the samples of a WAVE file that `render` writes, and before the first frame of an archive.
 const WAVE_HEAD: usize = 104;
@@ -91,6 +92,44 @@ fn rendered_shows_come_back_as_render_wrote_them() {
     }
 }
 
+/// In smaller layouts the archive has the code, and zeros for the channels that are not there.
+#[test]
+fn shows_of_every_layout_come_back() {
+    let folder = Folder::new("archive-layouts");
+    let (wav, hall, back) = (
+        folder.file("a.wav"),
+        folder.file("a.hall"),
+        folder.file("b.wav"),
+    );
+    let from = folder.with("in", &programme(6, 1_536));
+    for layout in Layout::ALL {
+        let said = run(&["render", &from, "--layout", layout.name(), "-o", &wav]);
+        assert_eq!(said.code, 0, "{}", said.err);
+        assert_eq!(run(&["archive", &wav, "-o", &hall]).code, 0);
+        assert_eq!(run(&["unarchive", &hall, "-o", &back]).code, 0);
+        let (wav, back) = (fs::read(&wav).unwrap(), fs::read(&back).unwrap());
+        assert!(wav.len() > 10_000 && wav == back, "{layout}");
+        // The same show in 7.1.4, its absent channels silent, has the same planes.
+        let rate = u32::from_le_bytes(wav[60..64].try_into().unwrap());
+        let speakers = layout.speakers();
+        let rows = wav[WAVE_HEAD..].chunks_exact(4 * speakers.len());
+        let twelve = rows.flat_map(|row| {
+            Speaker::ALL.map(|speaker| {
+                let place = speakers.iter().position(|s| *s == speaker);
+                let word = place.map_or(&[0; 4][..], |k| &row[4 * k..4 * k + 4]);
+                <[u8; 4]>::try_from(word).unwrap()
+            })
+        });
+        let twelve: Vec<u8> = twelve.flatten().collect();
+        let mut wanted = archived(rate, &twelve);
+        if layout != Layout::Hall714 {
+            wanted[8] = 2;
+            wanted.splice(HEAD..HEAD, layout.code().to_le_bytes());
+        }
+        assert!(fs::read(&hall).unwrap() == wanted, "{layout}");
+    }
+}
+
 /// On pipes the WAVE files' sizes are open.
 #[test]
 fn through_pipes() {
@@ -137,7 +176,8 @@ fn other_files_are_not_archived() {
         bytes
     };
     let none = "byte 0: this is no WAVE file";
-    let other = "byte 56: not twelve channels in f32 with the speakers' mask 0x2d63f";
+    let other =
+        "byte 56: not a layout's channels in f32 with their mask (0x2d63f, 0x2d60f, 0x63f, 0x60f)";
     let short = |at: usize| format!("byte {at}: the file ends before its samples");
     for (bytes, message) in [
         (vec![], none),
@@ -205,9 +245,11 @@ fn a_damaged_archive_gives_the_samples_before_the_damage() {
         (good[..15].to_vec(), none),
         (changed(7, b"X"), none),
         (
-            changed(8, &[2]),
-            "byte 0: an archive of version 2, and this tool reads version 1",
+            changed(8, &[3]),
+            "byte 0: an archive of version 3, and this tool reads versions 1 and 2",
         ),
+        // The count of the first frame, 1,536, as a layout's code.
+        (changed(8, &[2]), "byte 0: an archive without a layout"),
         (changed(12, &[0; 4]), "byte 0: a rate of 0 Hz"),
     ] {
         assert_eq!(is_wrong(&folder, "unarchive", &bytes, message), []);

@@ -19,7 +19,7 @@ fn help_and_version() {
     let version = run(&["version"]);
     let size = <Renderer>::block_size();
     let wanted = format!(
-        "voqlisna {}, library {}, state block {},{:03} bytes\n",
+        "voqlisna {}, library {}, state block {},{:03} bytes, layouts 7.1.4 5.1.4 7.1.0 5.1.0\n",
         env!("CARGO_PKG_VERSION"),
         sys::hall_version(),
         size / 1_000,

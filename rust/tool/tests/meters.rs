@@ -5,7 +5,7 @@ use common::{FLUSH, Folder, TOOL, feed, frame, pipe, programme, run, update};
 use std::fs;
 use std::process::Command;
 use std::time::Instant;
-use voqlisna::Bed;
+use voqlisna::{Bed, Layout};
 
 const COLUMNS: &str = "time_s\tpeak\tgain\tpeak_db\treduction_db";
 
@@ -36,7 +36,7 @@ fn lines(text: &str) -> Vec<Line> {
     rows.lines().map(line).collect()
 }
 
-/// The largest size of twelve channels' samples.
+/// The largest size of all channels' samples.
 fn largest(rows: &[u8]) -> f32 {
     let words = rows.chunks_exact(4);
     let sizes = words.map(|word| f32::from_le_bytes(word.try_into().unwrap()).abs());
@@ -44,7 +44,8 @@ fn largest(rows: &[u8]) -> f32 {
 }
 
 /// Document 01: "if p × g > 1, g becomes 0.9 / p; scale; then g grows by length / rate, at most 1". In frames of up to
-/// 64 samples a call gives out one block at most, so each line is a block's.
+/// 64 samples a call gives out one block at most, so each line is a block's. In a smaller layout the peak is that of its
+/// channels.
 #[test]
 fn each_line_is_its_block() {
     let folder = Folder::new("lines");
@@ -52,9 +53,19 @@ fn each_line_is_its_block() {
     let (mut blocks, mut limited) = (0, 0);
     for seed in 0..200 {
         let bytes = programme(seed, 64);
+        let layout = Layout::ALL[seed as usize % 4];
+        let row = 4 * layout.speakers().len();
         let rate = f64::from(u32::from_le_bytes(bytes[4..8].try_into().unwrap()));
         let said = feed(
-            &["render", "-", "-o", &to, &format!("--meters={meters}")],
+            &[
+                "render",
+                "-",
+                "-o",
+                &to,
+                "--layout",
+                layout.name(),
+                &format!("--meters={meters}"),
+            ],
             &bytes,
         );
         assert_eq!((said.code, said.err.as_str()), (0, ""));
@@ -64,9 +75,10 @@ fn each_line_is_its_block() {
         let (mut gain, mut at) = (1f32, 0);
         for (k, line) in lines.iter().enumerate() {
             assert_eq!(start(line), at, "{line:?}");
-            at = lines.get(k + 1).map_or(rows.len() / 48, start);
-            let block = &rows[48 * start(line)..48 * at];
-            assert!((1..=64).contains(&(block.len() / 48)), "{line:?}");
+            at = lines.get(k + 1).map_or(rows.len() / row, start);
+            let block = &rows[row * start(line)..row * at];
+            let samples = at - start(line);
+            assert!((1..=64).contains(&samples), "{line:?}");
             let used = if line.peak * gain > 1.0 {
                 0.9 / line.peak
             } else {
@@ -77,7 +89,7 @@ fn each_line_is_its_block() {
                 (used, line.peak * used),
                 "{line:?}"
             );
-            gain = (used + (block.len() / 48) as f32 / rate as f32).min(1.0);
+            gain = (used + samples as f32 / rate as f32).min(1.0);
             limited += u32::from(used < 1.0);
         }
         blocks += lines.len();

@@ -108,6 +108,9 @@ fn a_demo_of_any_length() {
 fn the_pictures_are_those_of_the_documents() {
     for (name, args) in [
         ("map", vec!["map"]),
+        ("map-5.1.4", vec!["map", "--layout", "5.1.4"]),
+        ("map-7.1.0", vec!["map", "--layout", "7.1.0"]),
+        ("map-5.1.0", vec!["map", "--layout", "5.1.0"]),
         ("bass", vec!["plot", "bass"]),
         ("decay", vec!["plot", "decay"]),
         ("limiter", vec!["plot", "limiter"]),

@@ -4,6 +4,7 @@ mod common;
 use common::{FLUSH, Folder, RESET, damaged, feed, frame, has_sox, pipe, programme, run};
 use std::fs;
 use std::process::Command;
+use voqlisna::{Bed, Frame, Metadata, Output, Pcm, Rate, Renderer, Stride};
 
 const HEAD: usize = 104;
 
@@ -15,18 +16,23 @@ fn long(bytes: &[u8], at: usize) -> u64 {
     u64::from_le_bytes(bytes[at..at + 8].try_into().unwrap())
 }
 
-/// What stands in the first bytes whatever the sizes are.
 fn is_twelve_floats(wav: &[u8], rate: u32) {
+    is_floats(wav, rate, 12, 0x2d63f);
+}
+
+/// What stands in the first bytes whatever the sizes are, of so many channels with that mask.
+fn is_floats(wav: &[u8], rate: u32, channels: u32, mask: u32) {
     assert_eq!(&wav[8..12], b"WAVE");
     assert_eq!(word(wav, 16), 28);
     assert_eq!(&wav[48..52], b"fmt ");
     assert_eq!(word(wav, 52), 40);
-    assert_eq!(word(wav, 56), 0x000c_fffe, "extensible, 12 channels");
+    assert_eq!(word(wav, 56), 0xfffe | channels << 16, "extensible");
     assert_eq!(word(wav, 60), rate);
-    assert_eq!(word(wav, 64), 48 * rate);
-    assert_eq!(word(wav, 68), 0x0020_0030, "48 bytes a row, 32 bits");
+    assert_eq!(word(wav, 64), 4 * channels * rate);
+    let row = 4 * channels;
+    assert_eq!(word(wav, 68), 0x0020_0000 | row, "bytes a row, 32 bits");
     assert_eq!(word(wav, 72), 0x0020_0016, "22 bytes more, 32 bits in use");
-    assert_eq!(word(wav, 76), 0x2d63f);
+    assert_eq!(word(wav, 76), mask);
     assert_eq!(
         wav[80..96],
         *b"\x03\0\0\0\0\0\x10\0\x80\0\0\xaa\0\x38\x9b\x71"
@@ -63,6 +69,76 @@ fn samples_are_the_words_of_hex() {
         samples += words.len() / 48;
     }
     assert!(samples > 10_000);
+}
+
+/// Each layout's file has its channels, in their order, with its mask; the same programme by the crate.
+#[test]
+fn a_file_has_the_channels_of_the_layout() {
+    let folder = Folder::new("layouts");
+    let to = folder.file("out.wav");
+    let names = "FL FR FC LFE SL SR TFL TFR TBL TBR";
+    for (layout, channels, mask, said) in [
+        (
+            "7.1.4",
+            12,
+            0x2d63f,
+            "12 channels (FL FR FC LFE BL BR SL SR TFL TFR TBL TBR)",
+        ),
+        ("5.1.4", 10, 0x2d60f, &format!("10 channels ({names})")),
+        ("7.1.0", 8, 0x63f, "8 channels (FL FR FC LFE BL BR SL SR)"),
+        ("5.1.0", 6, 0x60f, "6 channels (FL FR FC LFE SL SR)"),
+    ] {
+        for seed in 0..20 {
+            let bytes = programme(seed, 256);
+            let rendered = feed(&["render", "-", "--layout", layout, "-o", &to], &bytes);
+            assert_eq!((rendered.code, rendered.err.as_str()), (0, ""));
+            assert!(rendered.text().contains(said), "{}", rendered.text());
+            let wav = fs::read(&to).unwrap();
+            is_floats(&wav, word(&bytes, 4), channels, mask);
+            assert_eq!(word(&wav, 4) as usize, wav.len() - 8);
+            assert_eq!(word(&wav, 100) as usize, wav.len() - HEAD);
+            assert!(
+                wav[HEAD..] == by_the_crate(layout, &bytes),
+                "{layout} {seed}"
+            );
+        }
+    }
+}
+
+/// The samples of a programme of frames and flushes by the crate, sample after sample.
+fn by_the_crate(layout: &str, bytes: &[u8]) -> Vec<u8> {
+    let mut renderer = Renderer::new(layout.parse().unwrap()).unwrap();
+    let (mut out, mut rows) = (Output::new(Stride::MAX), Vec::new());
+    let mut records = bytes.chunks(40);
+    while let Some(head) = records.next() {
+        let half = |at: usize| usize::from(u16::from_le_bytes([head[at], head[at + 1]]));
+        let (samples, beds, objects) = (half(8), usize::from(head[10]), usize::from(head[11]));
+        let metadata: Vec<u8> = records.by_ref().take(half(12)).flatten().copied().collect();
+        let places = (beds + objects) * samples;
+        let sound = records.by_ref().take(places.div_ceil(9));
+        let pcm: Vec<u8> = sound
+            .flat_map(|r| &r[4..])
+            .copied()
+            .take(4 * places)
+            .collect();
+        let rendered = if head[0] == 5 {
+            let beds: Vec<Bed> = head[14..14 + beds]
+                .iter()
+                .map(|c| Bed::from_code(*c).unwrap())
+                .collect();
+            let pcm = Pcm::bytes(&pcm, beds.len() + objects).unwrap();
+            let rate = Rate::new(word(head, 4)).unwrap();
+            let frame = Frame::new(rate, &beds, pcm, Metadata::from_records(&metadata)).unwrap();
+            Some(renderer.push(&frame, &mut out).unwrap())
+        } else {
+            renderer.flush(&mut out)
+        };
+        let Some(rendered) = rendered else { continue };
+        let mut interleaved = vec![0.0; 12 * rendered.ready()];
+        let written = rendered.interleave_into(&mut interleaved).unwrap();
+        rows.extend(interleaved[..written].iter().flat_map(|x| x.to_le_bytes()));
+    }
+    rows
 }
 
 #[test]

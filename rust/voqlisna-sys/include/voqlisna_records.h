@@ -115,6 +115,7 @@ static inline const char *hall_refusal_text(uint32_t number) {
     case 12: return "the frame has no samples";
     case 13: return "the frame lacks a bed of the metadata";
     case 14: return "the metadata has a bed of rear center, which no speaker plays";
+    case 15: return "the layout's code is above 3";
     case 22: return "more than 1,536 samples to convert";
     case 23: return "the samples to convert have another length, or the destination is too short";
     default: return "an unknown refusal";

@@ -18,11 +18,14 @@
 
 /// The version of the interface that these declarations are of; [`hall_version`] answers the
 /// library's.
-pub const VERSION: u32 = 3;
+pub const VERSION: u32 = 4;
 
 /// Bytes of a state block of this version, for blocks that are not on a heap; [`hall_state_size`]
 /// answers the library's.
-pub const STATE_SIZE: usize = 29_072;
+pub const STATE_SIZE: usize = 29_076;
+
+/// Where a block of this version has its layout's code, a little-endian u32: its last four bytes.
+pub const LAYOUT_AT: usize = STATE_SIZE - 4;
 
 /// What every entry answers but [`hall_state_size`] and [`hall_version`].
 #[repr(C)]
@@ -55,7 +58,8 @@ unsafe extern "C" {
     /// Steps with every change of the block's layout or of a signature.
     pub safe fn hall_version() -> u32;
 
-    /// Renders a frame: kind 0 or 1.
+    /// Renders a frame: kind 0 or 1. Nothing is written to the output's places of channels that the
+    /// layout lacks.
     pub fn hall_push(
         state: *mut u8,
         state_length: usize,
@@ -82,8 +86,14 @@ unsafe extern "C" {
         stride: u32,
     ) -> Answer;
 
-    /// Makes a new renderer of a block, whatever its bytes were: kind 3, or 1 where its length is
-    /// another.
+    /// Makes a new renderer of a block, whatever its bytes were: kind 3, or kind 1 by 1 (the block
+    /// has another length) or else by 15 (the layout's code is above 3). Code 0 is 7.1.4; 1 is
+    /// 5.1.4, without channels 4 and 5; 2 is 7.1.0, without channels 8 to 11; 3 is 5.1.0, without
+    /// either.
+    pub fn hall_make(state: *mut u8, state_length: usize, layout: u32) -> Answer;
+
+    /// Makes a new renderer of the layout that the block has: kind 3, or kind 1 by 1 (the block has
+    /// another length, or a layout's code above 3). It looks at no other field.
     pub fn hall_reset(state: *mut u8, state_length: usize) -> Answer;
 
     /// Writes the f32 samples of twelve channels, channel after channel, as planes: the least

@@ -3,6 +3,9 @@
 
 /// The label of a bed channel.
 ///
+/// A bed whose speaker the layout lacks is panned to its place, over the speakers that are there;
+/// its level is then the root of its gain.
+///
 /// The codes are those of the metadata, 0 to 17, so a code that push refuses cannot be said.
 ///
 /// ```

@@ -18,7 +18,7 @@ use voqlisna_sys::Answer;
 /// # writer.update(Update { at: 0, objects: 1, fixed: 0, beds: &[] })?;
 /// # let update = writer.finish();
 /// let stride = Stride::MAX;
-/// let (mut renderer, mut out) = (Renderer::new()?, Output::new(stride));
+/// let (mut renderer, mut out) = (Renderer::new(Layout::Hall714)?, Output::new(stride));
 /// let mut concealer = Concealer::new(stride);
 /// let mut sound = [0.5; 256];
 /// for broken in [false, true] {
@@ -174,7 +174,7 @@ impl<B: Bytes> Renderer<B> {
             concealer.remember(frame);
         }
         Ok(Outcome {
-            rendered: out.rendered(answer),
+            rendered: out.rendered(answer, self.layout()),
             way,
             refusal,
         })

@@ -2,7 +2,7 @@
 //! The entries over slices, in the default float mode.
 
 use crate::memory::as_bytes_mut;
-use crate::{Bed, Frame, Stride, with_default_floats};
+use crate::{Bed, Frame, Layout, Stride, with_default_floats};
 use voqlisna_sys::{self as sys, Answer};
 
 pub(crate) fn push(state: &mut [u8], frame: &Frame<'_>, out: &mut [f32], stride: Stride) -> Answer {
@@ -44,6 +44,12 @@ pub(crate) fn flush(state: &mut [u8], out: &mut [f32], stride: Stride) -> Answer
             stride.places(),
         )
     })
+}
+
+pub(crate) fn make(state: &mut [u8], layout: Layout) -> Answer {
+    let code = layout.code();
+    // SAFETY: one slice that lives through the call.
+    with_default_floats(|| unsafe { sys::hall_make(state.as_mut_ptr(), state.len(), code) })
 }
 
 pub(crate) fn reset(state: &mut [u8]) -> Answer {

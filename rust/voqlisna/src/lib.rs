@@ -1,11 +1,11 @@
 // SPDX-License-Identifier: Apache-2.0
 //! A proved 7.1.4 hall renderer, safe from Rust: beds and moving objects in, twelve loudspeaker
-//! feeds out.
+//! feeds out, or fewer in a smaller [`Layout`].
 //!
 //! ```
 //! use voqlisna::*;
 //!
-//! let mut renderer = Renderer::new()?;
+//! let mut renderer = Renderer::new(Layout::Hall714)?;
 //! let mut out = Output::new(Stride::for_frames_of(480).ok_or("too long")?);
 //!
 //! // One object in the middle of the room.
@@ -49,6 +49,7 @@ mod entry;
 mod explain;
 mod floats;
 mod frame;
+mod layout;
 mod memory;
 mod metadata;
 mod object;
@@ -72,6 +73,7 @@ pub use conceal::{Concealer, Outcome, Way};
 pub use explain::{Argument, Arguments, Cause, explain};
 pub use floats::with_default_floats;
 pub use frame::Frame;
+pub use layout::{Layout, UnknownLayout};
 pub use memory::{Bytes, Floats};
 pub use metadata::Metadata;
 pub use object::{Anchor, Block, Depth, Object};

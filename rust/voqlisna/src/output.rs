@@ -3,7 +3,7 @@
 
 use crate::memory::{Floats, OwnFloats};
 use crate::shape::SAMPLES;
-use crate::{Rendered, ShapeError, Speaker};
+use crate::{Layout, Rendered, ShapeError, Speaker};
 use voqlisna_sys::Answer;
 
 /// Places of a channel in the output, and so the most samples of a frame: a multiple of 64 from 64
@@ -58,7 +58,8 @@ impl Stride {
     }
 }
 
-/// Memory for twelve channels of `stride` places, which a call fills and [`Rendered`] reads.
+/// Memory for twelve channels of `stride` places, which a call fills and [`Rendered`] reads. The
+/// places of channels that a layout lacks keep what they have.
 ///
 /// ```
 /// use voqlisna::{Output, ShapeError, Stride};
@@ -103,8 +104,8 @@ impl<M: Floats> Output<M> {
         self.memory.lend()
     }
 
-    pub(crate) fn rendered(&self, answer: Answer) -> Rendered<'_> {
-        Rendered::new(self.memory.get(), self.stride, answer)
+    pub(crate) fn rendered(&self, answer: Answer, layout: Layout) -> Rendered<'_> {
+        Rendered::new(self.memory.get(), self.stride, answer, layout)
     }
 }
 

@@ -60,6 +60,8 @@ pub enum Refusal {
         /// Its code: 6, rear center.
         code: u32,
     },
+    /// 15: a layout's code above 3. Cannot arise through this crate.
+    Layout,
     /// 22: more than 1,536 samples to convert.
     ConvertedSamples,
     /// 23: the samples to convert have another length, or the destination is too short.
@@ -122,6 +124,7 @@ impl Refusal {
             12 => Self::NoSamples,
             13 => Self::BedMissing { expected: first },
             14 => Self::BedUnsupported { code: first },
+            15 => Self::Layout,
             22 => Self::ConvertedSamples,
             23 => Self::ConvertedLength,
             number => Self::Other {
@@ -148,6 +151,7 @@ impl Refusal {
             Self::NoSamples => 12,
             Self::BedMissing { .. } => 13,
             Self::BedUnsupported { .. } => 14,
+            Self::Layout => 15,
             Self::ConvertedSamples => 22,
             Self::ConvertedLength => 23,
             Self::Other { number, .. } => number,
@@ -192,6 +196,7 @@ impl fmt::Display for Refusal {
             Self::Sample => "a sample is not finite or beyond ±16",
             Self::NoUpdate => "no metadata has come yet",
             Self::NoSamples => "the frame has no samples",
+            Self::Layout => "the layout's code is above 3",
             Self::ConvertedSamples => "more than 1,536 samples to convert",
             Self::ConvertedLength => {
                 "the samples to convert have another length, or the destination is too short"

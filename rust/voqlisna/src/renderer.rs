@@ -2,7 +2,7 @@
 //! The renderer.
 
 use crate::memory::{Bytes, Floats, OwnBytes};
-use crate::{Frame, Output, Refusal, Rendered, entry};
+use crate::{Frame, Layout, Output, Refusal, Rendered, entry};
 use core::fmt;
 use voqlisna_sys::{self as sys, Answer};
 
@@ -20,7 +20,7 @@ use voqlisna_sys::{self as sys, Answer};
 ///
 /// ```
 /// use voqlisna::*;
-/// let mut renderer = Renderer::new()?;
+/// let mut renderer = Renderer::new(Layout::Hall714)?;
 /// let mut out = Output::new(Stride::MAX);
 /// let frame = Frame::new(Rate::HZ_48000, &[], Pcm::packed(&[0.0; 100], 1)?, Metadata::NONE)?;
 /// assert_eq!(renderer.push(&frame, &mut out).err(), Some(Refusal::NoUpdate));
@@ -29,13 +29,22 @@ use voqlisna_sys::{self as sys, Answer};
 /// ```
 pub struct Renderer<B: Bytes = OwnBytes> {
     block: B,
+    layout: Layout,
 }
 
 #[cfg(feature = "alloc")]
 impl Renderer {
-    /// A new renderer in memory of its own.
-    pub fn new() -> Result<Self, MakeError> {
-        Self::make(crate::memory::zeros(sys::hall_state_size()))
+    /// A new renderer of that layout, in memory of its own.
+    ///
+    /// ```
+    /// use voqlisna::{Layout, Renderer};
+    /// let mut renderer = Renderer::new(Layout::Hall510)?;
+    /// renderer.reset();
+    /// assert_eq!(renderer.layout(), Layout::Hall510);
+    /// # Ok::<(), voqlisna::MakeError>(())
+    /// ```
+    pub fn new(layout: Layout) -> Result<Self, MakeError> {
+        Self::make(crate::memory::zeros(sys::hall_state_size()), layout)
     }
 }
 
@@ -55,34 +64,42 @@ impl<'m> Renderer<&'m mut [u8]> {
     /// content.
     ///
     /// ```
-    /// use voqlisna::{Renderer, sys};
+    /// use voqlisna::{Layout, Renderer, sys};
     /// let mut memory = [0; sys::STATE_SIZE];
-    /// assert!(Renderer::over(&mut memory).is_ok());
-    /// assert!(Renderer::over(&mut memory[1..]).is_err());
+    /// assert!(Renderer::over(&mut memory, Layout::Hall714).is_ok());
+    /// assert!(Renderer::over(&mut memory[1..], Layout::Hall714).is_err());
     /// ```
-    pub fn over(memory: &'m mut [u8]) -> Result<Self, MakeError> {
-        Self::make(memory)
+    pub fn over(memory: &'m mut [u8], layout: Layout) -> Result<Self, MakeError> {
+        Self::make(memory, layout)
     }
 }
 
 impl<B: Bytes> Renderer<B> {
-    fn make(mut block: B) -> Result<Self, MakeError> {
+    fn make(mut block: B, layout: Layout) -> Result<Self, MakeError> {
         let (expected, found) = (sys::VERSION, sys::hall_version());
         if expected != found {
             return Err(MakeError::Version { expected, found });
         }
-        // A reset refuses a block of another length and nothing else.
-        match Refusal::from_answer(entry::reset(block.lend())) {
+        // Of a layout that there is, making refuses a block of another length and nothing else.
+        match Refusal::from_answer(entry::make(block.lend(), layout)) {
             Some(_) => Err(MakeError::Length {
                 needed: sys::hall_state_size(),
             }),
-            None => Ok(Self { block }),
+            None => Ok(Self { block, layout }),
         }
     }
 
-    /// Takes up a block that is valid.
-    pub(crate) const fn adopt(block: B) -> Self {
-        Self { block }
+    /// Takes up a block that is valid. Such a block has the code of a layout.
+    pub(crate) fn adopt(block: B) -> Self {
+        let code = block.get().get(sys::LAYOUT_AT..).unwrap_or_default();
+        let code = code.try_into().map_or(0, u32::from_le_bytes);
+        let layout = Layout::from_code(code).unwrap_or_default();
+        Self { block, layout }
+    }
+
+    /// Of its hall.
+    pub const fn layout(&self) -> Layout {
+        self.layout
     }
 
     /// Renders a frame. Whole blocks of 64 samples become ready; up to 63 samples wait for the next
@@ -93,10 +110,8 @@ impl<B: Bytes> Renderer<B> {
         out: &'o mut Output<M>,
     ) -> Result<Rendered<'o>, Refusal> {
         let stride = out.stride();
-        read(
-            entry::push(self.block.lend(), frame, out.lend(), stride),
-            out,
-        )
+        let answer = entry::push(self.block.lend(), frame, out.lend(), stride);
+        read(answer, out, self.layout)
     }
 
     /// Gives out what waits, at a programme's end; none where nothing waits. The renderer goes on
@@ -107,7 +122,7 @@ impl<B: Bytes> Renderer<B> {
     /// # let mut memory = [0; MetadataWriter::bytes_for(1, &[])];
     /// # let mut writer = MetadataWriter::new(&mut memory);
     /// # writer.update(Update { at: 0, objects: 1, fixed: 0, beds: &[] })?;
-    /// # let mut renderer = Renderer::new()?;
+    /// # let mut renderer = Renderer::new(Layout::Hall714)?;
     /// # let mut out = Output::new(Stride::MAX);
     /// let frame = Frame::new(Rate::HZ_48000, &[], Pcm::packed(&[0.0; 100], 1)?, writer.finish())?;
     /// assert_eq!(renderer.push(&frame, &mut out)?.ready(), 64);
@@ -120,12 +135,14 @@ impl<B: Bytes> Renderer<B> {
         let answer = entry::flush(self.block.lend(), out.lend(), stride);
         // A flush refuses only what is lent (1), which this crate settles; what is left is kind 0,
         // or 2: nothing waits.
-        read(answer, out).ok().filter(|_| answer.kind == 0)
+        let read = read(answer, out, self.layout);
+        read.ok().filter(|_| answer.kind == 0)
     }
 
-    /// A new stream. Samples that wait are lost: flush first.
+    /// A new stream in the same layout. Samples that wait are lost: flush first.
     pub fn reset(&mut self) {
-        entry::reset(self.block.lend()); // refuses a block of another length, which this is not
+        // Refuses a block of another length, or without a layout, which this is not.
+        entry::reset(self.block.lend());
     }
 
     /// The state block, as docs/STATE-BLOCK.md lays it out.
@@ -139,16 +156,22 @@ impl<B: Bytes> Renderer<B> {
     }
 }
 
-fn read<M: Floats>(answer: Answer, out: &Output<M>) -> Result<Rendered<'_>, Refusal> {
+fn read<M: Floats>(
+    answer: Answer,
+    out: &Output<M>,
+    layout: Layout,
+) -> Result<Rendered<'_>, Refusal> {
     match Refusal::from_answer(answer) {
         Some(refusal) => Err(refusal),
-        None => Ok(out.rendered(answer)),
+        None => Ok(out.rendered(answer, layout)),
     }
 }
 
 impl<B: Bytes> fmt::Debug for Renderer<B> {
     fn fmt(&self, f: &mut fmt::Formatter<'_>) -> fmt::Result {
-        f.debug_struct("Renderer").finish_non_exhaustive()
+        f.debug_struct("Renderer")
+            .field("layout", &self.layout)
+            .finish_non_exhaustive()
     }
 }
 

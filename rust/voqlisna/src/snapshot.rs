@@ -13,13 +13,14 @@ const HEAD: usize = 16;
 /// u32, then the block.
 ///
 /// ```
-/// use voqlisna::{Renderer, Snapshot, SnapshotError};
-/// let renderer = Renderer::new()?;
+/// use voqlisna::{Layout, Renderer, Snapshot, SnapshotError};
+/// let renderer = Renderer::new(Layout::Hall514)?;
 /// let mut file = vec![0; Snapshot::size()];
 /// renderer.save(&mut file)?;
 ///
 /// let again = Renderer::restore(Snapshot::read(&file)?)?;
 /// assert_eq!(again.block(), renderer.block());
+/// assert_eq!(again.layout(), Layout::Hall514);
 ///
 /// file[100] ^= 1;
 /// assert_eq!(Snapshot::read(&file).err(), Some(SnapshotError::Damaged));

@@ -18,7 +18,7 @@ const SPARE: usize = 128;
 /// # let mut memory = [0; MetadataWriter::bytes_for(1, &[])];
 /// # let mut writer = MetadataWriter::new(&mut memory);
 /// # writer.update(Update { at: 0, objects: 1, fixed: 0, beds: &[] })?;
-/// # let (mut renderer, mut out) = (Renderer::new()?, Output::new(Stride::MAX));
+/// # let (mut renderer, mut out) = (Renderer::new(Layout::Hall714)?, Output::new(Stride::MAX));
 /// # let frame = Frame::new(Rate::HZ_48000, &[], Pcm::packed(&[0.0; 480], 1)?, writer.finish())?;
 /// let mut steady = Steady::fixed(480)?;
 /// assert_eq!(steady.latency(), 32);
@@ -108,7 +108,7 @@ impl<M: Floats> Steady<M> {
         self.held
     }
 
-    /// Takes what a call gave. Fails, and takes nothing, where it does not fit: after pushes of as
+    /// Takes what a call gave; a channel that its layout lacks is silent. Fails, and takes nothing, where it does not fit: after pushes of as
     /// many samples as are taken out it always fits.
     pub fn put(&mut self, rendered: &Rendered<'_>) -> Result<(), ShapeError> {
         let needed = self.held.saturating_add(rendered.ready());
@@ -116,12 +116,12 @@ impl<M: Floats> Steady<M> {
             return Err(ShapeError::Memory { needed });
         }
         let at = self.place(self.held);
-        for (speaker, samples) in rendered.channels() {
+        for speaker in Speaker::ALL {
             let row = self.row(speaker);
             let row = self.ring.lend().get_mut(row).unwrap_or_default();
             let (behind, from) = row.split_at_mut_checked(at).unwrap_or_default();
-            for (place, x) in from.iter_mut().chain(behind).zip(samples) {
-                *place = *x;
+            for (place, x) in from.iter_mut().chain(behind).zip(rendered.whole(speaker)) {
+                *place = x;
             }
         }
         self.held = needed;

@@ -49,7 +49,7 @@ impl Player {
     fn new() -> Self {
         let stride = Stride::for_frames_of(SAMPLES as u32).unwrap();
         Self {
-            renderer: Renderer::new().unwrap(),
+            renderer: Renderer::new(voqlisna::Layout::Hall714).unwrap(),
             out: Output::new(stride),
             steady: Steady::fixed(SAMPLES).unwrap(),
             stage: Stage::new(stride, 2),

@@ -1,20 +1,35 @@
--- `reset`: a block of another length is left; any other is filled.
-use mathlib.Core.Path.{sym, ap, ◌∙◌}
+-- `reset`: a block of another length, or with a code above 3, is left; any other is filled.
+use Prim.Native.Nat.{ℕ}
+use mathlib.Core.Path.{refl, sym, ap, ◌∙◌}
+use native.Mathlib.Omega.{arith}
 use borrow.Author.Tests.{eq-eqb, ne_eqb}
+use Rattle.panning.specs.Setup.{hall_with}
 use Rattle.rules.specs.Calls.{reset}
-use Rattle.rules.specs.BlockCalls.{Outcome}
-use Rattle.hall.specs.Answers.{code_of}
-use Rattle.hall.proofs.WaysOut.{wrong, resets}
+use Rattle.store.specs.Layout.{layout_of, encode, fresh_renderer}
+use Rattle.store.specs.ValidBlocks.{hall_valid}
+use Rattle.store.proofs.Theorems.{layout_most}
+use Rattle.hall.proofs.WaysOut.{made_as, wrong, too_short, no_hall, resets}
 use Rattle.hall.proofs.reset.Goals as goal
 
 pub returns-in_default : goal.returns-in_default
 returns-in_default c =
     let b = c.args.state.now in
-    let e = sym (wrong reset b (ne_eqb _ _ c.in_default.ensures.cases)) in
-    (ap (λ (o : Outcome). code_of o.answer) e, ap (λ (o : Outcome). o.state) e)
+    made_as (wrong reset b (too_short b (ne_eqb _ _ c.in_default.ensures.cases))) (record { answer = refl; block = refl })
+
+pub returns-then-not-hall_valid : goal.returns-then-not-hall_valid
+returns-then-not-hall_valid c =
+    let h = c.in-Some.ensures.cases in
+    made_as (no_hall c.args.state.now (eq-eqb _ _ h.long) (ap hall_valid (sym h.same) ∙ sym c.hall_valid.ensures ∙ c.if-not-hall_valid.true))
+    (record { answer = refl; block = h.same })
+
+pub make-requires : goal.make-requires
+make-requires c = omega (arith, layout_most c.in-Some.block.now (sym c.hall_valid.ensures ∙ c.if-not-hall_valid.false), c.layout-layout.ensures)
 
 pub returns : goal.returns
 returns c =
     let h = c.in-Some.ensures.cases in
-    let e = sym (resets c.args.state.now (eq-eqb _ _ h.long)) in
-    (ap (λ (o : Outcome). code_of o.answer) e, c.reset.ensures ∙ ap (λ (o : Outcome). o.state) e)
+    made_as (resets c.args.state.now (eq-eqb _ _ h.long) (ap hall_valid (sym h.same) ∙ sym c.hall_valid.ensures ∙ c.if-not-hall_valid.false))
+    (record {
+      answer = refl;
+      block = c.make.ensures ∙ ap (λ (n : ℕ). encode (fresh_renderer (hall_with n))) (c.layout-layout.ensures ∙ ap layout_of h.same);
+    })

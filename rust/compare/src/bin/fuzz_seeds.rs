@@ -17,6 +17,18 @@ fn head(operation: u8, stride: u8) -> [u8; 32] {
     head
 }
 
+/// A reset with an odd stride's byte: a making call, its layout's code at byte 8, or from 240 on that
+/// of bytes 2 to 5.
+fn make(layout: u32) -> [u8; 32] {
+    let mut head = head(6, 1);
+    head[2..6].copy_from_slice(&layout.to_le_bytes());
+    head[8] = u8::try_from(layout)
+        .ok()
+        .filter(|&code| code < 5)
+        .unwrap_or(240);
+    head
+}
+
 /// The PCM is told by its loudness alone, in the fuzzer's steps.
 fn loudness(call: &Call) -> u8 {
     let samples = floats(&call.pcm);
@@ -39,15 +51,17 @@ fn push(call: &Call, stride: u8) -> Vec<u8> {
     [&head[..], &call.meta[..]].concat()
 }
 
-/// Up to 12 calls; one list in eight goes to the stream's end, one has a byte of its block written.
+/// A making call and up to 12 others; one list in eight goes to the stream's end, one has a byte of its block written.
 fn list(seed: u64) -> Vec<u8> {
     let mut inputs = Generator::new(seed);
-    let mut calls = if inputs.chance(4) {
+    let calls = if inputs.chance(4) {
         Calls::lifting(seed, 256)
     } else {
         Calls::new(seed, 256)
     };
-    let mut list = Vec::new();
+    let layout = seed as u32 % 4;
+    let mut calls = calls.with_making(layout);
+    let mut list = make(layout).to_vec();
     let mut records = 0;
     for _ in 0..4 + inputs.below(9) {
         match calls.next_step() {
@@ -58,6 +72,7 @@ fn list(seed: u64) -> Vec<u8> {
             Step::Push(_) => (),
             Step::Flush => list.extend(head(5, 0)),
             Step::Reset => list.extend(head(6, 0)),
+            Step::Make(layout) => list.extend(make(layout)),
         }
         match inputs.below(64) {
             0 => {

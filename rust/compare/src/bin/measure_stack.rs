@@ -89,6 +89,7 @@ fn tell(what: &str, (bytes, answer): (usize, Answer)) {
 
 fn measure() {
     let (mut state, mut out) = (vec![0; BLOCK], vec![0; 48 * STRIDE]);
+    tell("make", depth(&mut || entry::make(&mut state, 0)));
     tell("reset", depth(&mut || entry::reset(&mut state)));
     for samples in [1, 64, 1_536] {
         let call = frame(samples);

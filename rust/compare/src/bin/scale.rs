@@ -9,9 +9,10 @@ use std::time::{Duration, Instant};
 use std::{env, panic, process, thread};
 
 const USAGE: &str = "\
-usage: scale [--minutes M | --runs N] [--seed S] [--threads T]
+usage: scale [--minutes M | --runs N] [--layout L] [--seed S] [--threads T]
   --minutes M   runs for M minutes
   --runs N      N runs (1000, where no time is given)
+  --layout L    of the renderer at a run's start, by its code (0)
   --seed S      the first run's seed, the others follow it (0)
   --threads T   at once (as many as the machine has)";
 
@@ -21,6 +22,7 @@ const FINDS: usize = 10;
 struct Options {
     minutes: Option<u64>,
     runs: Option<u64>,
+    layout: u32,
     seed: u64,
     threads: usize,
 }
@@ -29,6 +31,7 @@ fn options() -> Option<Options> {
     let mut options = Options {
         minutes: None,
         runs: None,
+        layout: 0,
         seed: 0,
         threads: thread::available_parallelism().map_or(1, usize::from),
     };
@@ -38,6 +41,7 @@ fn options() -> Option<Options> {
         match word.as_str() {
             "--minutes" => options.minutes = Some(number),
             "--runs" => options.runs = Some(number),
+            "--layout" => options.layout = u32::try_from(number).ok().filter(|&code| code < 4)?,
             "--seed" => options.seed = number,
             "--threads" => options.threads = number.max(1) as usize,
             _ => return None,
@@ -79,7 +83,7 @@ impl Work {
             let seed = self.options.seed.wrapping_add(run);
             let compared = panic::catch_unwind(|| {
                 let mut reached = Reached::default();
-                scale::run(seed, &mut reached);
+                scale::run(seed, self.options.layout, &mut reached);
                 reached
             });
             match compared {
@@ -94,14 +98,16 @@ impl Work {
     }
 
     fn found(&self, seed: u64) {
-        eprintln!("seed {seed}: a difference; again: {}", command(seed));
+        let again = command(seed, self.options.layout);
+        eprintln!("seed {seed}: a difference; again: {again}");
         self.finds.lock().unwrap().push(seed);
     }
 }
 
 /// The command that repeats one run.
-fn command(seed: u64) -> String {
-    format!("cargo run --release --offline -p compare --bin scale -- --runs 1 --seed {seed}")
+fn command(seed: u64, layout: u32) -> String {
+    let scale = "cargo run --release --offline -p compare --bin scale --";
+    format!("{scale} --runs 1 --layout {layout} --seed {seed}")
 }
 
 fn main() {
@@ -125,15 +131,20 @@ fn main() {
             scope.spawn(|| work.work());
         }
     });
-    let Options { seed, threads, .. } = work.options;
+    let Options {
+        layout,
+        seed,
+        threads,
+        ..
+    } = work.options;
     let (seconds, finds) = (
         work.began.elapsed().as_secs(),
         work.finds.into_inner().unwrap(),
     );
     println!("{}", work.reached.into_inner().unwrap());
-    println!("seeds from {seed}, threads {threads}, seconds {seconds}");
+    println!("layout {layout}, seeds from {seed}, threads {threads}, seconds {seconds}");
     for &seed in &finds {
-        println!("differs: {}", command(seed));
+        println!("differs: {}", command(seed, layout));
     }
     println!("runs that differ: {}", finds.len());
     process::exit(i32::from(!finds.is_empty()));

@@ -39,7 +39,8 @@ impl Meters {
     }
 }
 
-/// What the limiter makes of twelve channels, in blocks of 64 and a shorter last one.
+/// What the limiter makes of twelve channels, in blocks of 64 and a shorter last one. One that the
+/// layout lacks has no samples.
 pub struct Limited {
     pub meters: Meters,
     pub channels: Vec<Vec<f32>>,
@@ -52,12 +53,14 @@ impl Limited {
         let (samples, mut next, mut blocks) = (channels[0].len(), gain, Vec::new());
         for start in (0..samples).step_by(64) {
             let block = start..samples.min(start + 64);
-            let peak = peak(channels.iter().map(|channel| &channel[block.clone()]));
+            let of_block = channels
+                .iter()
+                .filter_map(|channel| channel.get(block.clone()));
+            let peak = peak(of_block);
             // "if p × g > 1, g becomes 0.9 / p; scale; then g grows by length / rate, at most 1"
             let gain = if peak * next > 1.0 { 0.9 / peak } else { next };
-            for channel in &mut channels {
-                channel[block.clone()].iter_mut().for_each(|x| *x *= gain);
-            }
+            let of_block = channels.iter_mut().filter_map(|c| c.get_mut(block.clone()));
+            of_block.flatten().for_each(|x| *x *= gain);
             let grown = gain + block.len() as f32 / rate as f32;
             next = if grown > 1.0 { 1.0 } else { grown };
             blocks.push(Block { peak, gain });

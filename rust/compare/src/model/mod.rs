@@ -1,8 +1,9 @@
-//! What documents 01 and 02 have a call answer: refusals 1 to 8, read here apart from the Rattle
-//! code, and the oracle for everything else: the amended Rust, with which the unchanged one must
-//! agree but from a lifted bed channel, or an object that is sent to the bass feed, to
-//! the next reset.
+//! What documents 01 and 02 have a call answer: refusals 1 to 8 and 15, read here apart from the
+//! Rattle code, and the oracle for everything else: the amended Rust. In layout 0 the unchanged one
+//! must agree with it but from a lifted bed channel, or an object that is sent to the bass feed
+//! to the next reset; in the others what it mixes must be what `halls` reads.
 
+mod halls;
 mod judged;
 mod met;
 mod meters;
@@ -14,7 +15,7 @@ use crate::entry::Answer;
 use crate::{all_same, block, same};
 use oracle::frame::Frame;
 use oracle::state::State;
-use oracle::{Oracle, Pushed, amended};
+use oracle::{Hall, Oracle, Pushed, amended};
 
 pub use judged::{judged, rightly_lent};
 pub use met::{Met, lifts, met};
@@ -23,12 +24,14 @@ pub use sends::with_sends;
 
 #[derive(Clone, Debug, PartialEq)]
 pub enum Outcome {
-    /// The ready samples of the twelve channels, and what the limiter met.
+    /// The ready samples of the twelve channels, none of those that the layout lacks, and what the
+    /// limiter met.
     Ready(Vec<Vec<f32>>, Meters),
     /// The number and the two counts.
     Refused([u32; 3]),
     Nothing,
-    Reset,
+    /// A new renderer, by making or reset, of the layout with that code.
+    New(u32),
 }
 
 impl Outcome {
@@ -38,7 +41,7 @@ impl Outcome {
             Outcome::Ready(..) => (0, [0; 3]),
             Outcome::Refused(refusal) => (1, *refusal),
             Outcome::Nothing => (2, [0; 3]),
-            Outcome::Reset => (3, [0; 3]),
+            Outcome::New(_) => (3, [0; 3]),
         };
         let (ready, meters) = match self {
             Outcome::Ready(channels, meters) => (channels[0].len(), *meters),
@@ -60,9 +63,10 @@ impl Outcome {
 pub const STREAM_END: u64 = 1 << 40;
 
 pub struct Model {
+    hall: Hall,
     /// The Rust with the rules of document 02.
     amended: amended::Oracle,
-    /// The unchanged Rust, which must agree, up to a lifted channel or a send.
+    /// In layout 0 the unchanged Rust, which must agree, up to a lifted channel or a send.
     rust: Option<Oracle>,
     lifted: bool,
     sent: bool,
@@ -70,6 +74,8 @@ pub struct Model {
     pub before: u64,
     /// The last push that 1 to 8 let pass.
     judged: Option<Judged>,
+    /// It was accepted, and what it mixed was held against the reading of the hall.
+    read: bool,
 }
 
 /// A push that 1 to 8 let pass.
@@ -80,28 +86,58 @@ pub struct Judged {
 }
 
 impl Model {
+    /// A new renderer of layout 0.
     #[expect(clippy::new_without_default)]
     pub fn new() -> Self {
+        Model::in_layout(0)
+    }
+
+    /// A new renderer of that layout.
+    pub fn in_layout(layout: u32) -> Self {
+        let hall = Hall::of_layout(layout as u8);
         Model {
-            amended: amended::Oracle::new(),
-            rust: Some(Oracle::new()),
+            amended: amended::Oracle::in_hall(&hall),
+            rust: (layout == 0).then(Oracle::new),
+            hall,
             lifted: false,
             sent: false,
             before: 0,
             judged: None,
+            read: false,
         }
     }
 
     /// What a block in range holds.
     pub fn of_block(bytes: &[u8]) -> Self {
-        let state = block::state(bytes);
+        let (layout, state) = (block::layout(bytes), block::state(bytes));
+        let model = Model::in_layout(layout);
         let sent = sends::sounds(&state.metadata);
         Model {
-            amended: amended::Oracle::in_state(&state),
-            rust: (!sent).then(|| Oracle::in_state(&state)),
+            amended: amended::Oracle::in_hall_and_state(&model.hall, &state),
+            rust: (layout == 0 && !sent).then(|| Oracle::in_state(&state)),
             sent,
-            ..Model::new()
+            ..model
         }
+    }
+
+    /// The layout's code.
+    pub fn layout(&self) -> u32 {
+        self.hall.layout.into()
+    }
+
+    /// The unchanged Rust is beside it.
+    pub fn beside_the_rust(&self) -> bool {
+        self.rust.is_some()
+    }
+
+    /// What the last push mixed was held against the reading of its hall.
+    pub fn was_read(&self) -> bool {
+        self.read
+    }
+
+    /// The part of a block that is another renderer's.
+    pub fn difference(&self, bytes: &[u8]) -> Option<&'static str> {
+        block::difference(bytes, self.layout(), &self.moved_state())
     }
 
     /// The unchanged Rust's while it is there, with the sends, which it has not.
@@ -143,7 +179,7 @@ impl Model {
     }
 
     pub fn push(&mut self, call: &Call, stride: usize) -> Outcome {
-        self.judged = None;
+        (self.judged, self.read) = (None, false);
         let before = self.state();
         match judged(&before, self.before, call, stride) {
             Ok(frame) => {
@@ -164,7 +200,9 @@ impl Model {
         self.amended.store_debug_rows(rows);
         match self.amended.push(frame) {
             Pushed::Ready(ready) => {
-                let (mixed, slots) = amended::Oracle::in_state(&before).mixed(frame);
+                let renderer = amended::Oracle::in_hall_and_state(&self.hall, &before);
+                let (mixed, slots) = renderer.mixed(frame);
+                self.read = self.layout() != 0 && self.reads(&before, frame, &mixed);
                 self.lifted |= lifts;
                 self.sent |= sends::any(&slots);
                 if self.lifted || self.sent {
@@ -182,6 +220,18 @@ impl Model {
             }
             Pushed::Panicked => panic!("the oracle panicked at {frame:?}"),
         }
+    }
+
+    /// What was mixed is what is read in the hall, where it can be read.
+    fn reads(&self, before: &State, frame: &Frame, mixed: &[Vec<f32>]) -> bool {
+        let Some(read) = halls::mixed(&self.hall, before, frame) else {
+            return false;
+        };
+        for (channel, (mixed, read)) in mixed.iter().zip(&read).enumerate() {
+            let layout = self.layout();
+            assert!(all_same(mixed, read), "layout {layout}, channel {channel}");
+        }
+        true
     }
 
     /// The unchanged Rust, where it is there, has the frame come to the same.
@@ -204,6 +254,7 @@ impl Model {
             Step::Push(call) => self.push(call, stride),
             Step::Flush => self.flush(),
             Step::Reset => self.reset(),
+            Step::Make(layout) => self.make(*layout),
         }
     }
 
@@ -246,12 +297,26 @@ impl Model {
         Outcome::Ready(ready, limited.meters)
     }
 
+    /// The layout stays.
     pub fn reset(&mut self) -> Outcome {
         self.amended.reset();
-        let rust = self.rust.get_or_insert_with(Oracle::new);
-        rust.reset();
+        assert_eq!(self.amended.hall(), self.hall);
+        if let Some(rust) = &mut self.rust {
+            rust.reset();
+        } else if self.layout() == 0 {
+            self.rust = Some(Oracle::new());
+        }
         (self.lifted, self.sent) = (false, false);
         self.before = 0;
-        Outcome::Reset
+        Outcome::New(self.layout())
+    }
+
+    /// Document 02's R-5: "Refused: 15, a layout code above 3, when a renderer is made."
+    pub fn make(&mut self, layout: u32) -> Outcome {
+        if layout > 3 {
+            return Outcome::Refused([15, 0, 0]);
+        }
+        *self = Model::in_layout(layout);
+        Outcome::New(layout)
     }
 }

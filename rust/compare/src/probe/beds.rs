@@ -17,6 +17,7 @@ pub enum Route {
 
 unsafe extern "C" {
     safe fn probe_route_of(code: u8) -> u64;
+    safe fn probe_route_in(layout: u32, code: u8) -> u64;
     safe fn probe_bass_gain(gain: f32) -> f32;
     safe fn probe_bed_channel_position(code: u8) -> Vec3;
     safe fn probe_bed_channel_matches_input(requested: u8, provided: u8) -> bool;
@@ -28,13 +29,22 @@ unsafe extern "C" {
     fn probe_count_matching(requested: u8, codes: *const u8, length: usize) -> u32;
 }
 
-pub fn route_of(code: u8) -> Route {
-    match probe_route_of(code) {
+fn route(number: u64) -> Route {
+    match number {
         100 => Route::Bass,
         101 => Route::Folded,
         102 => Route::Unsupported,
         channel => Route::Direct(channel as usize),
     }
+}
+
+pub fn route_of(code: u8) -> Route {
+    route(probe_route_of(code))
+}
+
+/// `layout` is a code.
+pub fn route_in(layout: u32, code: u8) -> Route {
+    route(probe_route_in(layout, code))
 }
 
 pub fn bass_gain(gain: f32) -> f32 {

@@ -1,3 +1,5 @@
+use crate::block::has;
+
 /// `Panned` of crates/panning.
 #[repr(C)]
 #[derive(Clone, Copy, Debug)]
@@ -9,6 +11,7 @@ pub struct Panned {
 
 unsafe extern "C" {
     safe fn probe_pan(x: f32, y: f32, z: f32, gain: f32, size: f32) -> Panned;
+    safe fn probe_pan_in(layout: u32, x: f32, y: f32, z: f32, gain: f32, size: f32) -> Panned;
 }
 
 pub fn pan(position: [f32; 3], gain: f32, size: f32) -> Panned {
@@ -16,12 +19,23 @@ pub fn pan(position: [f32; 3], gain: f32, size: f32) -> Panned {
     probe_pan(x, y, z, gain, size)
 }
 
+/// `layout` is a code.
+pub fn pan_in(layout: u32, position: [f32; 3], gain: f32, size: f32) -> Panned {
+    let [x, y, z] = position;
+    probe_pan_in(layout, x, y, z, gain, size)
+}
+
 impl Panned {
     /// The terms in the order in which they are mixed: a channel and its coefficient.
     pub fn terms(&self) -> impl Iterator<Item = (usize, f32)> {
+        self.terms_in(0)
+    }
+
+    /// The same in a hall of that layout.
+    pub fn terms_in(&self, layout: u32) -> impl Iterator<Item = (usize, f32)> {
         let extra = self.extra;
         (0..12)
-            .filter(|&channel| channel != 3)
+            .filter(move |&channel| channel != 3 && has(layout, channel))
             .map(move |channel| (channel, extra))
             .chain(self.corners.into_iter().zip(self.coefficients))
             .filter(|&(_, coefficient)| coefficient != 0.0)

@@ -8,7 +8,7 @@ use oracle::frame::{Anchor, Element, Object};
 type Part = (&'static str, fn(&mut Rows));
 
 pub fn groups() -> Vec<Group> {
-    let parts: [Part; 7] = [
+    let parts: [Part; 8] = [
         ("refusals", refusals),
         ("outputs", outputs),
         ("block_rows", blocks),
@@ -16,6 +16,7 @@ pub fn groups() -> Vec<Group> {
         ("object_rows", objects),
         ("updates", updates),
         ("slots", slots),
+        ("halls", halls),
     ];
     let group = |(name, part): Part| {
         let mut rows = Rows(vec![]);
@@ -473,4 +474,54 @@ fn slots(rows: &mut Rows) {
         .shows("a ramp over slots: half of the way at 64, the rest at 128")
         .push(object(129, &[0, 64, 128], ramp))
         .flush();
+}
+
+/// The beds whose speaker some layout lacks.
+const LACKED: [u8; 6] = [7, 8, 9, 10, 13, 14];
+
+fn halls(rows: &mut Rows) {
+    rows.row("no_layout")
+        .shows("15: a layout code above 3; the renderer stays as it was")
+        .push(half())
+        .make(4)
+        .make(u32::MAX)
+        .flush();
+    rows.row("made_again")
+        .shows("a making call starts anew: nothing waits, and any rate is the first")
+        .push(half())
+        .make(0)
+        .flush()
+        .push(half().rate(96_000));
+    let lacked = || frame(&LACKED, &diagonal(6, 0.5)).with(bed(&LACKED));
+    rows.row("same_layout")
+        .shows("a reset keeps the layout: beds whose speakers are absent, before and after")
+        .make(3)
+        .push(lacked())
+        .reset()
+        .push(lacked())
+        .flush();
+    let row = rows.row("lacked_beds");
+    row.shows("each bed that has no speaker is panned, the others are not");
+    for layout in [1, 2] {
+        row.make(layout).push(lacked()).flush();
+    }
+    let codes: Vec<u8> = (0..18).filter(|&code| code != 6).collect();
+    let steps: Vec<[f32; 1]> = (1..=17).map(|k| [k as f32 / 32.0]).collect();
+    let row = rows.row("beds_together");
+    row.shows("all beds at once in each layout");
+    for layout in [1, 2, 3] {
+        let beds = frame(&codes, &steps).with(bed(&codes));
+        row.make(layout).push(beds).flush();
+    }
+    let row = rows.row("hall_objects");
+    row.shows("low and high objects in each layout, and sizes, one alone after another");
+    let objects = [
+        at(0.3, 0.4, 0.2),
+        at(0.2, 0.9, 0.7),
+        size(0.25, at(0.3, 0.4, 0.2)),
+        size(1.0, gain(0.5, far())),
+    ];
+    for layout in [1, 2, 3] {
+        row.make(layout).each(&objects);
+    }
 }

@@ -32,6 +32,8 @@ pub enum Turn {
     /// At a stride.
     Flush(u32),
     Reset,
+    /// By the layout's code.
+    Make(u32),
     /// The same with an output that is a byte short.
     Short(Box<Turn>),
 }
@@ -78,7 +80,7 @@ impl Turn {
         match self {
             Turn::Push(push) => push.stride,
             Turn::Flush(stride) => *stride,
-            Turn::Reset => 0,
+            Turn::Reset | Turn::Make(_) => 0,
             Turn::Short(turn) => turn.stride(),
         }
     }
@@ -93,6 +95,7 @@ impl Turn {
         let strides = stride.is_multiple_of(64) && (64..=1_536).contains(&stride);
         match self {
             Turn::Reset => model.reset(),
+            Turn::Make(layout) => model.make(*layout),
             // Document 01's 1, for what is lent besides the state block.
             _ if !strides || self.room() < 48 * stride as usize => Outcome::Refused([1, 0, 0]),
             Turn::Push(push) => model.push(&push.into(), stride as usize),

@@ -101,6 +101,10 @@ impl Row {
         self.turn(Turn::Reset)
     }
 
+    pub fn make(&mut self, layout: u32) -> &mut Self {
+        self.turn(Turn::Make(layout))
+    }
+
     /// Objects that are set at once and heard one after another.
     pub fn each(&mut self, objects: &[Object]) -> &mut Self {
         let push = frame(&[], &diagonal(objects.len(), 0.5));

@@ -8,7 +8,7 @@ use std::array;
 const HEAD: &str = "\
 -- The rows. `cargo run --release --offline -p compare --bin rows` in rust/ writes this file: the calls are that program's, what is seen of them is the oracle's. Assumes nothing.
 use Rattle.std.specs.Prelude.{List, [], ◌∷◌, ◌++◌, replicate}
-use Rattle.rules.specs.Calls.{reset}
+use Rattle.rules.specs.Calls.{reset, make}
 use Rattle.rows.specs.Rows.{Row, ◌⇒◌, refusal, ready, none, renewed}
 use Rattle.rows.specs.Notation.{concat, as_row, row_at, sent, sent_by, of_bed, of_object, flush_at, short, quiet, diagonal_words, silence, only}
 use Rattle.rows.specs.Notation.{update, bed, spoilt, element, at_once, block_from, minus, object, at, valid_position, place, differential, gain, distance, with_size}
@@ -84,6 +84,7 @@ fn turn_text(turn: &Turn) -> String {
         Turn::Push(push) => push_text(push),
         Turn::Flush(stride) => format!("flush_at {stride}"),
         Turn::Reset => "reset".to_string(),
+        Turn::Make(layout) => format!("make {layout}"),
         Turn::Short(turn) => format!("short {}", within(turn_text(turn))),
     }
 }
@@ -186,7 +187,9 @@ fn object_text(object: &Object) -> String {
 fn outcome_text(outcome: &Outcome) -> String {
     match outcome {
         Outcome::Ready(channels, _) => {
-            let sample = |i: usize| array::from_fn(|c| channels[c][i].to_bits());
+            // An absent channel has no samples, and its places in the output stay 0.
+            let word = |c: usize, i: usize| channels[c].get(i).map_or(0, |x| x.to_bits());
+            let sample = |i: usize| array::from_fn(|c| word(c, i));
             let samples: Vec<[u32; 12]> = (0..channels[0].len()).map(sample).collect();
             let quiet = |sample: &[u32; 12]| sample == &[0; 12];
             format!(
@@ -196,7 +199,7 @@ fn outcome_text(outcome: &Outcome) -> String {
         }
         Outcome::Refused([number, first, second]) => format!("refusal {number} {first} {second}"),
         Outcome::Nothing => "none".to_string(),
-        Outcome::Reset => "renewed".to_string(),
+        Outcome::New(_) => "renewed".to_string(),
     }
 }
 

@@ -21,6 +21,8 @@ pub fn wrongly_lent(host: &mut Host, inputs: &mut Generator, call: &Call, name: 
     let stride = inputs.pick(&[0, 1, 63, 65, 96, 1_535, 1_537, 1_600, u32::MAX]);
     refused(host, &|s, o, _| entry::push(s, call, o, stride));
     refused(host, &|s, o, _| entry::flush(s, o, stride));
+    // 1 comes before 15.
+    let layout = inputs.pick(&[0, 3, 4, u32::MAX]);
     let room = 48 * host.stride;
     for short in [inputs.below(room as u64) as usize, room - 1] {
         refused(host, &|s, o, n| entry::push(s, call, &mut o[..short], n));
@@ -30,11 +32,13 @@ pub fn wrongly_lent(host: &mut Host, inputs: &mut Generator, call: &Call, name: 
         refused(host, &|s, o, n| entry::push(&mut s[..short], call, o, n));
         refused(host, &|s, o, n| entry::flush(&mut s[..short], o, n));
         refused(host, &|s, _, _| entry::reset(&mut s[..short]));
+        refused(host, &|s, _, _| entry::make(&mut s[..short], layout));
     }
     host.state.push(0);
     refused(host, &|s, o, n| entry::push(s, call, o, n));
     refused(host, &entry::flush);
     refused(host, &|s, _, _| entry::reset(s));
+    refused(host, &|s, _, _| entry::make(s, layout));
     host.state.pop();
     times
 }
@@ -72,10 +76,11 @@ fn pcm_length(call: &Call) -> usize {
 
 /// Some bytes of a block, a number of it at or past an end of its range, or another block.
 pub fn block(inputs: &mut Generator, state: &mut Vec<u8>) {
-    match inputs.below(8) {
+    match inputs.below(9) {
         0 => spoil_record(inputs, state),
         1..4 => spoil_record(inputs, &mut state[..INFOS]),
         4 => *state = ranges::drawn(inputs),
+        5 => ranges::layout().put(state, inputs.pick(&[0, 1, 2, 3, 4, 256, 1 << 31])),
         _ => {
             let field = inputs.pick(ranges::fields());
             let most = u64::MAX >> (64 - 8 * field.width);

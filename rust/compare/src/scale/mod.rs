@@ -12,7 +12,7 @@ use crate::calls::{Call, Calls, Step};
 use crate::case::Case;
 use crate::host::Host;
 use crate::model::{Judged, Model, Outcome};
-use crate::{Generator, block, ranges, streams};
+use crate::{Generator, ranges, streams};
 use oracle::frame::Update;
 use seen::Push;
 use std::vec;
@@ -45,9 +45,9 @@ struct Run<'a> {
     reached: &'a mut Reached,
 }
 
-/// The run of that seed.
-pub fn run(seed: u64, reached: &mut Reached) {
-    let mut run = Run::new(seed, reached);
+/// The run of that seed, from a new renderer of that layout.
+pub fn run(seed: u64, layout: u32, reached: &mut Reached) {
+    let mut run = Run::new(seed, layout, reached);
     let to_the_end = run.inputs.chance(16);
     let calls = CALLS[usize::from(run.inputs.chance(32))];
     run.reached.one(What::Run);
@@ -62,7 +62,7 @@ pub fn run(seed: u64, reached: &mut Reached) {
             run.host.move_on(&mut run.model, room);
         }
         assert!(ranges::hold(&run.host.state), "{name}: the ranges");
-        let differs = block::difference(&run.host.state, &run.model.moved_state());
+        let differs = run.model.difference(&run.host.state);
         assert_eq!(differs, None, "{name}: the renderer in the block");
     }
 }
@@ -72,7 +72,7 @@ fn any_stride(inputs: &mut Generator) -> usize {
 }
 
 impl<'a> Run<'a> {
-    fn new(seed: u64, reached: &'a mut Reached) -> Self {
+    fn new(seed: u64, layout: u32, reached: &'a mut Reached) -> Self {
         let mut inputs = Generator::new(seed ^ 0x7777_0000);
         let mut stride = any_stride(&mut inputs);
         let calls = seed.wrapping_add(1_000_000);
@@ -82,14 +82,14 @@ impl<'a> Run<'a> {
                 reached.one(What::Stream);
                 Source::Read(streams::steps(&streams::damaged(calls)).0.into_iter())
             }
-            1 | 2 => Source::Drawn(Calls::lifting(calls, stride as u64)),
-            _ => Source::Drawn(Calls::for_entries(calls, stride as u64)),
+            1 | 2 => Source::Drawn(Calls::lifting(calls, stride as u64).with_making(layout)),
+            _ => Source::Drawn(Calls::for_entries(calls, stride as u64).with_making(layout)),
         };
         Run {
             inputs,
             source,
-            host: Host::new(stride),
-            model: Model::new(),
+            host: Host::in_layout(stride, layout),
+            model: Model::in_layout(layout),
             last: None,
             stride,
             reached,
@@ -127,6 +127,9 @@ impl<'a> Run<'a> {
         }
         let outcome = self.host.step(&mut self.model, &step, name);
         self.count(&outcome);
+        if let (Step::Make(_), Outcome::New(layout)) = (&step, &outcome) {
+            self.reached.one(What::Make(*layout));
+        }
         match (&step, &outcome) {
             (Step::Push(call), Outcome::Ready(..)) => self.pushed(call),
             (Step::Flush, Outcome::Ready(..)) => {
@@ -137,7 +140,7 @@ impl<'a> Run<'a> {
                 assert_eq!(again, Outcome::Nothing, "{name}: a second flush");
                 self.count(&again);
             }
-            (Step::Reset, _) => self.last = None,
+            (_, Outcome::New(_)) => self.last = None,
             _ => (),
         }
     }
@@ -192,10 +195,11 @@ impl<'a> Run<'a> {
         };
         push.count(self.reached);
         let (host, reached) = (&self.host, &mut self.reached);
-        let (lifted, sent) = (self.model.lifted(), self.model.sent());
-        reached.add(What::Lifted, lifted.into());
-        reached.add(What::Sent, sent.into());
-        reached.add(What::Unsent, (!lifted && !sent).into());
+        reached.add(What::Lifted, self.model.lifted().into());
+        reached.add(What::Sent, self.model.sent().into());
+        reached.add(What::Unchanged, self.model.beside_the_rust().into());
+        reached.add(What::Read, self.model.was_read().into());
+        reached.one(What::Layout(self.model.layout()));
         reached.add(What::LongList, (call.meta.len() > LONG).into());
         reached.add(What::LongOutput, (host.out.len() > 48 * host.stride).into());
         reached.one(What::Stride(host.stride as u32));
@@ -209,7 +213,7 @@ impl<'a> Run<'a> {
             Outcome::Refused([number, ..]) => self.reached.one(What::Refusal(*number)),
             Outcome::Ready(..) => seen::samples(self.reached, outcome),
             Outcome::Nothing => self.reached.one(What::Nothing),
-            Outcome::Reset => self.reached.one(What::Reset),
+            Outcome::New(_) => self.reached.one(What::Fresh),
         }
     }
 }

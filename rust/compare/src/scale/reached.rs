@@ -32,14 +32,20 @@ pub enum What {
     /// Elements of applied updates.
     Kept,
     New,
-    /// An update that lifts a channel, and an accepted push from there to the next reset.
+    /// An update that lifts a channel, and an accepted push from there to the next new renderer.
     Lift,
     Lifted,
     /// Sends of applied object records: 0, 1, between; and an accepted push from an object that is
-    /// sent to the bass feed to the next reset, and one before that.
+    /// sent to the bass feed to the next new renderer.
     Send(u8),
     Sent,
-    Unsent,
+    /// An accepted push that is held against the unchanged Rust.
+    Unchanged,
+    /// In a smaller layout, one that is held against the reading of its hall.
+    Read,
+    /// Accepted pushes by layout, and making calls that are accepted.
+    Layout(u32),
+    Make(u32),
     /// An accepted push with silent samples before the first update.
     Silence,
     /// An update at or past the frame's end.
@@ -57,7 +63,8 @@ pub enum What {
     /// A flush that gives samples, and one that has none to give.
     Flush,
     Nothing,
-    Reset,
+    /// A new renderer, by reset or making.
+    Fresh,
     /// Accepted pushes by stride and by rate.
     Stride(u32),
     Rate(u32),
@@ -100,11 +107,13 @@ impl Reached {
         self.0.get(&what).copied().unwrap_or(0)
     }
 
-    /// Those of the table that did not arise.
-    pub fn missing(&self) -> Vec<What> {
+    /// Those of the table that did not arise, in runs of that layout: only layout 0 is held against
+    /// the unchanged Rust.
+    pub fn missing(&self, layout: u32) -> Vec<What> {
         let all = table().into_iter().flat_map(|(_, line)| line);
         let whats = all.map(|(_, what)| what);
-        whats.filter(|&what| self.times(what) == 0).collect()
+        let can = whats.filter(|&what| what != What::Unchanged || layout == 0);
+        can.filter(|&what| self.times(what) == 0).collect()
     }
 
     /// The different rates.

@@ -7,7 +7,7 @@ use super::What::{self, *};
 type Line = (&'static str, Vec<(String, What)>);
 
 /// What has a name.
-const NAMED: [(&str, &[(&str, What)]); 15] = [
+const NAMED: [(&str, &[(&str, What)]); 16] = [
     (
         "compared",
         &[
@@ -58,7 +58,13 @@ const NAMED: [(&str, &[(&str, What)]); 15] = [
             ("1", Send(1)),
             ("between", Send(2)),
             ("frames from one on", Sent),
-            ("frames without, as the unchanged Rust", Unsent),
+        ],
+    ),
+    (
+        "frames",
+        &[
+            ("beside the unchanged Rust", Unchanged),
+            ("in smaller layouts, beside the reading", Read),
         ],
     ),
     (
@@ -81,7 +87,7 @@ const NAMED: [(&str, &[(&str, What)]); 15] = [
         ],
     ),
     ("flushes", &[("with samples", Flush), ("without", Nothing)]),
-    ("resets", &[("all", Reset)]),
+    ("new renderers", &[("all", Fresh)]),
     (
         "frames",
         &[
@@ -102,11 +108,14 @@ const NAMED: [(&str, &[(&str, What)]); 15] = [
     ),
 ];
 
-/// What has a number: refusals but 7, bed codes, strides. Code 6 has no speaker and is never mixed.
-fn numbered() -> [Line; 4] {
+/// What has a number: refusals but 7, bed codes, strides, layouts. Code 6 has no speaker and is never
+/// mixed.
+fn numbered() -> [Line; 6] {
     let beds = (0..18).filter(|&code| code != 6);
     [
-        line("refusals", (1..=14).filter(|&n| n != 7), Refusal),
+        line("frames by layout", 0..4, Layout),
+        line("made, by layout", 0..4, Make),
+        line("refusals", (1..=15).filter(|&n| n != 7), Refusal),
         line("bed channels of frames", 0..18, Input),
         line("beds mixed", beds, Bed),
         line("strides", (64..=1_536).step_by(64), Stride),

@@ -32,7 +32,7 @@ fn any_state(inputs: &mut Generator) -> Vec<u8> {
             spoil_record(inputs, &mut block);
             block
         }
-        3..5 => fresh(),
+        3..5 => fresh(inputs.below(4) as u32),
         5..8 => used_block(inputs.below(20)),
         _ => ranges::drawn(inputs),
     }
@@ -70,7 +70,8 @@ fn fitting_call(inputs: &mut Generator, state: &[u8]) -> Call {
 
 fn any_step(inputs: &mut Generator, state: &[u8]) -> Step {
     match inputs.below(16) {
-        0 => Step::Reset,
+        0 if inputs.chance(2) => Step::Reset,
+        0 => Step::Make(inputs.pick(&[0, 1, 2, 3, 4, u32::MAX])),
         1 | 2 => Step::Flush,
         3..7 => Step::Push(any_call(inputs)),
         _ if ranges::hold(state) => Step::Push(fitting_call(inputs, state)),
@@ -119,13 +120,13 @@ fn kind(case: &Case, number: u32) -> u32 {
     match &case.step {
         _ if number != 0 => 1,
         Step::Flush if case.state[64] == 0 => 2,
-        Step::Reset => 3,
+        Step::Reset | Step::Make(_) => 3,
         _ => 0,
     }
 }
 
-/// What a call that renders leaves: the output but for the ready samples, a block in range with
-/// the pending samples counted.
+/// What a call that renders leaves: the output but for the ready samples of the layout's channels,
+/// a block in range with the pending samples counted.
 fn check_rendered(case: &Case, ready: usize, state: &[u8], out: &[u8]) {
     assert_eq!(
         (ready, usize::from(state[64])),
@@ -133,8 +134,10 @@ fn check_rendered(case: &Case, ready: usize, state: &[u8], out: &[u8]) {
         "ready and pending"
     );
     assert!(ranges::hold(state), "the block is out of range");
-    let stride = case.stride as usize;
-    let is_ready = |at: usize| at < 48 * stride && at / 4 % stride < ready;
+    let (stride, layout) = (case.stride as usize, block::layout(&case.state));
+    let is_ready = |at: usize| {
+        at < 48 * stride && at / 4 % stride < ready && block::has(layout, at / 4 / stride)
+    };
     let written = (0..out.len()).find(|&at| !is_ready(at) && out[at] != case.out[at]);
     assert_eq!(written, None, "a byte beside the ready samples");
 }
@@ -148,8 +151,8 @@ fn check_meters(answer: Answer) {
     assert!(idle || answer.ready > 0, "{answer:?}");
 }
 
-/// Every call is answered: 1 to 8 where document 01 says so, each other number only where none of
-/// these holds, 7 never; what is not to be written stays. Every other answer arises.
+/// Every call is answered: 1 to 8 and 15 where the documents say so, each other number only where none
+/// of these holds, 7 never; what is not to be written stays. Every other answer arises.
 #[test]
 fn any_bytes() {
     let mut answers = BTreeMap::new();
@@ -157,21 +160,24 @@ fn any_bytes() {
         let case = case(seed);
         let Seen { answer, state, out } = case.called();
         let number = case.early();
-        if number != 0 || answer.number < 9 {
+        if number != 0 || !(9..15).contains(&answer.number) {
             assert_eq!(answer.number, number, "{answer:?}");
         }
         assert_eq!(answer.kind, kind(&case, answer.number), "{answer:?}");
         check_meters(answer);
         match answer.kind {
             0 => check_rendered(&case, answer.ready, &state, &out),
-            3 => assert!(state == fresh() && out == case.out, "{answer:?}"),
+            3 => {
+                let layout = case.step.layout(&case.state);
+                assert!(state == fresh(layout) && out == case.out, "{answer:?}");
+            }
             _ => assert!(state == case.state && out == case.out, "{answer:?}"),
         }
         *answers.entry((answer.kind, answer.number)).or_insert(0u64) += 1;
     }
     println!("{answers:?}");
     let kinds = [(0, 0), (2, 0), (3, 0)].into_iter();
-    for kind in kinds.chain((1..=14).map(|number| (1, number))) {
+    for kind in kinds.chain((1..=15).map(|number| (1, number))) {
         let arises = kind != (1, 7);
         let seen = answers.contains_key(&kind);
         assert!(seen == arises || !seeds::all() && !seen, "{kind:?}");

@@ -44,7 +44,7 @@ const RELATED: [Puts; 6] = [
     ),
 ];
 
-/// The block with that damage is refusal 1, for push and flush alike.
+/// The block with that damage is refusal 1, for push and flush alike; reset looks at the layout alone.
 fn refused(block: &[u8], damage: impl FnOnce(&mut [u8]), name: &str) {
     let (call, one) = (bed_frame(10), Outcome::Refused([1, 0, 0]));
     let mut host = Host::new(64);
@@ -53,6 +53,13 @@ fn refused(block: &[u8], damage: impl FnOnce(&mut [u8]), name: &str) {
     assert!(!ranges::hold(&host.state), "{name}: not out of range");
     host.calls(&one, |s, o, n| entry::push(s, &call, o, n), name);
     host.calls(&one, entry::flush, name);
+    let layout = block::layout(&host.state);
+    let reset = if layout > 3 {
+        one
+    } else {
+        Outcome::New(layout)
+    };
+    host.calls(&reset, |s, _, _| entry::reset(s), name);
 }
 
 /// The numbers next to a field's range, and the largest that it can hold.
@@ -179,6 +186,8 @@ struct Tally {
     /// Rust.
     sent: u64,
     unchanged: u64,
+    /// Those in a layout other than 7.1.4.
+    smaller: u64,
     /// Accepted pushes that meet an element that would be kept, whose flags tell otherwise than the
     /// state whether it is: more than the update's dynamic objects, though these are as many as the
     /// state's; or as many, though a channel is lifted.
@@ -238,19 +247,20 @@ fn blocks_in_range_go_on_as_in_the_rust() {
                 if let Outcome::Ready(channels, _) = &outcome {
                     tally.count(&before, &frame, channels);
                     tally.sent += u64::from(model.sent());
-                    tally.unchanged += u64::from(!model.sent() && !model.lifted());
+                    tally.unchanged += u64::from(model.beside_the_rust());
+                    tally.smaller += u64::from(model.layout() > 0);
                 }
             }
             assert!(ranges::hold(&host.state), "{name}");
-            let differs = block::difference(&host.state, &model.state());
+            let differs = model.difference(&host.state);
             assert_eq!(differs, None, "{name}");
         }
     }
     println!("{tally:?}");
     let few = 500..tally.accepted - 500;
     assert!(!seeds::all() || tally.accepted > 2_000 && few.contains(&tally.nans));
-    let sends = [tally.sent, tally.unchanged];
-    assert!(!seeds::all() || sends.iter().all(|&n| n > 500));
+    let kinds = [tally.sent, tally.unchanged, tally.smaller];
+    assert!(!seeds::all() || kinds.iter().all(|&n| n > 500));
     let flags = [tally.more_flags, tally.as_many_flags];
     assert!(!seeds::all() || tally.lifted > 300 && flags.iter().all(|&n| n > 20));
 }

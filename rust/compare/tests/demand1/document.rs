@@ -1,8 +1,9 @@
 //! The tables of docs/STATE-BLOCK.md: each place is the one before plus its width, the ranges are
 //! those that the other tests hold the entries to, the names are those of the decoded fields, and
-//! reset leaves what is written there.
+//! making and reset leave what is written there.
 
 use compare::entry::{self, BLOCK};
+use compare::host::fresh;
 use compare::ranges::{self, Field};
 use compare::{Generator, block, seeds};
 
@@ -152,6 +153,7 @@ fn names_are_those_decoded() {
             ("position", state.stream_sample_offset as u64),
             ("slot start", state.metadata_timeslot_stream_sample as u64),
             ("pending", state.limiter_pending[0].len() as u64),
+            ("layout", block::layout(&bytes).into()),
             ("initialized", metadata.initialized.into()),
             ("payload position", metadata.payload_stream_sample as u64),
             ("objects", metadata.object_count as u64),
@@ -168,14 +170,20 @@ fn names_are_those_decoded() {
 }
 
 #[test]
-fn reset_leaves_what_is_written() {
-    let (_, text) = DOCUMENT.split_once("## What reset leaves").unwrap();
+fn making_and_reset_leave_what_is_written() {
+    let title = "## What making and reset leave";
+    let (_, text) = DOCUMENT.split_once(title).unwrap();
     let mut block = vec![0; BLOCK];
     for [byte, bytes, _, holds] in rows(text, ["byte", "bytes", "field", "holds"]) {
         let (at, width) = (number(&byte) as usize, number(&bytes) as usize);
         field(at, width, ANY).put(&mut block, number(&holds));
     }
-    let mut state = vec![0xa5; BLOCK];
-    assert_eq!(entry::reset(&mut state).kind, 3);
-    assert!(state == block, "what reset leaves");
+    for layout in 0..4 {
+        ranges::layout().put(&mut block, layout.into());
+        let mut state = fresh(layout);
+        assert!(state == block, "what making leaves");
+        state[..BLOCK - 4].fill(0xa5);
+        assert_eq!(entry::reset(&mut state).kind, 3);
+        assert!(state == block, "what reset leaves");
+    }
 }

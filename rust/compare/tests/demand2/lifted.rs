@@ -4,7 +4,7 @@
 use compare::calls::{Call, Calls, Step};
 use compare::host::Host;
 use compare::model::{Judged, Model, Outcome, lifts};
-use compare::{all_same, block, ranges, seeds};
+use compare::{all_same, ranges, seeds};
 use oracle::frame::Frame;
 use oracle::state::Metadata;
 use oracle::{Oracle, Pushed};
@@ -117,6 +117,7 @@ impl Run {
                 self.host.step(&mut self.model, &Step::Flush, name);
                 self.rust.as_mut().map(Oracle::flush);
             }
+            Step::Make(_) => panic!("none is drawn"),
             Step::Reset => {
                 tally.resets += u64::from(self.model.lifted());
                 self.host.step(&mut self.model, &Step::Reset, name);
@@ -127,7 +128,7 @@ impl Run {
         // Before a lift, and after a reset, the entries are as the unchanged Rust.
         assert!(self.rust.is_some() || self.model.lifted(), "{name}");
         assert!(ranges::hold(&self.host.state), "{name}");
-        let differs = block::difference(&self.host.state, &self.model.state());
+        let differs = self.model.difference(&self.host.state);
         assert_eq!(differs, None, "{name}");
     }
 }

@@ -3,7 +3,7 @@
 use compare::calls::Call;
 use compare::host::Host;
 use compare::model::{Model, Outcome};
-use compare::{block, largest_frame, seeds};
+use compare::{largest_frame, seeds};
 
 /// 16 updates of 531 records each; one record more is a 17th update.
 #[test]
@@ -15,7 +15,7 @@ fn the_longest_metadata() {
         assert_eq!(call.meta.len(), 40 * 8_496);
         let outcome = host.push(&mut model, &call, "the most");
         assert!(matches!(outcome, Outcome::Ready(..)), "{outcome:?}");
-        let differs = block::difference(&host.state, &model.state());
+        let differs = model.difference(&host.state);
         assert_eq!(differs, None);
         call.meta.extend([1; 1]);
         call.meta.extend([0; 39]);

@@ -31,7 +31,7 @@ const PLAIN: Handed = Handed {
 
 impl Handed {
     fn block(&self) -> Vec<u8> {
-        let (mut state, mut out) = (fresh(), vec![0; 48 * 64]);
+        let (mut state, mut out) = (fresh(0), vec![0; 48 * 64]);
         entry::push(&mut state, &bed_frame(64), &mut out, 64);
         let mut put = |at: usize, word: u32| state[at..at + 4].copy_from_slice(&word.to_le_bytes());
         put(24, self.gain.to_bits());

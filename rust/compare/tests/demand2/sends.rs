@@ -6,7 +6,7 @@ use compare::entry;
 use compare::host::Host;
 use compare::model::{Judged, Model, Outcome, lifts};
 use compare::probe::lowpass;
-use compare::{all_same, block, floats, loudest_frame, ranges, seeds, set};
+use compare::{all_same, floats, loudest_frame, ranges, seeds, set};
 use oracle::frame::{Frame, Object, Update};
 use oracle::state::{Metadata, Source};
 use oracle::{Oracle, Pushed};
@@ -154,6 +154,7 @@ impl Run {
                 self.host.step(&mut self.model, &Step::Flush, name);
                 self.rust.as_mut().map(Oracle::flush);
             }
+            Step::Make(_) => panic!("none is drawn"),
             Step::Reset => {
                 tally.resets += u64::from(self.model.sent());
                 self.host.step(&mut self.model, &Step::Reset, name);
@@ -166,7 +167,7 @@ impl Run {
             "{name}"
         );
         assert!(ranges::hold(&self.host.state), "{name}");
-        let differs = block::difference(&self.host.state, &model.state());
+        let differs = model.difference(&self.host.state);
         assert_eq!(differs, None, "{name}");
     }
 }

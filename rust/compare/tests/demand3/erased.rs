@@ -4,8 +4,9 @@
 
 use compare::Generator;
 use compare::calls::{Calls, Step};
-use compare::entry::{self, Answer, BLOCK};
-use compare::seeds;
+use compare::entry::Answer;
+use compare::host::fresh;
+use compare::{block, seeds};
 
 const RUNS: u64 = 4_000;
 const CALLS: usize = 24;
@@ -23,12 +24,20 @@ struct Turn {
 struct Seen {
     answer: Answer,
     out: Vec<u8>,
+    /// The block's, after it.
+    layout: u32,
+}
+
+/// A list begins with a renderer of each layout in turn; making calls stand in it too.
+fn first_layout(seed: u64) -> u32 {
+    seed as u32 % 4
 }
 
 /// A list whose stride changes, with outputs that are longer than they must be, or too short.
 fn list(seed: u64) -> Vec<Turn> {
     let mut inputs = Generator::new(seed);
-    let mut calls = Calls::for_entries(seed + 5_000_000, 64);
+    let calls = Calls::for_entries(seed + 5_000_000, 64);
+    let mut calls = calls.with_making(first_layout(seed));
     let mut stride = 64;
     let mut turn = || {
         if inputs.chance(4) {
@@ -50,23 +59,28 @@ fn list(seed: u64) -> Vec<Turn> {
 }
 
 /// What is seen of each call, and the block at the end.
-fn played<'a>(turns: impl Iterator<Item = &'a Turn>) -> (Vec<Seen>, Vec<u8>) {
-    let mut state = vec![0x3c; BLOCK];
-    entry::reset(&mut state);
+fn played<'a>(layout: u32, turns: impl Iterator<Item = &'a Turn>) -> (Vec<Seen>, Vec<u8>) {
+    let mut state = fresh(layout);
     let seen = |turn: &Turn| {
         let mut out = vec![0x5a; turn.room];
         let stride = turn.stride as u32;
         let answer = turn.step.call(&mut state, &mut out, stride);
-        Seen { answer, out }
+        let layout = block::layout(&state);
+        Seen {
+            answer,
+            out,
+            layout,
+        }
     };
     (turns.map(seen).collect(), state)
 }
 
-/// The samples given out.
+/// The samples given out, of the layout's channels.
 fn samples(seen: &Seen, stride: usize) -> impl Iterator<Item = f32> {
     let sample = |at: usize| f32::from_le_bytes(seen.out[4 * at..][..4].try_into().unwrap());
     let ready = move |c: usize| (0..seen.answer.ready).map(move |i| c * stride + i);
-    (0..12).flat_map(ready).map(sample)
+    let channels = (0..12).filter(|&channel| block::has(seen.layout, channel));
+    channels.flat_map(ready).map(sample)
 }
 
 fn in_range(seen: &Seen, stride: usize) -> bool {
@@ -94,12 +108,13 @@ fn refused_calls_count_as_never_sent() {
     let (mut refused, mut given, mut limited) = (0, 0, 0);
     for seed in seeds!(0..RUNS) {
         let turns = list(seed);
-        let (all, block) = played(turns.iter());
+        let layout = first_layout(seed);
+        let (all, block) = played(layout, turns.iter());
         let both = || turns.iter().zip(&all);
         assert!(both().all(|(turn, seen)| in_range(seen, turn.stride)));
         assert!(both().all(|(turn, seen)| meters_hold(seen, turn.stride)));
         let kept = || both().filter(|(_, seen)| seen.answer.kind != 1);
-        let (again, same) = played(kept().map(|(turn, _)| turn));
+        let (again, same) = played(layout, kept().map(|(turn, _)| turn));
         assert!(
             again.iter().eq(kept().map(|(_, seen)| seen)),
             "an answer or a sample"

@@ -3,7 +3,8 @@
 //! that `lowpass-forgets` promises. Y is the largest that the loudest frame feeds, X is Y / 2^k.
 
 use compare::calls::Call;
-use compare::entry::{self, BLOCK};
+use compare::entry;
+use compare::host::fresh;
 use compare::{floats, loudest_frame};
 
 const RATES: [u32; 5] = [8_000, 44_100, 48_000, 96_000, 192_000];
@@ -54,10 +55,9 @@ impl Fed {
     fn loudest(rate: u32) -> (Self, f32) {
         let mut fed = Self {
             rate,
-            state: vec![0; BLOCK],
+            state: fresh(0),
             out: vec![0; 12 * 64 * 4],
         };
-        assert_eq!(entry::reset(&mut fed.state).kind, 3);
         let down = std::iter::repeat_n(-16.0, rate as usize / 20);
         let up = std::iter::repeat_n(16.0, rate as usize / 170);
         let (mut most, mut last) = (0f32, 0.0);

@@ -1,9 +1,10 @@
 //! The rows of crates/rows: what they say is the oracle's, and the exported entries'.
 
-use compare::entry::{self, Answer, BLOCK};
-use compare::floats;
+use compare::entry::{self, Answer};
+use compare::host::fresh;
 use compare::model::{Meters, Outcome};
 use compare::rows::{self, Row, Turn};
+use compare::{block, floats};
 use std::fs;
 use std::path::Path;
 
@@ -26,6 +27,7 @@ fn lent(turn: &Turn, state: &mut [u8], out: &mut [u8]) -> Answer {
         Turn::Push(push) => entry::push(state, &push.into(), out, push.stride),
         Turn::Flush(stride) => entry::flush(state, out, *stride),
         Turn::Reset => entry::reset(state),
+        Turn::Make(layout) => entry::make(state, *layout),
         Turn::Short(turn) => lent(turn, state, out),
     }
 }
@@ -37,18 +39,21 @@ fn meters(answer: Answer) -> Meters {
 
 /// What the entries have the host see of each call.
 fn outcomes(row: &Row) -> Vec<Outcome> {
-    let mut state = vec![0; BLOCK];
-    entry::reset(&mut state);
+    let mut state = fresh(0);
     state[8..16].copy_from_slice(&row.start.to_le_bytes());
     let seen = |turn: &Turn| {
         let mut out = vec![0; turn.room()];
         let answer = lent(turn, &mut state, &mut out);
-        let channel = |c: usize| floats(&out[4 * c * turn.stride() as usize..][..4 * answer.ready]);
+        let layout = block::layout(&state);
+        let channel = |c: usize| {
+            let ready = 4 * answer.ready * usize::from(block::has(layout, c));
+            floats(&out[4 * c * turn.stride() as usize..][..ready])
+        };
         match answer.kind {
             0 => Outcome::Ready((0..12).map(channel).collect(), meters(answer)),
             1 => Outcome::Refused([answer.number, answer.first, answer.second]),
             2 => Outcome::Nothing,
-            _ => Outcome::Reset,
+            _ => Outcome::New(block::layout(&state)),
         }
     };
     row.turns.iter().map(seen).collect()

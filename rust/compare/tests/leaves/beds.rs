@@ -34,6 +34,23 @@ fn direct_channels_are_the_sources() {
     assert!((18..=255).all(|code| beds::route_of(code) == Route::Unsupported));
 }
 
+/// Of the codes of beds with a speaker, those whose speaker each layout lacks.
+const LACKED: [&[u8]; 4] = [&[], &[7, 8], &[9, 10, 13, 14], &[7, 8, 9, 10, 13, 14]];
+
+#[test]
+fn a_bed_whose_speaker_is_absent_is_panned() {
+    for (layout, lacked) in (0..).zip(LACKED) {
+        for code in 0..=255 {
+            let wanted = if lacked.contains(&code) {
+                Route::Folded
+            } else {
+                beds::route_of(code)
+            };
+            assert_eq!(beds::route_in(layout, code), wanted, "{layout}, {code}");
+        }
+    }
+}
+
 #[test]
 #[cfg_attr(no_sources, ignore = "Rust sources not at hand")]
 fn every_pair_of_codes_matches_as_the_source_says() {

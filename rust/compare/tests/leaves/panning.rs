@@ -1,11 +1,13 @@
 //! Panning against `render_object_timeslot_to_714`, mixed term by term: every combination of
-//! special positions, gains and sizes (1,906,624 coefficient sets), and 9,000,000 random ones.
-//! Which speakers are chosen depends on how a position compares with the speakers' coordinates:
-//! the special positions have every outcome.
+//! special positions, gains and sizes (1,906,624 coefficient sets), and 9,000,000 random ones; in
+//! each smaller layout (document 02, R-5) as many and 2,000,000, against the same loops over the
+//! channels that are there. Which speakers are chosen depends on how a position compares with the
+//! speakers' coordinates: the special positions have every outcome.
 
-use compare::{EDGES, all_same, drawn, probe::panning};
+use compare::{EDGES, Generator, all_same, drawn, probe::panning};
 use oracle::leaf::{render_object_timeslot_to_714, speakers};
 use oracle::state::Source;
+use oracle::{Hall, amended};
 
 /// The speakers' coordinates, above 0.
 const COORDINATES: [f32; 3] = [0.483_689_52, 0.707_106_77, 1.0];
@@ -16,21 +18,29 @@ const SIZES: [f32; 8] = [0.0, -0.0, 0.5, 1.0, 1e-45, 0.3, f32::INFINITY, f32::NA
 
 /// One sample mixed into one place of each channel.
 struct Mix {
+    hall: Hall,
     sample: f32,
     channels: Vec<Vec<f32>>,
 }
 
 impl Mix {
-    fn new() -> Self {
+    fn new(layout: u8) -> Self {
         Mix {
+            hall: Hall::of_layout(layout),
             sample: 1.0,
             channels: vec![vec![0.0]; 12],
         }
     }
 
+    /// In layout 0 by the call that has no hall, and against the unchanged Rust.
     fn compare(&mut self, position: [f32; 3], gain: f32, size: f32, start: f32) {
         let mut expected = [start; 12];
-        for (channel, coefficient) in panning::pan(position, gain, size).terms() {
+        let layout = self.hall.layout.into();
+        let panned = match layout {
+            0 => panning::pan(position, gain, size),
+            _ => panning::pan_in(layout, position, gain, size),
+        };
+        for (channel, coefficient) in panned.terms_in(layout) {
             expected[channel] += self.sample * coefficient;
         }
         self.channels
@@ -43,11 +53,15 @@ impl Mix {
             position_valid: true,
             send: 0.0,
         };
-        render_object_timeslot_to_714(&[self.sample], &mut self.channels, 0, &source);
+        let (input, channels) = ([self.sample], &mut self.channels);
+        match layout {
+            0 => render_object_timeslot_to_714(&input, channels, 0, &source),
+            _ => amended::leaf::render_object_in_hall(&self.hall, &input, channels, 0, &source),
+        }
         let mixed: [f32; 12] = std::array::from_fn(|channel| self.channels[channel][0]);
         assert!(
             all_same(&mixed, &expected),
-            "position {position:?}, gain {gain}, size {size}: {expected:?}, Rust {mixed:?}"
+            "layout {layout}, position {position:?}, gain {gain}, size {size}: {expected:?}, Rust {mixed:?}"
         );
     }
 }
@@ -79,9 +93,13 @@ fn coordinates_are_the_speakers() {
 #[cfg_attr(no_sources, ignore = "Rust sources not at hand")]
 #[test]
 fn special_positions() {
+    (0..4).for_each(special_positions_in);
+}
+
+fn special_positions_in(layout: u8) {
     let values = special();
     assert_eq!(values.len(), 31);
-    let mut mix = Mix::new();
+    let mut mix = Mix::new(layout);
     for &x in &values {
         for &y in &values {
             for &z in &values {
@@ -99,9 +117,14 @@ fn special_positions() {
 #[test]
 fn random_positions() {
     let mut inputs = drawn!(4);
+    random_positions_in(0, 9_000_000, &mut inputs);
+    (1..4).for_each(|layout| random_positions_in(layout, 2_000_000, &mut inputs));
+}
+
+fn random_positions_in(layout: u8, rounds: u32, inputs: &mut Generator) {
     let values = special();
-    let mut mix = Mix::new();
-    for round in 0..9_000_000 {
+    let mut mix = Mix::new(layout);
+    for round in 0..rounds {
         let mut coordinate = || match inputs.below(8) {
             0 => values[inputs.below(values.len() as u64) as usize],
             1 => inputs.float(),

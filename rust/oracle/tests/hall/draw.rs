@@ -1,8 +1,8 @@
 //! Random values, the same in every run.
 
-use crate::reading::{BASS, present, source};
 use oracle::amended::leaf;
 use oracle::frame::{ANCHORS, Block, DEPTHS, Element, Frame, Object, Update};
+use oracle::reading::{BASS, present, source};
 use oracle::state::{Metadata, Source, State};
 use oracle::{Hall, Oracle, Vector};
 use std::array;

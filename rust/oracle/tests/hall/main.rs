@@ -2,19 +2,17 @@
 //! held against document 01's rules read over sets of speakers.
 
 mod draw;
-mod reading;
+mod given;
 
 use draw::{Draw, REAR_CENTER};
+use given::given;
 use oracle::amended::leaf;
+use oracle::reading::{self, BASS, Term, present, silence, source};
 use oracle::state::Source;
 use oracle::{Hall, Oracle, Pushed, Refusal, Vector, amended};
-use reading::{BASS, Term, given, present, silence, source};
 
 fn built_in(layout: u8) -> Hall {
-    Hall {
-        layout,
-        ..Hall::built_in()
-    }
+    Hall::of_layout(layout)
 }
 
 fn bits(channels: &[Vec<f32>]) -> Vec<Vec<u32>> {
@@ -32,7 +30,7 @@ fn panned(hall: &Hall, source: &Source) -> Vec<Vec<f32>> {
 /// The same by the reading.
 fn read(hall: &Hall, terms: &[Term]) -> Vec<Vec<f32>> {
     let mut output = silence(hall, 1);
-    reading::add(terms, &[1.0], &mut output);
+    reading::add(terms, &[1.0], &mut output, 0);
     output
 }
 

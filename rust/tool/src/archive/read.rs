@@ -1,14 +1,15 @@
 // SPDX-License-Identifier: Apache-2.0
 //! Reads an archive.
-use super::{HEAD, MAGIC, MOST, ROW, VERSION, by_sample};
+use super::{HEAD, MAGIC, MOST, PLAIN, ROW, WITH_LAYOUT, by_sample};
 use crate::numbers::grouped;
 use crate::programme::{Broken, Window};
+use crate::wave::Format;
 use std::io::Read;
-use voqlisna::{Rate, bytes_from_planes};
+use voqlisna::{Layout, Rate, bytes_from_planes};
 
 pub struct Reader<R> {
     window: Window<R>,
-    rate: Rate,
+    format: Format,
     sound: Vec<u8>,
     ended: bool,
 }
@@ -16,19 +17,19 @@ pub struct Reader<R> {
 impl<R: Read> Reader<R> {
     pub fn new(from: R) -> Result<Self, Broken> {
         let mut window = Window::new(from);
-        let head = window.look(HEAD).map_err(Broken::Read)?;
-        let rate = rate(head).map_err(|why| Broken::Record { at: 0, why })?;
-        window.take(HEAD);
+        let head = window.look(HEAD + 4).map_err(Broken::Read)?;
+        let (format, bytes) = format(head).map_err(|why| Broken::Record { at: 0, why })?;
+        window.take(bytes);
         Ok(Self {
             window,
-            rate,
+            format,
             sound: vec![0; ROW * MOST],
             ended: false,
         })
     }
 
-    pub fn rate(&self) -> Rate {
-        self.rate
+    pub fn format(&self) -> Format {
+        self.format
     }
 
     /// The next frame's samples, sample after sample; none behind the last frame.
@@ -54,8 +55,8 @@ impl<R: Read> Reader<R> {
         };
         let done = bytes_from_planes(planes, samples, &mut self.sound);
         done.map_err(|refusal| self.bad(&refusal.to_string()))?;
-        rows.resize(bytes, 0);
-        by_sample(&self.sound[..bytes], rows);
+        rows.resize(self.format.row() * samples, 0);
+        by_sample(&self.sound[..bytes], self.format, rows);
         self.window.take(4 + bytes);
         Ok(true)
     }
@@ -94,8 +95,8 @@ impl<R: Read> Reader<R> {
     }
 }
 
-/// The rate that the first bytes tell, or why they are not those of an archive.
-fn rate(head: &[u8]) -> Result<Rate, String> {
+/// The format that the first bytes tell, and how many they are; or why they are not those of an archive.
+fn format(head: &[u8]) -> Result<(Format, usize), String> {
     let word = |at: usize| {
         let word = head.get(at..at + 4).and_then(|w| w.try_into().ok());
         word.map(u32::from_le_bytes)
@@ -103,10 +104,20 @@ fn rate(head: &[u8]) -> Result<Rate, String> {
     let (Some(version), Some(rate), true) = (word(8), word(12), head.starts_with(&MAGIC)) else {
         return Err("this is no archive of a show".to_owned());
     };
-    if version != VERSION {
-        return Err(format!(
-            "an archive of version {version}, and this tool reads version {VERSION}"
-        ));
+    let (code, bytes) = match version {
+        PLAIN => (Some(0), HEAD),
+        WITH_LAYOUT => (word(16), HEAD + 4),
+        _ => {
+            return Err(format!(
+                "an archive of version {version}, and this tool reads versions {PLAIN} and {WITH_LAYOUT}"
+            ));
+        }
+    };
+    let Some(layout) = code.and_then(Layout::from_code) else {
+        return Err("an archive without a layout".to_owned());
+    };
+    match Rate::new(rate) {
+        Some(_) => Ok((Format { rate, layout }, bytes)),
+        None => Err(format!("a rate of {} Hz", grouped(rate.into()))),
     }
-    Rate::new(rate).ok_or_else(|| format!("a rate of {} Hz", grouped(rate.into())))
 }

@@ -1,17 +1,16 @@
 // SPDX-License-Identifier: Apache-2.0
 //! `archive`: a rendered show as planes. `unarchive`: the same show again.
 use super::record::rescued;
-use crate::archive::{MOST, ROW, Reader, Writer};
+use crate::archive::{MOST, Reader, Writer};
 use crate::files::{self, Out};
 use crate::numbers::{counted, grouped};
 use crate::programme::Broken;
 use crate::trouble::Trouble;
-use crate::wave::Wave;
+use crate::wave::{Format, Wave};
 use crate::wave_reader::WaveReader;
 use std::ffi::OsString;
 use std::fs::File;
 use std::io::{self, Write};
-use voqlisna::Rate;
 
 /// Also where the WAVE file breaks off, the archive of what is there is whole.
 pub fn archive(from: &OsString, to: &OsString) -> Result<(), Trouble> {
@@ -19,18 +18,19 @@ pub fn archive(from: &OsString, to: &OsString) -> Result<(), Trouble> {
     let (input, _) = files::open(from)?;
     let wrong = |broken: Broken| broken.trouble(&files::name_in(from));
     let mut wave = WaveReader::new(input).map_err(wrong)?;
-    let mut archive = Writer::new(Out::create(to)?, wave.rate())?;
-    let (mut rows, mut samples) = (Vec::with_capacity(ROW * MOST), 0);
+    let format = wave.format();
+    let mut archive = Writer::new(Out::create(to)?, format)?;
+    let (mut rows, mut samples) = (Vec::with_capacity(format.row() * MOST), 0);
     let end = loop {
         match wave.next(&mut rows) {
             Ok(true) => archive.put(&rows)?,
             Ok(false) => break Ok(()),
             Err(broken) => break Err(wrong(broken)),
         }
-        samples += rows.len() / ROW;
+        samples += rows.len() / format.row();
     };
     archive.close()?;
-    say(to, wave.rate(), samples)?;
+    say(to, format, samples)?;
     end
 }
 
@@ -42,15 +42,16 @@ pub fn unarchive(from: &OsString, to: &OsString, rf64: bool) -> Result<(), Troub
     let mut archive = Reader::new(input).map_err(wrong)?;
     let name = files::name_out(to);
     let failed = |e: &io::Error| Trouble::io(&name, e);
-    let mut wave = begin(to, archive.rate(), rf64).map_err(|e| failed(&e))?;
-    let (mut rows, mut samples) = (Vec::with_capacity(ROW * MOST), 0);
+    let format = archive.format();
+    let mut wave = begin(to, format, rf64).map_err(|e| failed(&e))?;
+    let (mut rows, mut samples) = (Vec::with_capacity(format.row() * MOST), 0);
     let end = loop {
         match archive.next(&mut rows) {
             Ok(true) => {}
             Ok(false) => break Ok(()),
             Err(broken) => break Err(wrong(broken)),
         }
-        samples += rows.len() / ROW;
+        samples += rows.len() / format.row();
         if let Err(e) = wave.rows(&rows) {
             return Err(closed(wave, failed(&e)));
         }
@@ -58,14 +59,14 @@ pub fn unarchive(from: &OsString, to: &OsString, rf64: bool) -> Result<(), Troub
     if let Err(e) = wave.close() {
         return Err(closed(wave, failed(&e)));
     }
-    say(to, archive.rate(), samples)?;
+    say(to, format, samples)?;
     end
 }
 
-fn begin(to: &OsString, rate: Rate, rf64: bool) -> io::Result<Wave> {
+fn begin(to: &OsString, format: Format, rf64: bool) -> io::Result<Wave> {
     match to == "-" {
-        true => Wave::pipe(Box::new(io::stdout().lock()), rate.hertz()),
-        false => Wave::file(File::create(to)?, rate.hertz(), rf64),
+        true => Wave::pipe(Box::new(io::stdout().lock()), format),
+        false => Wave::file(File::create(to)?, format, rf64),
     }
 }
 
@@ -78,13 +79,13 @@ fn closed(wave: Wave, trouble: Trouble) -> Trouble {
 }
 
 /// "show.hall: 20.000 s, 960,000 samples at 48,000 Hz", on standard error where standard output is the file.
-fn say(to: &OsString, rate: Rate, samples: usize) -> Result<(), Trouble> {
+fn say(to: &OsString, format: Format, samples: usize) -> Result<(), Trouble> {
     let text = format!(
         "{}: {:.3} s, {} at {} Hz",
         files::name_out(to),
-        samples as f64 / f64::from(rate.hertz()),
+        samples as f64 / f64::from(format.rate),
         counted(samples as u64, "sample"),
-        grouped(rate.hertz().into())
+        grouped(format.rate.into())
     );
     if to == "-" {
         let _ = writeln!(io::stderr(), "{text}");

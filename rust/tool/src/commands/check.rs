@@ -1,5 +1,6 @@
 // SPDX-License-Identifier: Apache-2.0
-//! `check`: every refusal with its cause. After one it goes on as `render` does, so that one fault is told once.
+//! `check`: every refusal with its cause. After one it goes on as `render` does, so that one fault is told once. What is
+//! refused is the same in every layout.
 use super::told;
 use crate::arguments::Policy;
 use crate::files::{self, Out};
@@ -8,14 +9,15 @@ use crate::numbers::{counted, grouped};
 use crate::programme::{Limits, Reader};
 use crate::trouble::Trouble;
 use std::ffi::OsString;
-use voqlisna::{Blame, Rendered};
+use voqlisna::{Blame, Layout, Rendered};
 
 pub fn check(from: &OsString) -> Result<(), Trouble> {
     let (input, length) = files::open(from)?;
     let mut programme = Reader::new(input, Limits::TOOL, length);
     let (out, by) = (Out::standard(), Vec::new());
     let mut report = Report { out, by };
-    let (counts, broken) = Hall::new()?.run(&mut programme, Policy::Conceal, &mut report)?;
+    let (counts, broken) =
+        Hall::new(Layout::Hall714)?.run(&mut programme, Policy::Conceal, &mut report)?;
     let Report { mut out, by } = report;
     out.line(&summary(&counts, &by))?;
     out.close()?;

@@ -12,7 +12,7 @@ pub fn demo(given: &Demo) -> Result<(), Trouble> {
     let to = &given.to;
     let mut recorder = Recorder::new(to, false, &given.meters, told)?;
     let mut show = Show::new(given.seconds);
-    let ran = Hall::new()?.run(&mut show, Policy::Conceal, &mut recorder);
+    let ran = Hall::new(given.layout)?.run(&mut show, Policy::Conceal, &mut recorder);
     let ((counts, _), _) = recorder.close(ran)?;
     let Some(first) = &recorder.first else {
         return Ok(());

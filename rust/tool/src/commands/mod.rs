@@ -15,7 +15,7 @@ use crate::numbers::grouped;
 use crate::trouble::Trouble;
 use crate::{pictures, text};
 use std::ffi::OsString;
-use voqlisna::{Renderer, sys};
+use voqlisna::{Layout, Renderer, sys};
 
 pub fn run(command: Command) -> Result<(), Trouble> {
     match command {
@@ -31,7 +31,7 @@ pub fn run(command: Command) -> Result<(), Trouble> {
         Command::Unarchive { from, to, rf64 } => archive::unarchive(&from, &to, rf64),
         Command::Draw { what, to } => {
             let picture = match what {
-                Picture::Map => pictures::map()?,
+                Picture::Map(layout) => pictures::map(layout)?,
                 Picture::Bass => pictures::bass()?,
                 Picture::Decay => pictures::decay()?,
                 Picture::Limiter => pictures::limiter()?,
@@ -45,10 +45,11 @@ pub fn run(command: Command) -> Result<(), Trouble> {
 /// Versions and sizes as the linked library tells them.
 fn version() -> String {
     format!(
-        "voqlisna {}, library {}, state block {} bytes\n",
+        "voqlisna {}, library {}, state block {} bytes, layouts {}\n",
         env!("CARGO_PKG_VERSION"),
         sys::hall_version(),
-        grouped(<Renderer>::block_size() as u64)
+        grouped(<Renderer>::block_size() as u64),
+        Layout::ALL.map(Layout::name).join(" ")
     )
 }
 

@@ -6,12 +6,12 @@ use crate::files;
 use crate::hall::{Counts, Listener, Refused};
 use crate::numbers::{clock, decibels};
 use crate::trouble::Trouble;
-use crate::wave::Wave;
+use crate::wave::{Format, Wave};
 use std::ffi::OsString;
 use std::fs::File;
 use std::io::{self, IsTerminal, Write};
 use std::time::{Duration, Instant};
-use voqlisna::{Rendered, Speaker};
+use voqlisna::{Layout, Rendered};
 
 /// Writes what is heard. The file is made with the first accepted frame, whose rate is the file's.
 pub struct Recorder<'a> {
@@ -19,6 +19,8 @@ pub struct Recorder<'a> {
     rf64: bool,
     wave: Option<Wave>,
     rate: u32,
+    /// Of the hall, from the first samples on.
+    layout: Layout,
     rows: u64,
     peak: f32,
     meters: Option<Meters>,
@@ -51,6 +53,7 @@ impl<'a> Recorder<'a> {
             rf64,
             wave: None,
             rate: 0,
+            layout: Layout::default(),
             rows: 0,
             peak: 0.0,
             first: None,
@@ -59,19 +62,20 @@ impl<'a> Recorder<'a> {
         })
     }
 
-    fn begin(&mut self, rate: u32) -> io::Result<()> {
+    fn begin(&mut self, rate: u32, layout: Layout) -> io::Result<()> {
+        let format = Format { rate, layout };
         self.wave = Some(if self.to == "-" {
-            Wave::pipe(Box::new(io::stdout().lock()), rate)?
+            Wave::pipe(Box::new(io::stdout().lock()), format)?
         } else {
-            Wave::file(File::create(self.to)?, rate, self.rf64)?
+            Wave::file(File::create(self.to)?, format, self.rf64)?
         });
-        self.rate = rate;
+        (self.rate, self.layout) = (rate, layout);
         Ok(())
     }
 
     fn write(&mut self, rate: u32, sound: &Rendered<'_>) -> io::Result<()> {
         if self.wave.is_none() {
-            self.begin(rate)?;
+            self.begin(rate, sound.layout())?;
         }
         self.wave.as_mut().map_or(Ok(()), |w| w.put(sound))
     }
@@ -97,7 +101,8 @@ impl<'a> Recorder<'a> {
 
     /// "show.wav: 20.000 s, 12 channels (FL .. TBR), peak -0.9 dB"
     pub fn summary(&self) -> String {
-        let names: Vec<&str> = Speaker::ALL.iter().map(|s| s.short_name()).collect();
+        let speakers = self.layout.speakers().iter();
+        let names: Vec<&str> = speakers.map(|s| s.short_name()).collect();
         format!(
             "{}: {:.3} s, {} channels ({}), peak {}",
             files::name_out(self.to),

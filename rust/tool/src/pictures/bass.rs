@@ -5,7 +5,7 @@ use crate::hall::renderer;
 use crate::numbers::grouped;
 use crate::svg::{Align, Axis, Frame, RED, Scale, Svg};
 use crate::trouble::Trouble;
-use voqlisna::{Bed, Rate, Speaker};
+use voqlisna::{Bed, Layout, Rate, Speaker};
 
 /// What a bass bed is multiplied by on its way into the low-pass.
 pub const FED: f64 = 0.316_227_76;
@@ -57,7 +57,13 @@ impl Response {
         let mut fed = vec![0.0; hertz as usize / 4];
         fed[0] = 1.0;
         let rate = Rate::new(hertz).unwrap_or(Rate::HZ_48000);
-        let heard = heard::bed(renderer()?, rate, Bed::Bass, Speaker::Bass, &fed)?;
+        let heard = heard::bed(
+            renderer(Layout::Hall714)?,
+            rate,
+            Bed::Bass,
+            Speaker::Bass,
+            &fed,
+        )?;
         let heard = heard.into_iter().map(f64::from).collect();
         Ok(Self { hertz, heard })
     }

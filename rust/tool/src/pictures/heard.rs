@@ -97,7 +97,8 @@ impl Placed {
         })
     }
 
-    /// A push of two slots of 1.0: the second is panned at the place, and the limiter lets 1 pass.
+    /// A push of two slots of 1.0: the second is panned at the place, and the limiter lets 1 pass. Nothing comes from
+    /// a speaker that the layout lacks.
     pub fn at(&mut self, place: Room) -> Result<[f32; 12], Unheard> {
         let mut writer = MetadataWriter::new(&mut self.memory);
         writer
@@ -112,6 +113,6 @@ impl Placed {
         let frame = Frame::new(Rate::HZ_48000, &[], Pcm::packed(&pcm, 1)?, writer.finish())?;
         self.renderer.reset();
         let sound = self.renderer.push(&frame, &mut self.out)?;
-        Ok(Speaker::ALL.map(|s| sound.channel(s)[LEAD]))
+        Ok(Speaker::ALL.map(|s| sound.channel(s).get(LEAD).copied().unwrap_or(0.0)))
     }
 }

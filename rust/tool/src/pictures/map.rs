@@ -6,7 +6,7 @@ use crate::numbers::grouped;
 use crate::svg::{Align, Area, Axis, BLUE, Frame, GOLD, GREY, PALE, Scale, Svg, TEAL};
 use crate::trouble::Trouble;
 use std::fmt::Write;
-use voqlisna::{Panned, Speaker};
+use voqlisna::{Layout, Panned, Speaker};
 
 /// Places along each side of a layer, and half of them.
 const SIDE: usize = 65;
@@ -47,27 +47,85 @@ const LAYERS: [(f32, &[Speaker], f64, &str); 2] = [
     (1.0, &CEILING, 272.0, "Object at the ceiling"),
 ];
 
-pub fn map() -> Result<String, Trouble> {
-    let mut placed = Placed::new(renderer()?)?;
-    let mut svg = Svg::new(990.0, 524.0);
-    svg.title((LEFT, 30.0), "Which speaker sounds where");
-    let mut squares = Squares::default();
+/// Where the legend and the caption stand, and how high the picture is.
+struct Plan {
+    legend: f64,
+    caption: f64,
+    height: f64,
+}
+
+const TWO_LAYERS: Plan = Plan {
+    legend: 426.0,
+    caption: 506.0,
+    height: 524.0,
+};
+/// Without speakers at the ceiling.
+const FLOOR_ALONE: Plan = Plan {
+    legend: 256.0,
+    caption: 336.0,
+    height: 354.0,
+};
+
+pub fn map(layout: Layout) -> Result<String, Trouble> {
+    let mut placed = Placed::new(renderer(layout)?)?;
+    let has_ceiling = CEILING.iter().any(|s| layout.has(*s));
+    let plan = if has_ceiling { TWO_LAYERS } else { FLOOR_ALONE };
+    let mut svg = Svg::new(990.0, plan.height);
+    let title = match layout {
+        Layout::Hall714 => "Which speaker sounds where".to_owned(),
+        other => format!("Which speaker sounds where in {other}"),
+    };
+    svg.title((LEFT, 30.0), &title);
+    let (mut squares, mut layers) = (Squares::default(), Vec::new());
     for (height, speakers, y, name) in LAYERS {
         let levels = layer(&mut placed, height, &mut squares)?;
-        svg.label((LEFT, y - 26.0), Align::Start, name);
+        let has = speakers.iter().copied().filter(|s| layout.has(*s));
+        let speakers: Vec<Speaker> = has.collect();
+        if !speakers.is_empty() {
+            svg.label((LEFT, y - 26.0), Align::Start, name);
+        }
         for (k, s) in speakers.iter().enumerate() {
             let corner = (LEFT + (PANEL + GAP) * k as f64, y);
-            panel(&mut svg, corner, *s, speakers, &levels);
+            panel(&mut svg, corner, *s, &speakers, &levels);
         }
+        layers.push(levels);
     }
-    rise(&mut svg, &mut placed, &mut squares)?;
-    legend(&mut svg);
+    if has_ceiling {
+        rise(&mut svg, &mut placed, &mut squares)?;
+    } else {
+        unlike(&mut svg, &layers[0], &layers[1]);
+    }
+    legend(&mut svg, plan.legend);
     let (places, least, most) = (grouped(squares.places), squares.least, squares.most);
     let said = format!(
-        "Measured at {places} places with an object of gain 1 and size 0. The squares of the eleven levels add up to {least:.7} to {most:.7}."
+        "Measured at {places} places with an object of gain 1 and size 0. The squares of the {} levels add up to {least:.7} to {most:.7}.",
+        full_range(layout)
     );
-    svg.caption((LEFT, 506.0), &said);
+    svg.caption((LEFT, plan.caption), &said);
     Ok(svg.finish())
+}
+
+/// How many speakers objects are panned over, in words.
+const fn full_range(layout: Layout) -> &'static str {
+    match layout {
+        Layout::Hall714 => "eleven",
+        Layout::Hall514 => "nine",
+        Layout::Hall710 => "seven",
+        Layout::Hall510 => "five",
+    }
+}
+
+/// Whether an object at the ceiling is heard as one on the floor.
+fn unlike(svg: &mut Svg, floor: &[[f32; 12]], ceiling: &[[f32; 12]]) {
+    let count = floor.iter().zip(ceiling).filter(|(a, b)| a != b).count();
+    let all = grouped(floor.len() as u64);
+    let said = match count {
+        0 => format!("Object at the ceiling: as on the floor, at each of {all} places"),
+        count => {
+            format!("Object at the ceiling: otherwise than on the floor at {count} of {all} places")
+        }
+    };
+    svg.label((LEFT, 232.0), Align::Start, &said);
 }
 
 /// The least and the greatest sum of squares.
@@ -176,8 +234,8 @@ fn shade(step: usize) -> String {
     )
 }
 
-fn legend(svg: &mut Svg) {
-    let (y, side) = (426.0, 26.0);
+fn legend(svg: &mut Svg, y: f64) {
+    let side = 26.0;
     for step in 0..=STEPS {
         let x = LEFT + side * step as f64;
         let fill = if step == 0 {

@@ -47,8 +47,8 @@ fn compiled(compiler: &str, language: &str, standard: &str) -> PathBuf {
 fn print(text: &mut String, call: &str, answer: Answer, rendered: Option<Rendered<'_>>) {
     print_answer(text, call, answer);
     for i in 0..answer.ready {
-        let words =
-            Speaker::ALL.map(|s| format!("{:08x}", rendered.unwrap().channel(s)[i].to_bits()));
+        let word = |(_, x): (Speaker, &[f32])| format!("{:08x}", x[i].to_bits());
+        let words: Vec<_> = rendered.unwrap().channels().map(word).collect();
         writeln!(text, "{}", words.join(" ")).unwrap();
     }
 }
@@ -139,12 +139,23 @@ fn metadata(memory: &mut [u8], x: f32) -> Metadata<'_> {
 
 /// What host.c must print.
 fn expected() -> String {
-    let (mut text, mut memory) = (String::new(), [0; 200]);
+    let mut text = String::new();
+    print_answer(&mut text, "make", refused(1));
+    print_answer(&mut text, "make", refused(15));
+    Layout::ALL
+        .into_iter()
+        .for_each(|layout| show(&mut text, layout));
+    archive(&mut text);
+    text
+}
+
+fn show(text: &mut String, layout: Layout) {
+    let mut memory = [0; 200];
     let (mut renderer, mut out) = (
-        Renderer::new().unwrap(),
+        Renderer::new(layout).unwrap(),
         Output::new(Stride::new(512).unwrap()),
     );
-    print(&mut text, "reset", answer(3), None);
+    print_answer(text, "make", answer(3));
     for k in 0..FRAMES {
         let pcm = sound(k);
         let metadata = match k % 2 {
@@ -160,16 +171,15 @@ fn expected() -> String {
                     (rendered.peak() > 1.0, rendered.gain() < 1.0),
                     (k == LOUD, k >= LOUD)
                 );
-                print(&mut text, "push", ready(&rendered), Some(rendered));
+                print(text, "push", ready(&rendered), Some(rendered));
             }
-            Err(refusal) => print(&mut text, "push", refused(refusal.number()), None),
+            Err(refusal) => print(text, "push", refused(refusal.number()), None),
         }
     }
     let rendered = renderer.flush(&mut out).unwrap();
-    print(&mut text, "flush", ready(&rendered), Some(rendered));
-    print(&mut text, "flush", answer(2), None);
-    archive(&mut text);
-    text
+    print(text, "flush", ready(&rendered), Some(rendered));
+    print_answer(text, "flush", answer(2));
+    print_answer(text, "reset", answer(3));
 }
 
 /// The bytes count up, so each is its own place.
@@ -193,7 +203,7 @@ fn says_the_same(lines: &str) {
         let said = line.strip_prefix(&format!("{number}: ")).unwrap();
         let refusal = Refusal::from_answer(refused(number)).unwrap();
         match number {
-            0 | 7 | 15..22 => assert_eq!(said, "an unknown refusal"),
+            0 | 7 | 16..22 => assert_eq!(said, "an unknown refusal"),
             9 | 11 | 13 | 14 => assert!(said.contains(' ')),
             _ => assert_eq!(said, refusal.to_string().replace('±', "+-")),
         }
@@ -247,6 +257,7 @@ fn the_library_has_prefixed_names_and_needs_two() {
         [
             "hall_flush",
             "hall_from_planes",
+            "hall_make",
             "hall_push",
             "hall_reset",
             "hall_state_size",

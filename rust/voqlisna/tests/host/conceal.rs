@@ -49,7 +49,10 @@ fn update(objects: u8, beds: &[Bed]) -> Vec<u8> {
 impl Stream {
     fn new() -> Self {
         let concealer = Concealer::new(Stride::MAX);
-        let (renderer, out) = (Renderer::new().unwrap(), Output::new(Stride::MAX));
+        let (renderer, out) = (
+            Renderer::new(Layout::Hall714).unwrap(),
+            Output::new(Stride::MAX),
+        );
         Self {
             renderer,
             out,
@@ -238,7 +241,7 @@ fn lent_memory_is_enough() {
         Some(ShapeError::Memory { needed: 2176 })
     );
     let mut concealer = Concealer::over(&mut memory, stride).unwrap();
-    let (mut renderer, mut out) = (Renderer::new().unwrap(), Output::new(stride));
+    let (mut renderer, mut out) = (Renderer::new(Layout::Hall714).unwrap(), Output::new(stride));
     let mut draw = Draw::new(5, 0);
     let scene = Scene {
         rate: Rate::HZ_48000,

@@ -26,7 +26,7 @@ impl Call {
         let (scene, stride) = (Scene::draw(draw), draw.pick(&[64, 128, 1536]));
         let owned = scene.frame(draw, stride.min(100));
         Self {
-            state: raw::fresh(),
+            state: raw::fresh(Layout::Hall714),
             out: vec![0; 48 * stride],
             pcm: owned.frame().pcm().as_bytes().to_vec(),
             metadata: owned.metadata,
@@ -91,7 +91,7 @@ impl Call {
             Cause::Argument(Argument::Stride(_)) => self.stride = 1536,
             Cause::Argument(Argument::Output { needed, .. }) => self.out.resize(needed, 0),
             Cause::Argument(Argument::StateLength { .. } | Argument::StateField) => {
-                self.state = raw::fresh()
+                self.state = raw::fresh(Layout::Hall714)
             }
             Cause::Argument(Argument::Samples { most, .. }) => self.samples = most,
             Cause::Argument(Argument::Beds(_)) => self.codes.truncate(18),

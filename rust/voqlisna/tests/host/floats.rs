@@ -81,7 +81,7 @@ fn fade(mut push: impl FnMut(&Frame<'_>)) {
 
 /// The fade through the crate, every call in this mode.
 fn guarded(control: u32) -> Vec<u32> {
-    let (mut words, mut renderer) = (Vec::new(), Renderer::new().unwrap());
+    let (mut words, mut renderer) = (Vec::new(), Renderer::new(Layout::Hall714).unwrap());
     let mut out = Output::new(Stride::new(256).unwrap());
     fade(|frame| {
         let (rendered, after) = under(control, || renderer.push(frame, &mut out));
@@ -95,7 +95,8 @@ fn guarded(control: u32) -> Vec<u32> {
 
 /// The same straight through the entry.
 fn unguarded(control: u32) -> Vec<u32> {
-    let (mut words, mut block, mut out) = (Vec::new(), raw::fresh(), vec![0; 48 * 256]);
+    let (mut words, mut block, mut out) =
+        (Vec::new(), raw::fresh(Layout::Hall714), vec![0; 48 * 256]);
     fade(|frame| {
         let (answer, _) = under(control, || raw::push(&mut block, frame, &mut out, 256));
         assert_eq!((answer.kind, answer.ready), (0, 256));
@@ -149,7 +150,10 @@ fn a_call_in_the_default_mode_gives_its_result() {
 
 #[test]
 fn flush_reset_and_restore_are_guarded_too() {
-    let (mut renderer, mut out) = (Renderer::new().unwrap(), Output::new(Stride::MAX));
+    let (mut renderer, mut out) = (
+        Renderer::new(Layout::Hall714).unwrap(),
+        Output::new(Stride::MAX),
+    );
     let mut memory = vec![0; Snapshot::size()];
     let mut seen = Vec::new();
     for control in [DEFAULT, 0] {
@@ -174,7 +178,7 @@ fn flush_reset_and_restore_are_guarded_too() {
         assert_eq!((flushed, after & CONTROL), (Some(200 % 64), control));
         seen.push(restored.into_block());
         under(control, || renderer.reset());
-        assert!(renderer.block() == raw::fresh());
+        assert!(renderer.block() == raw::fresh(Layout::Hall714));
     }
     assert!(seen[0] == seen[1]);
 }

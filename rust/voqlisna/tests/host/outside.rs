@@ -16,7 +16,7 @@ fn main() -> Result<(), Box<dyn std::error::Error>> {
     writer.update(Update { at: 0, objects: 1, fixed: 0, beds: &[] })?;
     let frame = Frame::new(Rate::HZ_48000, &[], Pcm::packed(&[0.5; 480], 1)?, writer.finish())?;
     let mut out = Output::new(Stride::MAX);
-    println!("{} ready", Renderer::new()?.push(&frame, &mut out)?.ready());
+    println!("{} ready", Renderer::new(Layout::Hall714)?.push(&frame, &mut out)?.ready());
     Ok(())
 }
 "#;
@@ -28,7 +28,7 @@ use voqlisna::*;
 
 pub fn renders(block: &mut [u8], frame: &Frame<'_>, out: &mut [f32]) -> Option<usize> {
     let mut out = Output::over(out, Stride::MAX).ok()?;
-    let mut renderer = Renderer::over(block).ok()?;
+    let mut renderer = Renderer::over(block, Layout::Hall714).ok()?;
     renderer.push(frame, &mut out).ok()?;
     renderer.reset();
     renderer.flush(&mut out).map(|rendered| rendered.ready())
@@ -37,7 +37,7 @@ pub fn renders(block: &mut [u8], frame: &Frame<'_>, out: &mut [f32]) -> Option<u
 pub fn conceals(block: &mut [u8], frame: &Frame<'_>, out: &mut [f32], silence: &mut [f32]) -> Option<Way> {
     let mut out = Output::over(out, Stride::MAX).ok()?;
     let mut concealer = Concealer::over(silence, Stride::MAX).ok()?;
-    let mut renderer = Renderer::over(block).ok()?;
+    let mut renderer = Renderer::over(block, Layout::Hall714).ok()?;
     let outcome = renderer.push_or_conceal(frame, &mut out, &mut concealer);
     outcome.ok().map(|outcome| outcome.way)
 }

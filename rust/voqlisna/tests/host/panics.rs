@@ -35,6 +35,7 @@ fn shapes(draw: &mut Draw) {
     let _ = (
         Rate::new(draw.word() as u32),
         Bed::from_code(draw.word() as u8),
+        Layout::from_code(draw.word() as u32),
     );
     let _ = Pcm::bytes(&draw.bytes(samples.len()), channels);
     let mut stage = Stage::new(stride, count(draw));
@@ -62,7 +63,8 @@ fn shapes(draw: &mut Draw) {
 
 /// Every call with a frame, and every way to read what it gave.
 fn calls(draw: &mut Draw, frame: &Frame<'_>, stride: Stride) {
-    let (mut renderer, mut out) = (Renderer::new().unwrap(), Output::new(stride));
+    let layout = draw.pick(&Layout::ALL);
+    let (mut renderer, mut out) = (Renderer::new(layout).unwrap(), Output::new(stride));
     let mut concealer = Concealer::new(Stride::new(64 * (1 + draw.below(24) as u32)).unwrap());
     let mut steady = Steady::up_to(draw.below(2_000)).unwrap();
     for _ in 0..3 {
@@ -104,7 +106,8 @@ fn lent(draw: &mut Draw) {
     let _ = MetadataWriter::bytes_for(samples, &[count(draw), count(draw)]);
     let length = count(draw).min(500);
     let mut bytes = draw.bytes(length);
-    let _ = Renderer::over(&mut bytes).map(|renderer| renderer.block().len());
+    let layout = draw.pick(&Layout::ALL);
+    let _ = Renderer::over(&mut bytes, layout).map(|renderer| renderer.block().len());
     let _ = Snapshot::read(&bytes).map(|snapshot| Renderer::restore(snapshot).is_ok());
 }
 

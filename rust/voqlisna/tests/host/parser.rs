@@ -88,7 +88,10 @@ fn mend_all(renderer: &mut Renderer, out: &mut Output, metadata: &mut Vec<u8>) -
 
 #[test]
 fn finds_what_push_refuses_and_names_the_byte() {
-    let (mut renderer, mut out) = (Renderer::new().unwrap(), Output::new(Stride::MAX));
+    let (mut renderer, mut out) = (
+        Renderer::new(Layout::Hall714).unwrap(),
+        Output::new(Stride::MAX),
+    );
     let (mut fives, mut sixes, mut neither, mut mended) = (0, 0, 0, 0);
     for case in 0..CASES {
         let mut draw = Draw::new(3, case);
@@ -133,7 +136,10 @@ fn the_seventeenth_update_is_too_many() {
     let metadata = record(1).repeat(17);
     let fault = first_fault(&metadata, 5).unwrap();
     assert_eq!((fault.index, fault.byte, fault.why), (16, 0, Why::Updates));
-    let (mut renderer, mut out) = (Renderer::new().unwrap(), Output::new(Stride::MAX));
+    let (mut renderer, mut out) = (
+        Renderer::new(Layout::Hall714).unwrap(),
+        Output::new(Stride::MAX),
+    );
     assert_eq!(
         refused(&mut renderer, &mut out, &metadata),
         Refusal::Records

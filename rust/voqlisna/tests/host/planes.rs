@@ -89,7 +89,7 @@ fn what_was_rendered_is_packed_channel_after_channel() {
         let mut draw = Draw::new(12, case);
         let samples = draw.pick(&[1, 64, 500, 1_536]);
         let owned = Scene::draw(&mut draw).frame(&mut draw, samples);
-        let mut renderer = Renderer::new().unwrap();
+        let mut renderer = Renderer::new(Layout::Hall714).unwrap();
         let Ok(rendered) = renderer.push(&owned.frame(), &mut out) else {
             continue; // by 10, where no update was drawn
         };

@@ -1,7 +1,7 @@
 // SPDX-License-Identifier: Apache-2.0
 //! The entries over slices of any length, with no guard around them.
 
-use voqlisna::sys::{Answer, hall_flush, hall_push, hall_reset};
+use voqlisna::sys::{Answer, hall_flush, hall_make, hall_push, hall_reset};
 use voqlisna::*;
 
 pub fn push(state: &mut [u8], frame: &Frame<'_>, out: &mut [u8], stride: u32) -> Answer {
@@ -69,7 +69,13 @@ pub fn reset(state: &mut [u8]) -> Answer {
     unsafe { hall_reset(state.as_mut_ptr(), state.len()) }
 }
 
-/// What reset answers.
+/// `layout` is a code.
+pub fn make(state: &mut [u8], layout: u32) -> Answer {
+    // SAFETY: one slice that lives through the call.
+    unsafe { hall_make(state.as_mut_ptr(), state.len(), layout) }
+}
+
+/// What making and reset answer.
 pub const DONE: Answer = Answer {
     kind: 3,
     number: 0,
@@ -80,9 +86,9 @@ pub const DONE: Answer = Answer {
     gain: 1.0,
 };
 
-/// A new block.
-pub fn fresh() -> Vec<u8> {
+/// A new block of that layout.
+pub fn fresh(layout: Layout) -> Vec<u8> {
     let mut state = vec![0xa5; sys::hall_state_size()];
-    assert_eq!(reset(&mut state), DONE);
+    assert_eq!(make(&mut state, layout.code()), DONE);
     state
 }

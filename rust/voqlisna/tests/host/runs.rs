@@ -36,12 +36,12 @@ fn told(result: Result<&Rendered<'_>, &Refusal>) -> Answer {
 }
 
 impl Pair {
-    fn new(stride: Stride) -> Self {
+    fn new(layout: Layout, stride: Stride) -> Self {
         let places = 12 * stride.samples();
         Self {
-            renderer: Renderer::new().unwrap(),
+            renderer: Renderer::new(layout).unwrap(),
             out: vec![3.5; places],
-            block: raw::fresh(),
+            block: raw::fresh(layout),
             raw: 3.5f32.to_le_bytes().repeat(places),
             stride,
         }
@@ -83,29 +83,55 @@ impl Pair {
         entry
     }
 
+    /// What the layout lacks is as it was.
     fn same(&self) -> bool {
+        let layout = self.renderer.layout();
+        let rows = self.out.chunks(self.stride.samples()).zip(Speaker::ALL);
+        let kept = |(row, speaker): (&[f32], Speaker)| {
+            layout.has(speaker) || row.iter().all(|x| *x == 3.5)
+        };
         let words = self
             .raw
             .chunks_exact(4)
             .map(|b| u32::from_le_bytes(b.try_into().unwrap()));
-        self.renderer.block() == self.block && self.out.iter().map(|x| x.to_bits()).eq(words)
+        let same = self.out.iter().map(|x| x.to_bits()).eq(words);
+        self.renderer.block() == self.block && same && rows.into_iter().all(kept)
     }
 }
 
-/// The three ways to read an answer tell the same samples.
+/// The ways to read an answer tell the same samples, of the channels of the layout.
 fn reads_all_alike(rendered: &Rendered<'_>) {
-    let mut interleaved = vec![9.0; 12 * rendered.ready() + 1];
+    let (ready, speakers) = (rendered.ready(), rendered.layout().speakers());
+    let width = speakers.len();
+    let mut interleaved = vec![9.0; width * ready + 1];
     assert_eq!(
         rendered.interleave_into(&mut interleaved),
-        Ok(12 * rendered.ready())
+        Ok(width * ready)
     );
     assert_eq!(interleaved.pop(), Some(9.0));
-    for (speaker, channel) in rendered.channels() {
-        assert_eq!(channel.len(), rendered.ready());
+    let mut packed = vec![9.0; 12 * ready + 1];
+    assert_eq!(rendered.pack_into(&mut packed), Ok(12 * ready));
+    assert_eq!(packed.pop(), Some(9.0));
+    assert!(
+        rendered
+            .channels()
+            .map(|(speaker, _)| speaker)
+            .eq(speakers.iter().copied())
+    );
+    for (k, (speaker, channel)) in rendered.channels().enumerate() {
+        assert_eq!(channel.len(), ready);
         assert!(std::ptr::eq(channel, rendered.channel(speaker)));
         let bits = |x: &f32| x.to_bits();
-        let column = interleaved.iter().skip(speaker.channel()).step_by(12);
+        let column = interleaved.iter().skip(k).step_by(width);
         assert!(column.map(bits).eq(channel.iter().map(bits)), "{speaker}");
+        let row = packed[speaker.channel() * ready..][..ready].iter();
+        assert!(row.map(bits).eq(channel.iter().map(bits)), "{speaker}");
+    }
+    let lacks = |speaker: &Speaker| !rendered.layout().has(*speaker);
+    for speaker in Speaker::ALL.into_iter().filter(lacks) {
+        assert!(rendered.channel(speaker).is_empty());
+        let row = &packed[speaker.channel() * ready..][..ready];
+        assert!(row.iter().all(|x| x.to_bits() == 0), "{speaker}");
     }
 }
 
@@ -142,14 +168,15 @@ fn the_crate_answers_as_the_entries_do() {
             Scene::draw(&mut draw),
             Stride::new(draw.pick(&[64, 256, 512, 1536])).unwrap(),
         );
-        let mut pair = Pair::new(stride);
+        let layout = draw.pick(&Layout::ALL);
+        let mut pair = Pair::new(layout, stride);
         for call in 0..CALLS {
             let answer = match draw.below(12) {
                 0 => pair.reset(),
                 1 => pair.flush(),
                 _ => pair.push(&drawn(&mut draw, &scene, stride).frame()),
             };
-            assert!(pair.same(), "run {case}, call {call}: {answer:?}");
+            assert!(pair.same(), "run {case}, call {call}, {layout}: {answer:?}");
             met[answer.number as usize] += 1;
             ready += answer.ready;
             limited += u32::from(answer.peak > 1.0 && answer.gain < 1.0);

@@ -24,13 +24,13 @@ fn a_refusal_keeps_its_number_and_counts() {
         let expected = match number {
             9 | 11 => (7, 8),
             13 | 14 => (7, 0),
-            1..=6 | 8 | 10 | 12 | 22 | 23 => (0, 0),
+            1..=6 | 8 | 10 | 12 | 15 | 22 | 23 => (0, 0),
             _ => (7, 8),
         };
         assert_eq!(refusal.counts(), expected, "{number}");
         assert_eq!(
             matches!(refusal, Refusal::Other { .. }),
-            !matches!(number, 1..=6 | 8..=14 | 22 | 23),
+            !matches!(number, 1..=6 | 8..=15 | 22 | 23),
             "{number}"
         );
     }
@@ -53,6 +53,7 @@ fn blame_is_as_the_interface_has_it() {
         (5..=6, Blame::Programme),
         (8..=8, Blame::Decoder),
         (9..=14, Blame::Stream),
+        (15..=15, Blame::Host),
         (22..=23, Blame::Host),
     ] {
         assert!(
@@ -113,6 +114,7 @@ fn every_other_error_is_a_sentence() {
     use SnapshotError::*;
     let snapshot = [NotOne, Version(3), Damaged, Range, Memory { needed: 5 }];
     snapshot.iter().for_each(|error| is_a_sentence(error));
+    is_a_sentence(&UnknownLayout);
     is_a_sentence(&records::first_fault(&[1; 40], 5).unwrap());
 }
 
@@ -134,11 +136,46 @@ fn speakers_are_in_the_order_of_wave_files() {
     assert_eq!(format!("{:>4}", Speaker::Bass), " LFE");
 }
 
-/// To within the rounding of `Panned::room`.
+/// Document 02: "5.1.4 lacks channels 4 and 5, 7.1.0 lacks the four top channels, 5.1.0 lacks both
+/// groups .. layout code 0 for 7.1.4, then 1, 2, 3 in the order above".
+#[test]
+fn layouts_have_the_channels_of_the_document() {
+    let (rear, top) = ([4, 5], [8, 9, 10, 11]);
+    for (code, name, without) in [
+        (0, "7.1.4", vec![]),
+        (1, "5.1.4", rear.to_vec()),
+        (2, "7.1.0", top.to_vec()),
+        (3, "5.1.0", [&rear[..], &top].concat()),
+    ] {
+        let layout = Layout::from_code(code).unwrap();
+        assert_eq!((layout.code(), layout.to_string()), (code, name.to_owned()));
+        assert_eq!(name.parse(), Ok(layout));
+        let all = Speaker::ALL.into_iter();
+        let has: Vec<_> = all.filter(|s| !without.contains(&s.channel())).collect();
+        assert_eq!(layout.speakers(), has);
+        assert!(
+            Speaker::ALL
+                .iter()
+                .all(|s| layout.has(*s) == has.contains(s))
+        );
+        let bits = has.iter().map(|speaker| speaker.wave_bit());
+        assert_eq!(bits.sum::<u32>(), layout.wave_mask());
+    }
+    assert!((4..200).all(|code| Layout::from_code(code).is_none()));
+    for name in ["", "7.1", "7.1.4 ", "714", "5.1.2"] {
+        assert_eq!(name.parse::<Layout>(), Err(UnknownLayout));
+    }
+}
+
+/// To within the rounding of `Panned::room`, in each layout.
 #[test]
 fn an_object_at_a_speakers_place_sounds_from_it_alone() {
+    Layout::ALL.into_iter().for_each(sounds_alone);
+}
+
+fn sounds_alone(layout: Layout) {
     let mut out = Output::new(Stride::for_frames_of(256).unwrap());
-    for speaker in Speaker::ALL {
+    for speaker in layout.speakers().iter().copied() {
         let Some(place) = speaker.place() else {
             assert_eq!(speaker, Speaker::Bass);
             continue;
@@ -162,7 +199,7 @@ fn an_object_at_a_speakers_place_sounds_from_it_alone() {
             .unwrap();
         let pcm = Pcm::packed(&[0.5; 256], 1).unwrap();
         let frame = Frame::new(Rate::HZ_48000, &[], pcm, writer.finish()).unwrap();
-        let mut renderer = Renderer::new().unwrap();
+        let mut renderer = Renderer::new(layout).unwrap();
         let rendered = renderer.push(&frame, &mut out).unwrap();
         for (other, samples) in rendered.channels() {
             let expected = if other == speaker { 0.5 } else { 0.0 };

@@ -9,8 +9,9 @@ use voqlisna::*;
 fn running(case: u64) -> (Renderer, Scene, Draw) {
     let mut draw = Draw::new(6, case);
     let (scene, mut out) = (Scene::draw(&mut draw), Output::new(Stride::MAX));
-    let mut renderer = Renderer::new().unwrap();
-    while renderer.block() == raw::fresh() {
+    let layout = draw.pick(&Layout::ALL);
+    let mut renderer = Renderer::new(layout).unwrap();
+    while renderer.block() == raw::fresh(layout) {
         let _ = renderer.push(&scene.frame(&mut draw, 100).frame(), &mut out);
     }
     (renderer, scene, draw)
@@ -27,6 +28,8 @@ fn goes_on_where_it_was() {
         let snapshot = Snapshot::read(saved.as_bytes()).unwrap();
         let mut second = Renderer::restore(snapshot).unwrap();
         let mut third = Renderer::restore_over(snapshot, &mut memory).unwrap();
+        assert_eq!(second.layout(), first.layout());
+        assert_eq!(third.layout(), first.layout());
         for _ in 0..20 {
             let owned = scene.frame(&mut draw, 90);
             let rendered = first.push(&owned.frame(), &mut out).unwrap();
@@ -103,7 +106,15 @@ fn a_field_out_of_range_is_turned_down_by_the_library() {
     let (renderer, ..) = running(1);
     let mut file = vec![0; Snapshot::size()];
     renderer.save(&mut file).unwrap();
-    for (byte, value) in [(4, 64), (64, 64), (68, 2), (80, 33), (1424, 64)] {
+    let layout = sys::LAYOUT_AT;
+    for (byte, value) in [
+        (4, 64),
+        (64, 64),
+        (68, 2),
+        (80, 33),
+        (1424, 64),
+        (layout, 4),
+    ] {
         let mut forged = file.clone();
         forged[16 + byte] = value;
         let sum = crc32(&forged[16..]);

@@ -49,7 +49,10 @@ fn largest(draw: &mut Draw) -> Owned {
 #[test]
 fn a_call_stays_within_what_is_promised() {
     let mut owned = largest(&mut Draw::new(10, 0));
-    let (mut renderer, mut out) = (Renderer::new().unwrap(), Output::new(Stride::MAX));
+    let (mut renderer, mut out) = (
+        Renderer::new(Layout::Hall714).unwrap(),
+        Output::new(Stride::MAX),
+    );
     let (mut concealer, mut memory) = (Concealer::new(Stride::MAX), vec![0; Snapshot::size()]);
     let mut ways = Vec::new();
     let mut told = Vec::new();

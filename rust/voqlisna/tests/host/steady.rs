@@ -32,7 +32,10 @@ impl Counting {
             .element(&[Block::default()], |_, _| Object::KEEP.gain(1.0))
             .unwrap();
         let update = writer.finish().as_bytes().to_vec();
-        let (renderer, out) = (Renderer::new().unwrap(), Output::new(Stride::MAX));
+        let (renderer, out) = (
+            Renderer::new(Layout::Hall714).unwrap(),
+            Output::new(Stride::MAX),
+        );
         let mut new = Self {
             renderer,
             out,
@@ -136,6 +139,38 @@ fn a_changing_callback_never_runs_dry() {
         (0..500).map(|k| 1 + k % 300),
         "lent",
     );
+}
+
+/// What a 7.1.4 renderer has left in the ring is not heard when a smaller one goes on.
+#[test]
+fn a_channel_that_the_layout_lacks_is_silent() {
+    let mut memory = [0; MetadataWriter::bytes_for(1, &[1])];
+    let mut writer = MetadataWriter::new(&mut memory);
+    let update = Update {
+        at: 0,
+        objects: 1,
+        fixed: 0,
+        beds: &[],
+    };
+    let wide = Object::at(Room::CENTER).gain(1.0).size(1.0);
+    let written = writer.update(update).unwrap();
+    written.element(&[Block::default()], |_, _| wide).unwrap();
+    let update = writer.finish();
+    let (mut steady, mut out) = (Steady::fixed(128).unwrap(), Output::new(Stride::MAX));
+    let mut to = [0.0; 12 * 128];
+    for layout in Layout::ALL.into_iter().cycle().take(12) {
+        let mut renderer = Renderer::new(layout).unwrap();
+        let pcm = Pcm::packed(&[1.0; 128], 1).unwrap();
+        let frame = Frame::new(Rate::HZ_48000, &[], pcm, update).unwrap();
+        steady
+            .put(&renderer.push(&frame, &mut out).unwrap())
+            .unwrap();
+        assert_eq!(steady.take_interleaved(&Speaker::ALL, 128, &mut to), 128);
+        for (speaker, x) in Speaker::ALL.into_iter().zip(&to[12 * 127..]) {
+            let heard = layout.has(speaker) && speaker != Speaker::Bass;
+            assert_eq!(heard, *x != 0.0, "{layout}: {speaker} {x}");
+        }
+    }
 }
 
 #[test]

@@ -53,7 +53,10 @@ fn numbers_of_the_header_are_those_of_the_crates() {
     assert_eq!(defined("HALL_STATE_SIZE"), sys::STATE_SIZE as u64);
     assert_eq!(defined("HALL_MAX_STRIDE"), Stride::MAX.samples() as u64);
     assert_eq!(defined("HALL_MAX_SAMPLES"), Stride::MAX.samples() as u64);
-    assert_eq!(defined("HALL_WAVE_MASK"), u64::from(WAVE_MASK));
+    let masks = ["", "_514", "_710", "_510"].map(|name| defined(&format!("HALL_WAVE_MASK{name}")));
+    assert_eq!(masks, Layout::ALL.map(|layout| layout.wave_mask().into()));
+    assert!(HEADER.contains("HALL_714, HALL_514, HALL_710, HALL_510,"));
+    assert_eq!(WAVE_MASK, Layout::Hall714.wave_mask());
     let names = Speaker::ALL
         .map(|speaker| format!("HALL_{}", speaker.short_name()))
         .join(", ");

@@ -132,7 +132,10 @@ fn begin<'w, 'm>(writer: &'w mut MetadataWriter<'m>, record: &Record<'_>) -> Upd
 
 #[test]
 fn is_never_refused_by_5_or_6_and_is_read_back() {
-    let (mut renderer, mut out) = (Renderer::new().unwrap(), Output::new(Stride::MAX));
+    let (mut renderer, mut out) = (
+        Renderer::new(Layout::Hall714).unwrap(),
+        Output::new(Stride::MAX),
+    );
     let (mut turned_down, mut records, mut memory) = (HashMap::new(), 0, vec![0xa5; 40 * 700]);
     for case in 0..FRAMES {
         let mut draw = Draw::new(2, case);

@@ -9,6 +9,8 @@ use native.Mathlib.Omega.{arith}
 use native.Mathlib.Nat.{le_of_lt}
 use borrow.Author.Rules.{rules}
 use borrow.Author.Tests.{ltb-false}
+use Rattle.panning.specs.Setup.{Setup, marks_of}
+use Rattle.panning.specs.Hall.{setup_of}
 use Rattle.limiter.specs.Meters.{unmet}
 use Rattle.rules.specs.Calls.{frame_of}
 use Rattle.rules.specs.Samples.{Renderer, updated, slotted}
@@ -17,17 +19,18 @@ use Rattle.theorem.specs.Instance.{sent_of, hall}
 use Rattle.refusals.specs.FirstFound.{args_in}
 use Rattle.render.specs.Run.{silent_rows}
 use Rattle.store.specs.declared.renderer.Renderer714.{Renderer714}
+use Rattle.store.specs.Layout.{layout_of, setup_in}
 use Rattle.rendering.specs.Held.{held, IsNext, Leads}
 use Rattle.rendering.specs.declared.Rendering.{Rendering}
 use Rattle.rendering.specs.Begin.{CanStart}
-use Rattle.rendering.specs.Give.{GaveRows}
+use Rattle.rendering.specs.Give.{AbsentSilent, GaveRows}
 use Rattle.rendering.specs.Pass.{moment_here, Waits}
 use Rattle.chunk.specs.ChunkRows.{Laid}
 use Rattle.rendering.proofs.Theorems.{slotted_after, none_applied, slot_rests, slot_changes_nothing}
-use Rattle.frame.proofs.Running.{Taken, takes, is_rate, Running, opens, can_begin, end_above, few, Turning, turn_some, turn_within, turn_passes}
+use Rattle.frame.proofs.Running.{Taken, takes, valid_hall, is_rate, Running, opens, can_begin, end_above, few, Turning, turn_some, turn_within, turn_passes}
 use Rattle.clock.proofs.Before.{more_left, none_left}
-use Rattle.frame.proofs.Running.{turn_runs, turn_skips, rendered}
-use Rattle.frame.proofs.ChunkOnBlock.{can_give_rows, can_give, passes_on, passes_given, passes_whole}
+use Rattle.frame.proofs.Running.{turn_setup, turn_runs, turn_skips, rendered}
+use Rattle.frame.proofs.ChunkOnBlock.{rows_silent, can_give_rows, same_layout, can_give, passes_on, passes_given, passes_whole}
 use Rattle.chunk.proofs.Theorems.{fit_all, as_laid}
 use Rattle.frame.proofs.push.render.Goals as goal
 use Rattle.frame.proofs.push.render.Goals.{In-loop-pcm, After-pass-work, After-run_length-k, After-open, Joined-is_kept, Joined-is_sent, Joined-slot_starts, then-is_sent, else-is_sent, then-slot_starts+then-not-rests, else-slot_starts, else-slot_starts-via-then-slot_starts+else-not-rests, else-slot_starts-via-else-slot_starts, then-is_kept, else-is_kept, then-k-eq64, else-k-eq64+then-work-eq64, else-k-eq64+else-work-eq64}
@@ -41,6 +44,9 @@ taken c =
     takes s.s s.state.now (args_in s.frame s.out.now) s.frame.metadata.layout c.requires s.frame.metadata.laid
     (λ i. search rules)
     s.frame.metadata.bytes
+
+pub hall-hall-requires : goal.hall-hall-requires
+hall-hall-requires c = valid_hall c.args.state.now c.requires.valid
 
 pub open-requires : goal.open-requires
 open-requires c =
@@ -154,6 +160,19 @@ turning c k b =
       count = c.run_length-k.ensures;
     }
 
+-- the hall is still that of the block
+hall_here : (c : After-run_length-k) → let s = c.args in let x = c.loop-pcm in let v = c.if-slot_starts in
+    Turning s.state.now (args_in s.frame s.out.now) s.frame.metadata.layout x.t.0 x.work x.state x.out c.next_offset-next.result.0
+    v.work v.state c.run_length-k.result
+    → setup_of c.hall-hall.result ≡ setup_in v.state
+hall_here c q = c.hall-hall.ensures ∙ sym (turn_setup q)
+
+marks_here : (c : After-run_length-k) → let s = c.args in let x = c.loop-pcm in let v = c.if-slot_starts in
+    Turning s.state.now (args_in s.frame s.out.now) s.frame.metadata.layout x.t.0 x.work x.state x.out c.next_offset-next.result.0
+    v.work v.state c.run_length-k.result
+    → c.hall-hall.result.present ≡ marks_of (layout_of v.state)
+marks_here c q = c.hall-hall.result.marked ∙ ap (λ (h : Setup). marks_of h.layout) (hall_here c q)
+
 -- the turn's span lies in the frame, and PCM for the beds and the objects is there
 pub invariant_of-span : goal.invariant_of-span
 invariant_of-span c =
@@ -178,9 +197,10 @@ pass-work-requires c =
 
 -- what it leaves, by the offset
 passed_at : (c : After-pass-work) → let s = c.args in let v = c.if-slot_starts in
-    Waits (moment_here (frame_of hall (args_in s.frame s.out.now)) c.loop-pcm.t.0 c.run_length-k.result v.work.renderer v.state)
+    setup_of c.hall-hall.result ≡ setup_in v.state
+    → Waits (moment_here (frame_of hall (args_in s.frame s.out.now)) c.loop-pcm.t.0 c.run_length-k.result v.work.renderer v.state)
     v.work c.loop-pcm.t.0 c.run_length-k.result c.pass-work.new.rows c.pass-work.result
-passed_at c = rw c.index.ensures at (c.pass-work.ensures c.args.frame.n.rate (sent_of c.args.frame.metadata.records.now) c.if-slot_starts.state)
+passed_at c h = rw c.index.ensures at (c.pass-work.ensures c.args.frame.n.rate (sent_of c.args.frame.metadata.records.now) c.if-slot_starts.state h)
 
 pub up_to-requires : goal.up_to-requires
 up_to-requires c =
@@ -202,12 +222,15 @@ neither false b e = (refl, e)
 laid_part : (c : Joined-is_kept) → let s = c.args in let x = c.loop-pcm in let v = c.if-slot_starts in
     Turning s.state.now (args_in s.frame s.out.now) s.frame.metadata.layout x.t.0 x.work x.state x.out c.next_offset-next.result.0
     v.work v.state c.run_length-k.result
+    → c.hall-hall.result.present ≡ marks_of (layout_of v.state)
     → (c.run_length-k.result ≡ 64 → ⊥)
-    → Laid c.pass-work.new.rows v.work.renderer.pending c.run_length-k.result v.state c.if-is_kept.state
-laid_part c q h =
+    → Laid (marks_of (layout_of v.state)) c.pass-work.new.rows v.work.renderer.pending c.run_length-k.result v.state c.if-is_kept.state
+laid_part c q m h =
     let p = (turn_passes q).passes.pending in
+    let v = c.if-slot_starts in
     elim c.if-is_kept.branch [
-      | then-is_kept w ↦ rw w.state-is w.lay.ensures
+      | then-is_kept w ↦ rw w.state-is
+          (subst (λ (here : List Bool). Laid here c.pass-work.new.rows v.work.renderer.pending c.run_length-k.result v.state w.lay.new.state) m w.lay.ensures)
       | else-is_kept w ↦
           let x = ltb-false c.run_length-k.result 64 (neither (ltb c.run_length-k.result 64) _ (sym c.is_kept.ensures ∙ w.if-is_kept.false)).0 in
           absurd (h (omega arith))
@@ -218,10 +241,13 @@ give_rows-work-requires c =
     let p = goal.at.give_rows-work-requires c in
     let s = c.args in
     let k = taken p.After-open in
-    can_give_rows (frame_of hall (args_in s.frame s.out.now))
-    (turn_passes (turning p.After-run_length-k k (begun p.Joined-slot_starts (updates_done p.Joined-is_sent k))))
-    (passed_at p.After-pass-work)
-    c.if-k-eq64.true
+    let f = frame_of hall (args_in s.frame s.out.now) in
+    let q = turning p.After-run_length-k k (begun p.Joined-slot_starts (updates_done p.Joined-is_sent k)) in
+    let y = passed_at p.After-pass-work (hall_here p.After-run_length-k q) in
+    let e = c.if-k-eq64.true in (
+      can_give_rows f (turn_passes q) y e,
+      subst (λ (here : List Bool). AbsentSilent here c.pass-work.new.rows) (sym (marks_here p.After-run_length-k q)) (rows_silent f (turn_passes q) y e),
+    )
 
 pub give-work-requires : goal.give-work-requires
 give-work-requires c =
@@ -229,9 +255,11 @@ give-work-requires c =
     let s = c.args in
     let k = taken p.After-open in
     let q = turning p.After-run_length-k k (begun p.Joined-slot_starts (updates_done p.Joined-is_sent k)) in
-    can_give (frame_of hall (args_in s.frame s.out.now)) (turn_passes q)
-    (passed_at p.After-pass-work)
-    (laid_part p.Joined-is_kept q c.if-k-eq64.false) c.if-work-eq64.true
+    let f = frame_of hall (args_in s.frame s.out.now) in
+    let y = passed_at p.After-pass-work (hall_here p.After-run_length-k q) in
+    let m = marks_here p.After-run_length-k q in
+    let l = laid_part p.Joined-is_kept q m c.if-k-eq64.false in
+    (can_give f (turn_passes q) y l c.if-work-eq64.true, m ∙ ap marks_of (sym (same_layout f (turn_passes q) y l)))
 
 pub overflow_cast-k : goal.overflow_cast-k
 overflow_cast-k c =
@@ -266,24 +294,28 @@ whole_runs : (c : Joined-is_kept) (r : Rendering) (o : List ℕ) → let s = c.a
     v.work v.state c.run_length-k.result
     → Waits (moment_here (frame_of hall (args_in s.frame s.out.now)) x.t.0 c.run_length-k.result v.work.renderer v.state)
     v.work x.t.0 c.run_length-k.result c.pass-work.new.rows c.pass-work.result
+    → c.hall-hall.result.present ≡ marks_of (layout_of v.state)
     → c.run_length-k.result ≡ 64
-    → GaveRows c.pass-work.result c.pass-work.new.rows s.frame.n.stride x.out r o
+    → GaveRows c.hall-hall.result.present c.pass-work.result c.pass-work.new.rows s.frame.n.stride x.out r o
     → Running s.state.now (args_in s.frame s.out.now) (x.t.0 + c.run_length-k.result) r c.if-is_kept.state o
-whole_runs c r o q y e g =
+whole_runs c r o q y m e g₀ =
     let s = c.args in
     let v = c.if-slot_starts in
     let ys = c.pass-work.new.rows in
+    let g = subst (λ (here : List Bool). GaveRows here c.pass-work.result ys s.frame.n.stride c.loop-pcm.out r o) m g₀ in
     let f = frame_of hall (args_in s.frame s.out.now) in
     let p = turn_passes q in
     elim c.if-is_kept.branch [
-      | then-is_kept w ↦ rw w.state-is (turn_runs q r _ o (passes_whole f p y w.lay.ensures c.pass-work.array_long e g))
+      | then-is_kept w ↦
+          let l = subst (λ (here : List Bool). Laid here ys v.work.renderer.pending c.run_length-k.result v.state w.lay.new.state) m w.lay.ensures in
+          rw w.state-is (turn_runs q r _ o (passes_whole f p y l c.pass-work.array_long e g))
       | else-is_kept w ↦
           let k = c.run_length-k.result in
           let left = c.up_to.result in
           let x = ltb-false left 128 (neither (ltb k 64) (ltb left 128) (sym c.is_kept.ensures ∙ w.if-is_kept.false)).1 in
-          let l = as_laid ys v.work.renderer.pending k p.passes.pending v.state (fit_all ys g.fit) c.pass-work.array_long v.array_long in
+          let l = as_laid (marks_of (layout_of v.state)) refl ys v.work.renderer.pending k p.passes.pending v.state (fit_all ys g.fit) v.array_long in
           rw w.state-is
-          (turn_skips q r l.0 o (passes_whole f p y l.1 c.pass-work.array_long e g) l.1.infos (ap (λ (s : Renderer714). s.pending) g.renderer)
+          (turn_skips q r l.0 o (passes_whole f p y l.1 c.pass-work.array_long e g) l.1 (ap (λ (s : Renderer714). s.pending) g.renderer)
           (omega (arith, x, c.up_to.ensures, c.loop-pcm.invariant.1)))
     ]
 
@@ -297,14 +329,15 @@ loop-pcm-preserved c =
     let q = turning at.After-run_length-k k (begun at.Joined-slot_starts (updates_done at.Joined-is_sent k)) in
     let p = turn_passes q in
     let f = frame_of hall a in
-    let y = passed_at at.After-pass-work in (
+    let m = marks_here at.After-run_length-k q in
+    let y = passed_at at.After-pass-work (hall_here at.After-run_length-k q) in (
       subst (λ (t : ℕ). Running s.state.now a t z.work c.if-is_kept.state z.out) (sym c.plus-t.ensures)
           (elim z.branch [
-            | then-k-eq64 w ↦ rw (w.work-is, w.out-is) (whole_runs at.Joined-is_kept _ _ q y w.if-k-eq64.true w.give_rows-work.ensures)
+            | then-k-eq64 w ↦ rw (w.work-is, w.out-is) (whole_runs at.Joined-is_kept _ _ q y m w.if-k-eq64.true w.give_rows-work.ensures)
             | else-k-eq64+then-work-eq64 w ↦ rw (w.work-is, w.out-is)
-                (turn_runs q _ _ _ (passes_given f p y (laid_part at.Joined-is_kept q w.if-k-eq64.false) w.if-work-eq64.true w.give-work.ensures))
+                (turn_runs q _ _ _ (passes_given f p y (laid_part at.Joined-is_kept q m w.if-k-eq64.false) w.if-work-eq64.true w.give-work.ensures))
             | else-k-eq64+else-work-eq64 w ↦ rw (w.work-is, w.out-is)
-                (turn_runs q _ _ _ (passes_on f p y (laid_part at.Joined-is_kept q w.if-k-eq64.false) w.if-work-eq64.false))
+                (turn_runs q _ _ _ (passes_on f p y (laid_part at.Joined-is_kept q m w.if-k-eq64.false) w.if-work-eq64.false))
           ]),
       c.loop-pcm.invariant.1,
     )

@@ -2,11 +2,10 @@
 use native.Mathlib.Omega.{arith}
 use mathlib.Core.Path.{◌≡◌, ap, ◌∙◌}
 use mathlib.Core.List.{List}
-use lib.Dec.{lit≤}
 use lib.Ieee.{Float}
 use Rattle.limiter.specs.Limiter.{0·0, lowered, grown, block_peak, block_gain, scaled_block}
 use Rattle.limiter.specs.ChannelPlaces.{channels, channels_at, with_channels}
-use Rattle.limiter.proofs.Blocks.{channels_laid, channels_at_lengths}
+use Rattle.limiter.proofs.Blocks.{channels_back}
 use Rattle.limiter.proofs.Limiter.apply_output_limiter_block.Goals as goal
 
 pub returns : goal.returns
@@ -17,10 +16,10 @@ returns c =
     let load = c.load_block in
     let n = a.taken.samples in
     let s = a.places.now in
-    let cs = channels_at 12 n s 0 in
-    let ls = channels_at_lengths 12 n s 0 in
+    let here = a.taken.present.now in
+    let cs = channels_at here n s 0 in
     let whole = (rw c.unwrap.ensures at c.as_array.ensures.cases).same in
-    let e : channels 12 n load.new.block ≡ cs = ap (channels 12 n) (rw whole at load.ensures) ∙ channels_laid 12 n cs _ ls.0 ls.1 (omega arith) (lit≤ tt) in
+    let e : channels here n load.new.block ≡ cs = ap (channels here n) (rw whole at load.ensures) ∙ channels_back here n s 0 _ (omega arith) (omega arith) in
     let f : low.result.gain ≡ block_gain a.self.gain cs = low.ensures ∙ ap (λ (p : Float). lowered p a.self.gain) (top.ensures ∙ ap (block_peak 0·0) e) in
     record {
       gain = c.grow-next.ensures ∙ ap (grown n a.rate) f;

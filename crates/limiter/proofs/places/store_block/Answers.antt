@@ -4,7 +4,7 @@ use mathlib.Core.Path.{refl, sym, ap, ◌∙◌}
 use Prim.Native.Nat.{ℕ, ◌+◌, ◌*◌}
 use Rattle.limiter.specs.Limiter.{scaled_block}
 use Rattle.limiter.specs.ChannelPlaces.{channels, with_channels}
-use Rattle.limiter.proofs.Blocks.{part_length, store_part, store_next, room_at}
+use Rattle.limiter.proofs.Blocks.{part_length, store_part, store_next, store_skip, room_at}
 use Rattle.limiter.proofs.places.store_block.Goals as goal
 
 pub loop-c-init : goal.loop-c-init
@@ -24,5 +24,11 @@ loop-c-preserved c =
     let a = c.args in
     let z = c.scale_slice_into in
     let r = room_at l.c 12 a.step (omega arith) in
-    store_next a.gain l.c a.taken.samples a.step a.to a.block.now a.out.now l.invariant
+    store_next a.gain a.taken.present.now l.c a.taken.samples a.step a.to a.block.now a.out.now (omega arith) l.invariant c.if-not-taken-c.false
     (store_part a.gain a.taken.samples (64 * l.c) (a.step * l.c + a.to) a.block.now l.out z.new.out (omega arith) (omega arith) z.ensures)
+
+pub loop-c-preserved-then-not-taken-c : goal.loop-c-preserved-then-not-taken-c
+loop-c-preserved-then-not-taken-c c =
+    let l = c.loop-c in
+    let a = c.args in
+    store_skip a.gain a.taken.present.now l.c a.taken.samples a.step a.to a.block.now a.out.now (omega arith) l.invariant c.if-not-taken-c.true

@@ -13,7 +13,7 @@ pub loop-i-init : goal.loop-i-init
 loop-i-init c =
     let s = c.args in
     let d = s.metadata in (
-      record { small = refl; left = from_first d.records.now d.layout d.laid s.t.0 (held s.self.renderer s.state.now) },
+      record { small = refl; hall = refl; left = from_first d.records.now d.layout d.laid s.t.0 (held s.self.renderer s.state.now) },
       refl,
       refl,
     )

@@ -6,5 +6,5 @@ use Rattle.rendering.proofs.Rendering.give.Goals as goal
 pub returns : goal.returns
 returns c =
     let a = c.args in
-    gave a.self a.state.now a.out.now a.stride c.told-state c.requires.pending c.empty-self.ensures refl c.meet-self.ensures
-    c.apply_output_limiter_block-after.ensures
+    gave a.self a.state.now a.out.now a.stride c.requires.0.pending c.empty-self.ensures refl c.meet-self.ensures
+    (rw c.requires.1 at c.apply_output_limiter_block-after.ensures)

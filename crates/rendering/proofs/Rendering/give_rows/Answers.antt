@@ -22,12 +22,12 @@ pub returns : goal.returns
 returns c =
     let a = c.args in
     let g = a.self.renderer.limiter.gain in
-    let cs = row_channels a.rows.now in
+    let cs = row_channels a.present.now a.rows.now in
     let fit = fit (goal.at.returns c).After-as_slice-samples in
     let top = c.max_abs_slice-peak in
     let low = c.lower-lowered in
     let met = c.meters-met in
-    let e : top.result ≡ block_peak 0·0 cs = top.ensures.0 ∙ ap peak c.as_slice-samples.ensures ∙ rows_peak a.rows.now c.told-rows fit in
+    let e : top.result ≡ block_peak 0·0 cs = top.ensures.0 ∙ ap peak c.as_slice-samples.ensures ∙ rows_peak a.present.now a.rows.now c.told-present c.told-rows fit c.requires.1 in
     let f : low.result.gain ≡ block_gain g cs = low.ensures ∙ ap (λ (p : Float). lowered p g) e in
     record {
       fit = fit;

@@ -106,7 +106,8 @@ fn read_row(pcm: &[u8], row: &mut [f32]) {
     }
 }
 
-/// Objects of size 0 at random places above the floor, each panned and its corners mixed over a slot, as `render` does.
+/// Objects of size 0 at random places above the floor, each panned and its corners mixed over a slot, as
+/// `render` does, but for the hall, which `render` is handed and each call here makes.
 fn panning() {
     let mut inputs = Generator::new(5);
     let samples: Vec<f32> = (0..64).map(|_| inputs.between(-1.0, 1.0)).collect();
@@ -117,7 +118,7 @@ fn panning() {
     let mut output = vec![vec![0.0; 64]; 12];
     let mut mixed = output.clone();
     compare_times(
-        "pan and mix_segment, 20,000 slots of 64 samples",
+        "a hall made, pan and mix_segment, 20,000 slots of 64 samples",
         || {
             for &place in &places {
                 let panned = probe::panning::pan(place, 0.7, 0.0);
@@ -139,6 +140,35 @@ fn panning() {
             }
         },
     );
+}
+
+/// The same places, panned and no more, in each layout: with the hall that each call makes, and at gain
+/// 0, where that is nearly all that it does.
+fn panning_alone() {
+    let mut inputs = Generator::new(5);
+    let mut coordinate = |low| inputs.between(low, 1.0);
+    let places: Vec<[f32; 3]> = (0..20_000)
+        .map(|_| [coordinate(-1.0), coordinate(0.0), coordinate(-1.0)])
+        .collect();
+    let all = |layout: u32, gain: f32| {
+        for &place in &places {
+            black_box(probe::panning::pan_in(layout, place, gain, 0.0));
+        }
+    };
+    let cases = (0..4).flat_map(|layout| [(layout, 0.7), (layout, 0.0)]);
+    let cases: Vec<(u32, f32)> = cases.collect();
+    let times = rounds(cases.len(), SECONDS, |case| {
+        let (layout, gain) = cases[case];
+        time(&mut || all(layout, gain))
+    });
+    let each = |case: usize| least(&times[case]) * 1e9 / places.len() as f64;
+    for layout in 0..4 {
+        let (with, without) = (each(2 * layout), each(2 * layout + 1));
+        let pan = with - without;
+        println!(
+            "pan in layout {layout}: {with:.1} ns with its hall, {without:.1} at gain 0, {pan:.1} between"
+        );
+    }
 }
 
 const BLOCKS: usize = 10_000;
@@ -254,6 +284,7 @@ fn roots() {
 pub fn print() {
     lowpass();
     panning();
+    panning_alone();
     mixing();
     let mut inputs = Generator::new(1);
     let floats: Vec<f32> = (0..1_000_000).map(|_| inputs.float()).collect();

@@ -2,6 +2,7 @@
 
 use crate::case::Inputs;
 use compare::calls::Call;
+use compare::host::fresh;
 use compare::{all_same, floats};
 use oracle::{Oracle, Pushed, amended};
 use std::hint::black_box;
@@ -63,6 +64,7 @@ macro_rules! entries {
                 #[link_name = $reset]
                 pub fn reset(state: *mut u8, state_length: usize) -> Answer;
                 #[link_name = $size]
+                #[allow(dead_code)]
                 pub safe fn state_size() -> usize;
             }
         }
@@ -87,15 +89,18 @@ pub struct Library {
 }
 
 impl Library {
+    /// Of layout 0, the one that the Rust has.
     pub fn new() -> Self {
         Library {
             push: hall::push,
             reset: hall::reset,
-            state: vec![0; hall::state_size()],
+            state: fresh(0),
             out: vec![0; 48 * STRIDE],
         }
     }
 
+    /// A library from before R-5 has this layout alone, and makes its renderers by reset; zeros have
+    /// its code.
     #[cfg(base)]
     fn base() -> Self {
         Library {

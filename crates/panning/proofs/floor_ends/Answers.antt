@@ -1,8 +1,0 @@
--- `panning::floor_ends` meets its contract. Assumes nothing.
-use lib.Ieee.{of_bits, neg}
-use Rattle.panning.specs.Speakers.{positions714, hall714}
-use Rattle.panning.proofs.floor_ends.Goals as goal
-
-pub returns : goal.returns
-unfolding of_bits neg hall714 positions714
-returns c = cc

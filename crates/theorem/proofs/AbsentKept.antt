@@ -1,0 +1,73 @@
+-- No call but a making call and a reset changes a byte of the places of a channel that the block's hall lacks: on a block of any bytes. Assumes nothing.
+use Prim.Native.Nat.{ℕ, ◌+◌, ◌*◌, ◌/◌, ◌%◌, ◌<◌}
+use mathlib.Core.Path.{◌≡◌, refl, ap, subst}
+use mathlib.Core.Bool.{Bool, true, false, cond}
+use mathlib.Core.List.{List, []}
+use native.Mathlib.Omega.{arith}
+use lib.Dec.{T, eqb, leb}
+use lib.ListN.{length, get_or}
+use Rattle.words.specs.Words.{Bytes}
+use Rattle.formats.specs.Areas.{row_count, row_bytes}
+use Rattle.panning.specs.Setup.{present}
+use Rattle.rules.specs.Samples.{State}
+use Rattle.rules.specs.Ranges.{Ranged}
+use Rattle.rules.specs.Absent.{starts_anew}
+use Rattle.rules.specs.Calls.{Call, push, flush, reset, make, Answer, refused, rendered, nothing, cleared, making, step}
+use Rattle.rules.specs.BlockCalls.{left, out_of, stride_of}
+use Rattle.rules.specs.Demand3.{Lent}
+use Rattle.rules.proofs.Theorems as rules
+use Rattle.store.specs.Layout.{places_at, decode, encode}
+use Rattle.store.specs.ValidBlocks.{valid}
+use Rattle.theorem.specs.Instance.{hall, block}
+use Rattle.theorem.specs.Appends.{place_at}
+use Rattle.theorem.specs.AbsentKept.{SameByte, AbsentKept}
+use Rattle.theorem.proofs.Sound.{Within}
+use Rattle.theorem.proofs.BlockRanges.{decoded_of}
+use Rattle.theorem.proofs.Demand3.{stepped_within}
+use Rattle.theorem.proofs.Appends.{place_kept}
+
+module _ (b : List ℕ) (bytes : Bytes b) (call : Call) (lent : Lent call) (h : starts_anew call ≡ false) (c k : ℕ) (row : c < row_count) (near : k < row_bytes) where
+  module _ (away : present (decode b).setup.layout c ≡ false) (v : valid b ≡ true) where
+    abbrev next : State hall
+    next = (step hall (decode b) call).next
+
+    ranged : Ranged hall Within next
+    ranged = stepped_within (decode b) call lent (decoded_of b bytes v)
+
+    -- byte k is one of place k / 4
+    encoded_kept : SameByte b (encode next) c k
+    encoded_kept =
+        let i : ℕ = k / 4 in
+        let j : ℕ = k % 4 in
+        let s : place_at c i + j ≡ places_at + row_bytes * c + k = omega arith in
+        subst (λ (x : ℕ). get_or (encode next) x 0 ≡ get_or b x 0) s
+        (place_kept b bytes next ranged c i j row (omega arith) (omega arith) (ap (λ (ws : List ℕ). get_or ws i 0) (rules.absent_kept hall (decode b) call h c away)))
+
+    by_answer : (a : Answer) → SameByte b (left hall block a next (out_of call) (stride_of call) b).state c k
+    by_answer (refused n x y) = refl
+    by_answer (rendered given m) = encoded_kept
+    by_answer nothing = refl
+    by_answer cleared = encoded_kept
+
+  by : (v : Bool) → valid b ≡ v → present (decode b).setup.layout c ≡ false
+      → SameByte b (cond v (left hall block (step hall (decode b) call).answer (step hall (decode b) call).next (out_of call) (stride_of call) b)
+      (record { answer = refused 1 0 0; state = b; out = out_of call })).state c k
+  by true e away = by_answer away e (step hall (decode b) call).answer
+  by false e away = refl
+
+pub absent_kept : AbsentKept
+unfolding decode
+absent_kept b bytes (push a) lent h c k row away near = by b bytes (push a) lent h c k row near (valid b) refl away
+absent_kept b bytes (flush out stride) lent h c k row away near = by b bytes (flush out stride) lent h c k row near (valid b) refl away
+absent_kept b bytes reset lent h c k row away near = absurd (subst T h tt)
+absent_kept b bytes (make n) lent h c k row away near = refused_so (eqb (length b) block.size) (leb n 3) h
+  where
+    r : State hall
+    r = decode b
+
+    -- a layout above 3 is refused, a wrong length too
+    refused_so : (long few : Bool) → few ≡ false
+        → SameByte b (cond long (left hall block (making hall few n r).answer (making hall few n r).next [] 0 b) (record { answer = refused 1 0 0; state = b; out = [] })).state c k
+    refused_so true true e = absurd (subst T e tt)
+    refused_so true false e = refl
+    refused_so false few e = refl
