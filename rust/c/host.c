@@ -1,6 +1,6 @@
 /* SPDX-License-Identifier: Apache-2.0 */
-/* A host in C: in a hall of each layout one bed and one object that moves, frames of 480 samples, one too loud, one
-   broken, a flush. It prints what it hears: each answer, and peak, gain and each ready sample of the layout's channels as
+/* A host in C: in a hall of each layout, and in one with a table of its own, one bed and one object that moves, frames of
+   480 samples, one too loud, one broken, a flush. It prints what it hears: each answer, and peak, gain and each ready sample of the layout's channels as
    the eight digits of their bits. Then it makes planes of some bytes, and prints these too. */
 #include "voqlisna.h"
 #include "voqlisna_records.h"
@@ -82,14 +82,36 @@ static void archive(void) {
   print_answer("to_planes", hall_to_planes(sound, sizeof sound, ARCHIVED, planes, sizeof planes - 1));
 }
 
-/* The show in a hall of that layout, in the thread's float mode; the mode before the last two calls, and between them. */
-static void show(uint8_t *state, size_t size, uint32_t layout, uint32_t modes[2]) {
+/* A hall table as it was measured: the built-in places, but the side speakers halfway up. Gives its bytes. */
+static const uint8_t *measured(void) {
+  static float table[HALL_CHANNELS][3] = {
+    {-0.7f, 0, 1}, {0.7f, 0, 1}, {0, 0, 1}, {0, 0, 1}, {-0.7f, 0, -1}, {0.7f, 0, -1},
+    {-1, 0.5f, -0.5f}, {1, 0.5f, -0.5f}, {-1, 1, 0.5f}, {1, 1, 0.5f}, {-0.7f, 1, -1}, {0.7f, 1, -1}};
+  return (const uint8_t *)table;
+}
+
+/* Tables that are refused: a byte short, with a coordinate outside, with two speakers at one place. */
+static void wrong_tables(uint8_t *state, size_t size) {
+  float table[HALL_CHANNELS][3];
+  memcpy(table, measured(), sizeof table);
+  print_answer("make_with_table", hall_make_with_table(state, size, HALL_714, (uint8_t *)table, sizeof table - 1));
+  table[HALL_LFE][2] = 1.5f;
+  print_answer("make_with_table", hall_make_with_table(state, size, HALL_714, (uint8_t *)table, sizeof table));
+  memcpy(table, measured(), sizeof table);
+  memcpy(table[HALL_BL], table[HALL_FL], sizeof table[0]);
+  print_answer("make_with_table", hall_make_with_table(state, size, HALL_714, (uint8_t *)table, sizeof table));
+}
+
+/* The show in a hall of that layout, with that table if there is one, in the thread's float mode; the mode before the last
+   two calls, and between them. */
+static void show(uint8_t *state, size_t size, uint32_t layout, const uint8_t *table, uint32_t modes[2]) {
   const uint8_t codes[] = {HALL_BED_BASS};
   static float pcm[2 * SAMPLES];
   static uint8_t out[48 * STRIDE], meta[5 * HALL_RECORD];
   uint32_t mode;
   int frame;
-  print_answer("make", hall_make(state, size, layout));
+  if (table) print_answer("make_with_table", hall_make_with_table(state, size, layout, table, HALL_TABLE_SIZE));
+  else print_answer("make", hall_make(state, size, layout));
   for (frame = 0; frame < FRAMES; frame++) {
     const size_t length = frame % 2 == 0 ? move(meta, (float)frame / 8.0f) : 0;
     hall_answer answer;
@@ -120,8 +142,9 @@ int main(int count, char **words) {
   hall_leave_floats(thread);
   print_answer("make", hall_make(state, size - 1, HALL_LAYOUTS));
   print_answer("make", hall_make(state, size, HALL_LAYOUTS));
-  for (layout = HALL_714; layout < HALL_LAYOUTS; layout++) {
-    show(state, size, layout, modes);
+  wrong_tables(state, size);
+  for (layout = HALL_714; layout <= HALL_LAYOUTS; layout++) {
+    show(state, size, layout % HALL_LAYOUTS, layout < HALL_LAYOUTS ? NULL : measured(), modes);
     kept = kept && (modes[0] & CONTROL) == thread && (modes[1] & CONTROL) == USUAL;
   }
   archive();

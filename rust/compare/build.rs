@@ -7,13 +7,14 @@ use std::ffi::OsStr;
 use std::path::{Path, PathBuf};
 use std::process::Command;
 
-/// A library from before R-5 has no make, one from before R-10 no planes; renaming what is not there
-/// changes nothing.
-const ENTRIES: [&str; 8] = [
+/// A library from before R-5 has no make, one from before R-6 none with a table, one from before R-10
+/// no planes; renaming what is not there changes nothing.
+const ENTRIES: [&str; 9] = [
     "push",
     "flush",
     "reset",
     "make",
+    "make_with_table",
     "state_size",
     "version",
     "to_planes",

@@ -24,11 +24,13 @@ pub struct Made {
     pcm: *const u8,
     meta: *const u8,
     codes: *const u8,
+    table: *const u8,
     state_length: usize,
     out_length: usize,
     pcm_length: usize,
     meta_length: usize,
     codes_length: usize,
+    table_length: usize,
     answer: Answer,
 }
 
@@ -58,7 +60,8 @@ pub unsafe extern "C" fn beside(made: &Made) {
             }),
             1 => Step::Flush,
             2 => Step::Reset,
-            _ => Step::Make(made.layout),
+            3 => Step::Make(made.layout),
+            _ => Step::MakeWith(made.layout, copy(made.table, made.table_length)),
         };
         let case = Case {
             state: copy(made.before, made.state_length),

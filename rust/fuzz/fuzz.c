@@ -12,10 +12,10 @@
 #include <unistd.h>
 
 enum { CALLS = 24, HEAD = 32, STRIDE = 1536, CHANNELS = 34, RECORDS = 1024, STREAM = 40, BEHIND = 64 };
-/* Of the block: where sources, elements, infos and the layout's code stand, and how long a source and an element are
+/* Of the block: where sources, elements, infos, the layout's code and the hall table stand, and how long a source and an element are
    (docs/STATE-BLOCK.md). */
 enum { SOURCES = 240, SOURCE = 28, ELEMENTS = SOURCES + 16 * SOURCE, ELEMENT = 368, INFOS = ELEMENTS + 2 * ELEMENT };
-enum { LAYOUT = HALL_STATE_SIZE - 4 };
+enum { TABLE = HALL_STATE_SIZE - HALL_TABLE_SIZE, LAYOUT = TABLE - 4 };
 
 /* One renderer's memory, longer than what is lent of it. */
 static uint8_t state[1 << 16], before[1 << 16], out[48 * STRIDE], kept[48 * STRIDE], records[40 * RECORDS], codes[255];
@@ -65,6 +65,13 @@ static void push_of(made *m, const uint8_t *head, size_t count) {
   m->pcm = (uint8_t *)pcm, m->pcm_length = fill_pcm(m, head[0] >> 5, (int8_t)head[12]);
 }
 
+/* The table of a making call: as many bytes as the head says, of the records behind it. */
+static void table_of(made *m, const uint8_t *head, size_t count) {
+  m->table = records, m->table_length = half(head + 6);
+  if (m->table_length > 40 * count) m->table_length = 40 * count;
+  if (head[0] & 8) mend_table(records, m->table_length);
+}
+
 /* Bytes of the output that is lent: as few as may be, one fewer, or all. */
 static size_t room_of(uint32_t stride, uint8_t b) {
   if (b == 252 || stride == 0 || stride > STRIDE) return sizeof out;
@@ -72,7 +79,7 @@ static size_t room_of(uint32_t stride, uint8_t b) {
 }
 
 static unsigned entry_of(const uint8_t *head) {
-  if ((head[0] & 7) == 6) return head[1] & 1 ? MAKE : RESET;
+  if ((head[0] & 7) == 6) return !(head[1] & 1) ? RESET : head[1] & 2 ? MAKE_WITH : MAKE;
   return (head[0] & 7) == 5 ? FLUSH : PUSH;
 }
 
@@ -82,11 +89,14 @@ static made call(const uint8_t *head, size_t count, size_t size) {
   m.layout = head[8] < 240 ? head[8] % 5 : word(head + 2);
   m.state = state, m.before = before, m.state_length = size - (head[13] == 254);
   m.out = out, m.kept = kept, m.out_length = room_of(m.stride, head[13]);
-  m.pcm = m.meta = m.codes = records;
+  m.pcm = m.meta = m.codes = m.table = records;
   if (m.entry == PUSH) push_of(&m, head, count);
+  if (m.entry == MAKE_WITH) table_of(&m, head, count);
   memcpy(before, state, size + BEHIND), memset(out, 0x5a, sizeof out), memcpy(kept, out, sizeof out);
   if (m.entry == RESET) m.answer = hall_reset(m.state, m.state_length);
   else if (m.entry == MAKE) m.answer = hall_make(m.state, m.state_length, m.layout);
+  else if (m.entry == MAKE_WITH)
+    m.answer = hall_make_with_table(m.state, m.state_length, m.layout, m.table, m.table_length);
   else if (m.entry == FLUSH) m.answer = hall_flush(m.state, m.state_length, m.out, m.out_length, m.stride);
   else
     m.answer = hall_push(m.state, m.state_length, m.pcm, m.pcm_length, m.meta, m.meta_length, m.out, m.out_length, m.codes,
@@ -102,10 +112,17 @@ static void damage(const uint8_t *head, size_t size) {
     const int places[3] = {8, 16, 72}; /* position, slot start, payload position */
     for (int i = 0; i < 3; i++) put_both(state + places[i], both(state + places[i]) + end - room - position);
   } else {
-    size_t place = word(head + 2) % (INFOS + 1); /* behind the rest the layout */
-    state[head[1] & 2 ? word(head + 2) % size : place < INFOS ? place : LAYOUT] = head[8];
+    size_t place = word(head + 2) % (INFOS + 1 + HALL_TABLE_SIZE); /* behind the rest the layout and the table */
+    size_t behind = place == INFOS ? LAYOUT : TABLE + place - INFOS - 1;
+    state[head[1] & 2 ? word(head + 2) % size : place < INFOS ? place : behind] = head[8];
     damaged = 1;
   }
+}
+
+/* By a number above 1. */
+static int can_refuse(unsigned entry, uint32_t number) {
+  if (entry == PUSH) return number < 15;
+  return entry == MAKE ? number == 15 : entry == MAKE_WITH && number >= 15;
 }
 
 static void check_answer(const made *m) {
@@ -115,9 +132,8 @@ static void check_answer(const made *m) {
   if (!damaged && !(__builtin_isfinite(a.peak) && a.gain > 0.0f && a.gain <= 1.0f)) fail("a peak or gain out of range");
   if (a.kind > 3 || (a.kind != HALL_REFUSED && (a.number || a.first || a.second))) fail("an answer that cannot be");
   if (a.kind != HALL_REFUSED) return;
-  if (a.number < 1 || a.number > 15 || a.number == 7 || a.ready) fail("a refusal that cannot be");
-  if (m->entry == MAKE ? a.number != 1 && a.number != 15 : a.number == 15 || (m->entry != PUSH && a.number != 1))
-    fail("a refusal that is not this entry's");
+  if (a.number < 1 || a.number > 18 || a.number == 7 || a.ready) fail("a refusal that cannot be");
+  if (a.number != 1 && !can_refuse(m->entry, a.number)) fail("a refusal that is not this entry's");
   int counts = a.number == 9 || a.number == 11 || a.number == 13 || a.number == 14;
   if (!counts && (a.first || a.second)) fail("counts that cannot be");
 }
@@ -146,10 +162,23 @@ static int refused_by_1(size_t size) {
   return hall_push(state, size, room, 0, room, 0, room, sizeof room, room, 0, 48000, 0, 0, 64).number == 1;
 }
 
+/* How many heights the block's table has, of the full-range channels. */
+static unsigned heights(void) {
+  float y[HALL_CHANNELS];
+  unsigned found = 0;
+  for (uint32_t c = 0; c < HALL_CHANNELS; c++) {
+    uint32_t k = 0;
+    memcpy(y + c, state + TABLE + 12 * c + 4, 4);
+    while (k < c && (k == HALL_LFE || y[k] != y[c])) k++;
+    found += k == c && c != HALL_LFE;
+  }
+  return found;
+}
+
 /* What the fuzzer is told of the answer and of the block that it left. */
 static void tell(hall_answer a, size_t stride, uint32_t last) {
-  spot(a.kind == HALL_REFUSED ? a.number : 16 + a.kind);
-  spot(32 + 16 * (last & 15) + a.number);                       /* from 32: the refusal, and the one before */
+  spot(a.kind == HALL_REFUSED ? a.number : 24 + a.kind);
+  spot(1024 + 19 * last + a.number);                            /* the refusal, and the one before */
   spot(288 + word(state + 80) % 33);                            /* objects */
   spot(328 + word(state + 88) % 19 * 3 + word(state + 92) % 3); /* beds, elements */
   spot(392 + (unsigned)a.ready / 64);
@@ -171,6 +200,7 @@ static void tell(hall_answer a, size_t stride, uint32_t last) {
   for (size_t i = 0; i < 16; i++) sent += word(state + SOURCES + SOURCE * i + 24) << 1 != 0;
   spot(840 + sent); /* objects with a send */
   spot(860 + word(state + LAYOUT) % 5);
+  spot(870 + heights());
 }
 
 static void check(const made *m, size_t size) {
@@ -184,7 +214,7 @@ static void check(const made *m, size_t size) {
   }
   if (m->entry == PUSH && a.ready != (pending + m->samples) / 64 * 64) fail("ready of a push");
   if (m->entry == FLUSH && a.ready != pending) fail("ready of a flush");
-  if (m->entry == RESET || m->entry == MAKE) damaged = 0;
+  if (m->entry == RESET || m->entry == MAKE || m->entry == MAKE_WITH) damaged = 0;
   else check_output(a.ready, m->stride);
   if (refused_by_1(size)) fail("an accepted call left a block out of range");
 }
@@ -203,7 +233,7 @@ static void run(const uint8_t *p, size_t n) {
   for (int calls = 0; calls < CALLS && end - p >= HEAD; calls++) {
     const uint8_t *head = p;
     int op = head[0] & 7;
-    size_t count = op < 5 ? half(head + 10) : 0, left = (size_t)(end - p - HEAD) / 40;
+    size_t count = op < 5 || op == 6 ? half(head + 10) : 0, left = (size_t)(end - p - HEAD) / 40;
     p += HEAD;
     if (op == 7) { damage(head, size); continue; }
     if (count > left) count = left;

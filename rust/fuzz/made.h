@@ -4,14 +4,14 @@
 #define MADE_H
 #include "voqlisna.h"
 
-enum { PUSH, FLUSH, RESET, MAKE };
+enum { PUSH, FLUSH, RESET, MAKE, MAKE_WITH };
 
 typedef struct {
   uint32_t entry, rate, samples, objects, stride, layout;
   uint8_t *state, *out;           /* after the call */
   const uint8_t *before, *kept;   /* the same before it */
-  const uint8_t *pcm, *meta, *codes;
-  size_t state_length, out_length, pcm_length, meta_length, codes_length;
+  const uint8_t *pcm, *meta, *codes, *table;
+  size_t state_length, out_length, pcm_length, meta_length, codes_length, table_length;
   hall_answer answer;
 } made;
 

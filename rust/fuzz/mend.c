@@ -11,6 +11,15 @@ static void put_span(uint8_t *p) { /* an offset or a ramp: its sign and low 20 b
   memcpy(p, &n, 8);
 }
 
+void mend_table(uint8_t *table, size_t length) {
+  for (size_t at = 0; at + 4 <= length; at += 4) {
+    float x;
+    memcpy(&x, table + at, 4);
+    if (!(x >= -1.0f && x <= 1.0f)) x = (float)table[at] / 127.5f - 1.0f;
+    memcpy(table + at, &x, 4);
+  }
+}
+
 static void put_float(uint8_t *p, float most) { /* from 0 to `most`, where it is not */
   float x;
   memcpy(&x, p, 4);

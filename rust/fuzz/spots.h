@@ -1,5 +1,5 @@
 /* SPDX-License-Identifier: Apache-2.0 */
-/* A branch for each number below 1,024, so that the fuzzer, which sees branches of this program alone, tells the numbers apart. */
+/* A branch for each number below 2,048, so that the fuzzer, which sees branches of this program alone, tells the numbers apart. */
 #ifndef SPOTS_H
 #define SPOTS_H
 #define ONE(n) case n: __asm__ volatile("nop # " #n); break;
@@ -9,6 +9,6 @@
 #define MOST(n) MANY(n) MANY(n + 64) MANY(n + 128) MANY(n + 192)
 
 __attribute__((noinline)) static void spot(unsigned n) {
-  switch (n & 1023) { MOST(0) MOST(256) MOST(512) MOST(768) }
+  switch (n & 2047) { MOST(0) MOST(256) MOST(512) MOST(768) MOST(1024) MOST(1280) MOST(1536) MOST(1792) }
 }
 #endif

@@ -2,7 +2,7 @@
 use Rattle.std.specs.Prelude.{ℕ, Bool, cond, ◌&&◌, ◌||◌, List, eqb, get_or, take, drop}
 use Rattle.words.specs.Words.{half, word}
 use Rattle.rules.specs.Refusals.{Args, args_of}
-use Rattle.rules.specs.Calls.{Call, push, flush, reset, make}
+use Rattle.rules.specs.Calls.{Call, push, flush, reset, make, make_with}
 use Rattle.rules.specs.BlockCalls.{made}
 use Rattle.theorem.specs.Instance.{hall, block}
 use Rattle.framing.specs.declared.request.Plain.{Plain}
@@ -19,6 +19,7 @@ out_after (push a) b out = (made hall block (push a) b).out
 out_after (flush o stride) b out = (made hall block (flush o stride) b).out
 out_after reset b out = out
 out_after (make n) b out = out
+out_after (make_with n t) b out = out
 
 -- the push of a frame with the header r: of the metadata in its body, and of the PCM that the body's records hold
 abbrev pub push_of : List ℕ → List ℕ → List ℕ → Call

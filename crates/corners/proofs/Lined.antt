@@ -43,9 +43,16 @@ from_in (suc m) a k h = elim (Memᴰ.cases_cons h) [
   | inr l ↦ let i = from_in m (suc a) k l in omega arith
 ]
 
+abbrev twelve : List ℕ
+twelve = 0 ∷ 1 ∷ 2 ∷ 3 ∷ 4 ∷ 5 ∷ 6 ∷ 7 ∷ 8 ∷ 9 ∷ 10 ∷ 11 ∷ []
+
+pub channel_in : (k : ℕ) → k < 12 → In k twelve
+unfolding from_to
+channel_in k h = in_from 12 0 k (omega arith) h
+
 pub speaker_in : (p : List Bool) (k : ℕ) → k < 12 → T (is_marked p k) → In k (speakers_of p)
-unfolding speakers_of from_to
-speaker_in p k h t = →keep (is_marked p) (from_to 0 12) (in_from 12 0 k (omega arith) h) t
+unfolding speakers_of
+speaker_in p k h t = →keep (is_marked p) twelve (channel_in k h) t
 
 pub in_speaker : (p : List Bool) (k : ℕ) → In k (speakers_of p) → (k < 12) × T (is_marked p k)
 unfolding speakers_of from_to

@@ -1,6 +1,6 @@
 -- What a table says of its speakers: coordinates in [-1, 1]. Assumes nothing.
 use mathlib.Core.Path.{◌≡◌, refl, subst}
-use mathlib.Core.Logic.{inl, inr}
+use mathlib.Core.Logic.{◌⊎◌, inl, inr}
 use mathlib.Core.Bool.{Bool, true, false, not, ◌&&◌}
 use mathlib.Core.List.{List, ◌∷◌}
 use Prim.Native.Nat.{ℕ, ◌+◌, ◌≤◌}
@@ -18,8 +18,8 @@ use Rattle.corners.specs.Choice.{every_of, 1·0}
 use Rattle.corners.specs.Table.{minus_one, between, placed_inside, distinct, alike}
 use Rattle.corners.proofs.Lists.{In, Each, every→}
 
--- ---- what lies between two finite values is finite
-finite_between : (lo hi x : Float) → T (finite lo) → T (finite hi) → T (le lo x) → T (le x hi) → T (finite x)
+-- ---- what lies between two finite values is finite: from lo on, and up to hi or not from hi on
+pub finite_between : (lo hi x : Float) → T (finite lo) → T (finite hi) → T (le lo x) → T (le x hi) ⊎ T (not (le hi x)) → T (finite x)
 unfolding le lt eq
 finite_between nan hi x f g h k = absurd f
 finite_between (inf s) hi x f g h k = absurd f
@@ -27,7 +27,8 @@ finite_between (fin s m e) nan x f g h k = absurd g
 finite_between (fin s m e) (inf t) x f g h k = absurd g
 finite_between (fin s m e) (fin t n d) nan f g h k = absurd h
 finite_between (fin s m e) (fin t n d) (inf true) f g h k = absurd h
-finite_between (fin s m e) (fin t n d) (inf false) f g h k = absurd k
+finite_between (fin s m e) (fin t n d) (inf false) f g h (inl k) = absurd k
+finite_between (fin s m e) (fin t n d) (inf false) f g h (inr k) = absurd k
 finite_between (fin s m e) (fin t n d) (fin u o c) f g h k = tt
 
 module _ (lo hi x : Float) (f : F32 lo) (g : F32 hi) where
@@ -37,7 +38,7 @@ module _ (lo hi x : Float) (f : F32 lo) (g : F32 hi) where
       let o = and_r (fits binary32 x) (le lo x && le x hi) t in
       let h = and_l (le lo x) (le x hi) o in
       let k = and_r (le lo x) (le x hi) o in
-      let e : F32 x = record { fine = finite_between lo hi x f.fine g.fine h k; fit = and_l (fits binary32 x) (le lo x && le x hi) t } in
+      let e : F32 x = record { fine = finite_between lo hi x f.fine g.fine h (inl k); fit = and_l (fits binary32 x) (le lo x && le x hi) t } in
       (e, le→ lo x f e h, le→ x hi e g k)
 
 minus_f32 : F32 minus_one

@@ -11,7 +11,7 @@ use lib.Seq.{take_all, take-nil, length-take-le}
 use lib.Ieee.{Float, binary32, fits, of_bits}
 use Rattle.ieee.specs.Bounds.{All}
 use Rattle.limiter.specs.Meters.{meets_all}
-use Rattle.panning.specs.Setup.{Setup, present, marks_of}
+use Rattle.panning.specs.Setup.{HallFits, Setup, present, marks_of}
 use Rattle.panning.proofs.Theorems.{mark_is}
 use Rattle.rules.specs.Parts.{Channels, Places, none, floats, laid}
 use Rattle.rules.specs.Mix.{Moment}
@@ -153,8 +153,8 @@ pub record Passable (w : Rendering) (b pcm out codes : List ℕ) (objects n t k 
   pub room : w.renderer.pending + k ≡ 64 → w.ready + 64 ≤ stride
   pub short : stride ≤ 4096
   pub output : 48 * stride ≤ length out
-  -- one of the four layouts, and places of f32s
-  pub layout : layout_of b ≤ 3
+  -- a hall that may be panned in, and places of f32s
+  pub hall : HallFits (setup_in b)
   pub sources : All SourceSingles w.renderer.state.sources
 
 -- an f32
@@ -165,7 +165,7 @@ module _ (f : Frame Sent) {w v : Rendering} {b pcm out codes : List ℕ} {object
     (y : Waits (moment_here f t k w.renderer b) w t k ys v) where
   -- where the rows are a whole block, those of absent channels are +0.0
   pub rows_silent : k ≡ 64 → AbsentSilent (marks_of (layout_of b)) ys
-  rows_silent = absent_silent f t k w.renderer b h.layout h.sources ys y.columns
+  rows_silent = absent_silent f t k w.renderer b h.hall h.sources ys y.columns
 
   -- a block of rows can be given out
   pub can_give_rows : k ≡ 64 → CanGiveRows v out stride

@@ -26,7 +26,7 @@ use Rattle.rules.specs.Leaves.{started}
 use Rattle.rules.specs.Samples.{State, After, updated, slotted, pushed}
 use Rattle.rules.specs.Refusals.{Args, listed}
 use Rattle.rules.specs.Calls.{frame_of}
-use Rattle.rules.proofs.Theorems.{Passed, is_passed, is_roomy, is_listed, rate_high, is_sized, samples_fit, and_true, R}
+use Rattle.rules.proofs.Theorems.{ranged_fits, Passed, is_passed, is_roomy, is_listed, rate_high, is_sized, samples_fit, and_true, R}
 use Rattle.store.specs.declared.renderer.Renderer714.{Renderer714}
 use Rattle.store.specs.Steps.{opened_by}
 use Rattle.panning.specs.Setup.{Setup, present, marks_of}
@@ -187,7 +187,7 @@ module _ (b : List ℕ) (a : Args) (l : Layout) (k : Taken b a l) (t : ℕ) (w :
                   (ap (λ (x : State hall). x.pending.count) e.next.holds ∙ here.pending) x;
               short = let m = w₁.most in omega arith;
               output = omega arith;
-              layout = r.setup.layout;
+              hall = ranged_fits r.setup;
               sources = r.meta.state.objects;
             }
           where

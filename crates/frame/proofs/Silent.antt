@@ -1,5 +1,5 @@
 -- Nothing is heard on a channel that the block's hall lacks: its row of a chunk is +0.0. Assumes nothing.
-use Prim.Native.Nat.{ℕ, zero, suc, ◌-◌, ◌*◌, ◌<◌, ◌≤◌}
+use Prim.Native.Nat.{ℕ, zero, suc, ◌-◌, ◌*◌, ◌<◌}
 use mathlib.Core.Path.{◌≡◌, sym, ap, ◌∙◌, subst}
 use mathlib.Core.Bool.{Bool, true, false, cond}
 use mathlib.Core.List.{List, [], ◌∷◌}
@@ -10,9 +10,9 @@ use lib.Ieee.{Float, fits}
 use Rattle.ieee.specs.Bounds.{All}
 use Rattle.lowpass.specs.Lowpass.{next}
 use Rattle.lowpass.specs.declared.BiquadLowpassState.{BiquadLowpassState}
-use Rattle.panning.specs.Setup.{present, marks_of}
+use Rattle.panning.specs.Setup.{HallFits, present, marks_of}
 use Rattle.panning.specs.Table.{Position}
-use Rattle.panning.proofs.Theorems.{hall_fits, mark_is, bass_present}
+use Rattle.panning.proofs.Theorems.{mark_is, bass_present}
 use Rattle.timed.specs.Objects.{no_source}
 use Rattle.timed.specs.declared.state.DynamicSourceState.{DynamicSourceState}
 use Rattle.timed.specs.declared.state.MetadataRendererState.{MetadataRendererState}
@@ -23,7 +23,7 @@ use Rattle.rules.specs.Samples.{Frame}
 use Rattle.rules.proofs.Theorems.{Placed, absent_unheard}
 use Rattle.store.specs.declared.renderer.Renderer714.{Renderer714}
 use Rattle.store.specs.Singles.{SourceSingles}
-use Rattle.store.specs.Layout.{layout_of}
+use Rattle.store.specs.Layout.{layout_of, setup_in}
 use Rattle.theorem.specs.Instance.{Sent, source_of}
 use Rattle.theorem.proofs.Theorems.{each_all}
 use Rattle.render.specs.Run.{row_run}
@@ -49,14 +49,13 @@ zero_run : (m : ℕ → Moment) (c : ℕ) → eqb c 3 ≡ false → ((t : ℕ) �
 zero_run m c e h low t zero = tt
 zero_run m c e h low t (suc k) = rw e (h t, zero_run m c e h (next low (fed (m t))) (suc t) k)
 
-module _ (f : Frame Sent) (t k : ℕ) (s : Renderer714) (b : List ℕ) (layout : layout_of b ≤ 3) (sources : All SourceSingles s.state.sources) where
+module _ (f : Frame Sent) (t k : ℕ) (s : Renderer714) (b : List ℕ) (hall : HallFits (setup_in b)) (sources : All SourceSingles s.state.sources) where
   no_bass : (c : ℕ) → present (layout_of b) c ≡ false → eqb c 3 ≡ false
-  no_bass c e = ne_eqb c 3 (λ q. subst T (ap (present (layout_of b)) (sym q) ∙ e) (bass_present (layout_of b) layout))
+  no_bass c e = ne_eqb c 3 (λ q. subst T (ap (present (layout_of b)) (sym q) ∙ e) (bass_present (layout_of b) hall.layout))
 
   unheard : (c : ℕ) → present (layout_of b) c ≡ false → (u : ℕ) → heard (moment_here f t k s b u) c ≡ 0·0
   unheard c e u =
-      absent_unheard (moment_here f t k s b u) (hall_fits (layout_of b) layout)
-      (all_placed s.state sources s.state.initialized (s.state.objects - s.state.isf)) c e
+      absent_unheard (moment_here f t k s b u) hall (all_placed s.state sources s.state.initialized (s.state.objects - s.state.isf)) c e
 
   pub absent_silent : (ys : List Float) → ((c : ℕ) → c < 12 → take k (drop (64 * c) ys) ≡ row_run (moment_here f t k s b) s.filter c t k) → k ≡ 64
       → AbsentSilent (marks_of (layout_of b)) ys

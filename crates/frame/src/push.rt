@@ -6,7 +6,8 @@
 ghost use Rattle.std.specs.Prelude.{◌≡◌, cond, ◌&&◌, ◌||◌, eqb, ltb, ◌-◌, ◌<◌, ◌≤◌};
 ghost use Rattle.rules.specs.Samples.{pushed};
 ghost use Rattle.rules.specs.Calls.{frame_of};
-ghost use Rattle.store.specs.Layout.{decode};
+ghost use Rattle.store.specs.Layout.{decode, setup_in};
+ghost use Rattle.panning.specs.Hall.{setup_of};
 ghost use Rattle.theorem.specs.Instance.{hall};
 ghost use Rattle.rendering.specs.Begin.{NoneSent};
 ghost use Rattle.refusals.specs.FirstFound.{args_in};
@@ -15,6 +16,7 @@ ghost use Rattle.frame.specs.Loop.{run_length, Accepted, IsRendered};
 use chunk::lay;
 use clock::{FrameOffset, START};
 use formats::areas;
+use panning::Hall;
 use records::sent::Layout;
 use refusals::Frame;
 use render::{Input, Span};
@@ -58,9 +60,15 @@ fn is_kept(k: usize, left: usize) -> bool
     k < 64 || left < 128
 }
 
-// Infos and places are left in `state`, the rest is answered: its bytes in `state` stay.
-pub fn render(s: Renderer714, state: &mut Block, frame: Frame<'_>, out: &mut [u8]) -> Rendering
-    requires { Accepted s state.old (args_in frame out.old) }
+// In a hall, infos and places being left in `state`; the rest is answered: its bytes in `state` stay.
+fn render_in(
+    setup: &Hall,
+    s: Renderer714,
+    state: &mut Block,
+    frame: Frame<'_>,
+    out: &mut [u8],
+) -> Rendering
+    requires { Accepted s state.old (args_in frame out.old) × (setup_of setup.now ≡ setup_in state.old) }
     ensures { IsRendered (pushed hall (frame_of hall (args_in frame.entry out.old)) (decode state.old)) frame.entry.n.stride state.old out.old result state.new out.new }
 {
     let Frame {
@@ -73,7 +81,6 @@ pub fn render(s: Renderer714, state: &mut Block, frame: Frame<'_>, out: &mut [u8
     let objects = n.objects as usize;
     let stride = n.stride as usize;
     let end = FrameOffset(n.samples);
-    let hall = store::hall(state);
     let mut work = Rendering::of(s.open(n.rate));
     let mut t = START;
     // By `while`: how many samples a turn takes is found as it goes.
@@ -107,16 +114,37 @@ pub fn render(s: Renderer714, state: &mut Block, frame: Frame<'_>, out: &mut [u8
         };
         let mut rows = [0.0f32; areas::PLACE_COUNT];
         let pending = work.renderer.pending as usize;
-        work = work.pass(&hall, &mut rows, input);
+        work = work.pass(setup, &mut rows, input);
         if is_kept(k, t.up_to(end)) {
-            lay(state, &rows, &hall.present, pending, k);
+            lay(state, &rows, &setup.present, pending, k);
         }
         if k == 64 {
-            work = work.give_rows(&hall.present, &rows, out, stride);
+            work = work.give_rows(&setup.present, &rows, out, stride);
         } else if work.renderer.pending == 64 {
-            work = work.give(&hall.present, state, out, stride);
+            work = work.give(&setup.present, state, out, stride);
         }
         t = t.plus(k as u32);
     }
     work
+}
+
+// In a hall whose speakers are sorted. Not inlined, so that a push in the 7.1.4 hall with the built-in table does not set up this function's stack.
+#[inline(never)]
+fn render_sorted(s: Renderer714, state: &mut Block, frame: Frame<'_>, out: &mut [u8]) -> Rendering
+    requires { Accepted s state.old (args_in frame out.old) }
+    ensures { IsRendered (pushed hall (frame_of hall (args_in frame.entry out.old)) (decode state.old)) frame.entry.n.stride state.old out.old result state.new out.new }
+{
+    render_in(&store::hall(state), s, state, frame, out)
+}
+
+// In the block's hall.
+pub fn render(s: Renderer714, state: &mut Block, frame: Frame<'_>, out: &mut [u8]) -> Rendering
+    requires { Accepted s state.old (args_in frame out.old) }
+    ensures { IsRendered (pushed hall (frame_of hall (args_in frame.entry out.old)) (decode state.old)) frame.entry.n.stride state.old out.old result state.new out.new }
+{
+    if store::is_714(state) {
+        render_in(&panning::HALL_714, s, state, frame, out)
+    } else {
+        render_sorted(s, state, frame, out)
+    }
 }

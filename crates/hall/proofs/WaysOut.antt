@@ -1,24 +1,27 @@
 -- The rules' `made`, one law for each way out of an entry. Assumes nothing.
 use Prim.Native.Nat.{ℕ}
 use mathlib.Core.Path.{◌≡◌, refl, sym, ap, ◌∙◌, subst}
-use mathlib.Core.Bool.{Bool, true, false, cond, ◌&&◌}
+use mathlib.Core.Bool.{Bool, true, false, cond}
 use mathlib.Core.List.{List, []}
-use lib.Dec.{eqb, leb}
+use lib.Dec.{eqb}
 use lib.ListN.{length}
 use Rattle.rules.specs.Refusals.{Args, Found, clear, stop, room}
 use Rattle.refusals.specs.RefusalNumbers.{numbers_of, stop_of}
 use Rattle.refusals.specs.declared.Refusal.{Refusal}
-use Rattle.std.specs.Prelude.{Err}
+use Rattle.refusals.specs.declared.Refusal.TheVariants.{Lent}
+use Rattle.std.specs.Prelude.{Ok, Err}
 use Rattle.rules.specs.Samples.{pushed, flushed}
 use Rattle.rules.specs.Calls as rules
-use Rattle.rules.specs.Calls.{Call, push, flush, reset, make, refused, rendered, nothing, cleared, Result, frame_of, found, answered, asked, drained, making, step}
+use Rattle.rules.specs.Calls.{Call, push, flush, reset, make, make_with, refused, rendered, nothing, cleared, Result, frame_of, found, answered, asked, drained, making, step}
 use Rattle.rules.specs.BlockCalls.{Outcome, out_of, stride_of, written, left, takes, made}
 use Rattle.rules.proofs.Theorems.{number_of, never_seven}
-use Rattle.panning.specs.Setup.{hall_with}
+use Rattle.rules.specs.Making.{layout_found, table_found, hall_of}
+use Rattle.panning.specs.Setup.{Setup, hall_with}
 use Rattle.store.specs.Layout.{size, setup_in, decode, encode, fresh_renderer}
 use Rattle.store.specs.ValidBlocks.{hall_valid, valid}
 use Rattle.theorem.specs.Instance.{hall, block}
 use Rattle.hall.specs.declared.answer.Answer.{Answer}
+use Rattle.hall.specs.declared.answer.Outcome.TheVariants.{Fresh}
 use Rattle.hall.specs.Answers.{code_of, coded, Left, MadeNew}
 
 -- ---- a block that is not taken, and one that is
@@ -83,17 +86,37 @@ module _ (out : List ℕ) (stride : ℕ) (b : List ℕ) (v : valid b ≡ true) w
 
 -- ---- making and reset
 
+-- c is a call that finds f and makes the hall h
+pub record IsMaking (c : Call) (f : Found) (h : Setup) : Type 0 where
+  pub taken : (b : List ℕ) → takes hall block c b ≡ eqb (length b) size
+  pub steps : (b : List ℕ) → step hall (decode b) c ≡ making hall f h (decode b)
+
+pub is_make : (n : ℕ) → IsMaking (make n) (layout_found n) (hall_with n)
+is_make n = record { taken = λ b. refl; steps = λ b. refl }
+
+pub is_make_with : (n : ℕ) (t : List ℕ) → IsMaking (make_with n t) (table_found n t) (hall_of n t)
+is_make_with n t = record { taken = λ b. refl; steps = λ b. refl }
+
+module _ {c : Call} {f : Found} {h : Setup} (m : IsMaking c f h) (b : List ℕ) where
+  pub not_taken : eqb (length b) size ≡ false → MadeNew (made hall block c b) (coded (Err Lent)) b
+  not_taken e = made_as (wrong c b (m.taken b ∙ e)) (record { answer = refl; block = refl })
+
+  module _ (e : eqb (length b) size ≡ true) where
+    found_as : {g : Found} → g ≡ f → made hall block c b ≡ leaves c b (making hall g h (decode b))
+    found_as k = taken c b _ (m.taken b ∙ e) (m.steps b ∙ ap (λ (x : Found). making hall x h (decode b)) (sym k))
+
+    -- whatever stopped it
+    pub not_made : (r : Refusal) → stop_of r ≡ f → {state : List ℕ} → state ≡ b → MadeNew (made hall block c b) (coded (Err r)) state
+    not_made r k same = made_as (found_as k) (record { answer = refl; block = same })
+
+    pub makes : clear ≡ f → {state : List ℕ} → state ≡ encode (fresh_renderer h) → MadeNew (made hall block c b) (coded (Ok Fresh)) state
+    makes k new = made_as (found_as k) (record { answer = refl; block = new })
+
 -- reset asks for the length before it looks at the hall
 pub too_short : (b : List ℕ) → eqb (length b) size ≡ false → takes hall block reset b ≡ false
 too_short b e = rw e refl
 
 module _ (b : List ℕ) (e : eqb (length b) size ≡ true) where
-  pub no_layout : (n : ℕ) → leb n 3 ≡ false → made hall block (make n) b ≡ record { answer = refused 15 0 0; state = b; out = [] }
-  no_layout n l = taken (make n) b _ e (ap (λ (t : Bool). making hall t n (decode b)) l)
-
-  pub makes : (n : ℕ) → leb n 3 ≡ true → made hall block (make n) b ≡ record { answer = cleared; state = encode (fresh_renderer (hall_with n)); out = [] }
-  makes n l = taken (make n) b _ e (ap (λ (t : Bool). making hall t n (decode b)) l)
-
   pub no_hall : hall_valid b ≡ false → made hall block reset b ≡ record { answer = refused 1 0 0; state = b; out = [] }
   no_hall h = wrong reset b (rw (e, h) refl)
 

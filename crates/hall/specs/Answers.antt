@@ -4,7 +4,7 @@ use Rattle.limiter.specs.Limiter.{0·0, 1·0}
 use Rattle.limiter.specs.declared.meters.Meters.{Meters}
 use Rattle.rules.specs.Refusals.{room}
 use Rattle.rules.specs.Calls as rules
-use Rattle.rules.specs.Calls.{refused, rendered, nothing, cleared, found}
+use Rattle.rules.specs.Calls.{refused, rendered, nothing, cleared}
 use Rattle.rules.specs.BlockCalls as block
 use Rattle.refusals.specs.RefusalNumbers.{numbers_of}
 use Rattle.refusals.specs.declared.Refusal.{Refusal}
@@ -35,7 +35,7 @@ code_of cleared = bare 3 0 0 0
 
 -- the interface's number: it steps with every change of the block's layout or of a signature
 abbrev pub version : ℕ
-version = 4
+version = 5
 
 abbrev pub given_as : Given → Answer
 given_as g = ready_of g.samples g.meters

@@ -3,7 +3,7 @@
 #![tactic(auto)]
 
 ghost use Rattle.std.specs.Prelude.{◌≡◌, OnOk};
-ghost use Rattle.rules.specs.Calls.{push, flush, reset, make};
+ghost use Rattle.rules.specs.Calls.{push, flush, reset, make, make_with};
 ghost use Rattle.rules.specs.BlockCalls.{made};
 ghost use Rattle.theorem.specs.Instance.{hall, block};
 ghost use Rattle.theorem.specs.Appends.{AppendsIfOpen};
@@ -14,16 +14,19 @@ ghost use Rattle.rules.specs.Refusals.{args_of};
 use answer::Outcome;
 use panning::LAST_LAYOUT;
 use refusals::{Numbers, Push, Refusal};
-use store::Block;
+use store::{Block, hall_table};
 
 pub mod answer;
 mod archive;
 mod work;
 
-const VERSION: u32 = 4;
+const VERSION: u32 = 5;
 
 // The bytes of a state block.
 pub const STATE_BYTES: usize = store::SIZE;
+
+// The bytes of a hall table.
+const TABLE_BYTES: usize = 4 * hall_table::TABLE_WORDS;
 
 // Renders a frame: beds (one code each), then objects, `samples` of each channel in `pcm`. What is ready goes to `out`, channel c from place c x `stride` on.
 // Its parameters are document 01's: "calls push, flush and reset over numbers and byte slices". The hint: the library calls it in one place, the C entry.
@@ -95,11 +98,32 @@ pub fn make(state: &mut [u8], layout: u32) -> Result<Outcome, Refusal>
     if layout > LAST_LAYOUT {
         return Err(Refusal::Layout);
     }
-    store::make(block, layout);
+    store::make(block, layout, &hall_table::BUILT_IN);
     Ok(Outcome::Fresh)
 }
 
-// Makes a block's renderer new: it keeps its layout, and all else is as a making call leaves it.
+// The same with the hall's own table, twelve records of x, y and z in channel order, in place of the built-in one.
+pub fn make_with_table(state: &mut [u8], layout: u32, table: &[u8]) -> Result<Outcome, Refusal>
+    ensures { MadeNew (made hall block (make_with layout table.now) state.old) (coded result) state.new }
+{
+    let Some(block) = state.as_mut_array() else {
+        return Err(Refusal::Lent);
+    };
+    if layout > LAST_LAYOUT {
+        return Err(Refusal::Layout);
+    }
+    if table.len() != TABLE_BYTES {
+        return Err(Refusal::TableLength);
+    }
+    let table = hall_table::table_words(table, 0);
+    if let Some(fault) = hall_table::table_fault(&table) {
+        return Err(Refusal::from(fault));
+    }
+    store::make(block, layout, &table);
+    Ok(Outcome::Fresh)
+}
+
+// Makes a block's renderer new: it keeps its layout and its table, and all else is as a making call leaves it.
 pub fn reset(state: &mut [u8]) -> Result<Outcome, Refusal>
     ensures { MadeNew (made hall block reset state.old) (coded result) state.new }
 {
@@ -110,7 +134,8 @@ pub fn reset(state: &mut [u8]) -> Result<Outcome, Refusal>
         return Err(Refusal::Lent);
     }
     let layout = store::layout(block);
-    store::make(block, layout);
+    let table = store::table(block);
+    store::make(block, layout, &table);
     Ok(Outcome::Fresh)
 }
 

@@ -3,7 +3,7 @@
 #![tactic(auto)]
 
 ghost use Rattle.std.specs.Prelude.{◌≡◌, ◌*◌, length};
-ghost use Rattle.rules.specs.Calls.{push, flush, reset, make};
+ghost use Rattle.rules.specs.Calls.{push, flush, reset, make, make_with};
 ghost use Rattle.rules.specs.BlockCalls.{made};
 ghost use Rattle.theorem.specs.Instance.{hall, block};
 ghost use Rattle.theorem.specs.Appends.{AppendsIfOpen};
@@ -50,6 +50,14 @@ pub extern "C" fn hall_make(state: &mut [u8], layout: u32) -> Answer
     ensures { MadeNew (made hall block (make layout) state.old) result state.new }
 {
     Answer::from(hall::make(state, layout))
+}
+
+// R-6: the same with the hall's own table.
+#[unsafe(no_mangle)]
+pub extern "C" fn hall_make_with_table(state: &mut [u8], layout: u32, table: &[u8]) -> Answer
+    ensures { MadeNew (made hall block (make_with layout table.now) state.old) result state.new }
+{
+    Answer::from(hall::make_with_table(state, layout, table))
 }
 
 #[unsafe(no_mangle)]

@@ -12,5 +12,9 @@ pub mod Facts
 pub mod Speakers
 pub mod Corners714
 pub mod Setup
+pub mod RightTables
+pub mod BassRecord
+pub mod Judged
+mod TableExamples
 pub mod Shared
 pub mod Theorems

@@ -20,7 +20,7 @@ use Rattle.corners.specs.SpeakerOrder.{speakers_of}
 use Rattle.corners.specs.Table.{Table, Position, occupied}
 use Rattle.panning.specs.Terms.{on_channel}
 use Rattle.panning.specs.Speakers.{positions714, hall714, full_range, 12·0}
-use Rattle.panning.specs.Setup.{Setup, table_float, place_in, present, speakers_in, 10·0, 6·0, divisor_in, SpeakerOf, LayoutIs, marks_of, table_of, table_places, hall_with}
+use Rattle.panning.specs.Setup.{Setup, table_float, table_place, place_in, present, speakers_in, 10·0, 6·0, divisor_in, SpeakerOf, LayoutIs, marks_of, table_of, table_places, hall_with}
 use Rattle.panning.specs.Setup.{HallFits, terms_in}
 use Rattle.panning.specs.Facts.{Pans}
 use Rattle.corners.proofs.Lists.{keep→, every→}
@@ -180,14 +180,14 @@ fitting [] = true
 fitting (v ∷ vs) = fits binary32 v.x && (fits binary32 v.y && (fits binary32 v.z && fitting vs))
 
 -- a table's places are those that it was made of
-place_back : (n : ℕ) (vs : List Vec3) → T (fitting vs) → (k : ℕ) → place_in (record { layout = n; table = table_of vs }) k ≡ get_or vs k nowhere
-unfolding place_in table_of of_bits
-place_back n [] h k = refl
-place_back n (v ∷ vs) h k =
+place_back : (vs : List Vec3) → T (fitting vs) → (k : ℕ) → table_places vs k ≡ get_or vs k nowhere
+unfolding table_place table_of of_bits
+place_back [] h k = refl
+place_back (v ∷ vs) h k =
     let t = table_of (v ∷ vs) in
     let yz = and_r (fits binary32 v.x) (fits binary32 v.y && (fits binary32 v.z && fitting vs)) h in
     let z = and_r (fits binary32 v.y) (fits binary32 v.z && fitting vs) yz in
-    elim k as (λ k. place_in (record { layout = n; table = table_of (v ∷ vs) }) k ≡ get_or (v ∷ vs) k nowhere) [
+    elim k as (λ k. table_places (v ∷ vs) k ≡ get_or (v ∷ vs) k nowhere) [
       | zero ↦ λ i. record {
         x = of_bits-to_bits binary32 v.x (and_l (fits binary32 v.x) _ h) i;
         y = of_bits-to_bits binary32 v.y (and_l (fits binary32 v.y) _ yz) i;
@@ -197,11 +197,11 @@ place_back n (v ∷ vs) h k =
           let e : 3 * suc j ≡ suc (suc (suc (3 * j))) = omega arith in
           let f : 3 * suc j + 1 ≡ suc (suc (suc (3 * j + 1))) = omega arith in
           let g : 3 * suc j + 2 ≡ suc (suc (suc (3 * j + 2))) = omega arith in
-          (λ i. record { x = table_float t (e i); y = table_float t (f i); z = table_float t (g i) }) ∙ place_back n vs (and_r (fits binary32 v.z) (fitting vs) z) j
+          (λ i. record { x = table_float t (e i); y = table_float t (f i); z = table_float t (g i) }) ∙ place_back vs (and_r (fits binary32 v.z) (fitting vs) z) j
     ]
 
-pub table_back : (vs : List Vec3) → T (fitting vs) → table_places vs ≡ place_among vs
-table_back vs h = fun_ext (place_back 0 vs h)
+pub places_back : (vs : List Vec3) → T (fitting vs) → table_places vs ≡ place_among vs
+places_back vs h = fun_ext (place_back vs h)
 
 -- the code's table, and where it has each channel
 pub code_table : Table (place_among positions714) full_range
@@ -210,11 +210,11 @@ code_table = hall714_table
 
 pub code_places : table_places positions714 ≡ place_among positions714
 unfolding positions714 fits
-code_places = table_back positions714 tt
+code_places = places_back positions714 tt
 
 pub built_in_places : (n : ℕ) → place_in (hall_with n) ≡ hall714
 unfolding hall714 positions714 fits
-built_in_places n = fun_ext (place_back n positions714 tt)
+built_in_places n = fun_ext (place_back positions714 tt)
 
 pub hall_fits : (n : ℕ) → n ≤ 3 → HallFits (hall_with n)
 hall_fits n h = record { layout = h; table = subst (λ (sp : ℕ → Vec3). Table sp full_range) (sym (built_in_places n)) hall714_table }

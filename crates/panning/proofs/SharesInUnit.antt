@@ -6,8 +6,7 @@ use Prim.Native.Nat.{ℕ, ◌+◌, ◌≤◌, ◌<◌, zero-le}
 use native.Mathlib.Nat.{le_of_lt, zero-lt-suc}
 use native.Mathlib.Omega.{arith}
 use lib.Dec.{T, T_not, leb, leb→le, nleb→lt, lit<, lit≤}
-use lib.Ieee.{Float, nan, inf, fin, binary32, fits, le, lt, eq, sub, div}
-use lib.Ieee.Scale.{finite}
+use lib.Ieee.{Float, binary32, fits, le, eq, sub, div}
 use Rattle.ieee.specs.Units.{One, F32, Unitary, P, N}
 use Rattle.ieee.proofs.Constants.{zero_f32, zero_mag, whole_grid, whole_less}
 use Rattle.ieee.proofs.Ops.{small}
@@ -15,6 +14,7 @@ use Rattle.ieee.proofs.Compare.{le→, →le, →lt, →eq}
 use Rattle.ieee.proofs.Share.{Shared, left_over, share}
 use Rattle.corners.specs.Choice.{0·0, 1·0}
 use Rattle.panning.specs.Terms.{ratio}
+use Rattle.corners.proofs.Tables.{finite_between}
 
 -- the ends a and b of an axis about v
 abbrev pub Beside : Float → Float → Float → Type 0
@@ -24,17 +24,6 @@ pub eq_self : (x : Float) → F32 x → T (eq x x)
 eq_self x f = →eq x x f f refl
 
 -- ---- between the ends
-finite_inside : (a b v : Float) → T (finite a) → T (finite b) → T (le a v) → T (not (le b v)) → T (finite v)
-unfolding le lt eq
-finite_inside nan b v f g h k = absurd f
-finite_inside (inf s) b v f g h k = absurd f
-finite_inside (fin s m e) nan v f g h k = absurd g
-finite_inside (fin s m e) (inf t) v f g h k = absurd g
-finite_inside (fin s m e) (fin t n d) nan f g h k = absurd h
-finite_inside (fin s m e) (fin t n d) (inf true) f g h k = absurd h
-finite_inside (fin s m e) (fin t n d) (inf false) f g h k = absurd k
-finite_inside (fin s m e) (fin t n d) (fin u o c) f g h k = tt
-
 nle→ : (x y : Float) → F32 x → F32 y → T (not (le x y)) → P y + N x < P x + N y
 nle→ x y f g h = go (leb (P x + N y) (P y + N x)) (leb→le (P x + N y) (P y + N x)) (nleb→lt (P x + N y) (P y + N x))
   where
@@ -47,7 +36,7 @@ inside : (a b v : Float) → Unitary a → Unitary b → T (fits binary32 v) →
 inside a b v ta tb fv h k =
     let fa = ta.f32 in
     let fb = tb.f32 in
-    let f : F32 v = record { fine = finite_inside a b v fa.fine fb.fine h k; fit = fv } in
+    let f : F32 v = record { fine = finite_between a b v fa.fine fb.fine h (inr k); fit = fv } in
     let i = le→ a v fa f h in
     let j = nle→ b v fb f k in
     share a v b fa f fb h (→le v b f fb (le_of_lt j)) (→lt a b fa fb (through (P a) (N a) (P v) (N v) (P b) (N b) i j))

@@ -3,6 +3,7 @@ pub mod Coefficients
 pub mod Speakers
 pub mod Corners714
 pub mod Setup
+pub mod Fault
 pub mod Hall
 pub mod Facts
 pub mod Shares

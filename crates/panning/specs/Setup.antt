@@ -1,5 +1,5 @@
--- A hall as a renderer has it: which of the twelve channels have a speaker, and where the speakers stand; and what is mixed of an object in it. Document 02, R-5 and R-6. Every
--- renderer has one with the built-in table, whose places are those of specs/Speakers (`built_in_places` of proofs/Setup). Assumes nothing.
+-- A hall as a renderer has it: which of the twelve channels have a speaker, and where the speakers stand; and what is mixed of an object in it. Document 02, R-5 and R-6. A hall
+-- made without a table has the built-in one, whose places are those of specs/Speakers (`built_in_places` of proofs/Setup). Assumes nothing.
 use Rattle.std.specs.Prelude.{ℕ, ◌+◌, ◌*◌, ◌≤◌, ◌≡◌, Bool, false, not, ◌&&◌, List, [], ◌∷◌, pos, T, eqb, ltb, get_or, Float}
 use Rattle.std.specs.Float.{fin, binary32}
 use Rattle.std.specs.Float.Ieee.{of_bits, to_bits}
@@ -7,11 +7,11 @@ use Rattle.vectors.specs.declared.Vec3.{Vec3}
 use Rattle.panning.specs.declared.Panned.{Panned}
 use Rattle.corners.specs.Choice.{keep, every_of}
 use Rattle.panning.specs.Coefficients.{8·0}
-use Rattle.corners.specs.Table.{Table}
+use Rattle.corners.specs.Table.{Table, placed_inside, distinct}
 use Rattle.panning.specs.Terms.{Term, panned, terms, on_channel}
 use Rattle.panning.specs.Speakers.{positions714, full_range, 12·0}
 
--- the layout's code, and the hall table: 36 words, "x, y and z as little-endian f32, .. in channel order". They are bits, since no call but making writes them.
+-- the layout's code, and the hall table: 36 words, "x, y and z as little-endian f32, .. in channel order". They are bits, so that a block keeps them bit for bit, -0.0 too.
 pub record Setup : Type 0 where
   pub layout : ℕ
   pub table : List ℕ
@@ -22,8 +22,31 @@ pub record Setup : Type 0 where
 abbrev pub table_float : List ℕ → ℕ → Float
 table_float t i = of_bits binary32 (get_or t i 0x7fc00000)
 
-unfoldable pub place_in : Setup → ℕ → Vec3
-place_in s k = record { x = table_float s.table (3 * k); y = table_float s.table (3 * k + 1); z = table_float s.table (3 * k + 2) }
+-- where a table has channel k
+unfoldable pub table_place : List ℕ → ℕ → Vec3
+table_place t k = record { x = table_float t (3 * k); y = table_float t (3 * k + 1); z = table_float t (3 * k + 2) }
+
+abbrev pub place_in : Setup → ℕ → Vec3
+place_in s = table_place s.table
+
+-- ---- the tables that are accepted
+
+abbrev pub all_channels : List ℕ
+all_channels = 0 ∷ 1 ∷ 2 ∷ 3 ∷ 4 ∷ 5 ∷ 6 ∷ 7 ∷ 8 ∷ 9 ∷ 10 ∷ 11 ∷ []
+
+-- "Each coordinate must be finite and from -1 to 1": of all twelve records, also where "channel 3's record is read but never used for panning"
+unfoldable pub all_inside : (ℕ → Vec3) → Bool
+unfolding every_of
+all_inside sp = every_of (λ k. placed_inside (sp k)) all_channels
+
+-- "No two full-range speakers may have equal coordinates, the two zeros being equal"
+unfoldable pub all_apart : (ℕ → Vec3) → Bool
+unfolding distinct
+all_apart sp = distinct sp full_range
+
+-- "A full table is checked even where the layout lacks some speakers"
+abbrev pub table_right : List ℕ → Bool
+table_right t = all_inside (table_place t) && all_apart (table_place t)
 
 -- ---- which there are
 
@@ -72,7 +95,7 @@ table_of (v ∷ vs) = to_bits binary32 v.x ∷ to_bits binary32 v.y ∷ to_bits 
 
 -- where a table of these places has each channel
 abbrev pub table_places : List Vec3 → ℕ → Vec3
-table_places vs = place_in (record { layout = 0; table = table_of vs })
+table_places vs = table_place (table_of vs)
 
 abbrev pub built_in_table : List ℕ
 built_in_table = table_of positions714

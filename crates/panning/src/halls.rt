@@ -1,14 +1,12 @@
 // SPDX-License-Identifier: Apache-2.0
 // Translated from libstarmine_ad render.rs; changed.
 
-// The halls with the built-in places, by their layouts: 0 for 7.1.4, 1 for 5.1.4, 2 for 7.1.0, 3 for 5.1.0.
-ghost use Rattle.std.specs.Prelude.{◌≡◌, ◌≤◌};
+// Halls: the built-in places, what a layout has (0 for 7.1.4, 1 for 5.1.4, 2 for 7.1.0, 3 for 5.1.0), and a hall of any places.
+ghost use Rattle.std.specs.Prelude.{◌≡◌, ◌≤◌, true};
 ghost use Rattle.corners.specs.Choice.{corner};
 ghost use Rattle.corners.specs.Found.{chosen};
-ghost use Rattle.corners.specs.Table.{Table};
 ghost use Rattle.corners.specs.Axes.{place_among};
-ghost use Rattle.panning.specs.Speakers.{full_range};
-ghost use Rattle.panning.specs.Setup.{table_places, marks_of, speakers_in, divisor_in, hall_with};
+ghost use Rattle.panning.specs.Setup.{table_of, all_inside, all_apart, marks_of, speakers_in, divisor_in, hall_with};
 ghost use Rattle.panning.specs.Hall.{setup_of};
 
 use crate::Hall;
@@ -20,8 +18,8 @@ pub(crate) const DIAGONAL: f32 = 0.70710677;
 
 pub(crate) const SURROUND: f32 = 0.48368952;
 
-// `RENDER_714_CHANNEL_POSITIONS`, in channel order.
-pub static SPEAKERS: [Vec3; 12] = [
+// `RENDER_714_CHANNEL_POSITIONS`, in channel order; a static beside it, since a constant that is indexed is copied first.
+const PLACES: [Vec3; 12] = [
     Vec3 {
         x: -DIAGONAL,
         y: 0.0,
@@ -84,6 +82,8 @@ pub static SPEAKERS: [Vec3; 12] = [
     },
 ];
 
+pub static SPEAKERS: [Vec3; 12] = PLACES;
+
 // The largest code of a layout.
 pub const LAST_LAYOUT: u32 = 3;
 
@@ -107,12 +107,20 @@ fn divisor(layout: u32) -> f32
     [12.0, 10.0, 8.0, 6.0][layout as usize]
 }
 
+// The 7.1.4 hall with the built-in places, whose corners are found by comparisons: nothing in it is sorted. A constant, since what a function answers is copied once more.
+pub const HALL_714: Hall = Hall {
+    layout: 0,
+    places: PLACES,
+    present: [true; 12],
+    divisor: 12.0,
+    speakers: None,
+};
+
 impl Hall {
-    // The hall of a layout whose channel k stands at `places[k]`, its speakers sorted. The hint keeps what it zeroes out of 7.1.4's.
-    #[inline(never)]
-    fn of(layout: u32, places: &[Vec3; 12]) -> Hall
-        requires { (layout ≤ 3) × Table (place_among places.now) full_range × (table_places places.now ≡ place_among places.now) }
-        ensures { (result.layout ≡ layout) × (result.places ≡ places.now) }
+    // The hall of a layout whose channel k stands at `places[k]`, its speakers sorted.
+    pub fn of(layout: u32, places: &[Vec3; 12]) -> Hall
+        requires { (layout ≤ 3) × (all_inside (place_among places.now) ≡ true) × (all_apart (place_among places.now) ≡ true) }
+        ensures { setup_of result ≡ record { layout = layout; table = table_of places.now } }
     {
         let present = marks(layout);
         let mut full_range = present;
@@ -124,24 +132,6 @@ impl Hall {
             divisor: divisor(layout),
             speakers: Some(SortedSpeakers::of(places, &full_range)),
         }
-    }
-
-    // The hall of a layout with the built-in places. A push makes one, so that of 7.1.4 sorts nothing. The hint leaves one zeroing and two moves of it out.
-    #[inline(never)]
-    pub fn built_in(layout: u32) -> Hall
-        requires { layout ≤ 3 }
-        ensures { setup_of result ≡ hall_with layout }
-    {
-        if layout == 0 {
-            return Hall {
-                layout,
-                places: SPEAKERS,
-                present: marks(layout),
-                divisor: divisor(layout),
-                speakers: None,
-            };
-        }
-        Hall::of(layout, &SPEAKERS)
     }
 
     // The corners about a place.

@@ -20,9 +20,11 @@ use vectors::Vec3;
 mod corners_714;
 mod hall;
 mod halls;
+mod table;
 
 pub use hall::Hall;
-pub use halls::{LAST_LAYOUT, SPEAKERS, marks};
+pub use halls::{HALL_714, LAST_LAYOUT, SPEAKERS, marks};
+pub use table::{TableFault, table_fault};
 
 // The share of b where v lies between a and b.
 #[tactic(auto, unfolding(crate::specs::Terms::ratio))]

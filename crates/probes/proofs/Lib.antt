@@ -1,3 +1,4 @@
 pub mod Halls
 pub mod ProbeAnswers
 pub mod Timed
+pub mod Tables

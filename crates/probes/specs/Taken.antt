@@ -1,6 +1,6 @@
 -- A reader may skip this file: which arguments a probe takes, as a test, and the zeros that it answers for others. A probe's contract is `cond test rule otherwise`, with the
 -- leaf's rule; a slice that is lent to be written stays as it was where the test fails. Assumes nothing.
-use Rattle.std.specs.Prelude.{ℕ, ◌+◌, ◌*◌, ◌/◌, Bool, true, false, ◌&&◌, List, [], ◌∷◌, eqb, leb, ltb, pos, length, Float}
+use Rattle.std.specs.Prelude.{ℕ, ◌+◌, ◌*◌, ◌/◌, Bool, true, false, ◌&&◌, cond, List, [], ◌∷◌, eqb, leb, ltb, pos, length, Float}
 use Rattle.std.specs.Float.{fin}
 use Rattle.angles.specs.declared.Turn.{Turn}
 use Rattle.angles.specs.declared.filter.Coefficients.{Coefficients}
@@ -8,6 +8,8 @@ use Rattle.clock.specs.Start.{frame_start}
 use Rattle.limiter.specs.Meters.{block_meters}
 use Rattle.limiter.specs.ChannelPlaces.{channels_at}
 use Rattle.limiter.specs.declared.Limited.{Limited}
+use Rattle.words.specs.Words.{words_at}
+use Rattle.panning.specs.Setup.{table_right, built_in_table}
 use Rattle.fields.specs.Block.{block_of}
 use Rattle.probes.specs.declared.probe_records.BlockTimes.{BlockTimes}
 use Rattle.fields.specs.declared.object.Info.{Info}
@@ -33,6 +35,10 @@ all_here = true ∷ true ∷ true ∷ true ∷ true ∷ true ∷ true ∷ true �
 -- the limiter with the next gain h, and the meters of the block of n samples that met g, which the probe does not answer
 abbrev pub with_gain : Float → Float → ℕ → List ℕ → Limited
 with_gain h g n places = record { limiter = record { gain = h }; meters = block_meters g (channels_at all_here n places 0) }
+
+-- the hall table of these bytes, or the built-in one
+unfoldable pub table_if : List ℕ → List ℕ
+table_if t = cond (eqb (length t) 144 && table_right (words_at t 0 36)) (words_at t 0 36) built_in_table
 
 -- ---- zeros
 

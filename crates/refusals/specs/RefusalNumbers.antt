@@ -3,12 +3,15 @@
 use Rattle.std.specs.Prelude.{ℕ, Result, Ok, Err}
 use Rattle.records.specs.declared.metadata.Fault.{Fault}
 use Rattle.records.specs.declared.metadata.Fault.TheVariants.{NotLaidOut, OutOfRange}
+use Rattle.panning.specs.declared.table.TableFault.{TableFault}
+use Rattle.panning.specs.declared.table.TableFault.TheVariants.{Coordinate, SamePlaces}
 use Rattle.rules.specs.Refusals.{Found, clear, stop}
 use Rattle.refusals.specs.declared.Stop.{Stop}
 use Rattle.refusals.specs.declared.Refusal.{Refusal}
 use Rattle.refusals.specs.declared.Refusal.TheVariants.{Lent, Sizes, Rate, StreamEnd, Records, Ranges, Samples}
 use Rattle.refusals.specs.declared.Refusal.TheVariants.{SampleRateChanged, MissingOamd, ObjectCountMismatch}
-use Rattle.refusals.specs.declared.Refusal.TheVariants.{UnsupportedSampleCount, BedChannelCountMismatch, UnsupportedBedChannel, Layout}
+use Rattle.refusals.specs.declared.Refusal.TheVariants.{UnsupportedSampleCount, BedChannelCountMismatch, UnsupportedBedChannel}
+use Rattle.refusals.specs.declared.Refusal.TheVariants.{Layout, TableLength, TableCoordinate, TablePlaces}
 
 -- "A refusal gives its number and two counts, zero where unnamed."
 abbrev pub numbers : ℕ → ℕ → ℕ → Stop
@@ -29,6 +32,9 @@ numbers_of UnsupportedSampleCount = numbers 12 0 0
 numbers_of (BedChannelCountMismatch expected) = numbers 13 expected 0
 numbers_of (UnsupportedBedChannel code) = numbers 14 code 0
 numbers_of Layout = numbers 15 0 0
+numbers_of TableLength = numbers 16 0 0
+numbers_of TableCoordinate = numbers 17 0 0
+numbers_of TablePlaces = numbers 18 0 0
 
 abbrev pub stop_of : Refusal → Found
 stop_of r = let n = numbers_of r in stop n.number n.first n.second
@@ -42,3 +48,8 @@ found_of (Err r) = stop_of r
 abbrev pub fault_refusal : Fault → Refusal
 fault_refusal NotLaidOut = Records
 fault_refusal OutOfRange = Ranges
+
+-- 17 and 18
+abbrev pub table_refusal : TableFault → Refusal
+table_refusal Coordinate = TableCoordinate
+table_refusal SamePlaces = TablePlaces

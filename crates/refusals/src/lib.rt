@@ -11,15 +11,16 @@ mod present;
 mod shapes;
 
 ghost use Rattle.std.specs.Prelude.{◌≡◌, ◌≤◌, IfOk};
-ghost use Rattle.refusals.specs.RefusalNumbers.{numbers, numbers_of, fault_refusal};
+ghost use Rattle.refusals.specs.RefusalNumbers.{numbers, numbers_of, fault_refusal, table_refusal};
 ghost use Rattle.refusals.specs.FirstFound.{args_with, args_in, IsFound};
 
 use beds::Codes;
+use panning::TableFault;
 use records::metadata::{Fault, Metadata};
 use shapes::present_of;
 use store::renderer::Renderer714;
 
-// The refusals of a push, and that of a making call: `stop` gives document 01's number and counts of each.
+// The refusals of a push, and those of a making call: `stop` gives document 01's number and counts of each.
 #[derive(Clone, Copy, PartialEq, Eq, Debug)]
 pub enum Refusal {
     // 1 to 8; 7 is not in use
@@ -37,8 +38,11 @@ pub enum Refusal {
     UnsupportedSampleCount,
     BedChannelCountMismatch(u32),
     UnsupportedBedChannel(u32),
-    // 15, of a making call
+    // 15, of a making call, and 16 to 18, of one with a table
     Layout,
+    TableLength,
+    TableCoordinate,
+    TablePlaces,
 }
 
 // What is told of a refusal: document 01's number and two counts, zero where unnamed. (a) Numbers, since they cross to C and are printed.
@@ -81,6 +85,9 @@ impl Refusal {
             Refusal::BedChannelCountMismatch(expected) => Stop::new(13, expected, 0),
             Refusal::UnsupportedBedChannel(code) => Stop::new(14, code, 0),
             Refusal::Layout => Stop::new(15, 0, 0),
+            Refusal::TableLength => Stop::new(16, 0, 0),
+            Refusal::TableCoordinate => Stop::new(17, 0, 0),
+            Refusal::TablePlaces => Stop::new(18, 0, 0),
         }
     }
 }
@@ -92,6 +99,17 @@ impl From<Fault> for Refusal {
         match fault {
             Fault::NotLaidOut => Refusal::Records,
             Fault::OutOfRange => Refusal::Ranges,
+        }
+    }
+}
+
+impl From<TableFault> for Refusal {
+    ghost from_gives = { λ f r. r ≡ table_refusal f };
+
+    fn from(fault: TableFault) -> Refusal {
+        match fault {
+            TableFault::Coordinate => Refusal::TableCoordinate,
+            TableFault::SamePlaces => Refusal::TablePlaces,
         }
     }
 }

@@ -79,7 +79,6 @@ impl Rendering {
     }
 
     // Flush: the remainder as one shorter block.
-    #[tactic(auto, using(crate::proofs::Given::behind_written))]
     pub fn drain(s: Renderer714, state: &Block, out: &mut [u8], stride: usize) -> Rendering
         requires { CanGive (record { renderer = s; ready = 0; meters = unmet }) out.old stride × (hall_valid state.now ≡ true) }
         ensures { IsDrained (flushed hall (held s state.now)) s.pending stride state.now out.old result out.new }

@@ -23,7 +23,7 @@ use Rattle.rules.specs.Mix.{send_of, sample_at, Moment}
 use Rattle.rules.specs.Samples as rules
 use Rattle.rules.specs.Samples.{Setup, Frame, State, After, sounding, opened, updated, slotted, sampled, moment, closing}
 use Rattle.rules.specs.Refusals.{Args, Found, clear, stop}
-use Rattle.rules.specs.Calls.{Call, push, flush, reset, make, Answer, refused, rendered, nothing, cleared, Result, frame_of, found, answered, step}
+use Rattle.rules.specs.Calls.{Call, push, flush, reset, make, make_with, Answer, refused, rendered, nothing, cleared, Result, frame_of, found, answered, step}
 use Rattle.rules.specs.BlockCalls.{written, out_of, stride_of}
 use Rattle.theorem.specs.Instance.{hall, Sent}
 use Rattle.rows.specs.Rows.{Said, refusal, ready, none, renewed, samples_on, Row, starting_at, calls}
@@ -218,6 +218,7 @@ stepped run r (push a) = asked run (found hall r a) a r
 stepped run r (flush out stride) = step hall r (flush out stride)
 stepped run r reset = step hall r reset
 stepped run r (make n) = step hall r (make n)
+stepped run r (make_with n t) = step hall r (make_with n t)
 
 unfoldable pub said_of : Answer → ℕ → List ℕ → Said
 unfolding read

@@ -5,8 +5,8 @@ use Rattle.ieee.specs.Bounds.{All}
 use Rattle.rules.proofs.Theorems.{all_append}
 use Rattle.rows.specs.Rows.{Said, Row, Holds, says, seen}
 use Rattle.rows.specs.Notation.{concat}
-use Rattle.rows.specs.Lists.{refusals, outputs, block_rows, bed_rows, object_rows, updates, slots, halls, groups, rows}
-use Rattle.theorem.proofs.Opened.{everything}
+use Rattle.rows.specs.Lists.{refusals, outputs, block_rows, bed_rows, object_rows, updates, slots, halls, tables, groups, rows}
+use Rattle.theorem.proofs.Opened.{everything, judging}
 use Rattle.rows.proofs.Quick.{plainly, quickly}
 use Rattle.rows.proofs.QuickIsRules.{plainly_is, quickly_is}
 
@@ -60,6 +60,10 @@ halls_hold : All Holds halls
 unfolding quickly
 halls_hold = after slots_hold (held quickly quickly_is halls refl)
 
+tables_hold : All Holds tables
+unfolding quickly judging
+tables_hold = after halls_hold (held quickly quickly_is tables refl)
+
 -- ---- all rows
 
 all_joined : (gs : List (List Row)) → All (All Holds) gs → All Holds (concat gs)
@@ -67,4 +71,4 @@ all_joined [] h = tt
 all_joined (g ∷ gs) h = all_append Holds g (concat gs) h.0 (all_joined gs h.1)
 
 pub table : All Holds rows
-table = all_joined groups (refusals_hold, (outputs_hold, (blocks_hold, (beds_hold, (objects_hold, (updates_hold, (slots_hold, (halls_hold, tt))))))))
+table = all_joined groups (refusals_hold, (outputs_hold, (blocks_hold, (beds_hold, (objects_hold, (updates_hold, (slots_hold, (halls_hold, (tables_hold, tt)))))))))

@@ -1,10 +1,10 @@
 -- The rows. `cargo run --release --offline -p compare --bin rows` in rust/ writes this file: the calls are that program's, what is seen of them is the oracle's. Assumes nothing.
 use Rattle.std.specs.Prelude.{List, [], ◌∷◌, ◌++◌, replicate}
-use Rattle.rules.specs.Calls.{reset, make}
+use Rattle.rules.specs.Calls.{reset, make, make_with}
 use Rattle.rows.specs.Rows.{Row, ◌⇒◌, refusal, ready, none, renewed}
 use Rattle.rows.specs.Notation.{concat, as_row, row_at, sent, sent_by, of_bed, of_object, flush_at, short, quiet, diagonal_words, silence, only}
 use Rattle.rows.specs.Notation.{update, bed, spoilt, element, at_once, block_from, minus, object, at, valid_position, place, differential, gain, distance, with_size}
-use Rattle.rows.specs.Notation.{screen, depth, screen_anchor, on_speakers}
+use Rattle.rows.specs.Notation.{screen, depth, screen_anchor, on_speakers, words}
 
 -- ---- refusals
 
@@ -736,11 +736,112 @@ abbrev pub halls : List Row
 halls =
     no_layout ∷ made_again ∷ same_layout ∷ lacked_beds ∷ beds_together ∷ hall_objects ∷ []
 
+-- ---- tables
+
+-- 16, 17 and 18, behind 15; the renderer stays as it was
+abbrev pub no_table : Row
+no_table =
+    as_row
+    (of_bed (bed (0 ∷ []) ∷ []) ⇒ ready []
+    ∷ make_with 4 (words (0xbf800000 ∷ [])) ⇒ refusal 15 0 0
+    ∷ make_with 0 (words (0xbf800000 ∷ 0xbf800000 ∷ 0x3f800000 ∷ 0x3f800000 ∷ 0xbf800000 ∷ 0x3f800000 ∷ 0 ∷ 0xbf800000 ∷ 0x3f800000 ∷ 0 ∷ 0xbf800000 ∷ 0x3f800000 ∷ 0xbf800000 ∷
+    0xbf800000 ∷ 0xbf800000 ∷ 0x3f800000 ∷ 0xbf800000 ∷ 0xbf800000 ∷ 0xbf800000 ∷ 0xbf800000 ∷ 0 ∷ 0x3f800000 ∷ 0xbf800000 ∷ 0 ∷ 0xbf800000 ∷ 0 ∷ 0 ∷ 0x3f800000 ∷ 0 ∷ 0 ∷
+    0xbf800000 ∷ 0x3f800000 ∷ 0 ∷ 0x3f800000 ∷ 0x3f800000 ∷ [])) ⇒ refusal 16 0 0
+    ∷ make_with 0 (words (0xbf800000 ∷ 0xbf800000 ∷ 0x3f800000 ∷ 0x3f800000 ∷ 0xbf800000 ∷ 0x3f800000 ∷ 0 ∷ 0xbf800000 ∷ 0x3f800000 ∷ 0 ∷ 0xbf800000 ∷ 0x3f800000 ∷ 0xbf800000 ∷
+    0xbf800000 ∷ 0xbf800000 ∷ 0x3f800000 ∷ 0xbf800000 ∷ 0xbf800000 ∷ 0xbf800000 ∷ 0xbf800000 ∷ 0 ∷ 0x3f800000 ∷ 0xbf800000 ∷ 0 ∷ 0xbf800000 ∷ 0 ∷ 0 ∷ 0x3f800000 ∷ 0 ∷ 0 ∷
+    0xbf800000 ∷ 0x3f800000 ∷ 0 ∷ 0x3f800000 ∷ 0x3f800000 ∷ 0 ∷ 0 ∷ [])) ⇒ refusal 16 0 0
+    ∷ make_with 3 (words (0xbf800000 ∷ 0xbf800000 ∷ 0x3f800000 ∷ 0x3f800000 ∷ 0xbf800000 ∷ 0x3f800000 ∷ 0 ∷ 0xbf800000 ∷ 0x3f800000 ∷ 0 ∷ 0 ∷ 0x3fc00000 ∷ 0xbf800000 ∷ 0xbf800000 ∷
+    0xbf800000 ∷ 0x3f800000 ∷ 0xbf800000 ∷ 0xbf800000 ∷ 0xbf800000 ∷ 0xbf800000 ∷ 0 ∷ 0x3f800000 ∷ 0xbf800000 ∷ 0 ∷ 0xbf800000 ∷ 0 ∷ 0 ∷ 0x3f800000 ∷ 0 ∷ 0 ∷ 0xbf800000 ∷
+    0x3f800000 ∷ 0 ∷ 0xbf800000 ∷ 0x3f800000 ∷ 0x80000000 ∷ [])) ⇒ refusal 17 0 0
+    ∷ make_with 3 (words (0xbf800000 ∷ 0xbf800000 ∷ 0x3f800000 ∷ 0x3f800000 ∷ 0xbf800000 ∷ 0x3f800000 ∷ 0 ∷ 0xbf800000 ∷ 0x3f800000 ∷ 0 ∷ 0xbf800000 ∷ 0x3f800000 ∷ 0xbf800000 ∷
+    0xbf800000 ∷ 0xbf800000 ∷ 0x3f800000 ∷ 0xbf800000 ∷ 0xbf800000 ∷ 0xbf800000 ∷ 0xbf800000 ∷ 0 ∷ 0x3f800000 ∷ 0xbf800000 ∷ 0 ∷ 0xbf800000 ∷ 0 ∷ 0 ∷ 0x3f800000 ∷ 0 ∷ 0 ∷
+    0xbf800000 ∷ 0x3f800000 ∷ 0 ∷ 0xbf800000 ∷ 0x3f800000 ∷ 0x80000000 ∷ [])) ⇒ refusal 18 0 0
+    ∷ flush_at 64 ⇒ ready (only 0 0x3eb4fdf4 ∷ [])
+    ∷ [])
+
+-- low and high objects, and sizes, in a hall of three heights, with the rear pair and without it
+abbrev pub own_table : Row
+own_table =
+    as_row
+    (make_with 0 (words (0xbf800000 ∷ 0xbf800000 ∷ 0x3f800000 ∷ 0x3f800000 ∷ 0xbf800000 ∷ 0x3f800000 ∷ 0 ∷ 0xbf800000 ∷ 0x3f800000 ∷ 0 ∷ 0xbf800000 ∷ 0x3f800000 ∷ 0xbf800000 ∷
+    0xbf800000 ∷ 0xbf800000 ∷ 0x3f800000 ∷ 0xbf800000 ∷ 0xbf800000 ∷ 0xbf800000 ∷ 0xbf800000 ∷ 0 ∷ 0x3f800000 ∷ 0xbf800000 ∷ 0 ∷ 0xbf800000 ∷ 0 ∷ 0 ∷ 0x3f800000 ∷ 0 ∷ 0 ∷
+    0xbf800000 ∷ 0x3f800000 ∷ 0 ∷ 0x3f800000 ∷ 0x3f800000 ∷ 0 ∷ [])) ⇒ renewed
+    ∷ sent 4 [] 4 (diagonal_words 4 0x3f000000) (update 0 [] 4 (at_once 0 (at 0x3e99999a 0x3ecccccd 0x3e4ccccd ∷ at 0x3e4ccccd 0x3f666666 0x3f333333 ∷
+    with_size 0x3e800000 (at 0x3e99999a 0x3ecccccd 0x3e4ccccd) ∷ with_size 0x3f800000 (gain 0x3f000000 (at 0x3f666666 0x3ecccccd 0x3f4ccccd)) ∷ []) ∷ []) ∷ []) ⇒ ready []
+    ∷ flush_at 64 ⇒ ready ((0 ∷ 0 ∷ 0 ∷ 0 ∷ 0 ∷ 0 ∷ 0 ∷ 0 ∷ 0x3ea114ad ∷ 0x3e52e77c ∷ 0x3e2114ad ∷ 0x3dd2e77c ∷ []) ∷
+    (0 ∷ 0 ∷ 0 ∷ 0 ∷ 0 ∷ 0 ∷ 0 ∷ 0 ∷ 0x3e52e77c ∷ 0x3dd2e77c ∷ 0x3ea114ad ∷ 0x3e2114ad ∷ []) ∷
+    (0x3d50fdd7 ∷ 0x3d50fdd7 ∷ 0x3d50fdd7 ∷ 0 ∷ 0x3d50fdd7 ∷ 0x3d50fdd7 ∷ 0x3d50fdd7 ∷ 0x3d50fdd7 ∷ 0x3ea59fbe ∷ 0x3e6ae576 ∷ 0x3e3fbf79 ∷ 0x3e0f9276 ∷ []) ∷
+    (0x3d93cd3a ∷ 0x3d93cd3a ∷ 0x3d93cd3a ∷ 0 ∷ 0x3d93cd3a ∷ 0x3d93cd3a ∷ 0x3d93cd3a ∷ 0x3d93cd3a ∷ 0x3d93cd3a ∷ 0x3d93cd3a ∷ 0x3d93cd3a ∷ 0x3d93cd3a ∷ []) ∷ [])
+    ∷ make_with 1 (words (0xbf800000 ∷ 0xbf800000 ∷ 0x3f800000 ∷ 0x3f800000 ∷ 0xbf800000 ∷ 0x3f800000 ∷ 0 ∷ 0xbf800000 ∷ 0x3f800000 ∷ 0 ∷ 0xbf800000 ∷ 0x3f800000 ∷ 0xbf800000 ∷
+    0xbf800000 ∷ 0xbf800000 ∷ 0x3f800000 ∷ 0xbf800000 ∷ 0xbf800000 ∷ 0xbf800000 ∷ 0xbf800000 ∷ 0 ∷ 0x3f800000 ∷ 0xbf800000 ∷ 0 ∷ 0xbf800000 ∷ 0 ∷ 0 ∷ 0x3f800000 ∷ 0 ∷ 0 ∷
+    0xbf800000 ∷ 0x3f800000 ∷ 0 ∷ 0x3f800000 ∷ 0x3f800000 ∷ 0 ∷ [])) ⇒ renewed
+    ∷ sent 4 [] 4 (diagonal_words 4 0x3f000000) (update 0 [] 4 (at_once 0 (at 0x3e99999a 0x3ecccccd 0x3e4ccccd ∷ at 0x3e4ccccd 0x3f666666 0x3f333333 ∷
+    with_size 0x3e800000 (at 0x3e99999a 0x3ecccccd 0x3e4ccccd) ∷ with_size 0x3f800000 (gain 0x3f000000 (at 0x3f666666 0x3ecccccd 0x3f4ccccd)) ∷ []) ∷ []) ∷ []) ⇒ ready []
+    ∷ flush_at 64 ⇒ ready ((0 ∷ 0 ∷ 0 ∷ 0 ∷ 0 ∷ 0 ∷ 0 ∷ 0 ∷ 0x3ea114ad ∷ 0x3e52e77c ∷ 0x3e2114ad ∷ 0x3dd2e77c ∷ []) ∷
+    (0 ∷ 0 ∷ 0 ∷ 0 ∷ 0 ∷ 0 ∷ 0 ∷ 0 ∷ 0x3e52e77c ∷ 0x3dd2e77c ∷ 0x3ea114ad ∷ 0x3e2114ad ∷ []) ∷
+    (0x3d64f054 ∷ 0x3d64f054 ∷ 0x3d64f054 ∷ 0 ∷ 0 ∷ 0 ∷ 0x3d64f054 ∷ 0x3d64f054 ∷ 0x3ea81e0e ∷ 0x3e6fe215 ∷ 0x3e44bc18 ∷ 0x3e148f15 ∷ []) ∷
+    (0x3da1e89b ∷ 0x3da1e89b ∷ 0x3da1e89b ∷ 0 ∷ 0 ∷ 0 ∷ 0x3da1e89b ∷ 0x3da1e89b ∷ 0x3da1e89b ∷ 0x3da1e89b ∷ 0x3da1e89b ∷ 0x3da1e89b ∷ []) ∷ [])
+    ∷ [])
+
+-- the same where no two speakers have one height
+abbrev pub any_heights : Row
+any_heights =
+    as_row
+    (make_with 0 (words (0xbf333333 ∷ 0xbdcccccd ∷ 0x3f733333 ∷ 0x3f3851ec ∷ 0xbd4ccccd ∷ 0x3f666666 ∷ 0 ∷ 0x3dcccccd ∷ 0x3f800000 ∷ 0x3e99999a ∷ 0xbf666666 ∷ 0x3f4ccccd ∷
+    0xbf19999a ∷ 0x3d4ccccd ∷ 0xbf666666 ∷ 0x3f266666 ∷ 0 ∷ 0xbf733333 ∷ 0xbf733333 ∷ 0x3e19999a ∷ 0xbe99999a ∷ 0x3f800000 ∷ 0x3e4ccccd ∷ 0xbe800000 ∷ 0xbf4ccccd ∷ 0x3f666666 ∷
+    0x3ecccccd ∷ 0x3f59999a ∷ 0x3f733333 ∷ 0x3f000000 ∷ 0xbf333333 ∷ 0x3f59999a ∷ 0xbf4ccccd ∷ 0x3f400000 ∷ 0x3f800000 ∷ 0xbf333333 ∷ [])) ⇒ renewed
+    ∷ sent 4 [] 4 (diagonal_words 4 0x3f000000) (update 0 [] 4 (at_once 0 (at 0x3e99999a 0x3ecccccd 0x3e4ccccd ∷ at 0x3e4ccccd 0x3f666666 0x3f333333 ∷
+    with_size 0x3e800000 (at 0x3e99999a 0x3ecccccd 0x3e4ccccd) ∷ with_size 0x3f800000 (gain 0x3f000000 (at 0x3f666666 0x3ecccccd 0x3f4ccccd)) ∷ []) ∷ []) ∷ []) ⇒ ready []
+    ∷ flush_at 64 ⇒ ready (only 7 0x3ed740d4 ∷ (0 ∷ 0 ∷ 0 ∷ 0 ∷ 0 ∷ 0 ∷ 0 ∷ 0x3e4ecf03 ∷ 0 ∷ 0 ∷ 0x3ebcca21 ∷ 0 ∷ []) ∷
+    (0x3d50fdd7 ∷ 0x3d50fdd7 ∷ 0x3d50fdd7 ∷ 0 ∷ 0x3d50fdd7 ∷ 0x3d50fdd7 ∷ 0x3d50fdd7 ∷ 0x3ed489e9 ∷ 0x3d50fdd7 ∷ 0x3d50fdd7 ∷ 0x3d50fdd7 ∷ 0x3d50fdd7 ∷ []) ∷
+    (0x3d93cd3a ∷ 0x3d93cd3a ∷ 0x3d93cd3a ∷ 0 ∷ 0x3d93cd3a ∷ 0x3d93cd3a ∷ 0x3d93cd3a ∷ 0x3d93cd3a ∷ 0x3d93cd3a ∷ 0x3d93cd3a ∷ 0x3d93cd3a ∷ 0x3d93cd3a ∷ []) ∷ [])
+    ∷ [])
+
+-- a reset keeps the table: beds whose speakers are absent, before and after
+abbrev pub same_table : Row
+same_table =
+    as_row
+    (make_with 3 (words (0xbf333333 ∷ 0xbdcccccd ∷ 0x3f733333 ∷ 0x3f3851ec ∷ 0xbd4ccccd ∷ 0x3f666666 ∷ 0 ∷ 0x3dcccccd ∷ 0x3f800000 ∷ 0x3e99999a ∷ 0xbf666666 ∷ 0x3f4ccccd ∷
+    0xbf19999a ∷ 0x3d4ccccd ∷ 0xbf666666 ∷ 0x3f266666 ∷ 0 ∷ 0xbf733333 ∷ 0xbf733333 ∷ 0x3e19999a ∷ 0xbe99999a ∷ 0x3f800000 ∷ 0x3e4ccccd ∷ 0xbe800000 ∷ 0xbf4ccccd ∷ 0x3f666666 ∷
+    0x3ecccccd ∷ 0x3f59999a ∷ 0x3f733333 ∷ 0x3f000000 ∷ 0xbf333333 ∷ 0x3f59999a ∷ 0xbf4ccccd ∷ 0x3f400000 ∷ 0x3f800000 ∷ 0xbf333333 ∷ [])) ⇒ renewed
+    ∷ sent 6 (7 ∷ 8 ∷ 9 ∷ 10 ∷ 13 ∷ 14 ∷ []) 0 (diagonal_words 6 0x3f000000) (bed (7 ∷ 8 ∷ 9 ∷ 10 ∷ 13 ∷ 14 ∷ []) ∷ []) ⇒ ready []
+    ∷ reset ⇒ renewed
+    ∷ sent 6 (7 ∷ 8 ∷ 9 ∷ 10 ∷ 13 ∷ 14 ∷ []) 0 (diagonal_words 6 0x3f000000) (bed (7 ∷ 8 ∷ 9 ∷ 10 ∷ 13 ∷ 14 ∷ []) ∷ []) ⇒ ready []
+    ∷ flush_at 64 ⇒ ready ((0 ∷ 0x3eafc0e7 ∷ 0x3e788d92 ∷ 0 ∷ 0 ∷ 0 ∷ 0 ∷ 0 ∷ 0 ∷ 0 ∷ 0 ∷ 0 ∷ []) ∷ (0 ∷ 0x3eafc0e7 ∷ 0x3e788d92 ∷ 0 ∷ 0 ∷ 0 ∷ 0 ∷ 0 ∷ 0 ∷ 0 ∷ 0 ∷ 0 ∷ []) ∷
+    only 7 0x3ed740d4 ∷ only 7 0x3ed740d4 ∷ only 7 0x3ed740d4 ∷ only 7 0x3ed740d4 ∷ [])
+    ∷ [])
+
+-- the built-in values loaded, and the built-in table: the same
+abbrev pub built_in_again : Row
+built_in_again =
+    as_row
+    (make_with 1 (words (0xbf3504f3 ∷ 0 ∷ 0x3f800000 ∷ 0x3f3504f3 ∷ 0 ∷ 0x3f800000 ∷ 0 ∷ 0 ∷ 0x3f800000 ∷ 0 ∷ 0 ∷ 0x3f800000 ∷ 0xbf3504f3 ∷ 0 ∷ 0xbf800000 ∷ 0x3f3504f3 ∷ 0 ∷
+    0xbf800000 ∷ 0xbf800000 ∷ 0 ∷ 0xbef7a627 ∷ 0x3f800000 ∷ 0 ∷ 0xbef7a627 ∷ 0xbf800000 ∷ 0x3f800000 ∷ 0x3ef7a627 ∷ 0x3f800000 ∷ 0x3f800000 ∷ 0x3ef7a627 ∷ 0xbf3504f3 ∷ 0x3f800000 ∷
+    0xbf800000 ∷ 0x3f3504f3 ∷ 0x3f800000 ∷ 0xbf800000 ∷ [])) ⇒ renewed
+    ∷ sent 4 [] 4 (diagonal_words 4 0x3f000000) (update 0 [] 4 (at_once 0 (at 0x3e99999a 0x3ecccccd 0x3e4ccccd ∷ at 0x3e4ccccd 0x3f666666 0x3f333333 ∷
+    with_size 0x3e800000 (at 0x3e99999a 0x3ecccccd 0x3e4ccccd) ∷ with_size 0x3f800000 (gain 0x3f000000 (at 0x3f666666 0x3ecccccd 0x3f4ccccd)) ∷ []) ∷ []) ∷ []) ⇒ ready []
+    ∷ flush_at 64 ⇒ ready ((0x3e44980c ∷ 0 ∷ 0x3e2c429a ∷ 0 ∷ 0 ∷ 0 ∷ 0x3e6c902d ∷ 0x3e1addf2 ∷ 0x3e10dd62 ∷ 0x3dbdac2b ∷ 0x3d94f97b ∷ 0x3d1cecca ∷ []) ∷
+    (0 ∷ 0 ∷ 0 ∷ 0 ∷ 0 ∷ 0 ∷ 0x3e52e77c ∷ 0x3dd2e77c ∷ 0x3dec902f ∷ 0x3d6c902f ∷ 0x3ea10c46 ∷ 0x3db8672e ∷ []) ∷
+    (0x3e637d72 ∷ 0x3d64f054 ∷ 0x3e4e6a97 ∷ 0 ∷ 0 ∷ 0 ∷ 0x3e830d5e ∷ 0x3e3f5a7a ∷ 0x3e36b0f7 ∷ 0x3e0b5d84 ∷ 0x3df37c31 ∷ 0x3db66b7e ∷ []) ∷
+    (0x3da1e89b ∷ 0x3da1e89b ∷ 0x3da1e89b ∷ 0 ∷ 0 ∷ 0 ∷ 0x3da1e89b ∷ 0x3da1e89b ∷ 0x3da1e89b ∷ 0x3da1e89b ∷ 0x3da1e89b ∷ 0x3da1e89b ∷ []) ∷ [])
+    ∷ make 1 ⇒ renewed
+    ∷ sent 4 [] 4 (diagonal_words 4 0x3f000000) (update 0 [] 4 (at_once 0 (at 0x3e99999a 0x3ecccccd 0x3e4ccccd ∷ at 0x3e4ccccd 0x3f666666 0x3f333333 ∷
+    with_size 0x3e800000 (at 0x3e99999a 0x3ecccccd 0x3e4ccccd) ∷ with_size 0x3f800000 (gain 0x3f000000 (at 0x3f666666 0x3ecccccd 0x3f4ccccd)) ∷ []) ∷ []) ∷ []) ⇒ ready []
+    ∷ flush_at 64 ⇒ ready ((0x3e44980c ∷ 0 ∷ 0x3e2c429a ∷ 0 ∷ 0 ∷ 0 ∷ 0x3e6c902d ∷ 0x3e1addf2 ∷ 0x3e10dd62 ∷ 0x3dbdac2b ∷ 0x3d94f97b ∷ 0x3d1cecca ∷ []) ∷
+    (0 ∷ 0 ∷ 0 ∷ 0 ∷ 0 ∷ 0 ∷ 0x3e52e77c ∷ 0x3dd2e77c ∷ 0x3dec902f ∷ 0x3d6c902f ∷ 0x3ea10c46 ∷ 0x3db8672e ∷ []) ∷
+    (0x3e637d72 ∷ 0x3d64f054 ∷ 0x3e4e6a97 ∷ 0 ∷ 0 ∷ 0 ∷ 0x3e830d5e ∷ 0x3e3f5a7a ∷ 0x3e36b0f7 ∷ 0x3e0b5d84 ∷ 0x3df37c31 ∷ 0x3db66b7e ∷ []) ∷
+    (0x3da1e89b ∷ 0x3da1e89b ∷ 0x3da1e89b ∷ 0 ∷ 0 ∷ 0 ∷ 0x3da1e89b ∷ 0x3da1e89b ∷ 0x3da1e89b ∷ 0x3da1e89b ∷ 0x3da1e89b ∷ 0x3da1e89b ∷ []) ∷ [])
+    ∷ [])
+
+abbrev pub tables : List Row
+tables =
+    no_table ∷ own_table ∷ any_heights ∷ same_table ∷ built_in_again ∷ []
+
 -- ---- all
 
 abbrev pub groups : List (List Row)
 groups =
-    refusals ∷ outputs ∷ block_rows ∷ bed_rows ∷ object_rows ∷ updates ∷ slots ∷ halls ∷ []
+    refusals ∷ outputs ∷ block_rows ∷ bed_rows ∷ object_rows ∷ updates ∷ slots ∷ halls ∷ tables ∷ []
 
 abbrev pub rows : List Row
 rows = concat groups

@@ -1,7 +1,7 @@
 -- How the rows are written: metadata, calls, samples. A float is given by its bits, a negative number by `minus`. Assumes nothing.
 use Rattle.std.specs.Prelude.{ℕ, zero, suc, ◌+◌, ◌-◌, ◌*◌, ◌/◌, ◌%◌, ◌^◌, List, [], ◌∷◌, ◌++◌, length, get_or, take, drop, set, replicate}
 use Rattle.rules.specs.Refusals.{args_of}
-use Rattle.rules.specs.Calls.{Call, push, flush, reset, make}
+use Rattle.rules.specs.Calls.{Call, push, flush, reset, make, make_with}
 use Rattle.rows.specs.Rows.{Turn, Row}
 
 -- ---- bytes
@@ -133,6 +133,7 @@ short (push a) = push (args_of a.pcm a.meta (drop 1 a.out) a.codes a.rate a.samp
 short (flush out stride) = flush (drop 1 out) stride
 short reset = reset
 short (make n) = make n
+short (make_with n t) = make_with n t
 
 -- ---- samples
 

@@ -16,10 +16,10 @@ use Rattle.rules.specs.Calls.{announced, found}
 use Rattle.rules.specs.Accepted.{Suits, Acceptable}
 
 -- ---- tests that find nothing
-both_clear : {x y : Found} → x ≡ clear → y ≡ clear → (x then y) ≡ clear
+pub both_clear : {x y : Found} → x ≡ clear → y ≡ clear → (x then y) ≡ clear
 both_clear p q = ap₂ ◌then◌ p q
 
-passed : {t : Bool} (n a b : ℕ) → t ≡ true → unless t n a b ≡ clear
+pub passed : {t : Bool} (n a b : ℕ) → t ≡ true → unless t n a b ≡ clear
 passed n a b e = ap (λ (t : Bool). unless t n a b) e
 
 not_equal : (m n : ℕ) → (m ≡ n → ⊥) → not (eqb m n) ≡ true

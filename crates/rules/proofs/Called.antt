@@ -6,8 +6,8 @@ use mathlib.Core.List.{List, []}
 use Prim.Native.Nat.{ℕ, ◌+◌, ◌*◌, ◌%◌, ◌≤◌, ◌<◌, zero-le}
 use native.Mathlib.Nat.{le_trans, le_of_eq, le_of_lt, not-suc-le-zero}
 use native.Mathlib.Omega.{arith}
-use borrow.Author.Tests.{eqb-false, leb-true}
-use lib.Dec.{T, eqb, leb, lit<}
+use borrow.Author.Tests.{eqb-false}
+use lib.Dec.{T, eqb, lit<}
 use lib.ListN.{length, get_or}
 use Rattle.ieee.specs.Units.{Unitary}
 use Rattle.ieee.specs.Bounds.{All}
@@ -16,18 +16,21 @@ use Rattle.limiter.specs.Range.{MetersInRange}
 use Rattle.limiter.specs.declared.meters.Meters.{Meters}
 use Rattle.limiter.proofs.Theorems.{idle_in_range, call_in_range}
 use Rattle.panning.specs.Setup.{Setup, present, hall_with}
-use Rattle.panning.proofs.Theorems.{hall_fits, front_present}
+use Rattle.panning.proofs.Theorems.{front_present}
 use Rattle.rules.specs.Parts.{Channels, none}
 use Rattle.rules.specs.Leaves.{Leaves}
 use Rattle.rules.specs.Samples.{State, fresh, pushed, flushed}
 use Rattle.rules.specs.Refusals.{Args, Found, clear, stop, room}
-use Rattle.rules.specs.Calls.{Call, push, flush, reset, make, refused, rendered, nothing, cleared, given, meters_of, frame_of, found, Result, asked, drained, making, step}
+use Rattle.rules.specs.Making.{hall_of, layout_found, table_found}
+use Rattle.rules.specs.Calls.{Call, push, flush, reset, make, make_with, refused, rendered, nothing, cleared, given, meters_of, frame_of, found, Result, asked, drained, making, step}
+use Rattle.rules.specs.Ranges.{HallRanged}
 use Rattle.rules.specs.BlockCalls.{Layout, Outcome, left, out_of, stride_of}
 use Rattle.rules.specs.Promises.{count_on}
 use Rattle.rules.specs.Demand3.{ready, GivenOut, Lent}
 use Rattle.rules.proofs.EachOf.{count_most, none_count, here_count}
 use Rattle.rules.proofs.Owed.{Facts}
 use Rattle.rules.proofs.Judged.{is_passed, is_roomy, samples_fit}
+use Rattle.rules.proofs.Making.{ranged_fits, layout_makes, table_makes}
 use Rattle.rules.proofs.Invariant.{Steady, Good, Rest, fresh_rest}
 use Rattle.rules.proofs.Frames.{pushed_fine, flushed_fine}
 use Rattle.rules.proofs.Written.{bits_words, written_reads, written_beside, written_past, written_tame, length_written}
@@ -118,15 +121,17 @@ module _ (L : Leaves) (B : Layout L) (F : Facts L B) where
               (le_trans (le_of_lt g.steady.few) w.some) w.long d.given d.length (call_in_range y.meters d.meters);
         }
 
-    made_called : (n : ℕ) (t : Bool) → leb n 3 ≡ t → Called r.setup (make n) (making L t n r)
-    made_called n false e = record { rest = rest; range = λ b. quiet r.setup 0 [] (left L B (refused 15 0 0) r [] 0 b) refl refl refl refl }
-    made_called n true e = record {
-      rest = fresh_rest L B F (hall_with n) (hall_fits n (leb-true n 3 e));
-      range = λ b. quiet r.setup 0 [] (left L B cleared (fresh L (hall_with n)) [] 0 b) refl refl refl refl;
-    }
+    made_rest : (v : Found) (h : Setup) → (v ≡ clear → HallRanged h) → Rest L B F (making L v h r).next
+    made_rest (stop n x y) h e = rest
+    made_rest clear h e = fresh_rest L B F h (ranged_fits (e refl))
+
+    made_quiet : (v : Found) (h : Setup) (b : List ℕ) → GivenOut r.setup 0 [] (left L B (making L v h r).answer (making L v h r).next [] 0 b)
+    made_quiet (stop n x y) h b = quiet r.setup 0 [] (left L B (refused n x y) r [] 0 b) refl refl refl refl
+    made_quiet clear h b = quiet r.setup 0 [] (left L B cleared (fresh L h) [] 0 b) refl refl refl refl
 
     pub called : (c : Call) → Lent c → Called r.setup c (step L r c)
     called (push a) h = asked_called a h (found L r a) refl
     called (flush out stride) h = drained_called out stride (room stride (length out)) (eqb r.pending.count 0) refl refl
     called reset h = record { rest = fresh_rest L B F r.setup (steady rest).hall; range = λ b. quiet r.setup 0 [] (left L B cleared (fresh L r.setup) [] 0 b) refl refl refl refl }
-    called (make n) h = made_called n (leb n 3) refl
+    called (make n) h = record { rest = made_rest (layout_found n) (hall_with n) (layout_makes n); range = made_quiet (layout_found n) (hall_with n) }
+    called (make_with n t) h = record { rest = made_rest (table_found n t) (hall_of n t) (table_makes n t h); range = made_quiet (table_found n t) (hall_of n t) }

@@ -2,13 +2,14 @@
 use mathlib.Core.Path.{◌≡◌, refl, sym, ap, subst}
 use mathlib.Core.Bool.{Bool, true, false, cond}
 use mathlib.Core.List.{List, [], ◌∷◌}
-use Prim.Native.Nat.{ℕ}
-use lib.Dec.{T, eqb, leb}
+use lib.Dec.{T, eqb}
 use lib.ListN.{length}
+use Rattle.panning.specs.Setup.{Setup, hall_with}
 use Rattle.rules.specs.Leaves.{Leaves}
 use Rattle.rules.specs.Samples.{State}
 use Rattle.rules.specs.Refusals.{Args, Found, clear, stop, room}
-use Rattle.rules.specs.Calls.{Call, push, flush, reset, make, found, Result, is_refused, asked, drained, making, step, run, final, kept, accepted}
+use Rattle.rules.specs.Making.{hall_of, layout_found, table_found}
+use Rattle.rules.specs.Calls.{Call, push, flush, reset, make, make_with, found, Result, is_refused, asked, drained, making, step, run, final, kept, accepted}
 
 module _ (L : Leaves) where
   asked_stays : (v : Found) (a : Args) (r : State L) → T (is_refused (asked L v a r).answer) → (asked L v a r).next ≡ r
@@ -20,16 +21,17 @@ module _ (L : Leaves) where
   drained_stays true true r h = absurd h
   drained_stays true false r h = absurd h
 
-  made_stays : (b : Bool) (n : ℕ) (r : State L) → T (is_refused (making L b n r).answer) → (making L b n r).next ≡ r
-  made_stays false n r h = refl
-  made_stays true n r h = absurd h
+  made_stays : (v : Found) (h : Setup) (r : State L) → T (is_refused (making L v h r).answer) → (making L v h r).next ≡ r
+  made_stays (stop n x y) h r t = refl
+  made_stays clear h r t = absurd t
 
   -- a refused call leaves the renderer as it was
   pub stays : (r : State L) (c : Call) → T (is_refused (step L r c).answer) → (step L r c).next ≡ r
   stays r (push a) h = asked_stays (found L r a) a r h
   stays r (flush out stride) h = drained_stays (room stride (length out)) (eqb r.pending.count 0) r h
   stays r reset h = absurd h
-  stays r (make n) h = made_stays (leb n 3) n r h
+  stays r (make n) h = made_stays (layout_found n) (hall_with n) r h
+  stays r (make_with n t) h = made_stays (table_found n t) (hall_of n t) r h
 
   pub forgotten : (r : State L) (cs : List Call) → run L r (kept L r cs) ≡ accepted L (run L r cs)
   forgotten r [] = refl

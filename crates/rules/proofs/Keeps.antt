@@ -2,26 +2,23 @@
 use mathlib.Core.Path.{◌≡◌, refl, subst}
 use mathlib.Core.Bool.{Bool, true, false, cond}
 use mathlib.Core.List.{List, []}
-use Prim.Native.Nat.{ℕ, ◌≤◌}
-use borrow.Author.Tests.{leb-true}
-use lib.Dec.{T, eqb, leb}
+use Prim.Native.Nat.{ℕ}
+use lib.Dec.{T, eqb}
 use lib.ListN.{length}
 use Rattle.words.specs.Words.{Bytes}
-use Rattle.panning.specs.Setup.{hall_with}
+use Rattle.panning.specs.Setup.{Setup, hall_with}
 use Rattle.rules.specs.Leaves.{Leaves}
 use Rattle.rules.specs.Samples.{State, fresh}
 use Rattle.rules.specs.Refusals.{Args, Found, clear, stop, room}
-use Rattle.rules.specs.Calls.{Call, push, flush, reset, make, Answer, refused, rendered, nothing, cleared, is_refused, found, asked, drained, making, step}
+use Rattle.rules.specs.Making.{hall_of, layout_found, table_found}
+use Rattle.rules.specs.Calls.{Call, push, flush, reset, make, make_with, Answer, refused, rendered, nothing, cleared, is_refused, found, asked, drained, making, step}
 use Rattle.rules.specs.Ranges.{HallRanged}
 use Rattle.rules.specs.BlockCalls.{Layout, Outcome, left, out_of, stride_of, takes}
 use Rattle.rules.specs.Demand3.{Lent, Keeps}
 use Rattle.rules.proofs.Owed.{Facts, InRanges}
 use Rattle.rules.proofs.Judged.{is_passed, and_true}
+use Rattle.rules.proofs.Making.{layout_makes, table_makes}
 use Rattle.rules.proofs.Ranged.{fresh_ranged, pushed_ranged, flushed_ranged}
-
--- the hall of a layout up to 3
-pub right_hall : (n : ℕ) → n ≤ 3 → HallRanged (hall_with n)
-right_hall n h = record { layout = h; built = refl }
 
 module _ (L : Leaves) (B : Layout L) (F : Facts L B) where
   -- ---- a call keeps the ranges of the renderer
@@ -34,15 +31,16 @@ module _ (L : Leaves) (B : Layout L) (F : Facts L B) where
   drained_ranged r true true g = g
   drained_ranged r true false g = flushed_ranged L B F r g
 
-  making_ranged : (t : Bool) (n : ℕ) (r : State L) → leb n 3 ≡ t → InRanges F r → InRanges F (making L t n r).next
-  making_ranged false n r e g = g
-  making_ranged true n r e g = fresh_ranged L B F (hall_with n) (right_hall n (leb-true n 3 e))
+  making_ranged : (v : Found) (h : Setup) (r : State L) → (v ≡ clear → HallRanged h) → InRanges F r → InRanges F (making L v h r).next
+  making_ranged (stop n x y) h r e g = g
+  making_ranged clear h r e g = fresh_ranged L B F h (e refl)
 
   pub step_ranged : (r : State L) (c : Call) → Lent c → InRanges F r → InRanges F (step L r c).next
   step_ranged r (push a) h g = asked_ranged r a h.1 (found L r a) refl g
   step_ranged r (flush out stride) h g = drained_ranged r (room stride (length out)) (eqb r.pending.count 0) g
   step_ranged r reset h g = fresh_ranged L B F r.setup g.setup
-  step_ranged r (make n) h g = making_ranged (leb n 3) n r refl g
+  step_ranged r (make n) h g = making_ranged (layout_found n) (hall_with n) r (layout_makes n) g
+  step_ranged r (make_with n t) h g = making_ranged (table_found n t) (hall_of n t) r (table_makes n t h) g
 
   -- ---- a block that was taken
   left_valid : (a : Answer) (s : State L) (out : List ℕ) (n : ℕ) (b : List ℕ) → B.valid b ≡ true → InRanges F s → B.valid (left L B a s out n b).state ≡ true
@@ -64,16 +62,17 @@ module _ (L : Leaves) (B : Layout L) (F : Facts L B) where
       bad : Outcome
       bad = record { answer = refused 1 0 0; state = b; out = out_of c }
 
-      new : (t : Bool) (n : ℕ) → leb n 3 ≡ t → is_refused (left L B (making L t n r).answer (making L t n r).next [] 0 b).answer ≡ false
-          → B.valid (left L B (making L t n r).answer (making L t n r).next [] 0 b).state ≡ true
-      new false n q e = absurd (subst T e tt)
-      new true n q e = F.valid (fresh L (hall_with n)) (fresh_ranged L B F (hall_with n) (right_hall n (leb-true n 3 q)))
+      new : (v : Found) (h : Setup) → (v ≡ clear → HallRanged h) → is_refused (left L B (making L v h r).answer (making L v h r).next [] 0 b).answer ≡ false
+          → B.valid (left L B (making L v h r).answer (making L v h r).next [] 0 b).state ≡ true
+      new (stop n x y) h q e = absurd (subst T e tt)
+      new clear h q e = F.valid (fresh L h) (fresh_ranged L B F h (q refl))
 
       by : (c : Call) → Lent c → takes L B c b ≡ true → is_refused (good c).answer ≡ false → B.valid (good c).state ≡ true
       by (push a) h t e = left_valid (step L r (push a)).answer (step L r (push a)).next a.out a.stride b t (step_ranged r (push a) h (F.decoded b bytes t))
       by (flush out n) h t e = left_valid (step L r (flush out n)).answer (step L r (flush out n)).next out n b t (step_ranged r (flush out n) h (F.decoded b bytes t))
       by reset h t e = F.valid (fresh L r.setup) (fresh_ranged L B F r.setup (F.setup b bytes (and_true (eqb (length b) B.size) (B.hall_valid b) t).1))
-      by (make n) h t e = new (leb n 3) n refl e
+      by (make n) h t e = new (layout_found n) (hall_with n) (layout_makes n) e
+      by (make_with n s) h t e = new (table_found n s) (hall_of n s) (table_makes n s h) e
 
       go : (t : Bool) → takes L B c b ≡ t → is_refused (cond t (good c) bad).answer ≡ false → B.valid (cond t (good c) bad).state ≡ true
       go true t e = by c h t e

@@ -21,6 +21,8 @@ pub mod Sounding
 pub mod OpenBlock
 pub mod Order
 pub mod Accepted
+pub mod Making
+pub mod TableCases
 pub mod Unused
 pub mod Begun
 pub mod PushShapes

@@ -8,7 +8,7 @@ use Prim.Native.Nat.{ℕ, zero, suc, ◌≤◌, ◌<◌}
 use native.Mathlib.Nat.{le_trans, le_of_eq, le_of_lt, le_refl, not-suc-le-zero}
 use native.Mathlib.Omega.{arith}
 use borrow.Author.Tests.{eq-eqb, ne_eqb}
-use lib.Dec.{eqb, leb}
+use lib.Dec.{eqb}
 use lib.ListN.{length, take, get_or-map}
 use lib.Seq.{take-suc, take_all}
 use lib.Ieee.{Float}
@@ -23,7 +23,8 @@ use Rattle.rules.specs.Leaves.{Leaves}
 use Rattle.rules.specs.Mix.{fed}
 use Rattle.rules.specs.Samples.{State, idle, fresh, opened, pushed, flushed}
 use Rattle.rules.specs.Refusals.{Args, Found, clear, stop, room}
-use Rattle.rules.specs.Calls.{Call, push, flush, reset, make, is_refused, frame_of, found, asked, drained, making, step}
+use Rattle.rules.specs.Making.{hall_of, layout_found, table_found}
+use Rattle.rules.specs.Calls.{Call, push, flush, reset, make, make_with, is_refused, frame_of, found, asked, drained, making, step}
 use Rattle.rules.specs.Sounds.{silent, before, moment_at, sound_at}
 use Rattle.rules.specs.Ringing.{fed_since, Rings, CallRings}
 use Rattle.rules.specs.BlockCalls.{Layout}
@@ -146,18 +147,20 @@ module _ (L : Leaves) where
     drained_fed true true was = was
     drained_fed true false was = record { modest = was.modest; since = was.since }
 
-    made_fed : (t : Bool) (n : ℕ) → Fed xs r → Fed (cond (is_refused (making L t n r).answer) xs []) (making L t n r).next
-    made_fed false n was = was
-    made_fed true n was = fresh_fed (hall_with n)
+    made_fed : (v : Found) (h : Setup) → Fed xs r → Fed (cond (is_refused (making L v h r).answer) xs []) (making L v h r).next
+    made_fed (stop n x y) h was = was
+    made_fed clear h was = fresh_fed h
 
     pub call_rings : (c : Call) → Lent c → Rest L B F r → Fed xs r → CallRings L xs r c
     call_rings (push a) h rest was = asked_rings a h rest was (found L r a) refl
     call_rings (flush out stride) h rest was = tt
     call_rings reset h rest was = tt
     call_rings (make n) h rest was = tt
+    call_rings (make_with n t) h rest was = tt
 
     pub step_fed : (c : Call) → Lent c → Rest L B F r → Fed xs r → Fed (fed_since L xs r c) (step L r c).next
     step_fed (push a) h rest was = asked_fed a h rest was (found L r a) refl
     step_fed (flush out stride) h rest was = drained_fed (room stride (length out)) (eqb r.pending.count 0) was
     step_fed reset h rest was = fresh_fed r.setup
-    step_fed (make n) h rest was = made_fed (leb n 3) n was
+    step_fed (make n) h rest was = made_fed (layout_found n) (hall_with n) was
+    step_fed (make_with n t) h rest was = made_fed (table_found n t) (hall_of n t) was

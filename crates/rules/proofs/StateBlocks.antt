@@ -1,17 +1,18 @@
 -- On the block of a renderer a call is what the rules say of the renderer, and leaves the next renderer's block; refused calls count as never sent, to the byte. Assumes nothing
 -- beyond `Facts`.
-use Prim.Native.Nat.{ℕ, ◌≤◌}
+use Prim.Native.Nat.{ℕ}
 use mathlib.Core.Path.{◌≡◌, refl, sym, ap, ap₂, ◌∙◌, subst}
 use mathlib.Core.Bool.{Bool, true, false, cond, ◌&&◌}
 use mathlib.Core.List.{List, [], ◌∷◌}
-use lib.Dec.{T, eqb, leb}
+use lib.Dec.{T, eqb}
 use lib.ListN.{length}
-use borrow.Author.Tests.{eq-eqb, eqb-true, le-leb, leb-true}
-use Rattle.panning.specs.Setup.{hall_with}
+use borrow.Author.Tests.{eq-eqb, eqb-true}
+use Rattle.panning.specs.Setup.{Setup, hall_with}
 use Rattle.rules.specs.Leaves.{Leaves}
 use Rattle.rules.specs.Samples.{State, fresh}
 use Rattle.rules.specs.Refusals.{Args, Found, clear, stop, room}
-use Rattle.rules.specs.Calls.{Call, push, flush, reset, make, Answer, refused, rendered, nothing, cleared, found, Result, is_refused, asked, drained, making, step}
+use Rattle.rules.specs.Making.{hall_of, layout_found, table_found}
+use Rattle.rules.specs.Calls.{Call, push, flush, reset, make, make_with, Answer, refused, rendered, nothing, cleared, found, Result, is_refused, asked, drained, making, step}
 use Rattle.rules.specs.BlockCalls.{Layout, Outcome, left, out_of, stride_of, takes, made, run_on, final_on, kept_on, accepted_on, as_seen}
 use Rattle.rules.proofs.Owed.{Facts, InRanges}
 
@@ -32,15 +33,16 @@ module _ (L : Leaves) where
   drained_means true true r = refl
   drained_means true false r = tt
 
-  making_means : (b : Bool) (n : ℕ) (r : State L) → Means L (making L b n r).answer (making L b n r).next r
-  making_means false n r = refl
-  making_means true n r = tt
+  making_means : (v : Found) (h : Setup) (r : State L) → Means L (making L v h r).answer (making L v h r).next r
+  making_means (stop n x y) h r = refl
+  making_means clear h r = tt
 
   step_means : (r : State L) (c : Call) → Means L (step L r c).answer (step L r c).next r
   step_means r (push a) = asked_means (found L r a) a r
   step_means r (flush out stride) = drained_means (room stride (length out)) (eqb r.pending.count 0) r
   step_means r reset = tt
-  step_means r (make n) = making_means (leb n 3) n r
+  step_means r (make n) = making_means (layout_found n) (hall_with n) r
+  step_means r (make_with n t) = making_means (table_found n t) (hall_of n t) r
 
 module _ (L : Leaves) (B : Layout L) where
   -- ---- a refused call leaves the block as it was, byte for byte
@@ -90,29 +92,34 @@ module _ (L : Leaves) (B : Layout L) where
       go true e h = subst (λ (s : List ℕ). final_on L B s (kept_on L B b' cs) ≡ final_on L B b' cs) (made_stays c b (subst T (sym e) tt)) h
       go false e h = h
 
-  -- ---- a renderer is made in a block of the right length, for each of the four layouts
-  pub made_new : (b : List ℕ) → length b ≡ B.size → (n : ℕ) → n ≤ 3
-      → made L B (make n) b ≡ (record { answer = cleared; state = B.encode (fresh L (hall_with n)); out = [] })
-  made_new b e n h =
-      ap (λ (t : Bool). cond t (by (leb n 3)) (record { answer = refused 1 0 0; state = b; out = [] })) (eq-eqb (length b) B.size e) ∙ ap by (le-leb n 3 h)
-    where
-      by : Bool → Outcome
-      by t = left L B (making L t n (B.decode b)).answer (making L t n (B.decode b)).next [] 0 b
+  -- ---- a renderer is made in a block of the right length where nothing stops the making call
+  abbrev pub made_by : List ℕ → Found → Setup → Outcome
+  made_by b v h =
+      let x = making L v h (B.decode b) in
+      cond (eqb (length b) B.size) (left L B x.answer x.next [] 0 b) (record { answer = refused 1 0 0; state = b; out = [] })
 
-  -- and in no other, and for no other
-  pub made_right : (b : List ℕ) (n : ℕ) → is_refused (made L B (make n) b).answer ≡ false → (length b ≡ B.size) × (n ≤ 3)
-  made_right b n = go (eqb (length b) B.size) (leb n 3) refl refl
+  pub made_new : (b : List ℕ) → length b ≡ B.size → (v : Found) (h : Setup) → v ≡ clear
+      → made_by b v h ≡ (record { answer = cleared; state = B.encode (fresh L h); out = [] })
+  made_new b e v h c =
+      ap (λ (t : Bool). cond t (by v) (record { answer = refused 1 0 0; state = b; out = [] })) (eq-eqb (length b) B.size e) ∙ ap by c
     where
-      good : Bool → Outcome
-      good t = left L B (making L t n (B.decode b)).answer (making L t n (B.decode b)).next [] 0 b
+      by : Found → Outcome
+      by v = left L B (making L v h (B.decode b)).answer (making L v h (B.decode b)).next [] 0 b
+
+  -- and in no other, and where something stops it never
+  pub made_right : (b : List ℕ) (v : Found) (h : Setup) → is_refused (made_by b v h).answer ≡ false → (length b ≡ B.size) × (v ≡ clear)
+  made_right b v h = go (eqb (length b) B.size) v refl refl
+    where
+      good : Found → Outcome
+      good v = left L B (making L v h (B.decode b)).answer (making L v h (B.decode b)).next [] 0 b
 
       bad : Outcome
       bad = record { answer = refused 1 0 0; state = b; out = [] }
 
-      go : (x t : Bool) → eqb (length b) B.size ≡ x → leb n 3 ≡ t → is_refused (cond x (good t) bad).answer ≡ false → (length b ≡ B.size) × (n ≤ 3)
-      go true true p q e = (eqb-true (length b) B.size p, leb-true n 3 q)
-      go true false p q e = absurd (subst T e tt)
-      go false t p q e = absurd (subst T e tt)
+      go : (x : Bool) (w : Found) → eqb (length b) B.size ≡ x → v ≡ w → is_refused (cond x (good w) bad).answer ≡ false → (length b ≡ B.size) × (v ≡ clear)
+      go true clear p q e = (eqb-true (length b) B.size p, q)
+      go true (stop k x y) p q e = absurd (subst T e tt)
+      go false w p q e = absurd (subst T e tt)
 
   module _ (F : Facts L B) where
     takes_it : (c : Call) (r : State L) → InRanges F r → takes L B c (B.encode r) ≡ true
@@ -120,6 +127,7 @@ module _ (L : Leaves) (B : Layout L) where
     takes_it (flush out stride) r g = F.valid r g
     takes_it reset r g = ap₂ (λ (x y : Bool). x && y) (eq-eqb (length (B.encode r)) B.size (F.size r g)) (F.hall_valid r g)
     takes_it (make n) r g = eq-eqb (length (B.encode r)) B.size (F.size r g)
+    takes_it (make_with n t) r g = eq-eqb (length (B.encode r)) B.size (F.size r g)
 
     -- on the block of r, a call is what the rules say of r
     pub made_is : (c : Call) (r : State L) → InRanges F r → made L B c (B.encode r) ≡ left L B (step L r c).answer (step L r c).next (out_of c) (stride_of c) (B.encode r)

@@ -1,12 +1,17 @@
 -- What others may cite of this crate, a line each. Assumes nothing.
 
--- demand 3 for every list of calls, that each of the four layouts can be made, and that a call leaves a valid block, from what the timed state, the metadata and the block owe
+-- demand 3 for every list of calls, from what an accepted making call leaves and from a new renderer in any hall in its ranges; that each of the four layouts can be made, with each
+-- table that keeps the rules; and that a call leaves a valid block, from what the timed state, the metadata and the block owe
 pub use Rattle.rules.proofs.Owed.{Mixable, Facts}
-pub use Rattle.rules.proofs.Demand3FromFacts.{every_list, every_layout}
+pub use Rattle.rules.proofs.Demand3FromFacts.{made_in, from_fresh, every_list, every_layout, every_table, built_in_alike}
 pub use Rattle.rules.proofs.Keeps.{keeps}
+-- the halls in their ranges
+pub use Rattle.rules.proofs.Making.{ranged_fits, right_hall, hall_good, TableGood}
 -- a push that no reason speaks against is accepted, and what an accepted one passed
 pub use Rattle.rules.proofs.Accepted.{accepts}
 pub use Rattle.rules.proofs.Judged.{Passed, is_passed, is_early, is_listed, is_roomy, is_sized, samples_fit, rate_high, and_true}
+-- which tables are refused, case by case
+pub use Rattle.rules.proofs.TableCases.{tables_judged}
 -- in 7.1.4 each bed is routed as document 01 says; the beds that each layout pans
 pub use Rattle.rules.proofs.Absent.{routed_714, folded_in, absent_beds}
 -- on a channel that the hall lacks no bed and no object adds a term and nothing is heard, with gains, sizes and sends of any bits

@@ -14,8 +14,9 @@ use Rattle.rules.specs.Leaves.{Leaves, started}
 use Rattle.rules.specs.Mix.{Moment, fed}
 use Rattle.rules.specs.Samples.{Frame, State, After, sounding, limited, metered, gain_after, row, ticked, updated, slotted}
 use Rattle.rules.specs.Samples.{moment, passed, sampled, framed, opened, fresh, pushed, waiting, flushed}
-use Rattle.rules.specs.Refusals.{Args, Found, clear, stop, room}
-use Rattle.rules.specs.Calls.{Call, push, flush, reset, make, rendered, frame_of, found, asked, drained, making, step}
+use Rattle.rules.specs.Refusals.{Args, Found, clear, stop, is_clear, room}
+use Rattle.rules.specs.Making.{hall_of, layout_found, table_found}
+use Rattle.rules.specs.Calls.{Call, push, flush, reset, make, make_with, rendered, frame_of, found, asked, drained, making, step}
 use Rattle.rules.specs.Absent.{starts_anew, AlikeButAbsent, SameButAbsent, SameAlong}
 use Rattle.rules.proofs.Clock.{untouched, met_alike}
 
@@ -181,9 +182,9 @@ module _ (L : Leaves) where
           };
         }
 
-    made_unread : (b : Bool) (n : ℕ) → SameButAbsent L (making L b n r) (making L b n s)
-    made_unread false n = record { answer = refl; moments = refl; next = a }
-    made_unread true n = record { answer = refl; moments = refl; next = alike_to_itself (fresh L (hall_with n)) }
+    made_unread : (v : Found) (h : Setup) → SameButAbsent L (making L v h r) (making L v h s)
+    made_unread (stop n x y) h = record { answer = refl; moments = refl; next = a }
+    made_unread clear h = record { answer = refl; moments = refl; next = alike_to_itself (fresh L h) }
 
     reset_unread : AlikeButAbsent L (fresh L r.setup) (fresh L s.setup)
     reset_unread = record { setup = a.setup; rate = refl; clock = refl; limiter = refl; filter = refl; meta = refl; count = refl; places = λ c h. refl }
@@ -197,7 +198,8 @@ module _ (L : Leaves) where
       let e = eqb r.pending.count 0 in
       subst (λ (n : ℕ). SameButAbsent L (drained L b e r) (drained L b (eqb n 0) s)) a.count (drained_unread r s a b e)
   absent_unread r s a reset = record { answer = refl; moments = refl; next = reset_unread r s a }
-  absent_unread r s a (make n) = made_unread r s a (leb n 3) n
+  absent_unread r s a (make n) = made_unread r s a (layout_found n) (hall_with n)
+  absent_unread r s a (make_with n t) = made_unread r s a (table_found n t) (hall_of n t)
 
   -- and so do all calls in a row
   pub absent_unread_along : (r s : State L) → AlikeButAbsent L r s → (cs : List Call) → SameAlong L r s cs
@@ -220,12 +222,13 @@ module _ (L : Leaves) where
     drained_kept true true = refl
     drained_kept true false = refl
 
-    made_kept : (b : Bool) (n : ℕ) → b ≡ false → (making L b n r).next.pending.places c ≡ r.pending.places c
-    made_kept false n e = refl
-    made_kept true n e = absurd (subst T e tt)
+    made_kept : (v : Found) (h : Setup) → is_clear v ≡ false → (making L v h r).next.pending.places c ≡ r.pending.places c
+    made_kept (stop n x y) h e = refl
+    made_kept clear h e = absurd (subst T e tt)
 
   pub absent_kept : (r : State L) (call : Call) → starts_anew call ≡ false → (c : ℕ) → present r.setup.layout c ≡ false → (step L r call).next.pending.places c ≡ r.pending.places c
   absent_kept r (push p) e c away = asked_kept r c away p (found L r p)
   absent_kept r (flush out stride) e c away = drained_kept r c away (room stride (length out)) (eqb r.pending.count 0)
   absent_kept r reset e c away = absurd (subst T e tt)
-  absent_kept r (make n) e c away = made_kept r c away (leb n 3) n e
+  absent_kept r (make n) e c away = made_kept r c away (layout_found n) (hall_with n) e
+  absent_kept r (make_with n t) e c away = made_kept r c away (table_found n t) (hall_of n t) e

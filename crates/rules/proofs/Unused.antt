@@ -8,11 +8,13 @@ use lib.ListN.{length}
 use native.Mathlib.Omega.{arith}
 use Rattle.mixing.specs.FrameSamples.{all_pass}
 use Rattle.beds.specs.Matching.{counted}
+use Rattle.panning.specs.Setup.{Setup, hall_with, table_place, all_inside, all_apart}
 use Rattle.rules.specs.Leaves.{Leaves, Shape}
 use Rattle.rules.specs.Samples.{State}
 use Rattle.rules.specs.Refusals.{Args, Found, clear, stop, ◌then◌, unless, room, sized, listed, early, beds_found, Announced, objects_match, counts_at, shape_at, walk, none_sent}
 use Rattle.rules.specs.Refusals.{later}
-use Rattle.rules.specs.Calls.{Call, push, flush, reset, make, Answer, refused, rendered, nothing, cleared, announced, found, asked, drained, making, step}
+use Rattle.rules.specs.Making.{table_words, hall_of, layout_found, table_found}
+use Rattle.rules.specs.Calls.{Call, push, flush, reset, make, make_with, Answer, refused, rendered, nothing, cleared, announced, found, asked, drained, making, step}
 use Rattle.rules.specs.BlockCalls.{Layout, out_of, stride_of, left, takes, made}
 
 -- ---- what stops, if anything, is not 7
@@ -73,6 +75,17 @@ module _ (us : List Announced) (objects : ℕ) (codes : List ℕ) where
       and_then where_so first.started (free_objects first)
       and_then free_walk n 0 s
 
+free_layout : (n : ℕ) → Free (layout_found n)
+free_layout n = other (leb n 3) 15 0 0 (λ e. omega arith)
+
+free_table : (n : ℕ) (t : List ℕ) → Free (table_found n t)
+free_table n t =
+    let sp = table_place (table_words t) in
+    free_layout n
+    and_then other (eqb (length t) 144) 16 0 0 (λ e. omega arith)
+    and_then other (all_inside sp) 17 0 0 (λ e. omega arith)
+    and_then other (all_apart sp) 18 0 0 (λ e. omega arith)
+
 module _ (L : Leaves) where
   free_early : (r : State L) (a : Args) → Free (early L r a)
   free_early r a =
@@ -109,15 +122,16 @@ module _ (L : Leaves) (B : Layout L) where
   of_flush true true r e = omega arith
   of_flush true false r e = omega arith
 
-  of_making : (t : Bool) (n : ℕ) (r : State L) → number_of (making L t n r).answer ≡ 7 → ⊥
-  of_making false n r e = omega arith
-  of_making true n r e = omega arith
+  of_making : (v : Found) (h : Setup) (r : State L) → Free v → number_of (making L v h r).answer ≡ 7 → ⊥
+  of_making clear h r p e = omega arith
+  of_making (stop n x y) h r p e = p.never e
 
   of_step : (r : State L) (c : Call) → number_of (step L r c).answer ≡ 7 → ⊥
   of_step r (push a) e = of_push (found L r a) a r (free_found L r a) e
   of_step r (flush out stride) e = of_flush (room stride (length out)) (eqb r.pending.count 0) r e
   of_step r reset e = omega arith
-  of_step r (make n) e = of_making (leb n 3) n r e
+  of_step r (make n) e = of_making (layout_found n) (hall_with n) r (free_layout n) e
+  of_step r (make_with n t) e = of_making (table_found n t) (hall_of n t) r (free_table n t) e
 
   as_answered : (x : Answer) (s : State L) (out : List ℕ) (stride : ℕ) (b : List ℕ) → (left L B x s out stride b).answer ≡ x
   as_answered (refused n x y) s out stride b = refl

@@ -1,16 +1,19 @@
 -- R-5: the places of a channel that the hall lacks, in a renderer of any bits: no rule reads them, and no call but one that starts anew writes them. Assumes nothing.
-use Rattle.std.specs.Prelude.{ℕ, ◌≡◌, Bool, true, false, List, T, leb, map}
+use Rattle.std.specs.Prelude.{ℕ, ◌≡◌, Bool, true, false, List, T, map}
 use Rattle.panning.specs.Setup.{present}
 use Rattle.rules.specs.Leaves.{Leaves}
 use Rattle.rules.specs.Samples.{State}
-use Rattle.rules.specs.Calls.{Call, push, flush, reset, make, Result, run, final}
+use Rattle.rules.specs.Refusals.{is_clear}
+use Rattle.rules.specs.Making.{layout_found, table_found}
+use Rattle.rules.specs.Calls.{Call, push, flush, reset, make, make_with, Result, run, final}
 
 -- a reset and an accepted making call start anew
 abbrev pub starts_anew : Call → Bool
 starts_anew (push a) = false
 starts_anew (flush out stride) = false
 starts_anew reset = true
-starts_anew (make n) = leb n 3
+starts_anew (make n) = is_clear (layout_found n)
+starts_anew (make_with n t) = is_clear (table_found n t)
 
 module _ (L : Leaves) where
   -- r and s are alike but for the places of the channels that their hall lacks

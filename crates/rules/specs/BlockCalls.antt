@@ -6,9 +6,9 @@ use Rattle.words.specs.Words.{with_words}
 use Rattle.rules.specs.Parts.{Channels}
 use Rattle.rules.specs.Leaves.{Leaves}
 use Rattle.rules.specs.Samples.{State}
-use Rattle.rules.specs.Calls.{Call, push, flush, reset, make, Answer, refused, rendered, nothing, cleared, is_refused, step}
+use Rattle.rules.specs.Calls.{Call, push, flush, reset, make, make_with, Answer, refused, rendered, nothing, cleared, is_refused, step}
 
--- The block's layout: how long it is, which blocks have every field in its range, which have the layout's code in its range, the renderer that a block holds, and the block that
+-- The block's layout: how long it is, which blocks have every field in its range, which have the hall in its range, the renderer that a block holds, and the block that
 -- holds a renderer.
 pub record Layout (L : Leaves) : Type 0 where
   pub size : ℕ
@@ -36,12 +36,14 @@ out_of (push a) = a.out
 out_of (flush out stride) = out
 out_of reset = []
 out_of (make n) = []
+out_of (make_with n t) = []
 
 abbrev pub stride_of : Call → ℕ
 stride_of (push a) = a.stride
 stride_of (flush out stride) = stride
 stride_of reset = 0
 stride_of (make n) = 0
+stride_of (make_with n t) = 0
 
 module _ (L : Leaves) (B : Layout L) where
   -- only an answer with samples, a reset and a making call change the block
@@ -51,12 +53,14 @@ module _ (L : Leaves) (B : Layout L) where
   left nothing s out stride b = record { answer = nothing; state = b; out = out }
   left cleared s out stride b = record { answer = cleared; state = B.encode s; out = out }
 
-  -- "a state block of wrong length, or with a field outside its range"; R-5: reset "refuses by 1 a block whose code is above 3", and a making call one of "a wrong length"
+  -- "a state block of wrong length, or with a field outside its range"; R-5: reset "refuses by 1 a block whose code is above 3", and R-6: one
+  -- whose table "breaks these rules"; a making call one of "a wrong length"
   abbrev pub takes : Call → List ℕ → Bool
   takes (push a) b = B.valid b
   takes (flush out stride) b = B.valid b
   takes reset b = eqb (length b) B.size && B.hall_valid b
   takes (make n) b = eqb (length b) B.size
+  takes (make_with n t) b = eqb (length b) B.size
 
   -- a call on a block: what the entries' contracts say
   abbrev pub made : Call → List ℕ → Outcome

@@ -1,13 +1,14 @@
 -- Calls in a row: what each answers, gives out and leaves, on a renderer. Assumes nothing.
-use Rattle.std.specs.Prelude.{ℕ, Bool, true, false, cond, List, [], ◌∷◌, map, eqb, leb, length}
+use Rattle.std.specs.Prelude.{ℕ, Bool, true, false, cond, List, [], ◌∷◌, map, eqb, length}
 use Rattle.limiter.specs.Meters.{call_meters, idle_meters}
 use Rattle.limiter.specs.declared.meters.Meters.{Meters}
-use Rattle.panning.specs.Setup.{hall_with}
+use Rattle.panning.specs.Setup.{Setup, hall_with}
 use Rattle.rules.specs.Parts.{Channels, none}
 use Rattle.rules.specs.Leaves.{Leaves}
 use Rattle.rules.specs.Mix.{Moment}
 use Rattle.rules.specs.Samples.{Frame, State, fresh, After, pushed, flushed}
 use Rattle.rules.specs.Refusals.{Args, Found, clear, stop, ◌then◌, room, early, Announced, later}
+use Rattle.rules.specs.Making.{layout_found, table_found, hall_of}
 
 -- A call, with all that the host lends besides the state block. Later requests add their calls here.
 pub data Call : Type 0 where
@@ -17,6 +18,8 @@ pub data Call : Type 0 where
   reset : Call
   -- R-5: "A call of its own now makes a renderer in a block": the layout's code
   make : ℕ → Call
+  -- R-6: "A second making call takes [a hall table] in place of the built-in table": the layout's code and the table's bytes
+  make_with : ℕ → List ℕ → Call
 
 pub data Answer : Type 0 where
   -- number and two counts
@@ -81,17 +84,18 @@ module _ (L : Leaves) where
   drained true true r = record { answer = nothing; next = r; moments = [] }
   drained true false r = let d = flushed L r in record { answer = answered d; next = d.next; moments = [] }
 
-  -- R-5: "15, a layout code above 3, when a renderer is made"; else it is a new one, whatever was there
-  abbrev pub making : Bool → ℕ → State L → Result
-  making false n r = record { answer = refused 15 0 0; next = r; moments = [] }
-  making true n r = record { answer = cleared; next = fresh L (hall_with n); moments = [] }
+  -- a making call: where nothing stops it, there is a new renderer in the hall h, whatever was there
+  abbrev pub making : Found → Setup → State L → Result
+  making (stop n a b) h r = record { answer = refused n a b; next = r; moments = [] }
+  making clear h r = record { answer = cleared; next = fresh L h; moments = [] }
 
-  -- reset starts anew in the hall that the renderer has
+  -- reset starts anew in the hall that the renderer has; R-6: "reset keeps [the table]"
   abbrev pub step : State L → Call → Result
   step r (push a) = asked (found r a) a r
   step r (flush out stride) = drained (room stride (length out)) (eqb r.pending.count 0) r
   step r reset = record { answer = cleared; next = fresh L r.setup; moments = [] }
-  step r (make n) = making (leb n 3) n r
+  step r (make n) = making (layout_found n) (hall_with n) r
+  step r (make_with n t) = making (table_found n t) (hall_of n t) r
 
   -- the list's results, each call being handed what the one before left
   abbrev pub run : State L → List Call → List Result

@@ -6,12 +6,13 @@ use Rattle.words.specs.Words.{Bytes, word, float_at}
 use Rattle.ieee.specs.Units.{F32, Gain}
 use Rattle.ieee.specs.Bounds.{All}
 use Rattle.limiter.specs.Range.{MetersInRange}
-use Rattle.panning.specs.Setup.{Setup, hall_with, present}
+use Rattle.panning.specs.Setup.{Setup, hall_with, built_in_table, table_right, present}
 use Rattle.lowpass.specs.declared.BiquadLowpassState.{BiquadLowpassState}
 use Rattle.rules.specs.Parts.{0·0, Tame, floats}
 use Rattle.rules.specs.Leaves.{Leaves}
 use Rattle.rules.specs.Samples.{State, fresh}
-use Rattle.rules.specs.Calls.{Call, push, flush, reset, make, Answer, refused, rendered, nothing, cleared, is_refused, given, meters_of, step, run, final, kept, accepted}
+use Rattle.rules.specs.Making.{table_words, hall_of}
+use Rattle.rules.specs.Calls.{Call, push, flush, reset, make, make_with, Answer, refused, rendered, nothing, cleared, is_refused, given, meters_of, step, run, final, kept, accepted}
 use Rattle.rules.specs.Promises.{count_on, AllHold}
 use Rattle.rules.specs.Ringing.{AllRing}
 use Rattle.rules.specs.BlockCalls.{Layout, Outcome, stride_of, out_of, made, run_on, final_on, kept_on, accepted_on, seen_on, told}
@@ -55,10 +56,19 @@ Lent (push a) = Bytes a.pcm × Bytes a.meta × Bytes a.out × Bytes a.codes
 Lent (flush out stride) = Bytes out
 Lent reset = Unit {0}
 Lent (make n) = Unit {0}
+Lent (make_with n t) = Bytes t
 
 abbrev pub AllLent : List Call → Type 0
 AllLent [] = Unit {0}
 AllLent (c ∷ cs) = Lent c × AllLent cs
+
+-- the call is a making call, for the hall h
+abbrev pub Makes : Call → Setup → Type 0
+Makes (push a) h = ⊥
+Makes (flush out stride) h = ⊥
+Makes reset h = ⊥
+Makes (make n) h = h ≡ hall_with n
+Makes (make_with n t) h = h ≡ hall_of n t
 
 -- before each call of the list, and after the last
 abbrev pub AllClean : (L : Leaves) → State L → List Call → Type 0
@@ -94,15 +104,25 @@ module _ (L : Leaves) (B : Layout L) where
     pub same : final L (fresh L h) (kept L (fresh L h) cs) ≡ final L (fresh L h) cs
 
   -- Document 01, demand 3, for every list of calls with any arguments. R-5: "From now on a new renderer is a block that a making call has filled": from what an accepted one, for
-  -- any layout, leaves of a block of any bytes. A reset renderer, "what reset leaves of a block that came from a new one by calls in a row", is met inside such lists.
+  -- any layout and, by R-6, with any table, leaves of a block of any bytes. A reset renderer, "what reset leaves of a block that came from a new one by calls in a row", is met inside such lists.
   abbrev pub EveryList : Type 0
   EveryList =
-      (b : List ℕ) → Bytes b → (n : ℕ) → is_refused (made L B (make n) b).answer ≡ false
-      → (cs : List Call) → AllLent cs → Demand3 (hall_with n) (made L B (make n) b).state cs
+      (b : List ℕ) → Bytes b → (c : Call) → Lent c → (h : Setup) → Makes c h → is_refused (made L B c b).answer ≡ false
+      → (cs : List Call) → AllLent cs → Demand3 h (made L B c b).state cs
 
   -- and every layout can be made in every block of the right length
   abbrev pub EveryLayout : Type 0
   EveryLayout = (b : List ℕ) → length b ≡ B.size → (n : ℕ) → n ≤ 3 → (made L B (make n) b).answer ≡ cleared
+
+  -- R-6: with every table that passes 16, 17 and 18
+  abbrev pub EveryTable : Type 0
+  EveryTable =
+      (b : List ℕ) → length b ≡ B.size → (n : ℕ) → n ≤ 3 → (t : List ℕ) → length t ≡ 144 → table_right (table_words t) ≡ true
+      → (made L B (make_with n t) b).answer ≡ cleared
+
+  -- "With the built-in values loaded, the samples equal those without a table": the answer and the block are the same, so all that follows is
+  abbrev pub BuiltInAlike : Type 0
+  BuiltInAlike = (b : List ℕ) (n : ℕ) (t : List ℕ) → length t ≡ 144 → table_words t ≡ built_in_table → made L B (make_with n t) b ≡ made L B (make n) b
 
   -- "every block that an accepted call leaves lies within these": from a block of any bytes
   abbrev pub Keeps : Type 0

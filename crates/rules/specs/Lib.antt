@@ -3,6 +3,8 @@ pub mod Leaves
 pub mod Mix
 pub mod Samples
 pub mod Refusals
+pub mod Making
+pub mod TableCases
 pub mod Ranges
 pub mod Calls
 pub mod Accepted

@@ -19,7 +19,8 @@ use Rattle.rules.specs.Leaves.{Leaves, Source, Bed, started}
 use Rattle.rules.specs.Mix.{object_terms, send_of, object_adds, adds_of, sample_at, samples_at, fed, fed_by_beds}
 use Rattle.rules.specs.Samples.{State, fresh, limited, metered, gain_after, slotted, pushed, waiting}
 use Rattle.rules.specs.Refusals.{Args, clear, stop, room}
-use Rattle.rules.specs.Calls.{Call, push, flush, reset, make, refused, rendered, nothing, cleared, given, frame_of, found, answered, Result, step}
+use Rattle.rules.specs.Making.{table_found, hall_of}
+use Rattle.rules.specs.Calls.{Call, push, flush, reset, make, make_with, refused, rendered, nothing, cleared, given, frame_of, found, answered, Result, step}
 use Rattle.rules.specs.Order.{at_offset}
 use Rattle.rules.specs.Sounds.{gain_before, limited_blocks, blocks_metered, AllMetered, applied_all, before, met, moment_at, sound_at, unlimited, whole}
 
@@ -186,17 +187,20 @@ module _ (L : Leaves) where
     pub answer : x.answer ≡ cleared
     pub next : x.next ≡ fresh L r.setup
 
-  -- R-5: a new renderer of that layout, whatever renderer it was
-  pub record MakeHolds (n : ℕ) (x : Result L) : Type 0 where
+  -- R-5: a new renderer in that hall, whatever renderer it was
+  pub record MakeHolds (h : Setup) (x : Result L) : Type 0 where
     pub answer : x.answer ≡ cleared
-    pub next : x.next ≡ fresh L (hall_with n)
+    pub next : x.next ≡ fresh L h
 
   abbrev pub CallHolds : State L → Call → Type 0
   CallHolds r (push a) = ((n x y : ℕ) → found L r a ≡ stop n x y → Refuses r n x y (step L r (push a))) × (found L r a ≡ clear → PushHolds r a)
   CallHolds r (flush out stride) =
       (room stride (length out) ≡ false → Refuses r 1 0 0 (step L r (flush out stride))) × (room stride (length out) ≡ true → FlushHolds r (step L r (flush out stride)))
   CallHolds r reset = ResetHolds r (step L r reset)
-  CallHolds r (make n) = (3 < n → Refuses r 15 0 0 (step L r (make n))) × (n ≤ 3 → MakeHolds n (step L r (make n)))
+  CallHolds r (make n) = (3 < n → Refuses r 15 0 0 (step L r (make n))) × (n ≤ 3 → MakeHolds (hall_with n) (step L r (make n)))
+  CallHolds r (make_with n t) =
+      ((k x y : ℕ) → table_found n t ≡ stop k x y → Refuses r k x y (step L r (make_with n t)))
+      × (table_found n t ≡ clear → MakeHolds (hall_of n t) (step L r (make_with n t)))
 
   -- of each call of the list, each handed what the one before left
   abbrev pub AllHold : State L → List Call → Type 0

@@ -5,7 +5,7 @@ use Rattle.std.specs.Float.{binary32}
 use Rattle.std.specs.Float.Ieee.{fits}
 use Rattle.words.specs.Words.{Words}
 use Rattle.lowpass.specs.declared.BiquadLowpassState.{BiquadLowpassState}
-use Rattle.panning.specs.Setup.{Setup, hall_with}
+use Rattle.panning.specs.Setup.{Setup, table_right}
 use Rattle.rules.specs.Leaves.{Leaves}
 use Rattle.rules.specs.Samples.{State}
 use Rattle.rules.specs.Refusals.{listed}
@@ -25,10 +25,12 @@ pub record FilterFits (f : BiquadLowpassState) : Type 0 where
   pub y1 : Fits f.y1
   pub y2 : Fits f.y2
 
--- R-5: "layout code 0 for 7.1.4, then 1, 2, 3"; the speakers stand in their built-in places
+-- R-5: "layout code 0 for 7.1.4, then 1, 2, 3"; R-6: "a table that breaks these rules is a field outside its range", of "twelve records" of three f32, whatever the layout
 pub record HallRanged (h : Setup) : Type 0 where
   pub layout : h.layout ≤ 3
-  pub built : h ≡ hall_with h.layout
+  pub long : length h.table ≡ 36
+  pub words : Words h.table
+  pub right : table_right h.table ≡ true
 
 -- `Within n m`: the timed state m lies in its ranges at the stream position n
 pub record Ranged (L : Leaves) (Within : ℕ → L.Meta → Type 0) (r : State L) : Type 0 where

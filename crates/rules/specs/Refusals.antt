@@ -32,6 +32,10 @@ abbrev pub ◌then◌ : Found → Found → Found
 clear then x = x
 stop n a b then x = stop n a b
 
+abbrev pub is_clear : Found → Bool
+is_clear clear = true
+is_clear (stop n a b) = false
+
 abbrev pub unless : Bool → ℕ → ℕ → ℕ → Found
 unless true n a b = clear
 unless false n a b = stop n a b

@@ -2,11 +2,14 @@
 use mathlib.Core.Path.{◌≡◌, refl, sym, ap, ap₂, subst, ◌∙◌}
 use mathlib.Core.Bool.{Bool, true, false, ◌&&◌}
 use mathlib.Core.List.{List}
-use Prim.Native.Nat.{ℕ, ◌+◌, ◌*◌, ◌≤◌}
+use Prim.Native.Nat.{ℕ, ◌+◌, ◌*◌, ◌<◌, ◌≤◌}
 use native.Mathlib.Omega.{arith}
-use borrow.Author.Tests.{eq-eqb, ne_eqb}
+use borrow.Author.Tests.{eq-eqb, ne_eqb, le-leb, lt-leb}
 use lib.Dec.{T, eqb, leb, leb→le}
 use lib.ListN.{length, get_or}
+use lib.Ieee.Fits.{and_l, and_r}
+use lib.Ieee.Bits.{is_true}
+use Rattle.panning.specs.Setup.{table_right}
 pub use Rattle.formats.proofs.Theorems.{and_in}
 use Rattle.formats.specs.Areas.{info_count}
 use Rattle.words.specs.Words.{words_at}
@@ -18,7 +21,7 @@ use Rattle.formats.proofs.Theorems.{most, all_same, all_both, all_any, and_true,
 use Rattle.store.specs.Fields.{longest, source_format, block_format, track_format, element_format, tables_format, small_format, small_of}
 use Rattle.store.specs.FieldPlaces.{phase_at, position_at, start_at, pending_at, objects_at, isf_at, beds_at, in_use_at}
 use Rattle.store.specs.FieldPlaces.{tables_at, gains_at, sources_at, placed_in, flags_in, remaining_in, first_at, second_at}
-use Rattle.store.specs.Layout.{small_width, size, infos_of, layout_of}
+use Rattle.store.specs.Layout.{small_width, size, infos_of, layout_of, table_in}
 use Rattle.store.specs.ValidBlocks.{clock_in, counts_in, least, element_in, related, small_valid, heads_valid, hall_valid, valid}
 use Rattle.store.proofs.SmallPartBack.{lawful_small, lawful_small_part}
 
@@ -128,4 +131,18 @@ module _ (b : List ℕ) where
   -- the layout's code, where it is in its range
   pub layout_most : hall_valid b ≡ true → layout_of b ≤ 3
   unfolding hall_valid
-  layout_most e = leb→le (layout_of b) 3 (subst T (sym e) tt)
+  layout_most e = leb→le (layout_of b) 3 (and_l (leb (layout_of b) 3) (table_right (table_in b)) (subst T (sym e) tt))
+
+  -- the hall, where the code is in its range and where not
+  pub hall_good : layout_of b ≤ 3 → hall_valid b ≡ table_right (table_in b)
+  unfolding hall_valid
+  hall_good h = ap (λ (x : Bool). x && table_right (table_in b)) (le-leb (layout_of b) 3 h)
+
+  pub hall_past : 3 < layout_of b → hall_valid b ≡ false
+  unfolding hall_valid
+  hall_past h = ap (λ (x : Bool). x && table_right (table_in b)) (lt-leb (layout_of b) 3 h)
+
+  -- the table, where the hall is in its range
+  pub table_rights : hall_valid b ≡ true → table_right (table_in b) ≡ true
+  unfolding hall_valid
+  table_rights e = is_true (table_right (table_in b)) (and_r (leb (layout_of b) 3) (table_right (table_in b)) (subst T (sym e) tt))

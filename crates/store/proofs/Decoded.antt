@@ -9,20 +9,21 @@ use lib.Dec.{T, eqb, leb, eqb→eq, leb→le, lit≤}
 use lib.ListN.{length, get_or, take, drop, length-drop}
 use lib.Seq.{get_or-drop, length-take-le}
 use lib.Ieee.Fits.{and_l, and_r}
+use lib.Ieee.Bits.{is_true}
 use Rattle.ieee.specs.Bounds.{All}
 use Rattle.words.specs.Words.{Bytes, words_at}
 use Rattle.words.proofs.Small.{run_small}
 use Rattle.timed.specs.Slot.{middle, InRange, no_block}
 use Rattle.timed.specs.State.{no_element}
 use Rattle.timed.specs.State as timed
-use Rattle.panning.specs.Setup.{Setup}
+use Rattle.panning.specs.Setup.{Setup, table_right}
 use Rattle.rules.specs.Parts.{Places}
 use Rattle.rules.specs.Ranges.{HallRanged}
 use Rattle.formats.specs.Areas.{info_count, infos_bytes, row_places, row_bytes}
 use Rattle.store.specs.declared.renderer.Renderer714.{Renderer714}
 use Rattle.store.specs.Singles.{Brief}
 use Rattle.store.specs.Fields.{element_format, small_of, hall_format}
-use Rattle.store.specs.Layout.{small_width, infos_at, places_at, hall_at, size, assembled, infos_of, places_of, setup_in, decode}
+use Rattle.store.specs.Layout.{small_width, infos_at, places_at, hall_at, table_at, table_count, size, assembled, infos_of, places_of, table_in, setup_in, decode}
 use Rattle.store.specs.ValidBlocks.{clock_in, counts_in, element_related, least_flags, small_part, small_valid, heads_valid, hall_valid, valid}
 use Rattle.store.specs.Ranged.{ElementRanged, StateRanged, InfosRanged, PlacesRanged, BlockRanged}
 use Rattle.store.proofs.PendingRows.{places_row, no_places}
@@ -151,10 +152,18 @@ pub words_long : (s : List ℕ) (at n : ℕ) → length (words_at s at n) ≡ n
 words_long s at zero = refl
 words_long s at (suc n) = ap suc (words_long s (at + 4) n)
 
--- the hall of a block whose code is one of the four
-pub hall_ranged : (b : List ℕ) → T (hall_valid b) → HallRanged (setup_in b)
+-- the hall of a block of bytes, where it is in its range
+pub hall_ranged : (b : List ℕ) → Bytes b → T (hall_valid b) → HallRanged (setup_in b)
 unfolding hall_valid
-hall_ranged b h = record { layout = lawful_hall.within (words_at b hall_at hall_format.width) 0 h; built = refl }
+hall_ranged b bs h =
+    let w = words_at b hall_at hall_format.width in
+    let t = table_in b in
+    record {
+      layout = lawful_hall.within w 0 (and_l (hall_format.test w 0) (table_right t) h);
+      long = words_long b table_at table_count;
+      words = run_small b table_at table_count bs;
+      right = is_true (table_right t) (and_r (hall_format.test w 0) (table_right t) h);
+    }
 
 module _ (b : List ℕ) (bs : Bytes b) (v : T (valid b)) where
   abbrev front : Bool
@@ -197,4 +206,4 @@ module _ (b : List ℕ) (bs : Bytes b) (v : T (valid b)) where
 
   pub decode_ranged : BlockRanged (decode b)
   unfolding decode
-  decode_ranged = small_ranged (small_of (words_at b 0 small_width)) small_in (infos_of b) (places_of b) (setup_in b) infos_ranged places_ranged (hall_ranged b hall_true)
+  decode_ranged = small_ranged (small_of (words_at b 0 small_width)) small_in (infos_of b) (places_of b) (setup_in b) infos_ranged places_ranged (hall_ranged b bs hall_true)

@@ -1,35 +1,36 @@
--- A fresh renderer is in range, and its block is zeros but for four fields. Assumes nothing.
+-- A fresh renderer is in range, and its block is zeros but for its hall and three fields. Assumes nothing.
 use mathlib.Core.Path.{◌≡◌, refl, sym, ap, ap₂, subst, ◌∙◌}
 use mathlib.Core.Bool.{false}
-use mathlib.Core.List.{List, [], ◌∷◌, ◌++◌, append_assoc}
+use mathlib.Core.List.{List, ◌∷◌, ◌++◌, append-nil, append_assoc}
 use Prim.Native.Nat.{ℕ, zero, suc, ◌+◌, ◌*◌, ◌^◌, ◌<◌, ◌≤◌}
 use native.Mathlib.Nat.{add-zero}
 use native.Mathlib.Omega.{arith}
 use borrow.Author.Tests.{lt-ltb, le-ltb}
 use lib.Dec.{T, lit<, lit≤}
-use lib.ListN.{length, get_or, replicate, length-replicate, replicate-append-replicate}
+use lib.ListN.{length, get_or, drop, replicate, length-replicate, replicate-append-replicate}
+use lib.Seq.{drop-length}
 use Rattle.ieee.specs.Bounds.{All}
-use Rattle.words.specs.Words.{Bytes, Words, number, with_number, word, with_word, with_long}
+use Rattle.words.specs.Words.{Bytes, Words, number, with_number, word, with_word, with_words, with_long}
 use Rattle.words.proofs.Numbers.{length_kept}
 use lib.Ieee.{to_bits, fits}
 use Rattle.timed.specs.Slot.{middle, InRange, no_block}
 use Rattle.timed.specs.State.{no_element}
 use Rattle.timed.specs.declared.state.BlockState.{BlockState}
 use Rattle.timed.specs.declared.state.MetadataRendererState.{MetadataRendererState}
-use Rattle.panning.specs.Setup.{Setup, hall_with}
+use Rattle.panning.specs.Setup.{Setup}
 use Rattle.rules.specs.Parts.{zeros, 0·0, 1·0}
 use Rattle.rules.specs.Ranges.{HallRanged}
 use Rattle.formats.specs.Areas.{info_count, info_bytes, infos_bytes, row_count, row_places, row_bytes, places_bytes}
 use Rattle.formats.specs.Format.{puts}
 use Rattle.store.specs.Bytes.{bytes_of}
 use Rattle.store.specs.Fields.{small_words}
-use Rattle.store.specs.FieldPlaces.{limiter_gain_at, remaining_in, first_at, second_at, infos_at, hall_at}
-use Rattle.store.specs.Layout.{size, small, place_bytes, layout_bytes, encode, still, no_blocks, blank, fresh_renderer}
+use Rattle.store.specs.FieldPlaces.{limiter_gain_at, remaining_in, first_at, second_at, infos_at, hall_at, table_at}
+use Rattle.store.specs.Layout.{table_count, setup_count, size, small, place_bytes, setup_words, setup_bytes, encode, still, no_blocks, blank, fresh_renderer}
 use Rattle.store.specs.Filled.{marked, filled}
 use Rattle.store.specs.ValidBlocks.{least_flags, head_valid, heads_valid}
 use Rattle.store.specs.Ranged.{Single, Singles, SourceSingles, TrackSingles, ElementRanged, StateRanged, InfosRanged, PlacesRanged, BlockRanged}
 use Rattle.store.proofs.PendingRows.{rows_bytes, place_bytes_is}
-use Rattle.store.proofs.Bytes.{written_past, written_front}
+use Rattle.store.proofs.Bytes.{run_past, stored, written_front}
 use Rattle.formats.proofs.Theorems.{and_in}
 
 -- ---- zeros
@@ -217,29 +218,34 @@ front_fresh h =
     ∙ sym (marked_front (replicate infos_at 0) (replicate (infos_bytes + places_bytes) 0) (subst (λ (n : ℕ). infos_at ≤ n) (sym (length-replicate {A = ℕ} infos_at 0)) (lit≤ tt)))
     ∙ ap marked (replicate-append-replicate infos_at (infos_bytes + places_bytes) 0)
 
--- n zeros and four, marked, and then the word behind the n
-filled_behind : (n layout : ℕ) → infos_at ≤ n → with_word (marked (replicate (n + 4) 0)) n layout ≡ marked (replicate n 0) ++ layout_bytes layout
-unfolding layout_bytes bytes_of
-filled_behind n layout l =
+-- n zeros and m, marked, and then the words that fill the m behind the n
+filled_behind : (n m : ℕ) (ws : List ℕ) → infos_at ≤ n → 4 * length ws ≡ m → with_words (marked (replicate (n + m) 0)) n ws ≡ marked (replicate n 0) ++ bytes_of ws
+filled_behind n m ws l k =
     let z = replicate {A = ℕ} n 0 in
+    let t = replicate {A = ℕ} m 0 in
     let f = length-replicate {A = ℕ} n 0 in
+    let g = length-replicate {A = ℕ} m 0 in
     let e : n ≡ length (marked z) + 0 = sym (add-zero n) ∙ ap (λ (k : ℕ). k + 0) (sym (marked_long z ∙ f)) in
-    ap (λ (s : List ℕ). with_word (marked s) n layout) (sym (replicate-append-replicate n 4 0))
-    ∙ ap (λ (s : List ℕ). with_word s n layout) (marked_front z (0 ∷ 0 ∷ 0 ∷ 0 ∷ []) (omega arith))
-    ∙ ap (λ (k : ℕ). with_word (marked z ++ (0 ∷ 0 ∷ 0 ∷ 0 ∷ [])) k layout) e
-    ∙ written_past (marked z) (0 ∷ 0 ∷ 0 ∷ 0 ∷ []) 0 4 layout
+    ap (λ (s : List ℕ). with_words (marked s) n ws) (sym (replicate-append-replicate n m 0))
+    ∙ ap (λ (s : List ℕ). with_words s n ws) (marked_front z t (omega arith))
+    ∙ ap (λ (k : ℕ). with_words (marked z ++ t) k ws) e
+    ∙ run_past (marked z) t 0 ws
+    ∙ ap (λ (s : List ℕ). marked z ++ s)
+    (stored ws t (omega arith) ∙ ap (λ (s : List ℕ). bytes_of ws ++ s) (ap (λ (i : ℕ). drop i t) (k ∙ sym g) ∙ drop-length t) ∙ append-nil (bytes_of ws))
 
-pub encode_fresh : (layout : ℕ) → encode (fresh_renderer (hall_with layout)) ≡ filled layout
-unfolding encode filled
-encode_fresh layout =
-    let w = bytes_of (small_words (small (fresh_renderer (hall_with layout)))) in
-    let l = layout_bytes layout in
+pub encode_fresh : (h : Setup) → length h.table ≡ table_count → encode (fresh_renderer h) ≡ filled h
+unfolding encode filled setup_bytes
+encode_fresh h n =
+    let w = bytes_of (small_words (small (fresh_renderer h))) in
+    let l = setup_bytes h in
     ap (λ (t : List ℕ). w ++ t) (sym (append_assoc blank.infos (place_bytes zeros) l))
     ∙ sym (append_assoc w (blank.infos ++ place_bytes zeros) l)
-    ∙ ap (λ (t : List ℕ). t ++ l) (front_fresh (hall_with layout))
-    ∙ sym (filled_behind hall_at layout (lit≤ tt))
+    ∙ ap (λ (t : List ℕ). t ++ l) (front_fresh h)
+    ∙ sym (filled_behind hall_at (4 * setup_count) (setup_words h) (lit≤ tt) (ap (λ (k : ℕ). 4 * suc k) n))
 
 -- what `make` writes
-pub refilled : (n layout : ℕ) → n ≡ size → with_word (marked (replicate n 0)) hall_at layout ≡ encode (fresh_renderer (hall_with layout))
+pub refilled : (n layout : ℕ) (t : List ℕ) → n ≡ size → length t ≡ table_count
+    → with_words (with_word (marked (replicate n 0)) hall_at layout) table_at t ≡ encode (fresh_renderer (record { layout = layout; table = t }))
 unfolding filled
-refilled n layout e = ap (λ (k : ℕ). with_word (marked (replicate k 0)) hall_at layout) e ∙ sym (encode_fresh layout)
+refilled n layout t e l =
+    ap (λ (k : ℕ). with_words (with_word (marked (replicate k 0)) hall_at layout) table_at t) e ∙ sym (encode_fresh (record { layout = layout; table = t }) l)

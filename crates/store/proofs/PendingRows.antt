@@ -10,12 +10,16 @@ use Rattle.words.specs.Words.{words_at}
 use Rattle.formats.specs.Format.{puts}
 use Rattle.formats.specs.Areas.{row_count, row_places, row_format, places_format, row_bytes, place_count}
 use Rattle.formats.proofs.Theorems.{words_put, row_got, no_row_got}
-use Rattle.panning.specs.Setup.{hall_with}
+use Rattle.panning.specs.Setup.{Setup}
 use Rattle.rules.specs.Parts.{Places}
 use Rattle.store.specs.Bytes.{bytes_of}
 use Rattle.store.specs.Fields.{hall_format}
-use Rattle.store.specs.Layout.{places_at, places_of, hall_at, setup_in, rows_from, place_bytes}
+use Rattle.store.specs.Layout.{places_at, places_of, hall_at, setup_count, setup_in, rows_from, place_bytes}
 use Rattle.store.proofs.Bytes.{words_beside, bytes_joined}
+
+-- the hall of its words
+abbrev pub setup_of_words : List ℕ → Setup
+setup_of_words ws = record { layout = hall_format.get ws 0; table = drop hall_format.width ws }
 
 module _ (b : List ℕ) where
   pub places_row : (c : ℕ) → c < row_count → places_of b c ≡ words_at b (places_at + row_bytes * c) row_places
@@ -30,7 +34,7 @@ module _ (b : List ℕ) where
 
   -- what is before the hall plays no part
   pub setup_beside : (d : List ℕ) → drop hall_at d ≡ drop hall_at b → setup_in d ≡ setup_in b
-  setup_beside d e = ap (λ (ws : List ℕ). hall_with (hall_format.get ws 0)) (words_beside b d hall_at hall_format.width e)
+  setup_beside d e = ap setup_of_words (words_beside b d hall_at setup_count e)
 
 -- ---- as bytes
 

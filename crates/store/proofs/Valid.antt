@@ -9,13 +9,14 @@ use Rattle.words.specs.Words.{words_at}
 use Rattle.formats.specs.Areas.{info_count}
 use Rattle.formats.proofs.Theorems.{and_in, stands_all, passes}
 use Rattle.timed.specs.State.{Timed}
+use Rattle.panning.specs.Setup.{Setup, table_right}
 use Rattle.rules.specs.Samples.{Renderer}
 use Rattle.store.specs.Fields.{small_words}
 use Rattle.store.specs.Layout.{small_width, size, small, infos_of, encode}
 use Rattle.store.specs.ValidBlocks.{small_part, small_valid, heads_valid, hall_valid, valid}
 use Rattle.store.specs.Ranged.{BlockRanged}
 use Rattle.store.proofs.SmallPartBack.{lawful_small_part}
-use Rattle.store.proofs.Whole.{small_full, words_back, infos_back, layout_back, encode_long}
+use Rattle.store.proofs.Whole.{small_full, words_back, infos_back, setup_back, encode_long}
 
 module _ (r : Renderer Timed) (h : BlockRanged r) where
   small_valid_is : T (small_valid (small_words (small r)))
@@ -24,7 +25,9 @@ module _ (r : Renderer Timed) (h : BlockRanged r) where
 
   pub hall_encode : T (hall_valid (encode r))
   unfolding hall_valid
-  hall_encode = subst (λ (n : ℕ). T (leb n 3)) (sym (layout_back r h)) (le→leb _ _ h.setup.layout)
+  hall_encode =
+      subst (λ (s : Setup). T (leb s.layout 3 && table_right s.table)) (sym (setup_back r h))
+      (and_in (leb r.setup.layout 3) (table_right r.setup.table) (le→leb _ _ h.setup.layout) (subst T (sym h.setup.right) tt))
 
   pub valid_encode : T (valid (encode r))
   unfolding valid

@@ -1,4 +1,4 @@
--- A block of bytes is valid exactly if it has the right length and its four parts pass the tests of their formats. Assumes nothing.
+-- A block of bytes is valid exactly if it has the right length, its four parts pass the tests of their formats, and the table is one that a hall may have. Assumes nothing.
 use mathlib.Core.Path.{◌≡◌, sym, ap, ◌∙◌}
 use mathlib.Core.Bool.{Bool, true, ◌&&◌}
 use mathlib.Core.List.{List, [], ◌∷◌}
@@ -11,8 +11,9 @@ use Rattle.words.specs.Words.{Bytes, Words, words_at}
 use Rattle.words.proofs.Small.{run_small}
 use Rattle.formats.specs.Areas.{info_count, infos_format, row_count, row_places, row_format, places_format, place_count}
 use Rattle.formats.proofs.Theorems.{all_same, all_any, heads_format, and_true}
+use Rattle.panning.specs.Setup.{table_right}
 use Rattle.store.specs.Fields.{hall_format}
-use Rattle.store.specs.Layout.{small_width, places_at, hall_at, size, infos_of}
+use Rattle.store.specs.Layout.{small_width, places_at, hall_at, size, infos_of, table_in}
 use Rattle.store.specs.ValidBlocks.{small_part, small_valid, hall_valid, valid}
 
 -- words of any bits pass
@@ -35,7 +36,8 @@ module _ (b : List ℕ) (bs : Bytes b) where
   abbrev rest : Bool
   rest = eqb (length b) size && small_part.test (words_at b 0 small_width) 0 && infos_format.test (words_at (infos_of b) 0 infos_format.width) 0
 
-  pub valid_by_formats : valid b ≡ (rest && places_format.test (words_at b places_at place_count) 0 && hall_format.test (words_at b hall_at hall_format.width) 0)
+  pub valid_by_formats : valid b ≡ (rest && places_format.test (words_at b places_at place_count) 0
+      && (hall_format.test (words_at b hall_at hall_format.width) 0 && table_right (table_in b)))
   unfolding valid small_valid hall_valid
   valid_by_formats =
       ap (λ (x : Bool). eqb (length b) size && small_valid (words_at b 0 small_width) && x && hall_valid b) (heads_format (infos_of b) info_count)

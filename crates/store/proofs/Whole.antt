@@ -17,20 +17,20 @@ use Rattle.timed.specs.State.{Timed, no_element}
 use Rattle.timed.specs.State as timed
 use Rattle.timed.specs.declared.state.ElementRendererState.{ElementRendererState}
 use Rattle.timed.specs.declared.state.MetadataRendererState.{MetadataRendererState}
-use Rattle.panning.specs.Setup.{hall_with}
 use Rattle.rules.specs.Parts.{Places}
 use Rattle.rules.specs.Samples.{Renderer}
 use Rattle.formats.specs.Areas.{infos_bytes, row_count, row_places, places_format, row_bytes, places_bytes}
 use Rattle.store.specs.Bytes.{bytes_of}
 use Rattle.store.specs.Singles.{Brief}
-use Rattle.store.specs.Fields.{element_format, state_format, small_words, small_of, hall_format}
-use Rattle.store.specs.Layout.{small_width, infos_at, places_at, hall_at, size, small, assembled, infos_of, places_of, layout_of, decode}
-use Rattle.store.specs.Layout.{rows_from, place_bytes, layout_bytes, encode}
+use Rattle.store.specs.Fields.{element_format, state_format, small_words, small_of}
+use Rattle.store.specs.Layout.{small_width, infos_at, places_at, hall_at, setup_count, size, small, assembled, infos_of, places_of, setup_in, decode}
+use Rattle.store.specs.Layout.{rows_from, place_bytes, setup_words, setup_bytes, encode}
 use Rattle.store.specs.ValidBlocks.{clock_in, counts_in, least_flags, related, element_related}
 use Rattle.store.specs.Ranged.{ElementRanged, StateRanged, PlacesRanged, BlockRanged}
 use Rattle.store.proofs.Bytes.{words_drop, bytes_length, bytes_bytes, bytes_back, stored}
 use Rattle.store.proofs.PendingRows.{places_row, no_places, rows_bytes, place_bytes_is}
-use Rattle.store.proofs.SmallPartBack.{SmallFull, lawful_hall, small_long, small_words_is, small_back}
+use Rattle.store.proofs.SmallPartBack.{SmallFull, small_long, small_words_is, small_back}
+use Rattle.store.proofs.PendingRows.{setup_of_words}
 
 -- ---- what is in range fits its words
 
@@ -146,7 +146,7 @@ module _ (r : Renderer Timed) (h : BlockRanged r) where
   P = place_bytes r.pending.places
 
   abbrev L : List ℕ
-  L = layout_bytes r.setup.layout
+  L = setup_bytes r.setup
 
   abbrev R : List ℕ
   R = P ++ L
@@ -175,21 +175,27 @@ module _ (r : Renderer Timed) (h : BlockRanged r) where
   places_long : length P ≡ places_bytes
   places_long = ap length rows_are ∙ rows_long r.pending.places h.places row_count 0 (lit≤ tt)
 
-  layout_long : length L ≡ 4
-  unfolding layout_bytes
-  layout_long = bytes_length (hall_format.put r.setup.layout)
+  setup_long : length (setup_words r.setup) ≡ setup_count
+  setup_long = ap suc h.setup.long
+
+  hall_long : length L ≡ 4 * setup_count
+  unfolding setup_bytes
+  hall_long = bytes_length (setup_words r.setup) ∙ ap (λ (n : ℕ). 4 * n) setup_long
 
   -- the hall is behind the places
-  layout_at : drop hall_at (encode r) ≡ L
-  layout_at = sym (drop-drop places_bytes places_at (encode r)) ∙ ap (drop places_bytes) rows_at ∙ drop_at P L places_bytes places_long
+  hall_stands : drop hall_at (encode r) ≡ L
+  hall_stands = sym (drop-drop places_bytes places_at (encode r)) ∙ ap (drop places_bytes) rows_at ∙ drop_at P L places_bytes places_long
 
-  pub layout_back : layout_of (encode r) ≡ r.setup.layout
-  unfolding layout_bytes
-  layout_back =
-      let w = hall_format.put r.setup.layout in
-      ap (λ (s : List ℕ). hall_format.get s 0)
-      (ap (λ (at : ℕ). words_at (encode r) at 1) (sym (add-zero hall_at)) ∙ words_drop (encode r) hall_at 0 1
-      ∙ ap (λ (s : List ℕ). words_at s 0 1) (layout_at ∙ sym (append-nil L)) ∙ bytes_back w [] (lawful_hall.words r.setup.layout h.setup.layout))
+  setup_read : words_at (encode r) hall_at setup_count ≡ setup_words r.setup
+  unfolding setup_bytes
+  setup_read =
+      let w = setup_words r.setup in
+      let l = h.setup.layout in
+      ap (λ (at : ℕ). words_at (encode r) at setup_count) (sym (add-zero hall_at)) ∙ words_drop (encode r) hall_at 0 setup_count
+      ∙ ap₂ (λ (s : List ℕ) (n : ℕ). words_at s 0 n) (hall_stands ∙ sym (append-nil L)) (sym setup_long) ∙ bytes_back w [] (omega arith, h.setup.words)
+
+  pub setup_back : setup_in (encode r) ≡ r.setup
+  setup_back = ap setup_of_words setup_read
 
   place_back : (c : ℕ) → places_of (encode r) c ≡ r.pending.places c
   place_back c = by (ltb c row_count) refl
@@ -206,8 +212,7 @@ module _ (r : Renderer Timed) (h : BlockRanged r) where
   pub decode_encode : decode (encode r) ≡ r
   unfolding decode
   decode_encode =
-      (λ i. assembled ((ap small_of words_back ∙ small_back (small r) (small_full r h)) i) (infos_back i) (λ c. place_back c i) (hall_with (layout_back i)))
-      ∙ (λ i. record { setup = sym h.setup.built i; rate = r.rate; clock = r.clock; limiter = r.limiter; filter = r.filter; meta = r.meta; pending = r.pending })
+      λ i. assembled ((ap small_of words_back ∙ small_back (small r) (small_full r h)) i) (infos_back i) (λ c. place_back c i) (setup_back i)
 
   pub encode_long : length (encode r) ≡ size
   unfolding encode
@@ -215,7 +220,7 @@ module _ (r : Renderer Timed) (h : BlockRanged r) where
       length-append (bytes_of W) (r.meta.infos ++ R)
       ∙ ap₂ (λ (m n : ℕ). m + n) front_long
       (length-append r.meta.infos R ∙ ap₂ (λ (m n : ℕ). m + n) h.infos.length
-      (length-append P L ∙ ap₂ (λ (m n : ℕ). m + n) places_long layout_long))
+      (length-append P L ∙ ap₂ (λ (m n : ℕ). m + n) places_long hall_long))
 
 -- ---- bytes
 
@@ -225,23 +230,23 @@ bytes_append (x ∷ a) b p q zero = p 0
 bytes_append (x ∷ a) b p q (suc i) = bytes_append a b (λ j. p (suc j)) q i
 
 pub encode_bytes : (r : Renderer Timed) → Bytes r.meta.infos → Bytes (encode r)
-unfolding encode place_bytes layout_bytes
+unfolding encode place_bytes setup_bytes
 encode_bytes r h =
     let p = place_bytes r.pending.places in
-    let l = layout_bytes r.setup.layout in
+    let l = setup_bytes r.setup in
     bytes_append (bytes_of (small_words (small r))) (r.meta.infos ++ (p ++ l)) (bytes_bytes (small_words (small r)))
     (bytes_append r.meta.infos (p ++ l) h
-    (bytes_append p l (bytes_bytes (places_format.put (rows_from row_count 0 r.pending.places))) (bytes_bytes (hall_format.put r.setup.layout))))
+    (bytes_append p l (bytes_bytes (places_format.put (rows_from row_count 0 r.pending.places))) (bytes_bytes (setup_words r.setup))))
 
 -- ---- a block that was saved
 
 -- the small part of r stored into a block that has r's infos, places and hall
 pub saved_encode : (b : List ℕ) (r : Renderer Timed) → length b ≡ size → length (small_words (small r)) ≡ small_width → infos_of b ≡ r.meta.infos
-    → drop places_at b ≡ place_bytes r.pending.places ++ layout_bytes r.setup.layout
+    → drop places_at b ≡ place_bytes r.pending.places ++ setup_bytes r.setup
     → with_words b 0 (small_words (small r)) ≡ encode r
 unfolding encode
 saved_encode b r l n i p =
     let w = small_words (small r) in
-    let t : drop infos_at b ≡ r.meta.infos ++ (place_bytes r.pending.places ++ layout_bytes r.setup.layout) =
+    let t : drop infos_at b ≡ r.meta.infos ++ (place_bytes r.pending.places ++ setup_bytes r.setup) =
     sym (take-append-drop infos_bytes (drop infos_at b)) ∙ ap₂ (λ (x y : List ℕ). x ++ y) i (drop-drop infos_bytes infos_at b ∙ p) in
     stored w b (omega arith) ∙ ap (λ (k : ℕ). bytes_of w ++ drop (4 * k) b) n ∙ ap (λ (x : List ℕ). bytes_of w ++ x) t

@@ -81,8 +81,18 @@ places_at = infos_at + infos_bytes
 abbrev pub hall_at : ℕ
 hall_at = places_at + places_bytes
 
+-- the hall's table, behind the layout's code: "twelve records of twelve bytes, x, y and z"
+abbrev pub table_at : ℕ
+table_at = hall_at + 4 * hall_format.width
+
+abbrev pub table_count : ℕ
+table_count = 12 * vec_format.width
+
+abbrev pub setup_count : ℕ
+setup_count = hall_format.width + table_count
+
 abbrev pub hall_bytes : ℕ
-hall_bytes = 4 * hall_format.width
+hall_bytes = 4 * setup_count
 
 abbrev pub size : ℕ
 size = hall_at + hall_bytes

@@ -1,5 +1,5 @@
--- The state block, from a renderer and to one. Document 01: "the renderer's state is a block of fixed length". It is 29,076 bytes: the small part's words (1,424), the object
--- infos as they are (24,576), 12 rows of 64 places for pending samples (3,072), the code of the hall's layout (4). What is added later stands behind these. Assumes nothing.
+-- The state block, from a renderer and to one. Document 01: "the renderer's state is a block of fixed length". It is 29,220 bytes: the small part's words (1,424), the object
+-- infos as they are (24,576), 12 rows of 64 places for pending samples (3,072), the code of the hall's layout (4) and its table (144). What is added later stands behind these. Assumes nothing.
 use Rattle.std.specs.Prelude.{ℕ, zero, suc, false, List, [], ◌∷◌, ◌++◌, get_or, take, drop, replicate}
 use Rattle.words.specs.Words.{words_at}
 use Rattle.formats.specs.Areas.{infos_bytes, row_count, places_format, place_count}
@@ -8,12 +8,12 @@ use Rattle.timed.specs.Slot.{middle}
 use Rattle.timed.specs.State.{Timed}
 use Rattle.timed.specs.declared.state.ElementRendererState.{ElementRendererState}
 use Rattle.rules.specs.Parts.{0·0, 1·0, Places, zeros}
-use Rattle.panning.specs.Setup.{Setup, hall_with}
+use Rattle.panning.specs.Setup.{Setup}
 use Rattle.rules.specs.Samples.{Renderer, idle}
 use Rattle.store.specs.declared.renderer.Renderer714.{Renderer714}
 use Rattle.store.specs.Bytes.{bytes_of}
 use Rattle.store.specs.Fields.{clock_of, clock_from, small_words, small_of, hall_format}
-pub use Rattle.store.specs.FieldPlaces.{small_width, infos_at, places_at, hall_at, size}
+pub use Rattle.store.specs.FieldPlaces.{small_width, infos_at, places_at, hall_at, table_at, table_count, setup_count, size}
 
 -- ---- a renderer's parts
 
@@ -42,12 +42,15 @@ infos_of b = take infos_bytes (drop infos_at b)
 abbrev pub places_of : List ℕ → Places
 places_of b c = get_or (places_format.get (words_at b places_at place_count) 0) c []
 
--- the layout's code, and the hall: its speakers stand in their built-in places
+-- the layout's code, the hall table, "x, y and z as little-endian f32, no header, in channel order", and the hall
 abbrev pub layout_of : List ℕ → ℕ
 layout_of b = hall_format.get (words_at b hall_at hall_format.width) 0
 
+abbrev pub table_in : List ℕ → List ℕ
+table_in b = words_at b table_at table_count
+
 abbrev pub setup_in : List ℕ → Setup
-setup_in b = hall_with (layout_of b)
+setup_in b = record { layout = layout_of b; table = table_in b }
 
 unfoldable pub decode : List ℕ → Renderer Timed
 unfolding small_of
@@ -62,13 +65,16 @@ unfoldable pub place_bytes : Places → List ℕ
 unfolding bytes_of rows_from
 place_bytes p = bytes_of (places_format.put (rows_from row_count 0 p))
 
-unfoldable pub layout_bytes : ℕ → List ℕ
+abbrev pub setup_words : Setup → List ℕ
+setup_words h = hall_format.put h.layout ++ h.table
+
+unfoldable pub setup_bytes : Setup → List ℕ
 unfolding bytes_of
-layout_bytes n = bytes_of (hall_format.put n)
+setup_bytes h = bytes_of (setup_words h)
 
 unfoldable pub encode : Renderer Timed → List ℕ
-unfolding small_words bytes_of place_bytes layout_bytes
-encode r = bytes_of (small_words (small r)) ++ (r.meta.infos ++ (place_bytes r.pending.places ++ layout_bytes r.setup.layout))
+unfolding small_words bytes_of place_bytes setup_bytes
+encode r = bytes_of (small_words (small r)) ++ (r.meta.infos ++ (place_bytes r.pending.places ++ setup_bytes r.setup))
 
 -- ---- a new renderer. R-5: "a block that a making call has filled". No rate, the limiter's gain 1.0, all else but the hall 0
 

@@ -11,7 +11,8 @@ use Rattle.timed.specs.State.{element_of}
 use Rattle.timed.specs.declared.state.MetadataRendererState.{MetadataRendererState}
 use Rattle.store.specs.declared.renderer.Renderer714.{Renderer714}
 use Rattle.store.specs.Fields.{small_format, hall_format}
-use Rattle.store.specs.Layout.{small_width, hall_at, size, infos_of}
+use Rattle.panning.specs.Setup.{table_right}
+use Rattle.store.specs.Layout.{small_width, hall_at, size, infos_of, table_in}
 pub use Rattle.store.specs.Fields.{longest}
 
 -- ---- what fields owe each other
@@ -52,9 +53,9 @@ small_part = such related small_format
 unfoldable pub small_valid : List ℕ → Bool
 small_valid w = small_part.test w 0
 
--- R-5: "Reset .. refuses by 1 a block whose code is above 3"
+-- R-5: "Reset .. refuses by 1 a block whose code is above 3"; R-6: "a table that breaks these rules is a field outside its range, and reset too refuses it by 1"
 unfoldable pub hall_valid : List ℕ → Bool
-hall_valid b = hall_format.test (words_at b hall_at hall_format.width) 0
+hall_valid b = hall_format.test (words_at b hall_at hall_format.width) 0 && table_right (table_in b)
 
 -- "a state block of wrong length, or with a field outside its range": refusal 1
 unfoldable pub valid : List ℕ → Bool

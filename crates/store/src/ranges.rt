@@ -3,9 +3,12 @@ ghost use Rattle.std.specs.Prelude.{◌≡◌, ◌+◌, ◌*◌, ◌-◌, ◌≤
 ghost use Rattle.formats.specs.NumberWords.{in_words};
 ghost use Rattle.store.specs.Fields.{longest, head_format, element_format, counts_format, tables_format, basics_format, small_format, small_of};
 ghost use Rattle.store.specs.FieldPlaces.{state_at, tables_at};
+ghost use Rattle.panning.specs.Setup.{table_right};
+ghost use Rattle.store.specs.Layout.{table_in};
 ghost use Rattle.store.specs.ValidBlocks as ranges;
 ghost use Rattle.store.specs.ValidBlocks.{clock_in, counts_in, least, element_in, small_valid, hall_valid, valid};
 
+use crate::hall_table::{is_built_in, table_fault};
 use crate::{Block, places};
 use formats::areas::heads_valid;
 use formats::{at_most, long, word_of};
@@ -153,12 +156,19 @@ fn small_valid(s: &Block) -> bool
     fields_valid(s) && related(s)
 }
 
-// Whether the layout's code is one of the four.
-#[tactic(auto, unfolding(crate::specs::ValidBlocks::hall_valid))]
+// Whether the hall table is one that a making call takes. Not inlined, so that a push in the 7.1.4 hall with the built-in table does not set up this function's stack.
+#[inline(never)]
+fn table_valid(state: &Block) -> bool
+    ensures { result ≡ table_right (table_in state.now) }
+{
+    table_fault(&crate::table(state)).is_none()
+}
+
+// Whether the layout's code is one of the four, and the hall table right, as the built-in one is.
 pub fn hall_valid(state: &Block) -> bool
     ensures { result ≡ hall_valid state.now }
 {
-    crate::layout(state) <= LAST_LAYOUT
+    crate::layout(state) <= LAST_LAYOUT && (is_built_in(state, crate::TABLE) || table_valid(state))
 }
 
 // Whether a block has the right length and every field in its range.

@@ -4,15 +4,17 @@ use mathlib.Core.Path.{◌≡◌, refl, ap, subst}
 use mathlib.Core.Bool.{Bool, true, false, cond}
 use mathlib.Core.List.{List, []}
 use native.Mathlib.Omega.{arith}
-use lib.Dec.{T, eqb, leb}
+use lib.Dec.{T, eqb}
 use lib.ListN.{length, get_or}
 use Rattle.words.specs.Words.{Bytes}
 use Rattle.formats.specs.Areas.{row_count, row_bytes}
-use Rattle.panning.specs.Setup.{present}
+use Rattle.panning.specs.Setup.{Setup, present, hall_with}
 use Rattle.rules.specs.Samples.{State}
 use Rattle.rules.specs.Ranges.{Ranged}
 use Rattle.rules.specs.Absent.{starts_anew}
-use Rattle.rules.specs.Calls.{Call, push, flush, reset, make, Answer, refused, rendered, nothing, cleared, making, step}
+use Rattle.rules.specs.Refusals.{Found, clear, stop, is_clear}
+use Rattle.rules.specs.Making.{hall_of, layout_found, table_found}
+use Rattle.rules.specs.Calls.{Call, push, flush, reset, make, make_with, Answer, refused, rendered, nothing, cleared, making, step}
 use Rattle.rules.specs.BlockCalls.{left, out_of, stride_of}
 use Rattle.rules.specs.Demand3.{Lent}
 use Rattle.rules.proofs.Theorems as rules
@@ -55,19 +57,17 @@ module _ (b : List ℕ) (bytes : Bytes b) (call : Call) (lent : Lent call) (h : 
   by true e away = by_answer away e (step hall (decode b) call).answer
   by false e away = refl
 
+-- a making call that is refused, by what it finds or for the block's length
+refused_so : (b : List ℕ) (c k : ℕ) (long : Bool) (v : Found) (h : Setup) → is_clear v ≡ false → let x = making hall v h (decode b) in
+    SameByte b (cond long (left hall block x.answer x.next [] 0 b) (record { answer = refused 1 0 0; state = b; out = [] })).state c k
+refused_so b c k true clear h e = absurd (subst T e tt)
+refused_so b c k true (stop n x y) h e = refl
+refused_so b c k false v h e = refl
+
 pub absent_kept : AbsentKept
 unfolding decode
 absent_kept b bytes (push a) lent h c k row away near = by b bytes (push a) lent h c k row near (valid b) refl away
 absent_kept b bytes (flush out stride) lent h c k row away near = by b bytes (flush out stride) lent h c k row near (valid b) refl away
 absent_kept b bytes reset lent h c k row away near = absurd (subst T h tt)
-absent_kept b bytes (make n) lent h c k row away near = refused_so (eqb (length b) block.size) (leb n 3) h
-  where
-    r : State hall
-    r = decode b
-
-    -- a layout above 3 is refused, a wrong length too
-    refused_so : (long few : Bool) → few ≡ false
-        → SameByte b (cond long (left hall block (making hall few n r).answer (making hall few n r).next [] 0 b) (record { answer = refused 1 0 0; state = b; out = [] })).state c k
-    refused_so true true e = absurd (subst T e tt)
-    refused_so true false e = refl
-    refused_so false few e = refl
+absent_kept b bytes (make n) lent h c k row away near = refused_so b c k (eqb (length b) block.size) (layout_found n) (hall_with n) h
+absent_kept b bytes (make_with n t) lent h c k row away near = refused_so b c k (eqb (length b) block.size) (table_found n t) (hall_of n t) h

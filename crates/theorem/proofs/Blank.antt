@@ -15,6 +15,7 @@ use Rattle.timed.specs.declared.state.Track.{Track}
 use Rattle.timed.specs.declared.state.ElementRendererState.{ElementRendererState}
 use Rattle.timed.proofs.Theorems as timed'
 use Rattle.panning.specs.Setup.{hall_with}
+use Rattle.rules.proofs.Theorems.{right_hall}
 use Rattle.store.specs.Layout.{still, no_blocks, blank}
 use Rattle.store.proofs.Fresh.{fresh_ranged}
 use Rattle.timed.specs.InfoSizes.{info_bytes, all_bytes, send_byte}
@@ -84,7 +85,7 @@ sound_blank =
     }
 
 pub within_blank : Within 0 blank
-within_blank = let h = fresh_ranged (hall_with 0) (record { layout = lit≤ tt; built = refl }) in record { state = h.state; infos = h.infos }
+within_blank = let h = fresh_ranged (hall_with 0) (right_hall 0 (lit≤ tt)) in record { state = h.state; infos = h.infos }
 
 pub within_later : (n k : ℕ) (m : Timed) → n ≤ k → Within n m → Within k m
 within_later n k m l h =

@@ -98,4 +98,4 @@ hall_valid_of r h = is_true (store.hall_valid (encode r)) (valid'.hall_encode r 
 
 pub setup_of : (b : List ℕ) → Bytes b → store.hall_valid b ≡ true → rules.HallRanged (decode b).setup
 unfolding decode
-setup_of b bs e = decoded'.hall_ranged b (subst T (sym e) tt)
+setup_of b bs e = decoded'.hall_ranged b bs (subst T (sym e) tt)

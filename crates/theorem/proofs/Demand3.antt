@@ -1,19 +1,23 @@
 -- Document 01, demand 3, closed: for every list of calls, on the real timed state, metadata and state block. Assumes nothing.
 use Prim.Native.Nat.{ℕ, ◌≤◌}
 use mathlib.Core.Path.{◌≡◌, refl, ap}
+use mathlib.Core.Bool.{true}
 use mathlib.Core.List.{List}
-use lib.ListN.{length}
+use lib.ListN.{length, replicate, length-replicate}
 use Rattle.words.specs.Words.{Bytes}
-use Rattle.panning.specs.Setup.{Setup, hall_with}
-use Rattle.rules.specs.Demand3.{Lent, AllLent, Demand3, EveryList, EveryLayout, Keeps}
-use Rattle.rules.proofs.Theorems.{Facts, Passed, fresh_ranged, pushed_ranged, flushed_ranged, every_list, every_layout}
+use Rattle.panning.specs.Setup.{Setup, hall_with, table_right}
+use Rattle.rules.specs.Demand3.{Lent, AllLent, Demand3, EveryList, EveryLayout, EveryTable, BuiltInAlike, Keeps}
+use Rattle.rules.proofs.Theorems.{Facts, Passed, fresh_ranged, pushed_ranged, flushed_ranged}
 use Rattle.rules.specs.Refusals.{Args}
+use Rattle.rules.specs.Making.{table_words, hall_of}
 use Rattle.rules.specs.Samples.{State, fresh, pushed, flushed}
 use Rattle.rules.specs.Ranges.{HallRanged, Ranged}
-use Rattle.rules.specs.Calls.{Call, make, is_refused, frame_of, step}
+use Rattle.rules.specs.Calls.{Call, make, make_with, is_refused, frame_of, step}
 use Rattle.rules.specs.BlockCalls.{made}
-use Rattle.rules.proofs.Keeps as rules
+use Rattle.rules.proofs.Theorems as rules
+use Rattle.rules.proofs.Keeps.{step_ranged}
 use Rattle.theorem.specs.Instance.{hall, block}
+use Rattle.theorem.specs.Halls.{MakesHall}
 use Rattle.theorem.proofs.Sound.{Sound, Within}
 use Rattle.theorem.proofs.Checked.{Checked, checked}
 use Rattle.theorem.proofs.Applied.{sound_apply, within_apply}
@@ -53,16 +57,39 @@ facts =
     }
 
 pub demand3 : EveryList hall block
-demand3 = every_list hall block facts
+demand3 = rules.every_list hall block facts
 
 -- each layout is made in each block of the right length
 pub makes_accepted : EveryLayout hall block
-makes_accepted = every_layout hall block facts
+makes_accepted = rules.every_layout hall block facts
+
+-- and with each table that keeps the rules
+pub tables_accepted : EveryTable hall block
+tables_accepted = rules.every_table hall block facts
+
+-- the built-in table, handed over, makes the block that is made without one
+pub built_in_alike : BuiltInAlike hall block
+built_in_alike = rules.built_in_alike hall block facts
+
+pub layout_made : (n : ℕ) → n ≤ 3 → MakesHall (make n) (hall_with n)
+layout_made n h = record { lent = tt; makes = refl; accepted = λ b e. makes_accepted b e n h }
+
+pub table_made : (n : ℕ) → n ≤ 3 → (t : List ℕ) → Bytes t → length t ≡ 144 → table_right (table_words t) ≡ true → MakesHall (make_with n t) (hall_of n t)
+table_made n h t bytes long right = record { lent = bytes; makes = refl; accepted = λ b e. tables_accepted b e n h t long right }
 
 -- so demand 3 holds from what such a making call leaves
-pub demand3_in : (b : List ℕ) → Bytes b → length b ≡ block.size → (n : ℕ) → n ≤ 3 → (cs : List Call) → AllLent cs
-    → Demand3 hall block (hall_with n) (made hall block (make n) b).state cs
-demand3_in b bytes e n h = demand3 b bytes n (ap is_refused (makes_accepted b e n h))
+pub demand3_in : {m : Call} {h : Setup} → MakesHall m h → (b : List ℕ) → Bytes b → length b ≡ block.size → (cs : List Call) → AllLent cs
+    → Demand3 hall block h (made hall block m b).state cs
+demand3_in {m} {h} made b bytes e = demand3 b bytes m made.lent h made.makes (ap is_refused (made.accepted b e))
+
+-- from a new renderer in any hall in its ranges, as those are that can be made
+pub demand3_from : (h : Setup) → HallRanged h → (cs : List Call) → AllLent cs → Demand3 hall block h (block.encode (fresh hall h)) cs
+demand3_from = rules.from_fresh hall block facts
+
+pub made_ranged : {m : Call} {h : Setup} → MakesHall m h → HallRanged h
+made_ranged {m} {h} made =
+    let b : List ℕ = replicate block.size 0 in
+    (rules.made_in hall block facts b m made.lent h made.makes (ap is_refused (made.accepted b (length-replicate {A = ℕ} block.size 0)))).0
 
 -- a call that is accepted, on a block of any bytes, leaves a valid block
 pub keeps : Keeps hall block
@@ -71,7 +98,7 @@ keeps = rules.keeps hall block facts
 -- the same of the renderers between blocks
 pub stepped_within : (r : State hall) (c : Call) → Lent c → Ranged hall Within r → Ranged hall Within (step hall r c).next
 unfolding facts
-stepped_within = rules.step_ranged hall block facts
+stepped_within = step_ranged hall block facts
 
 pub fresh_within : (h : Setup) → HallRanged h → Ranged hall Within (fresh hall h)
 unfolding facts

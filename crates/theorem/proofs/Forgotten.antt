@@ -4,7 +4,7 @@ use Prim.Native.Nat.{ℕ, zero, suc, ◌*◌, ◌<◌}
 use mathlib.Core.Path.{◌≡◌, refl, sym, ap, subst}
 use mathlib.Core.List.{List, [], ◌∷◌, ◌++◌}
 use lib.Dec.{lit≤, lit<}
-use lib.ListN.{length, replicate, length-replicate, take}
+use lib.ListN.{length, replicate, take}
 use lib.Ieee.{Float, of_bits, binary32}
 use Rattle.ieee.specs.Units.{mag}
 use Rattle.lowpass.specs.Bound.{Bounded}
@@ -15,9 +15,10 @@ use Rattle.rules.specs.Calls.{push}
 use Rattle.rules.specs.Ringing.{feed}
 use Rattle.rules.specs.Sounds.{sound_at}
 use Rattle.rules.specs.Demand3.{AllLent}
-use Rattle.theorem.specs.Instance.{hall, block}
+use Rattle.rules.proofs.Theorems.{right_hall}
+use Rattle.theorem.specs.Instance.{hall}
 use Rattle.theorem.proofs.Blank.{zero_bytes}
-use Rattle.theorem.proofs.Demand3.{demand3_in}
+use Rattle.theorem.proofs.Demand3.{demand3_from}
 use Rattle.theorem.proofs.Opened.{everything}
 use Rattle.theorem.proofs.Heard.{small_bytes}
 
@@ -81,6 +82,6 @@ lent = ((small_bytes falling.pcm tt, small_bytes falling.meta tt, zero_bytes 921
 -- above twice what the quiet samples feed; later no more than that, by demand 3; and not silent
 pub past_gone : (2 * mag fed_quiet < mag (bass_at 39)) × Bounded (2 * mag fed_quiet) (bass_at 167) × (0 < mag (bass_at 167))
 past_gone =
-    let rings = (demand3_in (replicate block.size 0) (zero_bytes block.size) (length-replicate {A = ℕ} block.size 0) 0 (lit≤ tt) (push falling ∷ []) lent).rings in
+    let rings = (demand3_from (hall_with 0) (right_hall 0 (lit≤ tt)) (push falling ∷ []) lent).rings in
     let all : take 168 (feed hall (fresh hall (hall_with 0)) falling) ≡ replicate 40 fed_loud ++ replicate 128 fed_quiet = ap (take 168) fed_falling in
     (above, (rings.0 167 all_fed).forgets 1 (mag fed_quiet) (subst (Subsided 8000 1 (mag fed_quiet)) (sym all) subsided), sounds)

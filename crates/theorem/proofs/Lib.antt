@@ -16,6 +16,7 @@ pub mod Appends
 pub mod AbsentKept
 pub mod Opened
 pub mod Heard
+pub mod Elsewhere
 pub mod Waiting
 pub mod Forgotten
 pub mod Players

@@ -18,7 +18,7 @@ use Rattle.updates.specs.Applied.{applied}
 use Rattle.panning.specs.Choice.{corner}
 use Rattle.panning.specs.Terms.{panned, audible, paired}
 use Rattle.panning.specs.Speakers.{positions714}
-use Rattle.panning.specs.Setup.{place_in, present, speakers_in, divisor_in, table_of}
+use Rattle.panning.specs.Setup.{table_place, present, speakers_in, divisor_in, table_of}
 use Rattle.limiter.specs.Limiter.{scaled, lowered, block_peak}
 use Rattle.rules.specs.Parts.{1·0, Places, floats}
 use Rattle.store.specs.Layout.{blank}
@@ -41,6 +41,6 @@ same : (x : Float) → T (fits binary32 x) → mul binary32 x 1·0 ≡ x
 same x f = mul_one x (is_true (fits binary32 x) f)
 
 pub table : All Tells cases
-unfolding sub le ne of_bits to_bits mag absolute larger lowered block_peak root root_power number with_number float_at positions714 place_in present
+unfolding sub le ne of_bits to_bits mag absolute larger lowered block_peak root root_power number with_number float_at positions714 table_place present
     speakers_in divisor_in table_of corner panned audible paired room_anchored moved placed slot_at applied blank
 table = (refl, (refl, (refl, (refl, (refl, (refl, (refl, (refl, (refl, (limits (alone 0x3f80_0000) refl same, (limits (alone 0x4000_0000) refl (λ x f. refl), tt)))))))))))

@@ -25,6 +25,7 @@ use Rattle.beds.specs.Positions as positions
 use Rattle.beds.specs.BedTerms as terms
 use Rattle.beds.specs.Matching as matching
 use Rattle.panning.specs.Choice as choice
+use Rattle.panning.specs.Table as table
 use Rattle.panning.specs.Terms as panning
 use Rattle.panning.specs.Speakers as speakers
 use Rattle.panning.specs.Setup as setup
@@ -58,10 +59,15 @@ unfoldable pub sound : Unit {0}
 unfolding
     routes.route_of routes.route_in positions.positions positions.bed_position terms.bed_adds matching.first_of matching.matching
     choice.corner panning.panned panning.audible panning.paired panning.on_channel speakers.positions714
-    setup.place_in setup.present setup.speakers_in setup.divisor_in setup.table_of
+    setup.table_place setup.present setup.speakers_in setup.divisor_in setup.table_of
     terms-of-angle.cosine terms-of-angle.sine angle.w0 filter.coefficients_of lowpass.new limiter.lowered limiter.grown limiter.block_peak meters.shown
     mix.object_terms mix.heard samples.pushed samples.flushed rules.written
 sound = tt
+
+-- which tables are accepted, and which channels a list keeps
+unfoldable pub judging : Unit {0}
+unfolding choice.keep table.between setup.all_inside setup.all_apart ieee.fits
+judging = tt
 
 unfoldable pub everything : Unit {0}
 unfolding numbers metadata time sound

@@ -1,13 +1,16 @@
 -- What others may cite of this crate, a line each. Assumes nothing.
 
--- demand 3, each layout is made in each block, a call leaves a valid block, the six players, the meters
-pub use Rattle.theorem.proofs.Demand3.{demand3, makes_accepted, demand3_in, keeps}
+-- demand 3, each layout is made in each block, with each table that keeps the rules, and with the built-in one as without a table; a call leaves a valid block; the six players, the
+-- meters
+pub use Rattle.theorem.proofs.Demand3.{demand3, makes_accepted, tables_accepted, built_in_alike, layout_made, table_made, demand3_in, demand3_from, keeps}
 pub use Rattle.theorem.proofs.Players.{not_silent, not_all_refused, all_mixed, every_block, ready_counts, flush_gives}
 pub use Rattle.theorem.proofs.Heard.{meters_show}
 -- R-5: in a hall without a bed's speaker the bed is heard on another; no call writes an output's places of absent channels, no push and no flush a block's
 pub use Rattle.theorem.proofs.Heard.{absent_heard}
 pub use Rattle.theorem.proofs.Unwritten.{absent_unwritten}
 pub use Rattle.theorem.proofs.AbsentKept.{absent_kept}
+-- R-6: an object is heard on other speakers where the hall's table has them elsewhere, and the built-in table makes what is made without one
+pub use Rattle.theorem.proofs.Elsewhere.{elsewhere, built_in_loaded}
 -- R-4: a push that completes no block leaves every place but those of its samples alone; two samples that stand behind each other
 pub use Rattle.theorem.proofs.Appends.{appends}
 pub use Rattle.theorem.proofs.Waiting.{both_wait}

@@ -15,12 +15,12 @@ use Rattle.rules.specs.Ranges.{Ranged}
 use Rattle.rules.specs.Refusals.{Args, clear}
 use Rattle.rules.specs.Calls.{Call, push, make, frame_of, found, final}
 use Rattle.rules.specs.BlockCalls.{made, final_on}
-use Rattle.rules.proofs.Theorems.{is_passed}
+use Rattle.rules.proofs.Theorems.{is_passed, right_hall}
 use Rattle.store.specs.Layout.{encode}
 use Rattle.theorem.specs.Instance.{hall, block}
 use Rattle.theorem.specs.Appends.{place_at}
 use Rattle.theorem.proofs.Sound.{Within}
-use Rattle.theorem.proofs.Demand3.{demand3_in, fresh_within, pushed_within}
+use Rattle.theorem.proofs.Demand3.{layout_made, demand3_in, fresh_within, pushed_within}
 use Rattle.theorem.proofs.Opened.{everything}
 use Rattle.theorem.proofs.Heard.{frame, bed, accepted_bed, small_bytes, lent}
 use Rattle.theorem.proofs.Appends.{encoded_word}
@@ -60,7 +60,7 @@ ranged : Ranged hall Within second
 ranged =
     pushed_within first again (small_bytes [] tt) (is_passed hall first again accepted_again)
     (pushed_within (fresh hall (hall_with 0)) bed (small_bytes bed.meta tt) (is_passed hall (fresh hall (hall_with 0)) bed accepted_bed)
-    (fresh_within (hall_with 0) (record { layout = lit≤ tt; built = refl })))
+    (fresh_within (hall_with 0) (right_hall 0 (lit≤ tt))))
 
 -- ---- on the block's bytes
 
@@ -73,7 +73,7 @@ pub both_wait : (b : List ℕ) → Bytes b → length b ≡ block.size → let d
 both_wait b bytes e =
     let one = (lent bed.pcm bed.meta bed.codes 0 tt tt tt).0 in
     let two = (lent again.pcm [] again.codes 0 tt tt tt).0 in
-    let d : final_on hall block (made hall block (make 0) b).state calls ≡ encode second = (demand3_in b bytes e 0 (lit≤ tt) calls (one, (two, tt))).block ∙ ap encode ends_so in
+    let d : final_on hall block (made hall block (make 0) b).state calls ≡ encode second = (demand3_in (layout_made 0 (lit≤ tt)) b bytes e calls (one, (two, tt))).block ∙ ap encode ends_so in
     let at : (i : ℕ) → i < row_places → float_at (encode second) (place_at 0 i) ≡ of_bits binary32 (get_or (second.pending.places 0) i 0) =
     λ i h. float_of (encode second) (place_at 0 i) ∙ ap (of_bits binary32) (encoded_word second ranged 0 i (lit< tt) h) in
     rw (d, at 0 (lit< tt), at 1 (lit< tt)) told_both

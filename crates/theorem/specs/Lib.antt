@@ -1,4 +1,5 @@
 pub mod Instance
+pub mod Halls
 pub mod Appends
 pub mod AbsentKept
 pub mod Marked

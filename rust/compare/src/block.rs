@@ -1,6 +1,7 @@
 //! A state block (docs/STATE-BLOCK.md) beside the Rust's own state.
 
 use crate::same;
+use crate::setup::{Setup, Table};
 use oracle::frame::{ANCHORS, DEPTHS};
 use oracle::state::{Element, Info, Metadata, Source, State};
 
@@ -14,8 +15,9 @@ pub const INFO: usize = 48;
 pub const PLACES: usize = INFOS + 512 * INFO;
 /// The places of a channel.
 pub const ROW: usize = 256;
-/// Where the layout's code stands.
+/// Where the layout's code stands, and the hall table.
 pub const LAYOUT: usize = PLACES + 12 * ROW;
+pub const TABLE: usize = LAYOUT + 4;
 /// Where the send stands in a source and in an info.
 pub const SOURCE_SEND: usize = 24;
 pub const INFO_SEND: usize = 44;
@@ -132,9 +134,10 @@ impl Block<'_> {
     }
 }
 
-/// The part of the block that is not the Rust's, in a hall of that layout. What waits in absent
-/// channels is not looked at.
-pub fn difference(block: &[u8], layout: u32, state: &State) -> Option<&'static str> {
+/// The part of the block that is not the Rust's, in that hall. What waits in absent channels is not
+/// looked at.
+pub fn difference(block: &[u8], setup: &Setup, state: &State) -> Option<&'static str> {
+    let hall = Setup::of_block(block) == *setup;
     let block = Block(block);
     let metadata = &state.metadata;
     let source = |(i, s): (usize, &Source)| block.same_source(SOURCES + SOURCE * i, s);
@@ -154,7 +157,7 @@ pub fn difference(block: &[u8], layout: u32, state: &State) -> Option<&'static s
             "elements",
             metadata.elements.iter().enumerate().all(element),
         ),
-        ("layout", block.word(LAYOUT) == layout),
+        ("layout, table", hall),
     ];
     parts.iter().find(|(_, same)| !same).map(|(name, _)| *name)
 }
@@ -162,6 +165,11 @@ pub fn difference(block: &[u8], layout: u32, state: &State) -> Option<&'static s
 /// The code that a block holds.
 pub fn layout(block: &[u8]) -> u32 {
     Block(block).word(LAYOUT)
+}
+
+/// The hall table that it holds.
+pub fn table(block: &[u8]) -> Table {
+    block[TABLE..].try_into().unwrap()
 }
 
 /// Whether a layout has a channel (document 02, R-5).

@@ -1,7 +1,8 @@
 //! Calls as a host makes them, over bytes.
 
 use crate::entry::{self, Answer};
-use crate::{Frames, Generator, block, records};
+use crate::setup::{self, Setup};
+use crate::{Frames, Generator, records, tables};
 use oracle::frame::Frame;
 
 /// The arguments of a push but for what is lent to write.
@@ -34,8 +35,9 @@ pub enum Step {
     Push(Call),
     Flush,
     Reset,
-    /// By the layout's code.
+    /// By the layout's code, and with a table's bytes.
     Make(u32),
+    MakeWith(u32, Vec<u8>),
 }
 
 impl Step {
@@ -46,14 +48,28 @@ impl Step {
             Step::Flush => entry::flush(state, out, stride),
             Step::Reset => entry::reset(state),
             Step::Make(layout) => entry::make(state, *layout),
+            Step::MakeWith(layout, table) => entry::make_with(state, *layout, table),
         }
     }
 
-    /// The layout behind the call, on a block as long as a block is.
-    pub fn layout(&self, state: &[u8]) -> u32 {
+    /// The hall behind the call, which is accepted.
+    pub fn setup(&self, state: &[u8]) -> Setup {
         match self {
-            Step::Make(layout) => *layout,
-            _ => block::layout(state),
+            Step::Make(layout) => Setup::built_in(*layout),
+            Step::MakeWith(layout, table) => Setup {
+                layout: *layout,
+                table: table[..].try_into().unwrap(),
+            },
+            _ => Setup::of_block(state),
+        }
+    }
+
+    /// The refusal of a making call on a block as long as a block is, else 0: 15 before 16 to 18.
+    pub fn made(&self) -> u32 {
+        match self {
+            Step::Make(4..) | Step::MakeWith(4.., _) => 15,
+            Step::MakeWith(_, table) => setup::fault(table),
+            _ => 0,
         }
     }
 }
@@ -122,7 +138,8 @@ impl Calls {
         self
     }
 
-    /// Half of the resets are making calls, mostly of that layout, also of others and of none.
+    /// Three in four of the resets are making calls, mostly of that layout, also of others and of
+    /// none; two of these three have a table, one in four of them with something wrong.
     pub fn with_making(mut self, layout: u32) -> Self {
         self.makes = Some(layout);
         self
@@ -152,17 +169,31 @@ impl Calls {
     fn new_renderer(&mut self) -> Step {
         let Calls { inputs, makes, .. } = self;
         let made = makes
-            .filter(|_| inputs.chance(2))
+            .filter(|_| !inputs.chance(4))
             .map(|layout| match inputs.below(8) {
                 0 => inputs.pick(&[4, 5, 256, 1 << 31, u32::MAX]),
                 1 => inputs.below(4) as u32,
                 _ => layout,
             });
+        let step = match made {
+            None => Step::Reset,
+            Some(layout) if inputs.chance(3) => Step::Make(layout),
+            Some(layout) => Step::MakeWith(layout, any_table(inputs)),
+        };
         // A refused one starts nothing.
-        if made.is_none_or(|layout| layout < 4) {
+        if step.made() == 0 {
             self.frames.restart();
         }
-        made.map_or(Step::Reset, Step::Make)
+        step
+    }
+}
+
+/// Mostly accepted, one time in twelve the built-in one.
+fn any_table(inputs: &mut Generator) -> Vec<u8> {
+    match inputs.below(12) {
+        0..3 => tables::spoilt(inputs),
+        3 => setup::built_in().to_vec(),
+        _ => tables::accepted(inputs).to_vec(),
     }
 }
 

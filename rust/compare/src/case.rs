@@ -3,8 +3,9 @@
 
 use crate::calls::Step;
 use crate::entry::{Answer, BLOCK, same_answer};
-use crate::host::{fresh, only_ready_is_written};
+use crate::host::only_ready_is_written;
 use crate::model::{Model, Outcome, judged, rightly_lent};
+use crate::setup::Setup;
 use crate::{block, ranges};
 
 /// All arguments of one call.
@@ -30,14 +31,13 @@ impl Case {
         Seen { answer, state, out }
     }
 
-    /// The refusal among 1 to 8 but 7, and 15, by a reading that needs no Rust; else 0.
+    /// The refusal among 1 to 8 but 7, and 15 to 18, by a reading that needs no Rust; else 0.
     pub fn early(&self) -> u32 {
         let lent = || rightly_lent(&self.state, self.out.len(), self.stride);
         match &self.step {
             _ if self.state.len() != BLOCK => 1,
-            Step::Make(layout) if *layout > 3 => 15,
-            Step::Make(_) => 0,
-            Step::Reset => u32::from(block::layout(&self.state) > 3),
+            step @ (Step::Make(_) | Step::MakeWith(..)) => step.made(),
+            Step::Reset => u32::from(!Setup::of_block(&self.state).holds()),
             _ if !lent() => 1,
             Step::Flush => 0,
             Step::Push(call) => {
@@ -51,8 +51,8 @@ impl Case {
     /// What the documents and the Rust have it come to, with the renderer that it leaves.
     fn expected(&self) -> (Outcome, Option<Model>) {
         match (self.early(), &self.step) {
-            (0, step @ (Step::Reset | Step::Make(_))) => {
-                (Outcome::New(step.layout(&self.state)), None)
+            (0, step @ (Step::Reset | Step::Make(_) | Step::MakeWith(..))) => {
+                (Outcome::New(step.setup(&self.state)), None)
             }
             (0, step) => {
                 let mut model = Model::of_block(&self.state);
@@ -76,8 +76,8 @@ impl Case {
         assert!(written, "{name}: {outcome:?}: the output");
         match &outcome {
             Outcome::Ready(..) => assert!(ranges::hold(&seen.state), "{name}: the ranges"),
-            Outcome::New(layout) => {
-                assert!(seen.state == fresh(*layout), "{name}: a new renderer");
+            Outcome::New(setup) => {
+                assert!(seen.state == setup.fresh(), "{name}: a new renderer");
             }
             _ => assert!(seen.state == self.state, "{name}: {outcome:?}: the block"),
         }

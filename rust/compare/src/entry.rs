@@ -2,7 +2,8 @@
 
 use crate::calls::Call;
 use voqlisna_sys::{
-    hall_flush, hall_from_planes, hall_make, hall_push, hall_reset, hall_to_planes,
+    hall_flush, hall_from_planes, hall_make, hall_make_with_table, hall_push, hall_reset,
+    hall_to_planes,
 };
 
 pub use voqlisna_sys::Answer;
@@ -58,6 +59,20 @@ pub fn flush(state: &mut [u8], out: &mut [u8], stride: u32) -> Answer {
 pub fn make(state: &mut [u8], layout: u32) -> Answer {
     // SAFETY: one slice that lives through the call.
     unsafe { hall_make(state.as_mut_ptr(), state.len(), layout) }
+}
+
+/// `layout` is a code.
+pub fn make_with(state: &mut [u8], layout: u32, table: &[u8]) -> Answer {
+    // SAFETY: two slices that live through the call and do not overlap.
+    unsafe {
+        hall_make_with_table(
+            state.as_mut_ptr(),
+            state.len(),
+            layout,
+            table.as_ptr(),
+            table.len(),
+        )
+    }
 }
 
 pub fn reset(state: &mut [u8]) -> Answer {

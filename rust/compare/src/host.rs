@@ -3,20 +3,25 @@
 use crate::calls::{Call, Step};
 use crate::entry::{self, Answer, BLOCK, same_answer};
 use crate::model::{Model, Outcome, STREAM_END};
-use crate::{Frames, same};
+use crate::setup::Setup;
+use crate::{Frames, Generator, same, tables};
 
-/// What making makes of any block.
+/// What making with the built-in table makes of any block.
 pub fn fresh(layout: u32) -> Vec<u8> {
     let mut state = vec![0xa5; BLOCK];
     let answer = entry::make(&mut state, layout);
-    let made = Outcome::New(layout).answer();
+    let made = Outcome::New(Setup::built_in(layout)).answer();
     assert!(same_answer(answer, made), "{answer:?}");
     state
 }
 
-/// A block after some calls, of one layout after the other.
+/// A block after some calls, of one layout after the other, one in two with a table of its own.
 pub fn used_block(seed: u64) -> Vec<u8> {
-    let mut host = Host::in_layout(256, seed as u32 % 4);
+    let mut setup = Setup::built_in(seed as u32 % 4);
+    if seed / 4 % 2 == 1 {
+        setup.table = tables::accepted(&mut Generator::new(seed));
+    }
+    let mut host = Host::in_hall(256, &setup);
     let mut frames = Frames::new(seed, 256);
     for _ in 0..6 {
         let call = Call::from(&frames.next_frame());
@@ -65,8 +70,13 @@ impl Host {
 
     /// A new renderer of that layout.
     pub fn in_layout(stride: usize, layout: u32) -> Self {
+        Host::in_hall(stride, &Setup::built_in(layout))
+    }
+
+    /// A new renderer in that hall.
+    pub fn in_hall(stride: usize, setup: &Setup) -> Self {
         Host {
-            state: fresh(layout),
+            state: setup.fresh(),
             out: vec![0x5a; 48 * stride],
             stride,
         }
@@ -99,8 +109,8 @@ impl Host {
     pub fn step(&mut self, model: &mut Model, step: &Step, name: &str) -> Outcome {
         let outcome = model.step(step, self.stride);
         self.calls(&outcome, |s, o, n| step.call(s, o, n), name);
-        if let Outcome::New(layout) = outcome {
-            assert!(self.state == fresh(layout), "{name}");
+        if let Outcome::New(setup) = &outcome {
+            assert!(self.state == setup.fresh(), "{name}");
         }
         outcome
     }

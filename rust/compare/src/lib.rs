@@ -16,7 +16,9 @@ pub mod records;
 pub mod rows;
 pub mod scale;
 pub mod seeds;
+pub mod setup;
 pub mod streams;
+pub mod tables;
 
 pub use frames::{Frames, largest_frame, loudest_frame, set};
 pub use generator::{EDGES, Generator};

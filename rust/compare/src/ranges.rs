@@ -1,12 +1,13 @@
 //! The ranges of a state block (docs/STATE-BLOCK.md, after document 01's "What a call receives"):
 //! which blocks are in range, and blocks drawn from all of these.
 
-use crate::Generator;
 use crate::block::{
-    ELEMENT, ELEMENTS, INFO, INFO_SEND, INFOS, LAYOUT, SOURCE, SOURCE_SEND, SOURCES,
+    ELEMENT, ELEMENTS, INFO, INFO_SEND, INFOS, LAYOUT, SOURCE, SOURCE_SEND, SOURCES, TABLE,
 };
 use crate::entry::BLOCK;
 use crate::model::STREAM_END;
+use crate::setup::{Setup, Table, built_in};
+use crate::{Generator, tables};
 use std::sync::LazyLock;
 
 const RATES: std::ops::RangeInclusive<u64> = 8_000..=192_000;
@@ -52,7 +53,7 @@ impl Field {
     }
 }
 
-/// Every field that is no float, the rate first, which may be 0 too.
+/// Every field that is a number of its own and no float, the rate first, which may be 0 too.
 pub fn fields() -> &'static [Field] {
     static FIELDS: LazyLock<Vec<Field>> = LazyLock::new(table);
     &FIELDS
@@ -155,13 +156,19 @@ fn related(block: &[u8]) -> Vec<Field> {
     related
 }
 
-/// The block is as long as a block is, and each field within its range.
+/// Puts a hall table into a block.
+pub fn put_table(block: &mut [u8], table: &Table) {
+    block[TABLE..][..table.len()].copy_from_slice(table);
+}
+
+/// The block is as long as a block is, and each field within its range; the table is one field.
 pub fn hold(block: &[u8]) -> bool {
     let (rate, others) = fields().split_first().unwrap();
     block.len() == BLOCK
         && (rate.holds(block) || rate.number(block) == 0)
         && others.iter().all(|field| field.holds(block))
         && related(block).iter().all(|field| field.holds(block))
+        && Setup::of_block(block).holds()
 }
 
 /// The least, the most, or a number between.
@@ -175,7 +182,7 @@ fn end(inputs: &mut Generator, field: &Field) -> u64 {
 
 /// A block in range: each number at an end of its range or between; floats of any bits, in every
 /// second block mostly small ones, so that not all that follows is NaN; in every second block no
-/// send, so that the Rust goes on from it.
+/// send, and in every second the built-in table, so that the Rust goes on from it.
 pub fn drawn(inputs: &mut Generator) -> Vec<u8> {
     let tame = inputs.chance(2);
     let mut float = || {
@@ -201,6 +208,11 @@ pub fn drawn(inputs: &mut Generator) -> Vec<u8> {
             .chain(infos)
             .for_each(|at| block[at..at + 4].fill(0));
     }
+    let table = match inputs.chance(2) {
+        true => built_in(),
+        false => tables::accepted(inputs),
+    };
+    put_table(&mut block, &table);
     // The phase before the slot's start, which depends on it.
     let elements = EACH_ELEMENT.map(|at| [at + 4, at + 8]);
     for place in [4, 16, 64, 84, 88].into_iter().chain(elements.concat()) {

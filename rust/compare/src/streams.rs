@@ -16,7 +16,7 @@ pub fn append(stream: &mut Vec<u8>, step: &Step) {
         Step::Push(call) => call,
         Step::Flush => return stream.extend(record(7)),
         Step::Reset => return stream.extend(record(8)),
-        Step::Make(_) => panic!("hallrender makes its renderer itself"),
+        Step::Make(_) | Step::MakeWith(..) => panic!("hallrender makes its renderer itself"),
     };
     let mut header = record(5);
     header[4..8].copy_from_slice(&call.rate.to_le_bytes());

@@ -12,9 +12,17 @@ pub enum Policy {
     Stop,
 }
 
-#[derive(Clone, Copy)]
+/// The hall that is played in.
+#[derive(Clone)]
+pub struct Hall {
+    pub layout: Layout,
+    /// The file of its table, where one is named.
+    pub table: Option<OsString>,
+}
+
+#[derive(Clone)]
 pub enum Picture {
-    Map(Layout),
+    Map(Hall),
     Bass,
     Decay,
     Limiter,
@@ -31,11 +39,20 @@ pub enum Meters {
     Written(OsString),
 }
 
+impl Meters {
+    pub fn file(&self) -> Option<&OsString> {
+        match self {
+            Self::None | Self::Shown => None,
+            Self::Written(file) => Some(file),
+        }
+    }
+}
+
 pub struct Render {
     pub from: OsString,
     pub to: OsString,
     pub policy: Policy,
-    pub layout: Layout,
+    pub hall: Hall,
     pub rf64: bool,
     pub meters: Meters,
 }
@@ -43,7 +60,7 @@ pub struct Render {
 pub struct Demo {
     pub to: OsString,
     pub seconds: f64,
-    pub layout: Layout,
+    pub hall: Hall,
     pub meters: Meters,
 }
 
@@ -78,9 +95,10 @@ pub enum Command {
         what: Picture,
         to: OsString,
     },
+    Table(Hall),
 }
 
-const COMMANDS: [&str; 12] = [
+const COMMANDS: [&str; 13] = [
     "demo",
     "render",
     "check",
@@ -91,6 +109,7 @@ const COMMANDS: [&str; 12] = [
     "unarchive",
     "map",
     "plot",
+    "table",
     "version",
     "help",
 ];
@@ -115,10 +134,11 @@ fn parse(mut parser: Parser) -> Result<Command, Trouble> {
         Some(other) => return Err(unknown(&other, &["help", "version"])),
     };
     let known: &[&str] = match name.as_str() {
-        "demo" => &["o", "s", "layout", "meters"],
-        "render" => &["o", "conceal", "stop", "layout", "rf64", "meters"],
+        "demo" => &["o", "s", "layout", "table", "meters"],
+        "render" => &["o", "conceal", "stop", "layout", "table", "rf64", "meters"],
         "unarchive" => &["o", "rf64"],
-        "map" => &["o", "layout"],
+        "map" => &["o", "layout", "table"],
+        "table" => &["layout"],
         "undump" | "archive" | "plot" => &["o"],
         _ => &[],
     };
@@ -142,6 +162,7 @@ fn command(name: &str, given: Given) -> Result<Command, Trouble> {
         "unarchive" => given.unarchive(),
         "map" => given.none().and_then(Given::map),
         "plot" => given.plot(),
+        "table" => given.told_table(),
         "version" => given.none().map(|_| Command::Version),
         "help" => given.none().map(|_| Command::Help),
         _ => {
@@ -158,6 +179,7 @@ struct Given {
     to: Option<OsString>,
     seconds: Option<OsString>,
     layout: Option<OsString>,
+    table: Option<OsString>,
     /// The option, and its file where it names one.
     meters: Option<Option<OsString>>,
     conceal: bool,
@@ -179,6 +201,9 @@ impl Given {
                 }
                 Long("layout") if known.contains(&"layout") => {
                     given.layout = Some(parser.value().map_err(wrong)?);
+                }
+                Long("table") if known.contains(&"table") => {
+                    given.table = Some(parser.value().map_err(wrong)?);
                 }
                 Long("conceal") if known.contains(&"conceal") => given.conceal = true,
                 Long("stop") if known.contains(&"stop") => given.stop = true,
@@ -231,6 +256,11 @@ impl Given {
         })
     }
 
+    fn hall(&self) -> Result<Hall, Trouble> {
+        let (layout, table) = (self.layout()?, self.table.clone());
+        Ok(Hall { layout, table })
+    }
+
     /// `to`: where the samples go.
     fn meters(&self, to: &OsString) -> Result<Meters, Trouble> {
         match &self.meters {
@@ -264,11 +294,11 @@ impl Given {
                 })?,
         };
         let to = given.to.clone().unwrap_or_else(|| "show.wav".into());
-        let (layout, meters) = (given.layout()?, given.meters(&to)?);
+        let (hall, meters) = (given.hall()?, given.meters(&to)?);
         Ok(Command::Demo(Demo {
             to,
             seconds,
-            layout,
+            hall,
             meters,
         }))
     }
@@ -279,17 +309,22 @@ impl Given {
                 "--conceal and --stop: only one of them".into(),
             ));
         }
-        let to = self.wave()?;
+        let (from, to) = (self.only("IN")?, self.wave()?);
+        if from == "-" && self.table.as_ref().is_some_and(|table| table == "-") {
+            return Err(Trouble::Wrong(
+                "IN and --table: standard input cannot be both".into(),
+            ));
+        }
+        let policy = match self.stop {
+            true => Policy::Stop,
+            false => Policy::Conceal,
+        };
         Ok(Command::Render(Render {
-            from: self.only("IN")?,
+            from,
             meters: self.meters(&to)?,
             to,
-            policy: if self.stop {
-                Policy::Stop
-            } else {
-                Policy::Conceal
-            },
-            layout: self.layout()?,
+            policy,
+            hall: self.hall()?,
             rf64: self.rf64,
         }))
     }
@@ -328,8 +363,18 @@ impl Given {
     }
 
     fn map(self) -> Result<Command, Trouble> {
+        let hall = self.hall()?;
+        self.draw(Picture::Map(hall))
+    }
+
+    /// The built-in one, or that of a file.
+    fn told_table(self) -> Result<Command, Trouble> {
+        let table = match self.values.is_empty() {
+            true => None,
+            false => Some(self.only("FILE")?),
+        };
         let layout = self.layout()?;
-        self.draw(Picture::Map(layout))
+        Ok(Command::Table(Hall { layout, table }))
     }
 
     fn plot(self) -> Result<Command, Trouble> {
@@ -426,7 +471,7 @@ mod tests {
         }
     }
 
-    const TAKEN: [&str; 33] = [
+    const TAKEN: [&str; 40] = [
         "demo",
         "demo -o x -s 0.5",
         "demo -s20",
@@ -442,6 +487,13 @@ mod tests {
         "demo --layout=7.1.0",
         "map --layout 5.1.0 -o b",
         "map --layout 7.1.4 -o b",
+        "render a -o b --table c",
+        "render - -o b --layout 5.1.4 --table=c",
+        "render a -o b --table -",
+        "demo --table c",
+        "map --table c -o b",
+        "table",
+        "table a --layout 5.1.0",
         "check a",
         "dump -",
         "undump a -o b",
@@ -463,7 +515,7 @@ mod tests {
     ];
 
     /// Lines, and what is said of them.
-    const NOT: [(&str, &str); 29] = [
+    const NOT: [(&str, &str); 34] = [
         ("rendr a", "unknown command rendr; did you mean render?"),
         ("sing", "unknown command sing"),
         (
@@ -486,6 +538,17 @@ mod tests {
             "unknown option --layuot; did you mean --layout?",
         ),
         ("demo --layout", "missing argument for option '--layout'"),
+        ("demo --table", "missing argument for option '--table'"),
+        ("check a --table b", "unknown option --table"),
+        (
+            "map -o b --tabel c",
+            "unknown option --tabel; did you mean --table?",
+        ),
+        (
+            "render - -o b --table -",
+            "IN and --table: standard input cannot be both",
+        ),
+        ("table a b", "unexpected argument b"),
         ("render a -o b --meters c", "unexpected argument c"),
         (
             "render a -o b --meters=",

@@ -2,9 +2,10 @@
 //! A programme through the renderer, ask after ask, as `render`, `check` and `demo` take it.
 use crate::arguments::Policy;
 use crate::programme::{Ask, Broken, Packet, Programme};
+use crate::setup::Setup;
 use crate::trouble::Trouble;
 use std::collections::BTreeMap;
-use voqlisna::{Concealer, Layout, MakeError, Output, Refusal, Rendered, Renderer, Stride};
+use voqlisna::{Concealer, MakeError, Output, Refusal, Rendered, Renderer, Stride};
 
 /// A frame that was refused.
 pub struct Refused<'a> {
@@ -70,10 +71,10 @@ pub struct Hall {
 }
 
 impl Hall {
-    pub fn new(layout: Layout) -> Result<Self, Trouble> {
+    pub fn new(setup: &Setup) -> Result<Self, Trouble> {
         let stride = Stride::MAX;
         Ok(Self {
-            renderer: renderer(layout)?,
+            renderer: renderer(setup)?,
             out: Output::new(stride),
             concealer: Concealer::new(stride),
             rate: None,
@@ -168,8 +169,12 @@ impl Hall {
 }
 
 /// A new renderer, if library and tool are of one version.
-pub fn renderer(layout: Layout) -> Result<Renderer, Trouble> {
-    Renderer::new(layout).map_err(|e| match e {
+pub fn renderer(setup: &Setup) -> Result<Renderer, Trouble> {
+    let made = match &setup.table {
+        None => Renderer::new(setup.layout),
+        Some(table) => Renderer::with_table(setup.layout, table),
+    };
+    made.map_err(|e| match e {
         MakeError::Version { expected, found } => Trouble::Wrong(format!(
             "the library is version {found} and this tool is for {expected}: run tools/staticlib hall again"
         )),

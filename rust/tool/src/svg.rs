@@ -58,8 +58,12 @@ impl Svg {
 
     /// On a white ground, over lines.
     pub fn backed(&mut self, at: (f64, f64), text: &str) {
+        self.on_white(at, Align::Start, DARK, text);
+    }
+
+    pub fn on_white(&mut self, at: (f64, f64), align: Align, colour: &str, text: &str) {
         let ground = "stroke=\"#fff\" stroke-width=\"5\" paint-order=\"stroke\"";
-        self.styled(at, Align::Start, &format!("fill=\"{DARK}\" {ground}"), text);
+        self.styled(at, align, &format!("fill=\"{colour}\" {ground}"), text);
     }
 
     fn styled(&mut self, at: (f64, f64), align: Align, style: &str, text: &str) {
@@ -155,11 +159,28 @@ pub struct Area {
 }
 
 impl Area {
-    fn bottom(self) -> f64 {
+    pub fn bottom(self) -> f64 {
         self.y + self.height
     }
+
     fn right(self) -> f64 {
         self.x + self.width
+    }
+
+    /// Whether another lies inside.
+    pub fn holds(self, other: Self) -> bool {
+        other.x >= self.x
+            && other.right() <= self.right()
+            && other.y >= self.y
+            && other.bottom() <= self.bottom()
+    }
+
+    /// Whether they have a part in common.
+    pub fn meets(self, other: Self) -> bool {
+        other.x < self.right()
+            && self.x < other.right()
+            && other.y < self.bottom()
+            && self.y < other.bottom()
     }
 }
 

@@ -166,45 +166,52 @@ fn is_wrong(folder: &Folder, command: &str, bytes: &[u8], message: &str) -> Vec<
     fs::read(&to).unwrap_or_default()
 }
 
+/// Bytes with others in their place.
+fn changed(bytes: &[u8], at: usize, to: &[u8]) -> Vec<u8> {
+    let mut bytes = bytes.to_vec();
+    bytes[at..at + to.len()].copy_from_slice(to);
+    bytes
+}
+
 #[test]
 fn other_files_are_not_archived() {
     let folder = Folder::new("archive-others");
     let good = wave(&[0; 96]);
-    let changed = |at: usize, to: &[u8]| {
-        let mut bytes = good.clone();
-        bytes[at..at + to.len()].copy_from_slice(to);
-        bytes
-    };
     let none = "byte 0: this is no WAVE file";
-    let other =
-        "byte 56: not a layout's channels in f32 with their mask (0x2d63f, 0x2d60f, 0x63f, 0x60f)";
     let short = |at: usize| format!("byte {at}: the file ends before its samples");
     for (bytes, message) in [
         (vec![], none),
         (good[..11].to_vec(), none),
-        (changed(0, b"RIFX"), none),
-        (changed(8, b"WAVX"), none),
+        (changed(&good, 0, b"RIFX"), none),
+        (changed(&good, 8, b"WAVX"), none),
         (good[..12].to_vec(), &short(12)),
         (good[..40].to_vec(), &short(40)),
         (good[..90].to_vec(), &short(56)),
         (good[..103].to_vec(), &short(96)),
-        (changed(58, &[2]), other),  // channels
-        (changed(70, &[24]), other), // bits
-        (changed(76, &[0]), other),  // the mask
-        (changed(80, &[1]), other),  // whole numbers
-        (
-            changed(60, &[0; 4]),
-            "byte 56: a rate outside 8,000 to 192,000 Hz",
-        ),
-        (
-            changed(48, b"fmtx"),
-            "byte 104: samples before their format",
-        ),
-        (
-            changed(100, &[95]),
-            "byte 104: the samples are not whole rows of 48 bytes",
-        ),
     ] {
+        assert_eq!(is_wrong(&folder, "archive", &bytes, message), []);
+    }
+}
+
+#[test]
+fn other_samples_are_not_archived() {
+    let folder = Folder::new("archive-samples");
+    let good = wave(&[0; 96]);
+    let other =
+        "byte 56: not a layout's channels in f32 with their mask (0x2d63f, 0x2d60f, 0x63f, 0x60f)";
+    let rate = "byte 56: a rate outside 8,000 to 192,000 Hz";
+    let early = "byte 104: samples before their format";
+    let odd = "byte 104: the samples are not whole rows of 48 bytes";
+    for (at, to, message) in [
+        (58, &[2][..], other), // channels
+        (70, &[24], other),    // bits
+        (76, &[0], other),     // the mask
+        (80, &[1], other),     // whole numbers
+        (60, &[0; 4], rate),
+        (48, b"fmtx", early),
+        (100, &[95], odd),
+    ] {
+        let bytes = changed(&good, at, to);
         assert_eq!(is_wrong(&folder, "archive", &bytes, message), []);
     }
 }
@@ -229,70 +236,55 @@ fn a_cut_wave_file_gives_the_archive_of_what_is_there() {
 }
 
 #[test]
+fn an_archive_with_a_damaged_head_gives_nothing() {
+    let folder = Folder::new("archive-head");
+    let good = archived(48_000, &any_rows(&mut Dice::new(6), MOST));
+    let none = "byte 0: this is no archive of a show";
+    let version = "byte 0: an archive of version 3, and this tool reads versions 1 and 2";
+    for (bytes, message) in [
+        (vec![], none),
+        (good[..15].to_vec(), none),
+        (changed(&good, 7, b"X"), none),
+        (changed(&good, 8, &[3]), version),
+        // The count of the first frame, 1,536, as a layout's code.
+        (
+            changed(&good, 8, &[2]),
+            "byte 0: an archive without a layout",
+        ),
+        (changed(&good, 12, &[0; 4]), "byte 0: a rate of 0 Hz"),
+    ] {
+        assert_eq!(is_wrong(&folder, "unarchive", &bytes, message), []);
+    }
+}
+
+#[test]
 fn a_damaged_archive_gives_the_samples_before_the_damage() {
     let folder = Folder::new("archive-damaged");
     let rows = any_rows(&mut Dice::new(6), MOST + 10);
     let good = archived(48_000, &rows);
-    let second = HEAD + 4 + 48 * MOST;
-    let changed = |at: usize, to: &[u8]| {
-        let mut bytes = good.clone();
-        bytes[at..at + to.len()].copy_from_slice(to);
-        bytes
-    };
-    let none = "byte 0: this is no archive of a show";
-    for (bytes, message) in [
-        (vec![], none),
-        (good[..15].to_vec(), none),
-        (changed(7, b"X"), none),
-        (
-            changed(8, &[3]),
-            "byte 0: an archive of version 3, and this tool reads versions 1 and 2",
-        ),
-        // The count of the first frame, 1,536, as a layout's code.
-        (changed(8, &[2]), "byte 0: an archive without a layout"),
-        (changed(12, &[0; 4]), "byte 0: a rate of 0 Hz"),
+    let (second, end) = (HEAD + 4 + 48 * MOST, good.len());
+    let early = "the file ends before the archive does";
+    let inside = "the file ends inside a frame (1 of 484 bytes are missing)";
+    let large = "a frame of 1,537 samples, and at most 1,536 may be";
+    let late = "the archive is at its end and the file is not";
+    for (bytes, at, why, samples) in [
+        (good[..HEAD].to_vec(), 16, early, 0),
+        (good[..second].to_vec(), second, early, MOST),
+        (good[..end - 5].to_vec(), second, inside, MOST),
+        (good[..end - 1].to_vec(), end - 4, early, MOST + 10),
+        (changed(&good, second, &[1, 6]), second, large, MOST),
+        ([&good[..], &[0]].concat(), end, late, MOST + 10),
     ] {
-        assert_eq!(is_wrong(&folder, "unarchive", &bytes, message), []);
-    }
-    let end = good.len();
-    let grouped = |n: usize| format!("{},{:03}", n / 1_000, n % 1_000);
-    let at = |byte: usize, why: &str| format!("byte {}: {why}", grouped(byte));
-    for (bytes, message, samples) in [
-        (
-            good[..HEAD].to_vec(),
-            "byte 16: the file ends before the archive does".to_owned(),
-            0,
-        ),
-        (
-            good[..second].to_vec(),
-            at(second, "the file ends before the archive does"),
-            MOST,
-        ),
-        (
-            good[..end - 5].to_vec(),
-            at(
-                second,
-                "the file ends inside a frame (1 of 484 bytes are missing)",
-            ),
-            MOST,
-        ),
-        (
-            good[..end - 1].to_vec(),
-            at(end - 4, "the file ends before the archive does"),
-            MOST + 10,
-        ),
-        (
-            changed(second, &[1, 6]),
-            at(second, "a frame of 1,537 samples, and at most 1,536 may be"),
-            MOST,
-        ),
-        (
-            [&good[..], &[0]].concat(),
-            at(end, "the archive is at its end and the file is not"),
-            MOST + 10,
-        ),
-    ] {
+        let message = format!("byte {}: {why}", grouped(at));
         let written = is_wrong(&folder, "unarchive", &bytes, &message);
         assert!(written == wave(&rows[..48 * samples]), "{message}");
+    }
+}
+
+/// A number below a million, its thousands apart.
+fn grouped(n: usize) -> String {
+    match n {
+        0..1_000 => n.to_string(),
+        _ => format!("{},{:03}", n / 1_000, n % 1_000),
     }
 }

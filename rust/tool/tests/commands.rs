@@ -95,20 +95,28 @@ fn a_full_disk_is_3() {
     let (sound, hall) = (folder.file("sound.wav"), folder.file("show.hall"));
     assert_eq!(run(&["render", &from, "-o", &sound]).code, 0);
     assert_eq!(run(&["archive", &sound, "-o", &hall]).code, 0);
+    let message = "voqlisna: /dev/full: No space left on device\n";
     for args in [
-        vec!["render", &from, "-o", "/dev/full"],
-        vec!["demo", "-s", "1", "-o", "/dev/full"],
-        vec!["undump", &text, "-o", "/dev/full"],
-        vec!["plot", "limiter", "-o", "/dev/full"],
-        vec!["archive", &sound, "-o", "/dev/full"],
-        vec!["unarchive", &hall, "-o", "/dev/full"],
+        vec!["render", &from],
+        vec!["demo", "-s", "1"],
+        vec!["undump", &text],
+        vec!["plot", "limiter"],
+        vec!["archive", &sound],
+        vec!["unarchive", &hall],
     ] {
-        let said = run(&args);
-        assert_eq!(
-            (said.code, said.err.as_str()),
-            (3, "voqlisna: /dev/full: No space left on device\n")
-        );
+        let said = run(&[args, vec!["-o", "/dev/full"]].concat());
+        assert_eq!((said.code, said.err.as_str()), (3, message));
     }
+}
+
+#[test]
+fn a_full_disk_behind_standard_output_is_3() {
+    let folder = Folder::new("full-output");
+    let from = folder.with("in", &programme(1, 256));
+    let (sound, hall) = (folder.file("sound.wav"), folder.file("show.hall"));
+    assert_eq!(run(&["render", &from, "-o", &sound]).code, 0);
+    assert_eq!(run(&["archive", &sound, "-o", &hall]).code, 0);
+    let message = "voqlisna: standard output: No space left on device\n";
     for args in [
         vec!["help"],
         vec!["check", &from],
@@ -121,13 +129,7 @@ fn a_full_disk_is_3() {
         let to = File::options().write(true).open("/dev/full").unwrap();
         let done = Command::new(TOOL).args(&args).stdout(to).output().unwrap();
         let err = String::from_utf8(done.stderr).unwrap();
-        assert_eq!(
-            (done.status.code(), err.as_str()),
-            (
-                Some(3),
-                "voqlisna: standard output: No space left on device\n"
-            )
-        );
+        assert_eq!((done.status.code(), err.as_str()), (Some(3), message));
     }
 }
 

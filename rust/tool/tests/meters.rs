@@ -43,9 +43,8 @@ fn largest(rows: &[u8]) -> f32 {
     sizes.fold(0.0, f32::max)
 }
 
-/// Document 01: "if p × g > 1, g becomes 0.9 / p; scale; then g grows by length / rate, at most 1". In frames of up to
-/// 64 samples a call gives out one block at most, so each line is a block's. In a smaller layout the peak is that of its
-/// channels.
+/// In frames of up to 64 samples a call gives out one block at most, so each line is a block's. In a smaller layout the
+/// peak is that of its channels.
 #[test]
 fn each_line_is_its_block() {
     let folder = Folder::new("lines");
@@ -54,50 +53,50 @@ fn each_line_is_its_block() {
     for seed in 0..200 {
         let bytes = programme(seed, 64);
         let layout = Layout::ALL[seed as usize % 4];
-        let row = 4 * layout.speakers().len();
-        let rate = f64::from(u32::from_le_bytes(bytes[4..8].try_into().unwrap()));
-        let said = feed(
-            &[
-                "render",
-                "-",
-                "-o",
-                &to,
-                "--layout",
-                layout.name(),
-                &format!("--meters={meters}"),
-            ],
-            &bytes,
-        );
+        let columns = format!("--meters={meters}");
+        let asked = [
+            "render",
+            "-",
+            "-o",
+            &to,
+            "--layout",
+            layout.name(),
+            &columns,
+        ];
+        let said = feed(&asked, &bytes);
         assert_eq!((said.code, said.err.as_str()), (0, ""));
         let (wav, text) = (fs::read(&to).unwrap(), fs::read_to_string(&meters).unwrap());
-        let (rows, lines) = (&wav[104..], lines(&text));
-        let start = |line: &Line| (line.time * rate).round() as usize;
-        let (mut gain, mut at) = (1f32, 0);
-        for (k, line) in lines.iter().enumerate() {
-            assert_eq!(start(line), at, "{line:?}");
-            at = lines.get(k + 1).map_or(rows.len() / row, start);
-            let block = &rows[row * start(line)..row * at];
-            let samples = at - start(line);
-            assert!((1..=64).contains(&samples), "{line:?}");
-            let used = if line.peak * gain > 1.0 {
-                0.9 / line.peak
-            } else {
-                gain
-            };
-            assert_eq!(
-                (line.gain, largest(block)),
-                (used, line.peak * used),
-                "{line:?}"
-            );
-            gain = (used + samples as f32 / rate as f32).min(1.0);
-            limited += u32::from(used < 1.0);
-        }
+        let rate = u32::from_le_bytes(bytes[4..8].try_into().unwrap());
+        let lines = lines(&text);
+        limited += limiting(&lines, &wav[104..], 4 * layout.speakers().len(), rate);
         blocks += lines.len();
     }
     assert!(
         blocks > 400 && limited > 200,
         "{blocks} blocks, {limited} limited"
     );
+}
+
+/// Document 01: "if p × g > 1, g becomes 0.9 / p; scale; then g grows by length / rate, at most 1". How many blocks were
+/// scaled by less than 1.
+fn limiting(lines: &[Line], rows: &[u8], row: usize, rate: u32) -> usize {
+    let start = |line: &Line| (line.time * f64::from(rate)).round() as usize;
+    let (mut gain, mut at, mut limited) = (1f32, 0, 0);
+    for (k, line) in lines.iter().enumerate() {
+        assert_eq!(start(line), at, "{line:?}");
+        at = lines.get(k + 1).map_or(rows.len() / row, start);
+        let samples = at - start(line);
+        assert!((1..=64).contains(&samples), "{line:?}");
+        let used = match line.peak * gain > 1.0 {
+            true => 0.9 / line.peak,
+            false => gain,
+        };
+        let block = largest(&rows[row * start(line)..row * at]);
+        assert_eq!((line.gain, block), (used, line.peak * used), "{line:?}");
+        gain = (used + samples as f32 / rate as f32).min(1.0);
+        limited += usize::from(used < 1.0);
+    }
+    limited
 }
 
 #[test]

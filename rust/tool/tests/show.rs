@@ -106,11 +106,13 @@ fn a_demo_of_any_length() {
 /// Each picture is the same on every run, small, and the one in docs/pictures.
 #[test]
 fn the_pictures_are_those_of_the_documents() {
+    let own = root().join("docs/pictures/own-hall.txt");
     for (name, args) in [
         ("map", vec!["map"]),
         ("map-5.1.4", vec!["map", "--layout", "5.1.4"]),
         ("map-7.1.0", vec!["map", "--layout", "7.1.0"]),
         ("map-5.1.0", vec!["map", "--layout", "5.1.0"]),
+        ("map-own", vec!["map", "--table", own.to_str().unwrap()]),
         ("bass", vec!["plot", "bass"]),
         ("decay", vec!["plot", "decay"]),
         ("limiter", vec!["plot", "limiter"]),

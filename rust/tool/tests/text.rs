@@ -61,7 +61,8 @@ fn object(anchor: u8, flags: u8, floats: [f32; 8]) -> [u8; 40] {
     r
 }
 
-fn example() -> Vec<u8> {
+/// An update, an element, a block and objects of each kind.
+fn records() -> Vec<u8> {
     let mut update = [0u8; 40];
     update[..12].copy_from_slice(&[1, 0, 0, 1, 3, 2, 2, 1, 2, 3, 0, 0]);
     let mut element = [0u8; 40];
@@ -71,10 +72,9 @@ fn example() -> Vec<u8> {
     block[8..16].copy_from_slice(&(-64i64).to_le_bytes());
     block[16..24].copy_from_slice(&256i64.to_le_bytes());
     let nan = f32::from_bits(0x7fc0_0001);
-    let mut metadata = Vec::new();
     let mut sent = object(2, 63, [nan, 0.5, 0.25, -0.0, f32::INFINITY, 1.0, 0.0, 0.25]);
     sent[36..].copy_from_slice(&0.75f32.to_le_bytes());
-    for r in [
+    [
         update,
         element,
         block,
@@ -83,16 +83,13 @@ fn example() -> Vec<u8> {
         sent,
         // A gain that is not told must be zero.
         object(0, 0, [1.0, 0.0, 0.0, 0.0, 0.0, 0.0, 0.0, 1.0]),
-    ] {
-        metadata.extend(r);
-    }
-    let mut bytes = frame(
-        48_000,
-        &[2, 3],
-        1,
-        &metadata,
-        &[0.25, 0.25, 0.25, -0.0, 0.0, 0.0, 1.0, 2.0, 1.0],
-    );
+    ]
+    .concat()
+}
+
+fn example() -> Vec<u8> {
+    let pcm = [0.25, 0.25, 0.25, -0.0, 0.0, 0.0, 1.0, 2.0, 1.0];
+    let mut bytes = frame(48_000, &[2, 3], 1, &records(), &pcm);
     bytes.extend(FLUSH);
     bytes.extend(RESET);
     bytes.extend(frame(0, &[], 0, &[], &[]));

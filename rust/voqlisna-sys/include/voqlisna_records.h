@@ -116,6 +116,9 @@ static inline const char *hall_refusal_text(uint32_t number) {
     case 13: return "the frame lacks a bed of the metadata";
     case 14: return "the metadata has a bed of rear center, which no speaker plays";
     case 15: return "the layout's code is above 3";
+    case 16: return "the hall table has not 144 bytes";
+    case 17: return "a coordinate of the hall table is not from -1 to 1";
+    case 18: return "two full-range speakers of the hall table are at the same place";
     case 22: return "more than 1,536 samples to convert";
     case 23: return "the samples to convert have another length, or the destination is too short";
     default: return "an unknown refusal";

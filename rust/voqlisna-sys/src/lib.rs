@@ -18,14 +18,20 @@
 
 /// The version of the interface that these declarations are of; [`hall_version`] answers the
 /// library's.
-pub const VERSION: u32 = 4;
+pub const VERSION: u32 = 5;
 
 /// Bytes of a state block of this version, for blocks that are not on a heap; [`hall_state_size`]
 /// answers the library's.
-pub const STATE_SIZE: usize = 29_076;
+pub const STATE_SIZE: usize = 29_220;
 
-/// Where a block of this version has its layout's code, a little-endian u32: its last four bytes.
-pub const LAYOUT_AT: usize = STATE_SIZE - 4;
+/// Bytes of a hall table: x, y and z of each of the twelve channels, little-endian f32.
+pub const TABLE_SIZE: usize = 144;
+
+/// Where a block of this version has its hall table: its last bytes.
+pub const TABLE_AT: usize = STATE_SIZE - TABLE_SIZE;
+
+/// Where it has its layout's code, a little-endian u32: before the table.
+pub const LAYOUT_AT: usize = TABLE_AT - 4;
 
 /// What every entry answers but [`hall_state_size`] and [`hall_version`].
 #[repr(C)]
@@ -86,14 +92,26 @@ unsafe extern "C" {
         stride: u32,
     ) -> Answer;
 
-    /// Makes a new renderer of a block, whatever its bytes were: kind 3, or kind 1 by 1 (the block
-    /// has another length) or else by 15 (the layout's code is above 3). Code 0 is 7.1.4; 1 is
-    /// 5.1.4, without channels 4 and 5; 2 is 7.1.0, without channels 8 to 11; 3 is 5.1.0, without
-    /// either.
+    /// Makes a new renderer of a block, whatever its bytes were, with the built-in table: kind 3, or
+    /// kind 1 by 1 (the block has another length) or else by 15 (the layout's code is above 3). Code
+    /// 0 is 7.1.4; 1 is 5.1.4, without channels 4 and 5; 2 is 7.1.0, without channels 8 to 11; 3 is
+    /// 5.1.0, without either.
     pub fn hall_make(state: *mut u8, state_length: usize, layout: u32) -> Answer;
 
-    /// Makes a new renderer of the layout that the block has: kind 3, or kind 1 by 1 (the block has
-    /// another length, or a layout's code above 3). It looks at no other field.
+    /// The same with the speakers where the table has them: kind 3, or kind 1 by 1, 15, then 16 (the
+    /// table has not [`TABLE_SIZE`] bytes), 17 (a coordinate is not finite, or outside -1 to 1), 18
+    /// (two channels other than 3 have equal coordinates, the two zeros being equal).
+    pub fn hall_make_with_table(
+        state: *mut u8,
+        state_length: usize,
+        layout: u32,
+        table: *const u8,
+        table_length: usize,
+    ) -> Answer;
+
+    /// Makes a new renderer of the layout and the table that the block has: kind 3, or kind 1 by 1
+    /// (the block has another length, a layout's code above 3, or a table that 17 or 18 would
+    /// refuse). It looks at no other field.
     pub fn hall_reset(state: *mut u8, state_length: usize) -> Answer;
 
     /// Writes the f32 samples of twelve channels, channel after channel, as planes: the least

@@ -2,7 +2,7 @@
 //! The entries over slices, in the default float mode.
 
 use crate::memory::as_bytes_mut;
-use crate::{Bed, Frame, Layout, Stride, with_default_floats};
+use crate::{Bed, Frame, HallTable, Layout, Stride, with_default_floats};
 use voqlisna_sys::{self as sys, Answer};
 
 pub(crate) fn push(state: &mut [u8], frame: &Frame<'_>, out: &mut [f32], stride: Stride) -> Answer {
@@ -50,6 +50,20 @@ pub(crate) fn make(state: &mut [u8], layout: Layout) -> Answer {
     let code = layout.code();
     // SAFETY: one slice that lives through the call.
     with_default_floats(|| unsafe { sys::hall_make(state.as_mut_ptr(), state.len(), code) })
+}
+
+pub(crate) fn make_with_table(state: &mut [u8], layout: Layout, table: &HallTable) -> Answer {
+    let (code, table) = (layout.code(), table.to_bytes());
+    // SAFETY: two slices that live through the call; the written one is borrowed mutably.
+    with_default_floats(|| unsafe {
+        sys::hall_make_with_table(
+            state.as_mut_ptr(),
+            state.len(),
+            code,
+            table.as_ptr(),
+            table.len(),
+        )
+    })
 }
 
 pub(crate) fn reset(state: &mut [u8]) -> Answer {

@@ -1,6 +1,6 @@
 // SPDX-License-Identifier: Apache-2.0
 //! A proved 7.1.4 hall renderer, safe from Rust: beds and moving objects in, twelve loudspeaker
-//! feeds out, or fewer in a smaller [`Layout`].
+//! feeds out, or fewer in a smaller [`Layout`], over the built-in places or those of a [`HallTable`].
 //!
 //! ```
 //! use voqlisna::*;
@@ -25,10 +25,10 @@
 //! ```
 //!
 //! No function panics, locks, reads the clock or keeps a pointer. Memory is taken from the heap
-//! only by the functions named `new`, `fixed`, `up_to` and `restore`; each has a twin over lent
-//! memory, so that the crate works without `std` and, without the feature `alloc`, without a heap.
-//! An audio thread may call everything but those, [`explain`] and [`Renderer::save`]; a call takes
-//! less than 32 KiB of its stack. [`sys`] has the C entries themselves.
+//! only by the functions named `new`, `with_table`, `fixed`, `up_to` and `restore`; each has a twin
+//! over lent memory, so that the crate works without `std` and, without the feature `alloc`, without
+//! a heap. An audio thread may call everything but those, [`explain`] and [`Renderer::save`]; a call
+//! takes less than 32 KiB of its stack. [`sys`] has the C entries themselves.
 #![no_std]
 #![deny(
     missing_docs,
@@ -66,6 +66,7 @@ mod shape;
 mod snapshot;
 mod speaker;
 mod steady;
+mod table;
 mod writer;
 
 pub use bed::Bed;
@@ -89,6 +90,7 @@ pub use shape::ShapeError;
 pub use snapshot::{Snapshot, SnapshotError};
 pub use speaker::{Speaker, WAVE_MASK};
 pub use steady::Steady;
+pub use table::{Axis, HallTable, TableError};
 /// The C entries and their declarations, for hosts that call them themselves.
 pub use voqlisna_sys as sys;
 pub use writer::{BuildError, MetadataWriter, Update, UpdateWriter};

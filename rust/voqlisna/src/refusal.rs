@@ -62,6 +62,13 @@ pub enum Refusal {
     },
     /// 15: a layout's code above 3. Cannot arise through this crate.
     Layout,
+    /// 16: a hall table that has not 144 bytes. Cannot arise through this crate, as 17 and 18 cannot:
+    /// [`HallTable`](crate::HallTable) is right.
+    TableLength,
+    /// 17: a coordinate of a hall table that is not finite, or outside -1 to 1.
+    TableCoordinate,
+    /// 18: two full-range speakers of a hall table at one place.
+    TablePlaces,
     /// 22: more than 1,536 samples to convert.
     ConvertedSamples,
     /// 23: the samples to convert have another length, or the destination is too short.
@@ -125,6 +132,9 @@ impl Refusal {
             13 => Self::BedMissing { expected: first },
             14 => Self::BedUnsupported { code: first },
             15 => Self::Layout,
+            16 => Self::TableLength,
+            17 => Self::TableCoordinate,
+            18 => Self::TablePlaces,
             22 => Self::ConvertedSamples,
             23 => Self::ConvertedLength,
             number => Self::Other {
@@ -152,6 +162,9 @@ impl Refusal {
             Self::BedMissing { .. } => 13,
             Self::BedUnsupported { .. } => 14,
             Self::Layout => 15,
+            Self::TableLength => 16,
+            Self::TableCoordinate => 17,
+            Self::TablePlaces => 18,
             Self::ConvertedSamples => 22,
             Self::ConvertedLength => 23,
             Self::Other { number, .. } => number,
@@ -197,6 +210,9 @@ impl fmt::Display for Refusal {
             Self::NoUpdate => "no metadata has come yet",
             Self::NoSamples => "the frame has no samples",
             Self::Layout => "the layout's code is above 3",
+            Self::TableLength => "the hall table has not 144 bytes",
+            Self::TableCoordinate => "a coordinate of the hall table is not from -1 to 1",
+            Self::TablePlaces => "two full-range speakers of the hall table are at the same place",
             Self::ConvertedSamples => "more than 1,536 samples to convert",
             Self::ConvertedLength => {
                 "the samples to convert have another length, or the destination is too short"

@@ -1,8 +1,10 @@
 // SPDX-License-Identifier: Apache-2.0
 //! The renderer.
 
+#[cfg(feature = "alloc")]
+use crate::memory::zeros;
 use crate::memory::{Bytes, Floats, OwnBytes};
-use crate::{Frame, Layout, Output, Refusal, Rendered, entry};
+use crate::{Frame, HallTable, Layout, Output, Refusal, Rendered, entry};
 use core::fmt;
 use voqlisna_sys::{self as sys, Answer};
 
@@ -44,7 +46,24 @@ impl Renderer {
     /// # Ok::<(), voqlisna::MakeError>(())
     /// ```
     pub fn new(layout: Layout) -> Result<Self, MakeError> {
-        Self::make(crate::memory::zeros(sys::hall_state_size()), layout)
+        Self::make(zeros(sys::hall_state_size()), layout, None)
+    }
+
+    /// The same in a hall with speakers at these places. Over [`HallTable::BUILT_IN`] it is the one
+    /// that [`Renderer::new`] makes.
+    ///
+    /// ```
+    /// use voqlisna::*;
+    /// let mut places = *HallTable::BUILT_IN.places();
+    /// places[Speaker::TopFrontLeft.channel()].y = 0.75;
+    /// let table = HallTable::new(places)?;
+    /// let mut renderer = Renderer::with_table(Layout::Hall714, &table)?;
+    /// renderer.reset();
+    /// assert_eq!(renderer.table(), table);
+    /// # Ok::<(), Box<dyn std::error::Error>>(())
+    /// ```
+    pub fn with_table(layout: Layout, table: &HallTable) -> Result<Self, MakeError> {
+        Self::make(zeros(sys::hall_state_size()), layout, Some(table))
     }
 }
 
@@ -70,18 +89,32 @@ impl<'m> Renderer<&'m mut [u8]> {
     /// assert!(Renderer::over(&mut memory[1..], Layout::Hall714).is_err());
     /// ```
     pub fn over(memory: &'m mut [u8], layout: Layout) -> Result<Self, MakeError> {
-        Self::make(memory, layout)
+        Self::make(memory, layout, None)
+    }
+
+    /// The same with speakers at these places: see [`Renderer::with_table`].
+    pub fn over_with_table(
+        memory: &'m mut [u8],
+        layout: Layout,
+        table: &HallTable,
+    ) -> Result<Self, MakeError> {
+        Self::make(memory, layout, Some(table))
     }
 }
 
 impl<B: Bytes> Renderer<B> {
-    fn make(mut block: B, layout: Layout) -> Result<Self, MakeError> {
+    fn make(mut block: B, layout: Layout, table: Option<&HallTable>) -> Result<Self, MakeError> {
         let (expected, found) = (sys::VERSION, sys::hall_version());
         if expected != found {
             return Err(MakeError::Version { expected, found });
         }
-        // Of a layout that there is, making refuses a block of another length and nothing else.
-        match Refusal::from_answer(entry::make(block.lend(), layout)) {
+        let answer = match table {
+            Some(table) => entry::make_with_table(block.lend(), layout, table),
+            None => entry::make(block.lend(), layout),
+        };
+        // Of a layout that there is and a right table, making refuses a block of another length and
+        // nothing else.
+        match Refusal::from_answer(answer) {
             Some(_) => Err(MakeError::Length {
                 needed: sys::hall_state_size(),
             }),
@@ -91,8 +124,11 @@ impl<B: Bytes> Renderer<B> {
 
     /// Takes up a block that is valid. Such a block has the code of a layout.
     pub(crate) fn adopt(block: B) -> Self {
-        let code = block.get().get(sys::LAYOUT_AT..).unwrap_or_default();
-        let code = code.try_into().map_or(0, u32::from_le_bytes);
+        let code = block
+            .get()
+            .get(sys::LAYOUT_AT..)
+            .and_then(<[u8]>::first_chunk);
+        let code = code.map_or(0, |code| u32::from_le_bytes(*code));
         let layout = Layout::from_code(code).unwrap_or_default();
         Self { block, layout }
     }
@@ -100,6 +136,11 @@ impl<B: Bytes> Renderer<B> {
     /// Of its hall.
     pub const fn layout(&self) -> Layout {
         self.layout
+    }
+
+    /// Where its hall's speakers hang.
+    pub fn table(&self) -> HallTable {
+        HallTable::of_block(self.block.get())
     }
 
     /// Renders a frame. Whole blocks of 64 samples become ready; up to 63 samples wait for the next
@@ -139,9 +180,9 @@ impl<B: Bytes> Renderer<B> {
         read.ok().filter(|_| answer.kind == 0)
     }
 
-    /// A new stream in the same layout. Samples that wait are lost: flush first.
+    /// A new stream in the same hall: layout and table stay. Samples that wait are lost: flush first.
     pub fn reset(&mut self) {
-        // Refuses a block of another length, or without a layout, which this is not.
+        // Refuses a block of another length, or without a layout or a right table, which this is not.
         entry::reset(self.block.lend());
     }
 

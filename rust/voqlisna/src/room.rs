@@ -41,7 +41,7 @@ impl Room {
 }
 
 /// A place as it is panned: x to the right and z to the front, both from -1 to 1, y up from the
-/// ears, 0 to 1.
+/// ears, 0 to 1. A speaker of a [`HallTable`](crate::HallTable) may hang below them, to -1.
 #[derive(Clone, Copy, Debug, PartialEq, Default)]
 pub struct Panned {
     /// To the right.

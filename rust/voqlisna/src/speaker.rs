@@ -108,7 +108,8 @@ impl Speaker {
         }
     }
 
-    /// Where it hangs: an object there sounds from it alone. The bass feed has no place.
+    /// Where it hangs in the built-in table ([`HallTable::BUILT_IN`](crate::HallTable::BUILT_IN)): an
+    /// object of size 0 there sounds from it alone. The bass feed has no place.
     pub const fn place(self) -> Option<Panned> {
         const A: f32 = 0.707_106_77;
         const B: f32 = 0.483_689_52;

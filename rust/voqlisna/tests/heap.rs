@@ -112,6 +112,8 @@ fn nothing_is_taken_from_the_heap_after_new() {
     }
     assert!(player.renderer.flush(&mut player.out).is_some());
     player.renderer.reset();
+    let table = player.renderer.table().to_bytes();
+    assert_eq!(HallTable::from_bytes(&table), Ok(HallTable::BUILT_IN));
     let during = CALLS.get() - before;
     drop(vec![0u8; 9]);
     assert_eq!(

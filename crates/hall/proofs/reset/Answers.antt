@@ -1,13 +1,11 @@
--- `reset`: a block of another length, or with a code above 3, is left; any other is filled.
+-- `reset`: a block of another length, or with a hall out of its range, is left; any other is filled.
 use Prim.Native.Nat.{ℕ}
-use mathlib.Core.Path.{refl, sym, ap, ◌∙◌}
-use native.Mathlib.Omega.{arith}
+use mathlib.Core.Path.{refl, sym, ap, ap₂, ◌∙◌}
+use mathlib.Core.List.{List}
 use borrow.Author.Tests.{eq-eqb, ne_eqb}
-use Rattle.panning.specs.Setup.{hall_with}
 use Rattle.rules.specs.Calls.{reset}
-use Rattle.store.specs.Layout.{layout_of, encode, fresh_renderer}
+use Rattle.store.specs.Layout.{layout_of, table_in, encode, fresh_renderer}
 use Rattle.store.specs.ValidBlocks.{hall_valid}
-use Rattle.store.proofs.Theorems.{layout_most}
 use Rattle.hall.proofs.WaysOut.{made_as, wrong, too_short, no_hall, resets}
 use Rattle.hall.proofs.reset.Goals as goal
 
@@ -22,14 +20,14 @@ returns-then-not-hall_valid c =
     made_as (no_hall c.args.state.now (eq-eqb _ _ h.long) (ap hall_valid (sym h.same) ∙ sym c.hall_valid.ensures ∙ c.if-not-hall_valid.true))
     (record { answer = refl; block = h.same })
 
-pub make-requires : goal.make-requires
-make-requires c = omega (arith, layout_most c.in-Some.block.now (sym c.hall_valid.ensures ∙ c.if-not-hall_valid.false), c.layout-layout.ensures)
-
 pub returns : goal.returns
 returns c =
     let h = c.in-Some.ensures.cases in
     made_as (resets c.args.state.now (eq-eqb _ _ h.long) (ap hall_valid (sym h.same) ∙ sym c.hall_valid.ensures ∙ c.if-not-hall_valid.false))
     (record {
       answer = refl;
-      block = c.make.ensures ∙ ap (λ (n : ℕ). encode (fresh_renderer (hall_with n))) (c.layout-layout.ensures ∙ ap layout_of h.same);
+      block =
+          c.make.ensures
+          ∙ ap₂ (λ (n : ℕ) (w : List ℕ). encode (fresh_renderer (record { layout = n; table = w }))) (c.layout-layout.ensures ∙ ap layout_of h.same)
+          (c.table-table.ensures ∙ ap table_in h.same);
     })

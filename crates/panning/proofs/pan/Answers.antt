@@ -31,7 +31,7 @@ coefficients-requires c =
     (inside (pans_at (place_among h.places) h.layout h.known h.table p q) f (few_there h.layout), f)
 
 pub returns : goal.returns
-unfolding of_bits place_in
+unfolding of_bits
 returns c =
     let a = c.args in
     let h = a.hall.now in

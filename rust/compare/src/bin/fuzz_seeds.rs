@@ -29,6 +29,17 @@ fn make(layout: u32) -> [u8; 32] {
     head
 }
 
+/// The same with the second bit of the stride's byte, the table's length at bytes 6 and 7, and the table
+/// in records behind the head.
+fn make_with(layout: u32, table: &[u8]) -> Vec<u8> {
+    let (mut head, mut records) = (make(layout), table.to_vec());
+    records.resize(table.len().next_multiple_of(40), 0);
+    head[1] = 3;
+    head[6..8].copy_from_slice(&(table.len() as u16).to_le_bytes());
+    head[10..12].copy_from_slice(&((records.len() / 40) as u16).to_le_bytes());
+    [&head[..], &records].concat()
+}
+
 /// The PCM is told by its loudness alone, in the fuzzer's steps.
 fn loudness(call: &Call) -> u8 {
     let samples = floats(&call.pcm);
@@ -73,6 +84,7 @@ fn list(seed: u64) -> Vec<u8> {
             Step::Flush => list.extend(head(5, 0)),
             Step::Reset => list.extend(head(6, 0)),
             Step::Make(layout) => list.extend(make(layout)),
+            Step::MakeWith(layout, table) => list.extend(make_with(layout, &table)),
         }
         match inputs.below(64) {
             0 => {

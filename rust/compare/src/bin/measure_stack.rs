@@ -4,6 +4,7 @@
 use compare::Generator;
 use compare::calls::Call;
 use compare::entry::{self, Answer, BLOCK, Planes};
+use compare::setup::{BUILT_IN, Table, table};
 use oracle::frame::{ANCHORS, Block, Element, Frame, Object, Update};
 use std::arch::asm;
 use std::thread;
@@ -87,26 +88,42 @@ fn tell(what: &str, (bytes, answer): (usize, Answer)) {
     println!("{what}: {bytes} bytes (kind {kind}, number {number})");
 }
 
+/// A hall table with a place of its own.
+fn own_table() -> Table {
+    let mut places = BUILT_IN;
+    places[0][1] = 0.5;
+    table(&places)
+}
+
 fn measure() {
     let (mut state, mut out) = (vec![0; BLOCK], vec![0; 48 * STRIDE]);
     tell("make", depth(&mut || entry::make(&mut state, 0)));
-    tell("reset", depth(&mut || entry::reset(&mut state)));
-    for samples in [1, 64, 1_536] {
-        let call = frame(samples);
-        let mut push = || entry::push(&mut state, &call, &mut out, STRIDE as u32);
-        tell(&format!("push of {samples} samples"), depth(&mut push));
-    }
-    let mut call = frame(1_536);
-    call.rate = 44_100;
-    let mut push = || entry::push(&mut state, &call, &mut out, STRIDE as u32);
-    tell("push that is refused", depth(&mut push));
-    let mut flush = || entry::flush(&mut state, &mut out, STRIDE as u32);
-    tell("flush", depth(&mut flush));
+    calls(&mut state, &mut out);
+    let table = own_table();
+    let mut make = || entry::make_with(&mut state, 0, &table);
+    tell("make with a table", depth(&mut make));
+    calls(&mut state, &mut out);
     let source = vec![0x5a; 48 * STRIDE];
     for way in [Planes::To, Planes::From] {
         let mut planes = || entry::planes(way, &source, STRIDE as u32, &mut out);
         tell(&format!("planes, {way:?}"), depth(&mut planes));
     }
+}
+
+/// On a new renderer's block.
+fn calls(state: &mut [u8], out: &mut [u8]) {
+    tell("reset", depth(&mut || entry::reset(state)));
+    for samples in [1, 64, 1_536] {
+        let call = frame(samples);
+        let mut push = || entry::push(state, &call, out, STRIDE as u32);
+        tell(&format!("push of {samples} samples"), depth(&mut push));
+    }
+    let mut call = frame(1_536);
+    call.rate = 44_100;
+    let mut push = || entry::push(state, &call, out, STRIDE as u32);
+    tell("push that is refused", depth(&mut push));
+    let mut flush = || entry::flush(state, out, STRIDE as u32);
+    tell("flush", depth(&mut flush));
 }
 
 fn main() {

@@ -1,7 +1,8 @@
-//! What documents 01 and 02 have a call answer: refusals 1 to 8 and 15, read here apart from the
-//! Rattle code, and the oracle for everything else: the amended Rust. In layout 0 the unchanged one
-//! must agree with it but from a lifted bed channel, or an object that is sent to the bass feed
-//! to the next reset; in the others what it mixes must be what `halls` reads.
+//! What documents 01 and 02 have a call answer: refusals 1 to 8 and 15 to 18, read here apart from the
+//! Rattle code, and the oracle for everything else: the amended Rust. In layout 0 with the built-in
+//! table the unchanged one must agree with it but from a lifted bed channel, or an object that
+//! is sent to the bass feed, to the next reset; in other halls what it mixes must be
+//! what `halls` reads.
 
 mod halls;
 mod judged;
@@ -12,6 +13,7 @@ mod sends;
 
 use crate::calls::{Call, Step};
 use crate::entry::Answer;
+use crate::setup::Setup;
 use crate::{all_same, block, same};
 use oracle::frame::Frame;
 use oracle::state::State;
@@ -30,8 +32,8 @@ pub enum Outcome {
     /// The number and the two counts.
     Refused([u32; 3]),
     Nothing,
-    /// A new renderer, by making or reset, of the layout with that code.
-    New(u32),
+    /// A new renderer, by making or reset, in that hall.
+    New(Setup),
 }
 
 impl Outcome {
@@ -63,10 +65,12 @@ impl Outcome {
 pub const STREAM_END: u64 = 1 << 40;
 
 pub struct Model {
+    setup: Setup,
     hall: Hall,
     /// The Rust with the rules of document 02.
     amended: amended::Oracle,
-    /// In layout 0 the unchanged Rust, which must agree, up to a lifted channel or a send.
+    /// In the one hall that it has the unchanged Rust, which must agree, up to a lifted channel or a
+    /// send.
     rust: Option<Oracle>,
     lifted: bool,
     sent: bool,
@@ -94,10 +98,16 @@ impl Model {
 
     /// A new renderer of that layout.
     pub fn in_layout(layout: u32) -> Self {
-        let hall = Hall::of_layout(layout as u8);
+        Model::in_hall(&Setup::built_in(layout))
+    }
+
+    /// A new renderer in that hall.
+    pub fn in_hall(setup: &Setup) -> Self {
+        let hall = setup.hall();
         Model {
             amended: amended::Oracle::in_hall(&hall),
-            rust: (layout == 0).then(Oracle::new),
+            rust: setup.is_the_rusts().then(Oracle::new),
+            setup: *setup,
             hall,
             lifted: false,
             sent: false,
@@ -109,12 +119,12 @@ impl Model {
 
     /// What a block in range holds.
     pub fn of_block(bytes: &[u8]) -> Self {
-        let (layout, state) = (block::layout(bytes), block::state(bytes));
-        let model = Model::in_layout(layout);
+        let (setup, state) = (Setup::of_block(bytes), block::state(bytes));
+        let model = Model::in_hall(&setup);
         let sent = sends::sounds(&state.metadata);
         Model {
             amended: amended::Oracle::in_hall_and_state(&model.hall, &state),
-            rust: (layout == 0 && !sent).then(|| Oracle::in_state(&state)),
+            rust: (setup.is_the_rusts() && !sent).then(|| Oracle::in_state(&state)),
             sent,
             ..model
         }
@@ -122,7 +132,11 @@ impl Model {
 
     /// The layout's code.
     pub fn layout(&self) -> u32 {
-        self.hall.layout.into()
+        self.setup.layout
+    }
+
+    pub fn setup(&self) -> &Setup {
+        &self.setup
     }
 
     /// The unchanged Rust is beside it.
@@ -137,7 +151,7 @@ impl Model {
 
     /// The part of a block that is another renderer's.
     pub fn difference(&self, bytes: &[u8]) -> Option<&'static str> {
-        block::difference(bytes, self.layout(), &self.moved_state())
+        block::difference(bytes, &self.setup, &self.moved_state())
     }
 
     /// The unchanged Rust's while it is there, with the sends, which it has not.
@@ -202,7 +216,7 @@ impl Model {
             Pushed::Ready(ready) => {
                 let renderer = amended::Oracle::in_hall_and_state(&self.hall, &before);
                 let (mixed, slots) = renderer.mixed(frame);
-                self.read = self.layout() != 0 && self.reads(&before, frame, &mixed);
+                self.read = !self.setup.is_the_rusts() && self.reads(&before, frame, &mixed);
                 self.lifted |= lifts;
                 self.sent |= sends::any(&slots);
                 if self.lifted || self.sent {
@@ -228,8 +242,7 @@ impl Model {
             return false;
         };
         for (channel, (mixed, read)) in mixed.iter().zip(&read).enumerate() {
-            let layout = self.layout();
-            assert!(all_same(mixed, read), "layout {layout}, channel {channel}");
+            assert!(all_same(mixed, read), "{:?}, channel {channel}", self.setup);
         }
         true
     }
@@ -254,7 +267,7 @@ impl Model {
             Step::Push(call) => self.push(call, stride),
             Step::Flush => self.flush(),
             Step::Reset => self.reset(),
-            Step::Make(layout) => self.make(*layout),
+            Step::Make(_) | Step::MakeWith(..) => self.make(step),
         }
     }
 
@@ -297,26 +310,29 @@ impl Model {
         Outcome::Ready(ready, limited.meters)
     }
 
-    /// The layout stays.
+    /// Layout and table stay.
     pub fn reset(&mut self) -> Outcome {
         self.amended.reset();
         assert_eq!(self.amended.hall(), self.hall);
         if let Some(rust) = &mut self.rust {
             rust.reset();
-        } else if self.layout() == 0 {
+        } else if self.setup.is_the_rusts() {
             self.rust = Some(Oracle::new());
         }
         (self.lifted, self.sent) = (false, false);
         self.before = 0;
-        Outcome::New(self.layout())
+        Outcome::New(self.setup)
     }
 
-    /// Document 02's R-5: "Refused: 15, a layout code above 3, when a renderer is made."
-    pub fn make(&mut self, layout: u32) -> Outcome {
-        if layout > 3 {
-            return Outcome::Refused([15, 0, 0]);
+    /// Document 02's: 15 to 18, else a new renderer.
+    pub fn make(&mut self, step: &Step) -> Outcome {
+        let number = step.made();
+        if number != 0 {
+            return Outcome::Refused([number, 0, 0]);
         }
-        *self = Model::in_layout(layout);
-        Outcome::New(layout)
+        // A making call's hall is its own.
+        let setup = step.setup(&[]);
+        *self = Model::in_hall(&setup);
+        Outcome::New(setup)
     }
 }

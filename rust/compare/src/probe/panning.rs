@@ -1,4 +1,5 @@
 use crate::block::has;
+use crate::setup::Setup;
 
 /// `Panned` of crates/panning.
 #[repr(C)]
@@ -12,6 +13,16 @@ pub struct Panned {
 unsafe extern "C" {
     safe fn probe_pan(x: f32, y: f32, z: f32, gain: f32, size: f32) -> Panned;
     safe fn probe_pan_in(layout: u32, x: f32, y: f32, z: f32, gain: f32, size: f32) -> Panned;
+    fn probe_pan_with(
+        layout: u32,
+        table: *const u8,
+        table_length: usize,
+        x: f32,
+        y: f32,
+        z: f32,
+        gain: f32,
+        size: f32,
+    ) -> Panned;
 }
 
 pub fn pan(position: [f32; 3], gain: f32, size: f32) -> Panned {
@@ -23,6 +34,13 @@ pub fn pan(position: [f32; 3], gain: f32, size: f32) -> Panned {
 pub fn pan_in(layout: u32, position: [f32; 3], gain: f32, size: f32) -> Panned {
     let [x, y, z] = position;
     probe_pan_in(layout, x, y, z, gain, size)
+}
+
+/// With the speakers of a table that is accepted.
+pub fn pan_with(setup: &Setup, position: [f32; 3], gain: f32, size: f32) -> Panned {
+    let (Setup { layout, table }, [x, y, z]) = (setup, position);
+    // SAFETY: one slice that lives through the call.
+    unsafe { probe_pan_with(*layout, table.as_ptr(), table.len(), x, y, z, gain, size) }
 }
 
 impl Panned {

@@ -3,12 +3,14 @@
 use super::parts::*;
 use super::{Group, Push, Row, Turn};
 use crate::model::{Model, Outcome, STREAM_END};
+use crate::setup::{built_in, table};
+use oracle::Vector;
 use oracle::frame::{Anchor, Element, Object};
 
 type Part = (&'static str, fn(&mut Rows));
 
 pub fn groups() -> Vec<Group> {
-    let parts: [Part; 8] = [
+    let parts: [Part; 9] = [
         ("refusals", refusals),
         ("outputs", outputs),
         ("block_rows", blocks),
@@ -17,6 +19,7 @@ pub fn groups() -> Vec<Group> {
         ("updates", updates),
         ("slots", slots),
         ("halls", halls),
+        ("tables", tables),
     ];
     let group = |(name, part): Part| {
         let mut rows = Rows(vec![]);
@@ -479,6 +482,20 @@ fn slots(rows: &mut Rows) {
 /// The beds whose speaker some layout lacks.
 const LACKED: [u8; 6] = [7, 8, 9, 10, 13, 14];
 
+fn lacked() -> Push {
+    frame(&LACKED, &diagonal(6, 0.5)).with(bed(&LACKED))
+}
+
+/// Low and high, and two of a size.
+fn low_and_high() -> [Object; 4] {
+    [
+        at(0.3, 0.4, 0.2),
+        at(0.2, 0.9, 0.7),
+        size(0.25, at(0.3, 0.4, 0.2)),
+        size(1.0, gain(0.5, far())),
+    ]
+}
+
 fn halls(rows: &mut Rows) {
     rows.row("no_layout")
         .shows("15: a layout code above 3; the renderer stays as it was")
@@ -492,7 +509,6 @@ fn halls(rows: &mut Rows) {
         .make(0)
         .flush()
         .push(half().rate(96_000));
-    let lacked = || frame(&LACKED, &diagonal(6, 0.5)).with(bed(&LACKED));
     rows.row("same_layout")
         .shows("a reset keeps the layout: beds whose speakers are absent, before and after")
         .make(3)
@@ -515,13 +531,78 @@ fn halls(rows: &mut Rows) {
     }
     let row = rows.row("hall_objects");
     row.shows("low and high objects in each layout, and sizes, one alone after another");
-    let objects = [
-        at(0.3, 0.4, 0.2),
-        at(0.2, 0.9, 0.7),
-        size(0.25, at(0.3, 0.4, 0.2)),
-        size(1.0, gain(0.5, far())),
-    ];
     for layout in [1, 2, 3] {
-        row.make(layout).each(&objects);
+        row.make(layout).each(&low_and_high());
     }
+}
+
+/// The floor below the listener, two boxes beside him, two above.
+const THREE_HEIGHTS: [Vector; 12] = [
+    [-1.0, -1.0, 1.0],
+    [1.0, -1.0, 1.0],
+    [0.0, -1.0, 1.0],
+    [0.0, -1.0, 1.0],
+    [-1.0, -1.0, -1.0],
+    [1.0, -1.0, -1.0],
+    [-1.0, -1.0, 0.0],
+    [1.0, -1.0, 0.0],
+    [-1.0, 0.0, 0.0],
+    [1.0, 0.0, 0.0],
+    [-1.0, 1.0, 0.0],
+    [1.0, 1.0, 0.0],
+];
+
+/// No two boxes at one height.
+const MEASURED: [Vector; 12] = [
+    [-0.7, -0.1, 0.95],
+    [0.72, -0.05, 0.9],
+    [0.0, 0.1, 1.0],
+    [0.3, -0.9, 0.8],
+    [-0.6, 0.05, -0.9],
+    [0.65, 0.0, -0.95],
+    [-0.95, 0.15, -0.3],
+    [1.0, 0.2, -0.25],
+    [-0.8, 0.9, 0.4],
+    [0.85, 0.95, 0.5],
+    [-0.7, 0.85, -0.8],
+    [0.75, 1.0, -0.7],
+];
+
+fn tables(rows: &mut Rows) {
+    let three = table(&THREE_HEIGHTS);
+    // A bass channel that is too far off; above, one box where another is.
+    let (mut far_off, mut alike) = (THREE_HEIGHTS, THREE_HEIGHTS);
+    (far_off[3], alike[11]) = ([0.0, 0.0, 1.5], [-1.0, 1.0, -0.0]);
+    far_off[11] = alike[11];
+    rows.row("no_table")
+        .shows("16, 17 and 18, behind 15; the renderer stays as it was")
+        .push(half())
+        .make_with(4, &three[..4])
+        .make_with(0, &three[..140])
+        .make_with(0, &[&three[..], &[0; 4]].concat())
+        .make_with(3, &table(&far_off))
+        .make_with(3, &table(&alike))
+        .flush();
+    let row = rows.row("own_table");
+    row.shows("low and high objects, and sizes, in a hall of three heights, with the rear pair and without it");
+    for layout in [0, 1] {
+        row.make_with(layout, &three).each(&low_and_high());
+    }
+    rows.row("any_heights")
+        .shows("the same where no two speakers have one height")
+        .make_with(0, &table(&MEASURED))
+        .each(&low_and_high());
+    rows.row("same_table")
+        .shows("a reset keeps the table: beds whose speakers are absent, before and after")
+        .make_with(3, &table(&MEASURED))
+        .push(lacked())
+        .reset()
+        .push(lacked())
+        .flush();
+    rows.row("built_in_again")
+        .shows("the built-in values loaded, and the built-in table: the same")
+        .make_with(1, &built_in())
+        .each(&low_and_high())
+        .make(1)
+        .each(&low_and_high());
 }

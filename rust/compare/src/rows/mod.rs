@@ -4,7 +4,7 @@ mod lists;
 mod parts;
 mod text;
 
-use crate::calls::Call;
+use crate::calls::{Call, Step};
 use crate::model::{Model, Outcome};
 use crate::records;
 use oracle::frame::Update;
@@ -32,8 +32,9 @@ pub enum Turn {
     /// At a stride.
     Flush(u32),
     Reset,
-    /// By the layout's code.
+    /// By the layout's code, and with a table's bytes.
     Make(u32),
+    MakeWith(u32, Vec<u8>),
     /// The same with an output that is a byte short.
     Short(Box<Turn>),
 }
@@ -80,7 +81,7 @@ impl Turn {
         match self {
             Turn::Push(push) => push.stride,
             Turn::Flush(stride) => *stride,
-            Turn::Reset | Turn::Make(_) => 0,
+            Turn::Reset | Turn::Make(_) | Turn::MakeWith(..) => 0,
             Turn::Short(turn) => turn.stride(),
         }
     }
@@ -95,7 +96,8 @@ impl Turn {
         let strides = stride.is_multiple_of(64) && (64..=1_536).contains(&stride);
         match self {
             Turn::Reset => model.reset(),
-            Turn::Make(layout) => model.make(*layout),
+            Turn::Make(layout) => model.make(&Step::Make(*layout)),
+            Turn::MakeWith(layout, table) => model.make(&Step::MakeWith(*layout, table.clone())),
             // Document 01's 1, for what is lent besides the state block.
             _ if !strides || self.room() < 48 * stride as usize => Outcome::Refused([1, 0, 0]),
             Turn::Push(push) => model.push(&push.into(), stride as usize),

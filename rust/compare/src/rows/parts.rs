@@ -105,6 +105,10 @@ impl Row {
         self.turn(Turn::Make(layout))
     }
 
+    pub fn make_with(&mut self, layout: u32, table: &[u8]) -> &mut Self {
+        self.turn(Turn::MakeWith(layout, table.to_vec()))
+    }
+
     /// Objects that are set at once and heard one after another.
     pub fn each(&mut self, objects: &[Object]) -> &mut Self {
         let push = frame(&[], &diagonal(objects.len(), 0.5));

@@ -8,11 +8,11 @@ use std::array;
 const HEAD: &str = "\
 -- The rows. `cargo run --release --offline -p compare --bin rows` in rust/ writes this file: the calls are that program's, what is seen of them is the oracle's. Assumes nothing.
 use Rattle.std.specs.Prelude.{List, [], ◌∷◌, ◌++◌, replicate}
-use Rattle.rules.specs.Calls.{reset, make}
+use Rattle.rules.specs.Calls.{reset, make, make_with}
 use Rattle.rows.specs.Rows.{Row, ◌⇒◌, refusal, ready, none, renewed}
 use Rattle.rows.specs.Notation.{concat, as_row, row_at, sent, sent_by, of_bed, of_object, flush_at, short, quiet, diagonal_words, silence, only}
 use Rattle.rows.specs.Notation.{update, bed, spoilt, element, at_once, block_from, minus, object, at, valid_position, place, differential, gain, distance, with_size}
-use Rattle.rows.specs.Notation.{screen, depth, screen_anchor, on_speakers}
+use Rattle.rows.specs.Notation.{screen, depth, screen_anchor, on_speakers, words}
 ";
 
 /// The most columns of a line.
@@ -85,8 +85,16 @@ fn turn_text(turn: &Turn) -> String {
         Turn::Flush(stride) => format!("flush_at {stride}"),
         Turn::Reset => "reset".to_string(),
         Turn::Make(layout) => format!("make {layout}"),
+        Turn::MakeWith(layout, table) => format!("make_with {layout} {}", table_text(table)),
         Turn::Short(turn) => format!("short {}", within(turn_text(turn))),
     }
+}
+
+/// A table of whole words.
+fn table_text(table: &[u8]) -> String {
+    let words = table.chunks(4);
+    let words = words.map(|word| self::word(&u32::from_le_bytes(word.try_into().unwrap())));
+    within(format!("words{BREAK}{}", within(list(" ", words))))
 }
 
 fn push_text(push: &Push) -> String {

@@ -1,12 +1,12 @@
 // SPDX-License-Identifier: Apache-2.0
 //! What a host can do wrong: memory, counts and lengths, and bytes of the block.
 
-use crate::block::INFOS;
+use crate::block::{INFOS, TABLE};
 use crate::calls::{Call, spoil_record};
 use crate::entry::{self, BLOCK};
 use crate::host::Host;
 use crate::model::Outcome;
-use crate::{Generator, ranges};
+use crate::{Generator, ranges, tables};
 
 const ONE: Outcome = Outcome::Refused([1, 0, 0]);
 
@@ -21,7 +21,7 @@ pub fn wrongly_lent(host: &mut Host, inputs: &mut Generator, call: &Call, name: 
     let stride = inputs.pick(&[0, 1, 63, 65, 96, 1_535, 1_537, 1_600, u32::MAX]);
     refused(host, &|s, o, _| entry::push(s, call, o, stride));
     refused(host, &|s, o, _| entry::flush(s, o, stride));
-    // 1 comes before 15.
+    // 1 comes before 15 to 18.
     let layout = inputs.pick(&[0, 3, 4, u32::MAX]);
     let room = 48 * host.stride;
     for short in [inputs.below(room as u64) as usize, room - 1] {
@@ -33,12 +33,18 @@ pub fn wrongly_lent(host: &mut Host, inputs: &mut Generator, call: &Call, name: 
         refused(host, &|s, o, n| entry::flush(&mut s[..short], o, n));
         refused(host, &|s, _, _| entry::reset(&mut s[..short]));
         refused(host, &|s, _, _| entry::make(&mut s[..short], layout));
+        let table = tables::spoilt(inputs);
+        refused(host, &|s, _, _| {
+            entry::make_with(&mut s[..short], layout, &table)
+        });
     }
     host.state.push(0);
     refused(host, &|s, o, n| entry::push(s, call, o, n));
     refused(host, &entry::flush);
     refused(host, &|s, _, _| entry::reset(s));
     refused(host, &|s, _, _| entry::make(s, layout));
+    let table = tables::accepted(inputs);
+    refused(host, &|s, _, _| entry::make_with(s, layout, &table));
     host.state.pop();
     times
 }
@@ -74,13 +80,32 @@ fn pcm_length(call: &Call) -> usize {
     4 * (call.codes.len() + call.objects as usize) * call.samples as usize
 }
 
-/// Some bytes of a block, a number of it at or past an end of its range, or another block.
+/// Another table, of the right length, or bytes of the one that there is.
+fn table(inputs: &mut Generator, state: &mut [u8]) {
+    let any = tables::spoilt(inputs);
+    match inputs.below(3) {
+        0 => ranges::put_table(state, &tables::accepted(inputs)),
+        1 => spoil_record(inputs, &mut state[TABLE..]),
+        _ => state[TABLE..]
+            .iter_mut()
+            .zip(any)
+            .for_each(|(to, byte)| *to = byte),
+    }
+}
+
+/// Some bytes of a block, a number of it at or past an end of its range, its table, the limiter's gain,
+/// or another block.
 pub fn block(inputs: &mut Generator, state: &mut Vec<u8>) {
-    match inputs.below(9) {
+    match inputs.below(11) {
         0 => spoil_record(inputs, state),
         1..4 => spoil_record(inputs, &mut state[..INFOS]),
         4 => *state = ranges::drawn(inputs),
         5 => ranges::layout().put(state, inputs.pick(&[0, 1, 2, 3, 4, 256, 1 << 31])),
+        6 => table(inputs, state),
+        7 => {
+            let gain: f32 = inputs.pick(&[1.5, 5.0, f32::INFINITY, f32::NAN, -0.0, -1.0]);
+            state[24..28].copy_from_slice(&gain.to_le_bytes());
+        }
         _ => {
             let field = inputs.pick(ranges::fields());
             let most = u64::MAX >> (64 - 8 * field.width);

@@ -12,7 +12,8 @@ use crate::calls::{Call, Calls, Step};
 use crate::case::Case;
 use crate::host::Host;
 use crate::model::{Judged, Model, Outcome};
-use crate::{Generator, ranges, streams};
+use crate::setup::Setup;
+use crate::{Generator, ranges, streams, tables};
 use oracle::frame::Update;
 use seen::Push;
 use std::vec;
@@ -45,7 +46,8 @@ struct Run<'a> {
     reached: &'a mut Reached,
 }
 
-/// The run of that seed, from a new renderer of that layout.
+/// The run of that seed, from a new renderer of that layout: in every second run, of layout 0 in one
+/// of four, with a table of its own.
 pub fn run(seed: u64, layout: u32, reached: &mut Reached) {
     let mut run = Run::new(seed, layout, reached);
     let to_the_end = run.inputs.chance(16);
@@ -85,11 +87,15 @@ impl<'a> Run<'a> {
             1 | 2 => Source::Drawn(Calls::lifting(calls, stride as u64).with_making(layout)),
             _ => Source::Drawn(Calls::for_entries(calls, stride as u64).with_making(layout)),
         };
+        let mut setup = Setup::built_in(layout);
+        if inputs.chance(if layout == 0 { 4 } else { 2 }) {
+            setup.table = tables::accepted(&mut inputs);
+        }
         Run {
             inputs,
             source,
-            host: Host::in_layout(stride, layout),
-            model: Model::in_layout(layout),
+            host: Host::in_hall(stride, &setup),
+            model: Model::in_hall(&setup),
             last: None,
             stride,
             reached,
@@ -127,8 +133,8 @@ impl<'a> Run<'a> {
         }
         let outcome = self.host.step(&mut self.model, &step, name);
         self.count(&outcome);
-        if let (Step::Make(_), Outcome::New(layout)) = (&step, &outcome) {
-            self.reached.one(What::Make(*layout));
+        if let Outcome::New(setup) = &outcome {
+            self.made(&step, setup);
         }
         match (&step, &outcome) {
             (Step::Push(call), Outcome::Ready(..)) => self.pushed(call),
@@ -142,6 +148,15 @@ impl<'a> Run<'a> {
             }
             (_, Outcome::New(_)) => self.last = None,
             _ => (),
+        }
+    }
+
+    fn made(&mut self, step: &Step, setup: &Setup) {
+        if *step != Step::Reset {
+            self.reached.one(What::Make(setup.layout));
+        }
+        if let Step::MakeWith(..) = step {
+            self.reached.kinds(&setup.table, What::MakeWith);
         }
     }
 
@@ -199,7 +214,9 @@ impl<'a> Run<'a> {
         reached.add(What::Sent, self.model.sent().into());
         reached.add(What::Unchanged, self.model.beside_the_rust().into());
         reached.add(What::Read, self.model.was_read().into());
-        reached.one(What::Layout(self.model.layout()));
+        let Setup { layout, table } = self.model.setup();
+        reached.one(What::Layout(*layout));
+        reached.kinds(table, What::Table);
         reached.add(What::LongList, (call.meta.len() > LONG).into());
         reached.add(What::LongOutput, (host.out.len() > 48 * host.stride).into());
         reached.one(What::Stride(host.stride as u32));

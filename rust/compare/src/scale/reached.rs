@@ -2,6 +2,8 @@
 //! What runs have reached: how often each thing arose.
 
 use super::table::table;
+use crate::setup::Table;
+use crate::tables::{KINDS, Kind};
 use std::collections::BTreeMap;
 use std::fmt;
 
@@ -41,11 +43,14 @@ pub enum What {
     Sent,
     /// An accepted push that is held against the unchanged Rust.
     Unchanged,
-    /// In a smaller layout, one that is held against the reading of its hall.
+    /// In another hall than the Rust's, one that is held against the reading of its hall.
     Read,
-    /// Accepted pushes by layout, and making calls that are accepted.
+    /// Accepted pushes by layout and by what their hall's table is; making calls that are accepted,
+    /// by layout, and those with a table by what it is.
     Layout(u32),
+    Table(Kind),
     Make(u32),
+    MakeWith(Kind),
     /// An accepted push with silent samples before the first update.
     Silence,
     /// An update at or past the frame's end.
@@ -90,6 +95,13 @@ impl Reached {
     pub fn add(&mut self, what: What, times: u64) {
         if times > 0 {
             *self.0.entry(what).or_insert(0) += times;
+        }
+    }
+
+    /// All that a table is.
+    pub fn kinds(&mut self, table: &Table, what: fn(Kind) -> What) {
+        for (_, kind) in KINDS {
+            self.add(what(kind), kind.is(table).into());
         }
     }
 

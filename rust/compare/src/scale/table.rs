@@ -2,6 +2,7 @@
 //! What can arise, as it is printed: all of it must in a run that is long enough.
 
 use super::What::{self, *};
+use crate::tables::{KINDS, Kind};
 
 /// A heading, and what stands behind it, by name.
 type Line = (&'static str, Vec<(String, What)>);
@@ -64,7 +65,7 @@ const NAMED: [(&str, &[(&str, What)]); 16] = [
         "frames",
         &[
             ("beside the unchanged Rust", Unchanged),
-            ("in smaller layouts, beside the reading", Read),
+            ("in other halls, beside the reading", Read),
         ],
     ),
     (
@@ -108,6 +109,18 @@ const NAMED: [(&str, &[(&str, What)]); 16] = [
     ),
 ];
 
+/// What tables are.
+fn kinds() -> [Line; 2] {
+    let line = |heading, what: fn(Kind) -> What| {
+        let item = |(name, kind): (&str, Kind)| (name.to_string(), what(kind));
+        (heading, KINDS.map(item).to_vec())
+    };
+    [
+        line("frames by table", Table),
+        line("made with a table", MakeWith),
+    ]
+}
+
 /// What has a number: refusals but 7, bed codes, strides, layouts. Code 6 has no speaker and is never
 /// mixed.
 fn numbered() -> [Line; 6] {
@@ -115,7 +128,7 @@ fn numbered() -> [Line; 6] {
     [
         line("frames by layout", 0..4, Layout),
         line("made, by layout", 0..4, Make),
-        line("refusals", (1..=15).filter(|&n| n != 7), Refusal),
+        line("refusals", (1..=18).filter(|&n| n != 7), Refusal),
         line("bed channels of frames", 0..18, Input),
         line("beds mixed", beds, Bed),
         line("strides", (64..=1_536).step_by(64), Stride),
@@ -134,5 +147,6 @@ fn line<N: Copy + ToString>(
 pub fn table() -> Vec<Line> {
     let owned = |&(name, what): &(&str, What)| (name.to_string(), what);
     let named = NAMED.map(|(heading, items)| (heading, items.iter().map(owned).collect()));
-    named.into_iter().chain(numbered()).collect()
+    let lines = named.into_iter().chain(kinds());
+    lines.chain(numbered()).collect()
 }

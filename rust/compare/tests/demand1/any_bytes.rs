@@ -1,11 +1,12 @@
 //! Arguments of any bytes and lengths, and arguments that are right but for some of them, so that
 //! every answer arises.
 
+use compare::block::TABLE;
 use compare::calls::{Call, Step, spoil, spoil_record};
 use compare::case::{Case, Seen};
 use compare::entry::{Answer, BLOCK};
 use compare::host::{fresh, used_block};
-use compare::{Frames, Generator, block, ranges, seeds};
+use compare::{Frames, Generator, block, ranges, seeds, tables};
 use std::collections::BTreeMap;
 
 const CASES: u64 = 20_000;
@@ -22,7 +23,8 @@ fn any_bytes_up_to(inputs: &mut Generator, most: u64) -> Vec<u8> {
     bytes(inputs, length)
 }
 
-/// Any bytes, a new renderer's, one in use, or one drawn from all that are in range.
+/// Any bytes, a new renderer's, one in use, or one drawn from all that are in range; one with another
+/// table.
 fn any_state(inputs: &mut Generator) -> Vec<u8> {
     match inputs.below(12) {
         0 => any_bytes_up_to(inputs, 60_000),
@@ -32,7 +34,14 @@ fn any_state(inputs: &mut Generator) -> Vec<u8> {
             spoil_record(inputs, &mut block);
             block
         }
-        3..5 => fresh(inputs.below(4) as u32),
+        3 => {
+            let mut block = ranges::drawn(inputs);
+            let table = any_table(inputs);
+            let places = block[TABLE..].iter_mut().zip(table);
+            places.for_each(|(place, byte)| *place = byte);
+            block
+        }
+        4 => fresh(inputs.below(4) as u32),
         5..8 => used_block(inputs.below(20)),
         _ => ranges::drawn(inputs),
     }
@@ -68,10 +77,24 @@ fn fitting_call(inputs: &mut Generator, state: &[u8]) -> Call {
     call
 }
 
+/// Any bytes, of any length or the right one, floats of any bits or in their range.
+fn any_table(inputs: &mut Generator) -> Vec<u8> {
+    match inputs.below(6) {
+        0 => any_bytes_up_to(inputs, 400),
+        1 => bytes(inputs, 144),
+        2 | 3 => tables::spoilt(inputs),
+        _ => tables::accepted(inputs).to_vec(),
+    }
+}
+
 fn any_step(inputs: &mut Generator, state: &[u8]) -> Step {
     match inputs.below(16) {
         0 if inputs.chance(2) => Step::Reset,
-        0 => Step::Make(inputs.pick(&[0, 1, 2, 3, 4, u32::MAX])),
+        1 if inputs.chance(4) => Step::Make(inputs.pick(&[0, 1, 2, 3, 4, u32::MAX])),
+        0 => {
+            let layout = inputs.pick(&[0, 1, 2, 3, 4, u32::MAX]);
+            Step::MakeWith(layout, any_table(inputs))
+        }
         1 | 2 => Step::Flush,
         3..7 => Step::Push(any_call(inputs)),
         _ if ranges::hold(state) => Step::Push(fitting_call(inputs, state)),
@@ -120,7 +143,7 @@ fn kind(case: &Case, number: u32) -> u32 {
     match &case.step {
         _ if number != 0 => 1,
         Step::Flush if case.state[64] == 0 => 2,
-        Step::Reset | Step::Make(_) => 3,
+        Step::Reset | Step::Make(_) | Step::MakeWith(..) => 3,
         _ => 0,
     }
 }
@@ -151,7 +174,7 @@ fn check_meters(answer: Answer) {
     assert!(idle || answer.ready > 0, "{answer:?}");
 }
 
-/// Every call is answered: 1 to 8 and 15 where the documents say so, each other number only where none
+/// Every call is answered: 1 to 8 and 15 to 18 where the documents say so, each other number only where none
 /// of these holds, 7 never; what is not to be written stays. Every other answer arises.
 #[test]
 fn any_bytes() {
@@ -168,8 +191,8 @@ fn any_bytes() {
         match answer.kind {
             0 => check_rendered(&case, answer.ready, &state, &out),
             3 => {
-                let layout = case.step.layout(&case.state);
-                assert!(state == fresh(layout) && out == case.out, "{answer:?}");
+                let setup = case.step.setup(&case.state);
+                assert!(state == setup.fresh() && out == case.out, "{answer:?}");
             }
             _ => assert!(state == case.state && out == case.out, "{answer:?}"),
         }
@@ -177,7 +200,7 @@ fn any_bytes() {
     }
     println!("{answers:?}");
     let kinds = [(0, 0), (2, 0), (3, 0)].into_iter();
-    for kind in kinds.chain((1..=15).map(|number| (1, number))) {
+    for kind in kinds.chain((1..=18).map(|number| (1, number))) {
         let arises = kind != (1, 7);
         let seen = answers.contains_key(&kind);
         assert!(seen == arises || !seeds::all() && !seen, "{kind:?}");

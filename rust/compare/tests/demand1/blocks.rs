@@ -7,6 +7,7 @@ use compare::entry::{self, BLOCK};
 use compare::host::{Host, used_block};
 use compare::model::{Model, Outcome, lifts};
 use compare::ranges::{self, EACH_ELEMENT, Field};
+use compare::setup::{Setup, Table, table};
 use compare::{Frames, Generator, block, seeds};
 use oracle::frame::{self, Frame};
 use oracle::state::{Element, Metadata};
@@ -44,7 +45,7 @@ const RELATED: [Puts; 6] = [
     ),
 ];
 
-/// The block with that damage is refusal 1, for push and flush alike; reset looks at the layout alone.
+/// The block with that damage is refusal 1, for push and flush alike; reset looks at the hall alone.
 fn refused(block: &[u8], damage: impl FnOnce(&mut [u8]), name: &str) {
     let (call, one) = (bed_frame(10), Outcome::Refused([1, 0, 0]));
     let mut host = Host::new(64);
@@ -53,11 +54,11 @@ fn refused(block: &[u8], damage: impl FnOnce(&mut [u8]), name: &str) {
     assert!(!ranges::hold(&host.state), "{name}: not out of range");
     host.calls(&one, |s, o, n| entry::push(s, &call, o, n), name);
     host.calls(&one, entry::flush, name);
-    let layout = block::layout(&host.state);
-    let reset = if layout > 3 {
-        one
+    let setup = Setup::of_block(&host.state);
+    let reset = if setup.holds() {
+        Outcome::New(setup)
     } else {
-        Outcome::New(layout)
+        one
     };
     host.calls(&reset, |s, _, _| entry::reset(s), name);
 }
@@ -123,6 +124,12 @@ fn every_end_is_in_range() {
     }
 }
 
+/// Every coordinate at an end of its range or a zero.
+fn at_the_ends() -> Table {
+    let end = |k: usize, axis: u32| [1.0, -1.0, -0.0][k / 3usize.pow(axis) % 3];
+    table(&std::array::from_fn(|k| [end(k, 0), end(k, 1), end(k, 2)]))
+}
+
 /// All at the least, or all at the most, with every float that NaN.
 #[test]
 fn all_at_one_end() {
@@ -136,6 +143,7 @@ fn all_at_one_end() {
     for (most, nan) in [(false, 0x7f80_0001u32), (true, 0xffff_ffff)] {
         let mut host = Host::new(64);
         host.state = nan.to_le_bytes().repeat(BLOCK / 4);
+        ranges::put_table(&mut host.state, &at_the_ends());
         for field in ranges::fields() {
             let number = if most { field.most } else { field.least };
             let kept = related.iter().find(|(at, _)| most && *at == field.at);

@@ -3,9 +3,9 @@
 //! making and reset leave what is written there.
 
 use compare::entry::{self, BLOCK};
-use compare::host::fresh;
 use compare::ranges::{self, Field};
-use compare::{Generator, block, seeds};
+use compare::setup::built_in;
+use compare::{Generator, block, seeds, tables};
 
 const DOCUMENT: &str = include_str!("../../../../docs/STATE-BLOCK.md");
 
@@ -49,8 +49,9 @@ fn number(text: &str) -> u64 {
     }
 }
 
-/// The range of any bits.
+/// The range of any bits, and that of a coordinate.
 const ANY: (u64, u64) = (0, u64::MAX);
+const COORDINATE: (u64, u64) = (u64::MAX, 0);
 
 /// A field's range whatever the others are.
 fn range(text: &str) -> (u64, u64) {
@@ -58,6 +59,8 @@ fn range(text: &str) -> (u64, u64) {
     let ends = own.trim_start_matches("0, or ").strip_prefix("from ");
     if own == "any bits" {
         ANY
+    } else if own == "f32 from -1 to 1" {
+        COORDINATE
     } else if own == "0 or 1" {
         (0, 1)
     } else if let Some(most) = own.strip_prefix("at most ") {
@@ -122,6 +125,10 @@ fn ranges_are_those_tested() {
     let any = |field: &Field| (field.least, field.most) == ANY;
     let (floats, said): (Vec<_>, Vec<_>) = written().iter().map(|w| w.1).partition(any);
     assert!(floats.iter().all(|field| field.width == 4), "floats");
+    let table = |field: &Field| (field.least, field.most) == COORDINATE;
+    let (table, said): (Vec<_>, Vec<_>) = said.into_iter().partition(table);
+    let word = |k: usize| field(block::TABLE + 4 * k, 4, COORDINATE);
+    assert_eq!(table, (0..36).map(word).collect::<Vec<_>>());
     let mut tested = ranges::fields().to_vec();
     tested.sort_by_key(|field| field.at);
     assert_eq!(said, tested);
@@ -178,11 +185,17 @@ fn making_and_reset_leave_what_is_written() {
         let (at, width) = (number(&byte) as usize, number(&bytes) as usize);
         field(at, width, ANY).put(&mut block, number(&holds));
     }
-    for layout in 0..4 {
+    let own = tables::accepted(&mut Generator::new(0));
+    for (layout, table) in (0..4).flat_map(|layout| [(layout, built_in()), (layout, own)]) {
         ranges::layout().put(&mut block, layout.into());
-        let mut state = fresh(layout);
-        assert!(state == block, "what making leaves");
-        state[..BLOCK - 4].fill(0xa5);
+        ranges::put_table(&mut block, &table);
+        let mut state = vec![0xa5; BLOCK];
+        let made = match table == own {
+            true => entry::make_with(&mut state, layout, &table),
+            false => entry::make(&mut state, layout),
+        };
+        assert!(made.kind == 3 && state == block, "what making leaves");
+        state[..block::LAYOUT].fill(0xa5);
         assert_eq!(entry::reset(&mut state).kind, 3);
         assert!(state == block, "what reset leaves");
     }

@@ -2,22 +2,28 @@
 //! Document 02's R-5: "A call of its own now makes a renderer in a block, a wrong length being 1 ..
 //! Reset keeps the code, and refuses by 1 a block whose code is above 3 .. Refused: 15, a layout code
 //! above 3, when a renderer is made."
+//! With the built-in table.
 
 use compare::calls::bed_frame;
 use compare::entry::{self, BLOCK, same_answer};
 use compare::host::{Host, fresh, used_block};
 use compare::model::Outcome;
+use compare::setup::{Setup, built_in};
 use compare::{Generator, block, ranges, seeds};
 
 const LAYOUTS: std::ops::Range<u32> = 0..4;
 const NONE: [u32; 7] = [4, 5, 7, 255, 256, 1 << 31, u32::MAX];
 
-fn refused(number: u32) -> Outcome {
+pub fn refused(number: u32) -> Outcome {
     Outcome::Refused([number, 0, 0])
 }
 
+fn new(layout: u32) -> Outcome {
+    Outcome::New(Setup::built_in(layout))
+}
+
 /// Any bytes; zeros; a block in range; one in use.
-fn any_block(inputs: &mut Generator, length: usize) -> Vec<u8> {
+pub fn any_block(inputs: &mut Generator, length: usize) -> Vec<u8> {
     let mut block = match inputs.below(4) {
         0 => (0..length).map(|_| inputs.bits() as u8).collect(),
         1 => vec![0; length],
@@ -35,7 +41,7 @@ fn makes(state: &mut Vec<u8>, layout: u32, expected: &Outcome) {
     let name = format!("{} bytes, layout {layout}: {answer:?}", before.len());
     assert!(same_answer(answer, expected.answer()), "{name}");
     match expected {
-        Outcome::New(layout) => assert!(*state == fresh(*layout), "{name}"),
+        Outcome::New(setup) => assert!(*state == fresh(setup.layout), "{name}"),
         _ => assert!(*state == before, "{name}"),
     }
 }
@@ -52,7 +58,7 @@ fn a_renderer_is_made() {
         };
         for layout in LAYOUTS.chain(NONE) {
             let expected = match (length, layout) {
-                (BLOCK, 0..4) => Outcome::New(layout),
+                (BLOCK, 0..4) => new(layout),
                 (BLOCK, _) => refused(15),
                 _ => refused(1),
             };
@@ -67,7 +73,7 @@ fn a_renderer_is_made_again() {
     for seed in seeds!(0..40) {
         let mut state = used_block(seed);
         for layout in LAYOUTS.chain(LAYOUTS.rev()) {
-            makes(&mut state, layout, &Outcome::New(layout));
+            makes(&mut state, layout, &new(layout));
         }
     }
 }
@@ -83,7 +89,7 @@ fn new_renderers_differ_in_the_code() {
     }
 }
 
-/// Reset looks at the length and at the code: any bytes else, also out of their ranges.
+/// Reset looks at the length, at the code and at the table: any bytes else, also out of their ranges.
 #[test]
 fn reset_keeps_the_layout() {
     for seed in seeds!(0..400) {
@@ -92,8 +98,9 @@ fn reset_keeps_the_layout() {
             let mut host = Host::new(64);
             host.state = any_block(inputs, BLOCK);
             ranges::layout().put(&mut host.state, layout.into());
+            ranges::put_table(&mut host.state, &built_in());
             let expected = match layout {
-                0..4 => Outcome::New(layout),
+                0..4 => new(layout),
                 _ => refused(1),
             };
             let name = format!("layout {layout}");
@@ -124,14 +131,13 @@ fn a_code_above_3_is_out_of_range() {
     }
 }
 
-/// A host that forgets to make a renderer is told so: zeros are no renderer. Reset takes them for
-/// one of layout 0.
+/// A host that forgets to make a renderer is told so: zeros are no renderer, since all speakers would
+/// be at one place.
 #[test]
 fn zeros_are_no_renderer() {
     let (mut host, call) = (Host::new(64), bed_frame(10));
     host.state.fill(0);
     host.calls(&refused(1), |s, o, n| entry::push(s, &call, o, n), "push");
     host.calls(&refused(1), entry::flush, "flush");
-    host.calls(&Outcome::New(0), |s, _, _| entry::reset(s), "reset");
-    assert!(host.state == fresh(0));
+    host.calls(&refused(1), |s, _, _| entry::reset(s), "reset");
 }

@@ -1,6 +1,7 @@
-//! The exported entries `push`, `flush`, `reset` and `make` against the model, as `scale` runs them, in
-//! each layout: answers, ready samples bit for bit, every byte of the state block and the output
-//! that a call must leave alone, and the renderer that the block holds.
+//! The exported entries `push`, `flush`, `reset` and the two that make against the model, as `scale`
+//! runs them, in each layout and over tables of its own (document 02, R-6): answers, ready samples bit
+//! for bit, every byte of the state block and the output that a call must leave alone, and the renderer
+//! that the block holds.
 
 use compare::scale::{self, Reached, What};
 use compare::seeds;
@@ -40,8 +41,8 @@ fn entries_answer_as_the_model() {
     if seeds::all() {
         assert_eq!(all.missing(0), []);
         assert!(all.rates() > 30_000, "{} rates", all.rates());
-        // The others are held against the unchanged Rust.
-        assert!(all.times(What::Frame) > 4 * all.times(What::Lifted));
+        // Where nothing is lifted, nothing sent and no table is its own, the unchanged Rust is beside.
+        assert!(3 * all.times(What::Unchanged) > all.times(What::Frame));
         let others: u64 = (1..4).map(|layout| all.times(What::Layout(layout))).sum();
         assert!(all.times(What::Layout(0)) > 10 * others);
     }

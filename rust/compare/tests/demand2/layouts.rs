@@ -7,17 +7,23 @@ use compare::block::{self, PLACES, ROW, has};
 use compare::calls::{Call, Step};
 use compare::case::{Case, Seen};
 use compare::entry::BLOCK;
-use compare::host::{fresh, used_block};
+use compare::host::used_block;
+use compare::setup::Setup;
 use compare::{EDGES, Frames, Generator, floats, ranges, seeds, set};
+use oracle::Vector;
 use oracle::frame::{Frame, Object, Update};
 use std::collections::BTreeSet;
 
 const STRIDE: usize = 64;
 const SAMPLE: f32 = 0.5;
 
-/// What a sample of 1 of one bed, or of one object, is on each channel of a new renderer; none on
-/// those that are absent. The output's other places keep their bytes.
+/// What a sample of 1 of one bed, or of one object, is on each channel of a new renderer of that layout.
 fn heard(layout: u32, bed: Option<u8>, object: Object) -> Vec<Option<f32>> {
+    heard_in(&Setup::built_in(layout), bed, object)
+}
+
+/// The same in any hall; none on channels that are absent. The output's other places keep their bytes.
+pub fn heard_in(setup: &Setup, bed: Option<u8>, object: Object) -> Vec<Option<f32>> {
     let beds = Vec::from_iter(bed);
     let update = Update {
         offset: 0,
@@ -35,7 +41,7 @@ fn heard(layout: u32, bed: Option<u8>, object: Object) -> Vec<Option<f32>> {
         updates: vec![update],
     };
     let case = Case {
-        state: fresh(layout),
+        state: setup.fresh(),
         out: vec![0x5a; 48 * STRIDE],
         stride: STRIDE as u32,
         step: Step::Push(Call::from(&frame)),
@@ -47,7 +53,7 @@ fn heard(layout: u32, bed: Option<u8>, object: Object) -> Vec<Option<f32>> {
     }
     let channels = seen.out.chunks(4 * STRIDE).enumerate();
     let channel = |(c, bytes): (usize, &[u8])| {
-        if has(layout, c) {
+        if has(setup.layout, c) {
             return Some(floats(bytes)[STRIDE - 1] / SAMPLE);
         }
         assert!(bytes.iter().all(|&byte| byte == 0x5a), "channel {c}");
@@ -57,16 +63,25 @@ fn heard(layout: u32, bed: Option<u8>, object: Object) -> Vec<Option<f32>> {
 }
 
 /// `value` on the channels named, 0 on the others that the layout has.
-fn on(layout: u32, channels: &[usize], value: f32) -> Vec<Option<f32>> {
+pub fn on(layout: u32, channels: &[usize], value: f32) -> Vec<Option<f32>> {
     let sounds = |c: usize| if channels.contains(&c) { value } else { 0.0 };
     let channel = |c: usize| has(layout, c).then(|| sounds(c));
     (0..12).map(channel).collect()
 }
 
-fn of_gain(gain: f32) -> Object {
+pub fn of_gain(gain: f32) -> Object {
     Object {
         gain: Some(gain),
         ..Object::default()
+    }
+}
+
+/// An object of gain 1 that is panned there.
+pub fn panned_at([x, y, z]: Vector) -> Object {
+    Object {
+        position_valid: true,
+        position: Some([(x + 1.0) / 2.0, (1.0 - z) / 2.0, y]),
+        ..of_gain(1.0)
     }
 }
 
@@ -122,7 +137,7 @@ fn beds_of_gain_0_are_silent() {
 #[test]
 fn objects_are_panned_over_the_speakers_that_are_there() {
     let (half, nan) = (0.5f32.sqrt(), f32::NAN);
-    let cases: [(u32, [f32; 3], &[usize], f32); 15] = [
+    let cases: [(u32, Vector, &[usize], f32); 15] = [
         (0, [0.0, 0.0, -1.0], &[4, 5], half),
         (1, [0.0, 0.0, -1.0], &[6, 7], half),
         (2, [0.0, 0.0, -1.0], &[4, 5], half),
@@ -139,14 +154,9 @@ fn objects_are_panned_over_the_speakers_that_are_there() {
         (2, [nan; 3], &[4], 1.0),
         (3, [nan; 3], &[6], 1.0),
     ];
-    for (layout, [x, y, z], channels, value) in cases {
-        let object = Object {
-            position_valid: true,
-            position: Some([(x + 1.0) / 2.0, (1.0 - z) / 2.0, y]),
-            ..of_gain(1.0)
-        };
-        let found = heard(layout, None, object);
-        assert_eq!(found, on(layout, channels, value), "{layout} {x} {y} {z}");
+    for (layout, place, channels, value) in cases {
+        let found = heard(layout, None, panned_at(place));
+        assert_eq!(found, on(layout, channels, value), "{layout} {place:?}");
     }
 }
 

@@ -1,8 +1,9 @@
 //! Demand 2: what is given out is the Rust's, bit for bit, all NaNs being equal; from a lifted bed
 //! channel, or from an object's send, to the next reset that of the Rust with R-1's and R-3's rules.
 //! R-2's meters are those of its blocks, and R-4's places hold the samples that wait in it. In R-5's
-//! smaller layouts it is that of the Rust's own loops over the channels that are there. R-10's
-//! planes, which the Rust has not, are what the document says.
+//! smaller layouts, and in halls with tables of their own, it is that of the Rust's own loops over
+//! the channels and places that are there. R-10's planes, which the Rust has not, are what the document
+//! says.
 
 mod appended;
 mod edges;
@@ -15,3 +16,4 @@ mod planes;
 mod program;
 mod sends;
 mod stream_end;
+mod tables;

@@ -2,11 +2,10 @@
 //! are in range and fit the samples, and a list without its refused calls gives the same
 //! answers, the same samples and the same block.
 
-use compare::Generator;
 use compare::calls::{Calls, Step};
 use compare::entry::Answer;
-use compare::host::fresh;
-use compare::{block, seeds};
+use compare::setup::Setup;
+use compare::{Generator, block, seeds, tables};
 
 const RUNS: u64 = 4_000;
 const CALLS: usize = 24;
@@ -28,16 +27,21 @@ struct Seen {
     layout: u32,
 }
 
-/// A list begins with a renderer of each layout in turn; making calls stand in it too.
-fn first_layout(seed: u64) -> u32 {
-    seed as u32 % 4
+/// A list begins with a renderer of each layout in turn, every second four with a table of their own;
+/// making calls stand in it too.
+fn first(seed: u64) -> Setup {
+    let mut setup = Setup::built_in(seed as u32 % 4);
+    if seed / 4 % 2 == 1 {
+        setup.table = tables::accepted(&mut Generator::new(!seed));
+    }
+    setup
 }
 
 /// A list whose stride changes, with outputs that are longer than they must be, or too short.
 fn list(seed: u64) -> Vec<Turn> {
     let mut inputs = Generator::new(seed);
     let calls = Calls::for_entries(seed + 5_000_000, 64);
-    let mut calls = calls.with_making(first_layout(seed));
+    let mut calls = calls.with_making(first(seed).layout);
     let mut stride = 64;
     let mut turn = || {
         if inputs.chance(4) {
@@ -59,8 +63,8 @@ fn list(seed: u64) -> Vec<Turn> {
 }
 
 /// What is seen of each call, and the block at the end.
-fn played<'a>(layout: u32, turns: impl Iterator<Item = &'a Turn>) -> (Vec<Seen>, Vec<u8>) {
-    let mut state = fresh(layout);
+fn played<'a>(setup: &Setup, turns: impl Iterator<Item = &'a Turn>) -> (Vec<Seen>, Vec<u8>) {
+    let mut state = setup.fresh();
     let seen = |turn: &Turn| {
         let mut out = vec![0x5a; turn.room];
         let stride = turn.stride as u32;
@@ -108,13 +112,13 @@ fn refused_calls_count_as_never_sent() {
     let (mut refused, mut given, mut limited) = (0, 0, 0);
     for seed in seeds!(0..RUNS) {
         let turns = list(seed);
-        let layout = first_layout(seed);
-        let (all, block) = played(layout, turns.iter());
+        let setup = first(seed);
+        let (all, block) = played(&setup, turns.iter());
         let both = || turns.iter().zip(&all);
         assert!(both().all(|(turn, seen)| in_range(seen, turn.stride)));
         assert!(both().all(|(turn, seen)| meters_hold(seen, turn.stride)));
         let kept = || both().filter(|(_, seen)| seen.answer.kind != 1);
-        let (again, same) = played(layout, kept().map(|(turn, _)| turn));
+        let (again, same) = played(&setup, kept().map(|(turn, _)| turn));
         assert!(
             again.iter().eq(kept().map(|(_, seen)| seen)),
             "an answer or a sample"

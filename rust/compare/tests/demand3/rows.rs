@@ -4,6 +4,7 @@ use compare::entry::{self, Answer};
 use compare::host::fresh;
 use compare::model::{Meters, Outcome};
 use compare::rows::{self, Row, Turn};
+use compare::setup::Setup;
 use compare::{block, floats};
 use std::fs;
 use std::path::Path;
@@ -28,6 +29,7 @@ fn lent(turn: &Turn, state: &mut [u8], out: &mut [u8]) -> Answer {
         Turn::Flush(stride) => entry::flush(state, out, *stride),
         Turn::Reset => entry::reset(state),
         Turn::Make(layout) => entry::make(state, *layout),
+        Turn::MakeWith(layout, table) => entry::make_with(state, *layout, table),
         Turn::Short(turn) => lent(turn, state, out),
     }
 }
@@ -53,7 +55,7 @@ fn outcomes(row: &Row) -> Vec<Outcome> {
             0 => Outcome::Ready((0..12).map(channel).collect(), meters(answer)),
             1 => Outcome::Refused([answer.number, answer.first, answer.second]),
             2 => Outcome::Nothing,
-            _ => Outcome::New(block::layout(&state)),
+            _ => Outcome::New(Setup::of_block(&state)),
         }
     };
     row.turns.iter().map(seen).collect()

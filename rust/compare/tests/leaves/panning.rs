@@ -1,13 +1,15 @@
 //! Panning against `render_object_timeslot_to_714`, mixed term by term: every combination of
 //! special positions, gains and sizes (1,906,624 coefficient sets), and 9,000,000 random ones; in
 //! each smaller layout (document 02, R-5) as many and 2,000,000, against the same loops over the
-//! channels that are there. Which speakers are chosen depends on how a position compares with the
+//! channels that are there; in 40,000 halls with tables of their own 2,000,000, against these
+//! loops over those tables. Which speakers are chosen depends on how a position compares with the
 //! speakers' coordinates: the special positions have every outcome.
 
-use compare::{EDGES, Generator, all_same, drawn, probe::panning};
+use compare::setup::{Setup, built_in};
+use compare::{EDGES, Generator, all_same, drawn, probe::panning, seeds, tables};
 use oracle::leaf::{render_object_timeslot_to_714, speakers};
 use oracle::state::Source;
-use oracle::{Hall, amended};
+use oracle::{Hall, Vector, amended};
 
 /// The speakers' coordinates, above 0.
 const COORDINATES: [f32; 3] = [0.483_689_52, 0.707_106_77, 1.0];
@@ -18,25 +20,32 @@ const SIZES: [f32; 8] = [0.0, -0.0, 0.5, 1.0, 1e-45, 0.3, f32::INFINITY, f32::NA
 
 /// One sample mixed into one place of each channel.
 struct Mix {
+    setup: Setup,
     hall: Hall,
     sample: f32,
     channels: Vec<Vec<f32>>,
 }
 
 impl Mix {
-    fn new(layout: u8) -> Self {
+    fn new(layout: u32) -> Self {
+        Mix::of(Setup::built_in(layout))
+    }
+
+    fn of(setup: Setup) -> Self {
         Mix {
-            hall: Hall::of_layout(layout),
+            hall: setup.hall(),
+            setup,
             sample: 1.0,
             channels: vec![vec![0.0]; 12],
         }
     }
 
-    /// In layout 0 by the call that has no hall, and against the unchanged Rust.
+    /// With the built-in table by the calls that have none, and in layout 0 against the unchanged Rust.
     fn compare(&mut self, position: [f32; 3], gain: f32, size: f32, start: f32) {
         let mut expected = [start; 12];
-        let layout = self.hall.layout.into();
+        let Setup { layout, table } = self.setup;
         let panned = match layout {
+            _ if table != built_in() => panning::pan_with(&self.setup, position, gain, size),
             0 => panning::pan(position, gain, size),
             _ => panning::pan_in(layout, position, gain, size),
         };
@@ -54,14 +63,16 @@ impl Mix {
             send: 0.0,
         };
         let (input, channels) = ([self.sample], &mut self.channels);
-        match layout {
-            0 => render_object_timeslot_to_714(&input, channels, 0, &source),
-            _ => amended::leaf::render_object_in_hall(&self.hall, &input, channels, 0, &source),
+        if self.setup.is_the_rusts() {
+            render_object_timeslot_to_714(&input, channels, 0, &source);
+        } else {
+            amended::leaf::render_object_in_hall(&self.hall, &input, channels, 0, &source);
         }
         let mixed: [f32; 12] = std::array::from_fn(|channel| self.channels[channel][0]);
         assert!(
             all_same(&mixed, &expected),
-            "layout {layout}, position {position:?}, gain {gain}, size {size}: {expected:?}, Rust {mixed:?}"
+            "{:?}, position {position:?}, gain {gain}, size {size}: {expected:?}, Rust {mixed:?}",
+            self.setup
         );
     }
 }
@@ -96,7 +107,7 @@ fn special_positions() {
     (0..4).for_each(special_positions_in);
 }
 
-fn special_positions_in(layout: u8) {
+fn special_positions_in(layout: u32) {
     let values = special();
     assert_eq!(values.len(), 31);
     let mut mix = Mix::new(layout);
@@ -121,7 +132,7 @@ fn random_positions() {
     (1..4).for_each(|layout| random_positions_in(layout, 2_000_000, &mut inputs));
 }
 
-fn random_positions_in(layout: u8, rounds: u32, inputs: &mut Generator) {
+fn random_positions_in(layout: u32, rounds: u32, inputs: &mut Generator) {
     let values = special();
     let mut mix = Mix::new(layout);
     for round in 0..rounds {
@@ -145,4 +156,47 @@ fn random_positions_in(layout: u8, rounds: u32, inputs: &mut Generator) {
         let start = inputs.between(-1.0, 1.0);
         mix.compare(position, gain, size, start);
     }
+}
+
+/// At a speaker of the table along an axis, one step beside it, between two, or anywhere.
+fn place(inputs: &mut Generator, table: &[Vector; 12], axis: usize) -> f32 {
+    let [speaker, other] = [0; 2].map(|_| table[inputs.below(12) as usize][axis]);
+    match inputs.below(8) {
+        0 => speaker,
+        1 => inputs.pick(&[speaker.next_up(), speaker.next_down()]),
+        2 => inputs.float(),
+        3 => inputs.between(-1.25, 1.25),
+        _ => speaker + (other - speaker) * inputs.between(0.0, 1.0),
+    }
+}
+
+/// Tables of every kind in every layout: the walk over sorted speakers chooses as the loops do, also in
+/// 7.1.4.
+#[cfg_attr(no_sources, ignore = "Rust sources not at hand")]
+#[test]
+fn tables_of_their_own() {
+    let mut inputs = drawn!(5);
+    let mut sounding = [0; 9];
+    for round in 0..40_000 {
+        let table = tables::accepted(&mut inputs);
+        let mut mix = Mix::of(Setup {
+            layout: round % 4,
+            table,
+        });
+        for k in 0..50 {
+            let position = std::array::from_fn(|axis| place(&mut inputs, &mix.hall.table, axis));
+            let gain = inputs.near(0.0, 8.0);
+            let size = match k % 3 {
+                0 => inputs.near(0.0, 1.0),
+                _ => 0.0,
+            };
+            mix.compare(position, gain, size, inputs.between(-1.0, 1.0));
+            if size == 0.0 {
+                let panned = panning::pan_with(&mix.setup, position, 1.0, 0.0);
+                sounding[panned.terms_in(round % 4).count()] += 1;
+            }
+        }
+    }
+    println!("by number of speakers: {sounding:?}");
+    assert!(!seeds::all() || sounding[1..].iter().all(|&times| times > 1_000));
 }

@@ -7,9 +7,10 @@ use crate::files::{self, Out};
 use crate::hall::{Counts, Hall, Listener, Refused};
 use crate::numbers::{counted, grouped};
 use crate::programme::{Limits, Reader};
+use crate::setup::Setup;
 use crate::trouble::Trouble;
 use std::ffi::OsString;
-use voqlisna::{Blame, Layout, Rendered};
+use voqlisna::{Blame, Rendered};
 
 pub fn check(from: &OsString) -> Result<(), Trouble> {
     let (input, length) = files::open(from)?;
@@ -17,7 +18,7 @@ pub fn check(from: &OsString) -> Result<(), Trouble> {
     let (out, by) = (Out::standard(), Vec::new());
     let mut report = Report { out, by };
     let (counts, broken) =
-        Hall::new(Layout::Hall714)?.run(&mut programme, Policy::Conceal, &mut report)?;
+        Hall::new(&Setup::BUILT_IN)?.run(&mut programme, Policy::Conceal, &mut report)?;
     let Report { mut out, by } = report;
     out.line(&summary(&counts, &by))?;
     out.close()?;

@@ -1,6 +1,7 @@
 // SPDX-License-Identifier: Apache-2.0
 //! `demo`: the show into a WAVE file.
 use super::record::Recorder;
+use super::table;
 use super::told::cause;
 use crate::arguments::{Demo, Policy};
 use crate::hall::{Hall, Refused};
@@ -10,9 +11,11 @@ use crate::trouble::Trouble;
 
 pub fn demo(given: &Demo) -> Result<(), Trouble> {
     let to = &given.to;
+    let written: Vec<_> = given.meters.file().into_iter().chain([to]).collect();
+    let setup = table::setup(&given.hall, &written)?;
     let mut recorder = Recorder::new(to, false, &given.meters, told)?;
     let mut show = Show::new(given.seconds);
-    let ran = Hall::new(given.layout)?.run(&mut show, Policy::Conceal, &mut recorder);
+    let ran = Hall::new(&setup)?.run(&mut show, Policy::Conceal, &mut recorder);
     let ((counts, _), _) = recorder.close(ran)?;
     let Some(first) = &recorder.first else {
         return Ok(());

@@ -3,10 +3,11 @@
 use crate::files::{self, Out};
 use crate::hall::renderer;
 use crate::programme::{Ask, Limits, Packet, Programme, Reader};
+use crate::setup::Setup;
 use crate::trouble::Trouble;
 use std::ffi::OsString;
 use std::fmt::Write;
-use voqlisna::{Layout, Output, Refusal, Rendered, Renderer, Stride};
+use voqlisna::{Output, Refusal, Rendered, Renderer, Stride};
 
 /// "Its stride is 256"
 const STRIDE: Option<Stride> = Stride::new(256);
@@ -15,7 +16,7 @@ pub fn hex(from: &OsString) -> Result<(), Trouble> {
     let (input, length) = files::open(from)?;
     let mut programme = Reader::new(input, Limits::HALLRENDER, length);
     let mut hall = Printer {
-        renderer: renderer(Layout::Hall714)?,
+        renderer: renderer(&Setup::BUILT_IN)?,
         to: Output::new(STRIDE.unwrap_or(Stride::MAX)),
         out: Out::standard(),
     };

@@ -7,6 +7,7 @@ mod hex;
 mod meters;
 mod record;
 mod render;
+mod table;
 mod told;
 
 use crate::arguments::{Command, Picture};
@@ -31,7 +32,7 @@ pub fn run(command: Command) -> Result<(), Trouble> {
         Command::Unarchive { from, to, rf64 } => archive::unarchive(&from, &to, rf64),
         Command::Draw { what, to } => {
             let picture = match what {
-                Picture::Map(layout) => pictures::map(layout)?,
+                Picture::Map(hall) => pictures::map(&table::setup(&hall, &[&to])?)?,
                 Picture::Bass => pictures::bass()?,
                 Picture::Decay => pictures::decay()?,
                 Picture::Limiter => pictures::limiter()?,
@@ -39,6 +40,7 @@ pub fn run(command: Command) -> Result<(), Trouble> {
             };
             files::write(&to, &picture)
         }
+        Command::Table(hall) => say(&table::told(&hall)?),
     }
 }
 

@@ -40,11 +40,8 @@ impl<'a> Recorder<'a> {
         meters: &arguments::Meters,
         tell: fn(&Refused<'_>) -> String,
     ) -> Result<Self, Trouble> {
-        let (shown, file) = match meters {
-            arguments::Meters::None => (false, None),
-            arguments::Meters::Shown => (true, None),
-            arguments::Meters::Written(file) => (true, Some(file)),
-        };
+        let file = meters.file();
+        let shown = !matches!(meters, arguments::Meters::None);
         let meters = shown.then(|| Meters::new(file)).transpose()?;
         Ok(Self {
             taken: to == "-" || file.is_some_and(|file| file == "-"),

@@ -1,8 +1,8 @@
 // SPDX-License-Identifier: Apache-2.0
 //! `render`: a programme into a WAVE file.
 use super::record::Recorder;
-use super::told;
-use crate::arguments::{Meters, Policy, Render};
+use super::{table, told};
+use crate::arguments::{Policy, Render};
 use crate::files;
 use crate::hall::{Counts, Hall};
 use crate::numbers::{counted, grouped};
@@ -10,15 +10,16 @@ use crate::programme::{Limits, Reader};
 use crate::trouble::Trouble;
 
 pub fn render(given: &Render) -> Result<(), Trouble> {
-    files::apart(&given.from, &given.to)?;
-    if let Meters::Written(file) = &given.meters {
-        files::apart(&given.from, file)?;
+    let written: Vec<_> = given.meters.file().into_iter().chain([&given.to]).collect();
+    for to in &written {
+        files::apart(&given.from, to)?;
     }
+    let setup = table::setup(&given.hall, &written)?;
     let (name, to) = (files::name_in(&given.from), &given.to);
     let (input, length) = files::open(&given.from)?;
     let mut programme = Reader::new(input, Limits::TOOL, length);
     let mut recorder = Recorder::new(to, given.rf64, &given.meters, told::line)?;
-    let ran = Hall::new(given.layout)?.run(&mut programme, given.policy, &mut recorder);
+    let ran = Hall::new(&setup)?.run(&mut programme, given.policy, &mut recorder);
     let ((counts, broken), written) = recorder.close(ran)?;
     if written {
         recorder.say(&format!("{}; {}", recorder.summary(), refusals(&counts)))?;

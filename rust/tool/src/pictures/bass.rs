@@ -3,9 +3,10 @@
 use super::{AREA, CURVES, heard};
 use crate::hall::renderer;
 use crate::numbers::grouped;
+use crate::setup::Setup;
 use crate::svg::{Align, Axis, Frame, RED, Scale, Svg};
 use crate::trouble::Trouble;
-use voqlisna::{Bed, Layout, Rate, Speaker};
+use voqlisna::{Bed, Rate, Speaker};
 
 /// What a bass bed is multiplied by on its way into the low-pass.
 pub const FED: f64 = 0.316_227_76;
@@ -58,7 +59,7 @@ impl Response {
         fed[0] = 1.0;
         let rate = Rate::new(hertz).unwrap_or(Rate::HZ_48000);
         let heard = heard::bed(
-            renderer(Layout::Hall714)?,
+            renderer(&Setup::BUILT_IN)?,
             rate,
             Bed::Bass,
             Speaker::Bass,

@@ -4,9 +4,10 @@ use super::bass::FED;
 use super::{AREA, CURVES, heard};
 use crate::hall::renderer;
 use crate::numbers::{grouped, level};
+use crate::setup::Setup;
 use crate::svg::{Align, Axis, Frame, GREY, RED, Scale, Svg};
 use crate::trouble::Trouble;
-use voqlisna::{Layout, Rate};
+use voqlisna::Rate;
 
 /// The largest sample, and what it feeds on 16 objects sent and 18 beds at gain 8.
 const LOUD: f32 = 16.0;
@@ -101,7 +102,7 @@ impl Decay {
         let quiet = LOUD / 2f32.powi(HALVINGS as i32);
         fed.resize(at(BEHIND, hertz).next_multiple_of(64), quiet);
         let rate = Rate::new(hertz).unwrap_or(Rate::HZ_48000);
-        let heard = heard::low_pass(renderer(Layout::Hall714)?, rate, &fed)?;
+        let heard = heard::low_pass(renderer(&Setup::BUILT_IN)?, rate, &fed)?;
         let heard = heard.into_iter().map(|y| y.abs() / LOUDEST).collect();
         Ok(Self { hertz, heard })
     }

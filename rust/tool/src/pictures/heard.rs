@@ -85,6 +85,22 @@ pub struct Placed {
     renderer: Renderer,
     out: Output,
     memory: Vec<u8>,
+    pub squares: Squares,
+}
+
+/// Of all places asked for: how many they are, and the least and the greatest sum of squares.
+pub struct Squares {
+    pub places: u64,
+    pub least: f64,
+    pub most: f64,
+}
+
+impl Squares {
+    fn add(&mut self, levels: &[f32; 12]) {
+        let sum = levels.iter().map(|x| f64::from(*x).powi(2)).sum();
+        (self.least, self.most) = (self.least.min(sum), self.most.max(sum));
+        self.places += 1;
+    }
 }
 
 impl Placed {
@@ -94,6 +110,11 @@ impl Placed {
             renderer,
             out: Output::new(stride),
             memory: vec![0; MetadataWriter::bytes_for(1, &[1])],
+            squares: Squares {
+                places: 0,
+                least: f64::MAX,
+                most: 0.0,
+            },
         })
     }
 
@@ -113,6 +134,8 @@ impl Placed {
         let frame = Frame::new(Rate::HZ_48000, &[], Pcm::packed(&pcm, 1)?, writer.finish())?;
         self.renderer.reset();
         let sound = self.renderer.push(&frame, &mut self.out)?;
-        Ok(Speaker::ALL.map(|s| sound.channel(s).get(LEAD).copied().unwrap_or(0.0)))
+        let levels = Speaker::ALL.map(|s| sound.channel(s).get(LEAD).copied().unwrap_or(0.0));
+        self.squares.add(&levels);
+        Ok(levels)
     }
 }

@@ -5,10 +5,11 @@ use crate::arguments::Policy;
 use crate::hall::{Hall, Listener, Refused};
 use crate::met::Met;
 use crate::numbers::level;
+use crate::setup::Setup;
 use crate::show::Show;
 use crate::svg::{Align, Area, Axis, BLUE, Frame, GOLD, GREY, RED, Scale, Svg, dashed};
 use crate::trouble::Trouble;
-use voqlisna::{Layout, Rendered, Speaker};
+use voqlisna::{Rendered, Speaker};
 
 const SECONDS: f64 = 20.0;
 /// Samples of which a peak is shown: 40 ms.
@@ -37,7 +38,7 @@ const MET: Axis<'_> = Axis {
 
 pub fn levels() -> Result<String, Trouble> {
     let mut peaks = Peaks::default();
-    Hall::new(Layout::Hall714)?.run(&mut Show::new(SECONDS), Policy::Conceal, &mut peaks)?;
+    Hall::new(&Setup::BUILT_IN)?.run(&mut Show::new(SECONDS), Policy::Conceal, &mut peaks)?;
     let mut svg = Svg::new(860.0, FOOT + 97.0);
     svg.title((LEFT, 30.0), "The levels of the demo");
     for s in Speaker::ALL {

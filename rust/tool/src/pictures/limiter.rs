@@ -3,9 +3,10 @@
 use super::heard;
 use crate::hall::renderer;
 use crate::numbers::grouped;
+use crate::setup::Setup;
 use crate::svg::{Align, Area, Axis, BLUE, Frame, GREY, RED, Scale, Svg};
 use crate::trouble::Trouble;
-use voqlisna::{Bed, Layout, Rate, Speaker};
+use voqlisna::{Bed, Rate, Speaker};
 
 /// A block of the limiter, which is a turn of the tone: 750 Hz at 48,000.
 const BLOCK: usize = 64;
@@ -144,7 +145,7 @@ fn heard() -> Result<Vec<Heard>, Trouble> {
     let all = 0..BLOCK * (BEFORE + BURST + AFTER);
     let fed: Vec<f32> = all.map(|i| level(i) * turn(i % BLOCK)).collect();
     let given = heard::bed(
-        renderer(Layout::Hall714)?,
+        renderer(&Setup::BUILT_IN)?,
         Rate::HZ_48000,
         Bed::Center,
         Speaker::Center,

@@ -3,9 +3,13 @@
 mod bass;
 mod decay;
 mod heard;
+mod hung;
 mod levels;
 mod limiter;
 mod map;
+mod names;
+mod panels;
+mod rise;
 
 pub use bass::bass;
 pub use decay::decay;

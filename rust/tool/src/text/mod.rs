@@ -16,9 +16,12 @@
 //! record that stands where none of its kind may, and `cut` has the bytes of a last record that is not whole.
 //! What follows a # is for people.
 mod dump;
+mod lines;
 mod record;
 mod undump;
 mod word;
 
 pub use dump::dump;
+pub use lines::lines;
 pub use undump::undump;
+pub use word::float;

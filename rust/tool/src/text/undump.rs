@@ -1,27 +1,19 @@
 // SPDX-License-Identifier: Apache-2.0
 //! Text to bytes.
-use super::{record, word};
+use super::{lines, record, word};
 use crate::files::Out;
 use crate::programme::{Header, LENGTH};
 use crate::trouble::Trouble;
-use std::io::{BufRead, BufReader, Read};
+use std::io::Read;
 
 /// Writes what the text says.
 pub fn undump(from: impl Read, name: &str, out: &mut Out) -> Result<(), Trouble> {
     let mut frame = None;
     let mut last = 0;
-    for (k, line) in BufReader::new(from).lines().enumerate() {
-        let line = line.map_err(|e| match e.kind() {
-            std::io::ErrorKind::InvalidData => {
-                Trouble::Wrong(format!("{name}:{}: not text", k + 1))
-            }
-            _ => Trouble::io(name, &e),
-        })?;
-        let line = line.split('#').next().unwrap_or("").trim();
-        last = k + 1;
-        if !line.is_empty() {
-            one(line, &mut frame, out).map_err(|e| e.at(name, last))?;
-        }
+    for line in lines(from, name) {
+        let (number, line) = line?;
+        last = number;
+        one(&line, &mut frame, out).map_err(|e| e.at(name, last))?;
     }
     finish(&mut frame, out).map_err(|e| e.at(name, last))
 }

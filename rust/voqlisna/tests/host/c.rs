@@ -142,20 +142,39 @@ fn expected() -> String {
     let mut text = String::new();
     print_answer(&mut text, "make", refused(1));
     print_answer(&mut text, "make", refused(15));
-    Layout::ALL
-        .into_iter()
-        .for_each(|layout| show(&mut text, layout));
+    for number in 16..=18 {
+        print_answer(&mut text, "make_with_table", refused(number));
+    }
+    for layout in Layout::ALL {
+        print_answer(&mut text, "make", answer(3));
+        show(&mut text, Renderer::new(layout).unwrap());
+    }
+    print_answer(&mut text, "make_with_table", answer(3));
+    show(
+        &mut text,
+        Renderer::with_table(Layout::Hall714, &measured()).unwrap(),
+    );
     archive(&mut text);
     text
 }
 
-fn show(text: &mut String, layout: Layout) {
+/// The built-in places to a digit, but the side speakers halfway up.
+fn measured() -> HallTable {
+    let places = HallTable::BUILT_IN.places().map(|Panned { x, y, z }| {
+        let digit = |x: f32| (x * 10.0).round() / 10.0;
+        let side = x.abs() == 1.0 && y == 0.0;
+        Panned {
+            x: digit(x),
+            y: if side { 0.5 } else { y },
+            z: digit(z),
+        }
+    });
+    HallTable::new(places).unwrap()
+}
+
+fn show(text: &mut String, mut renderer: Renderer) {
     let mut memory = [0; 200];
-    let (mut renderer, mut out) = (
-        Renderer::new(layout).unwrap(),
-        Output::new(Stride::new(512).unwrap()),
-    );
-    print_answer(text, "make", answer(3));
+    let mut out = Output::new(Stride::new(512).unwrap());
     for k in 0..FRAMES {
         let pcm = sound(k);
         let metadata = match k % 2 {
@@ -203,7 +222,7 @@ fn says_the_same(lines: &str) {
         let said = line.strip_prefix(&format!("{number}: ")).unwrap();
         let refusal = Refusal::from_answer(refused(number)).unwrap();
         match number {
-            0 | 7 | 16..22 => assert_eq!(said, "an unknown refusal"),
+            0 | 7 | 19..22 => assert_eq!(said, "an unknown refusal"),
             9 | 11 | 13 | 14 => assert!(said.contains(' ')),
             _ => assert_eq!(said, refusal.to_string().replace('±', "+-")),
         }
@@ -258,6 +277,7 @@ fn the_library_has_prefixed_names_and_needs_two() {
             "hall_flush",
             "hall_from_planes",
             "hall_make",
+            "hall_make_with_table",
             "hall_push",
             "hall_reset",
             "hall_state_size",

@@ -51,6 +51,47 @@ impl Draw {
         (0..length).map(|_| self.word() as u8).collect()
     }
 
+    /// A coordinate: mostly of a few, so that places meet; at times a step beside one, any, or one that
+    /// is outside.
+    fn coordinate(&mut self) -> f32 {
+        let few: f32 = self.pick(&[0.0, -0.0, 1.0, -1.0, 0.5, -0.5]);
+        let above = 1.000_000_1;
+        match self.below(8) {
+            0 => few * 0.999_999_94,
+            1 => self.share() * 2.0 - 1.0,
+            2 if self.once_in(24) => self.pick(&[above, -above, f32::NAN, f32::INFINITY, -8.0]),
+            _ => few,
+        }
+    }
+
+    /// Any places, half of them right.
+    pub fn places(&mut self) -> [Panned; 12] {
+        let apart = self.once_in(2);
+        let mut places = [(); 12].map(|()| Panned {
+            x: self.coordinate(),
+            y: self.coordinate(),
+            z: self.coordinate(),
+        });
+        if apart {
+            for place in &mut places {
+                place.y = self.share() * 2.0 - 1.0;
+            }
+        }
+        places
+    }
+
+    /// A right one, in every fourth case the built-in one.
+    pub fn table(&mut self) -> HallTable {
+        if self.once_in(4) {
+            return HallTable::BUILT_IN;
+        }
+        loop {
+            if let Ok(table) = HallTable::new(self.places()) {
+                return table;
+            }
+        }
+    }
+
     pub fn refusal(&mut self) -> Refusal {
         let (number, first, second) = (
             self.below(26) as u32,

@@ -18,6 +18,7 @@ mod shapes;
 mod snapshot;
 mod stack;
 mod steady;
+mod table;
 mod tools;
 mod version;
 mod writer;

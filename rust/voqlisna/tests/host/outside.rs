@@ -34,6 +34,12 @@ pub fn renders(block: &mut [u8], frame: &Frame<'_>, out: &mut [f32]) -> Option<u
     renderer.flush(&mut out).map(|rendered| rendered.ready())
 }
 
+pub fn hangs(block: &mut [u8], table: &[u8], places: &[Panned; 12]) -> Result<HallTable, TableError> {
+    let table = HallTable::from_bytes(table).or(HallTable::new(*places))?;
+    let renderer = Renderer::over_with_table(block, Layout::Hall714, &table);
+    Ok(renderer.map_or(table, |renderer| renderer.table()))
+}
+
 pub fn conceals(block: &mut [u8], frame: &Frame<'_>, out: &mut [f32], silence: &mut [f32]) -> Option<Way> {
     let mut out = Output::over(out, Stride::MAX).ok()?;
     let mut concealer = Concealer::over(silence, Stride::MAX).ok()?;

@@ -63,8 +63,9 @@ fn shapes(draw: &mut Draw) {
 
 /// Every call with a frame, and every way to read what it gave.
 fn calls(draw: &mut Draw, frame: &Frame<'_>, stride: Stride) {
-    let layout = draw.pick(&Layout::ALL);
-    let (mut renderer, mut out) = (Renderer::new(layout).unwrap(), Output::new(stride));
+    let (layout, table) = (draw.pick(&Layout::ALL), draw.table());
+    let mut renderer = Renderer::with_table(layout, &table).unwrap();
+    let mut out = Output::new(stride);
     let mut concealer = Concealer::new(Stride::new(64 * (1 + draw.below(24) as u32)).unwrap());
     let mut steady = Steady::up_to(draw.below(2_000)).unwrap();
     for _ in 0..3 {
@@ -106,8 +107,12 @@ fn lent(draw: &mut Draw) {
     let _ = MetadataWriter::bytes_for(samples, &[count(draw), count(draw)]);
     let length = count(draw).min(500);
     let mut bytes = draw.bytes(length);
-    let layout = draw.pick(&Layout::ALL);
+    let (layout, table) = (draw.pick(&Layout::ALL), draw.table());
     let _ = Renderer::over(&mut bytes, layout).map(|renderer| renderer.block().len());
+    let lent = Renderer::over_with_table(&mut bytes, layout, &table);
+    let _ = lent.map(|renderer| renderer.table());
+    let _ = HallTable::from_bytes(&bytes).map_err(|error| error.to_string());
+    let _ = HallTable::new(draw.places()).map_err(|error| error.to_string());
     let _ = Snapshot::read(&bytes).map(|snapshot| Renderer::restore(snapshot).is_ok());
 }
 

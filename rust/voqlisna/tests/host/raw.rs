@@ -1,7 +1,7 @@
 // SPDX-License-Identifier: Apache-2.0
 //! The entries over slices of any length, with no guard around them.
 
-use voqlisna::sys::{Answer, hall_flush, hall_make, hall_push, hall_reset};
+use voqlisna::sys::{Answer, hall_flush, hall_make, hall_make_with_table, hall_push, hall_reset};
 use voqlisna::*;
 
 pub fn push(state: &mut [u8], frame: &Frame<'_>, out: &mut [u8], stride: u32) -> Answer {
@@ -75,6 +75,20 @@ pub fn make(state: &mut [u8], layout: u32) -> Answer {
     unsafe { hall_make(state.as_mut_ptr(), state.len(), layout) }
 }
 
+/// The same with a table's bytes.
+pub fn make_with(state: &mut [u8], layout: u32, table: &[u8]) -> Answer {
+    // SAFETY: two slices that live through the call and do not overlap.
+    unsafe {
+        hall_make_with_table(
+            state.as_mut_ptr(),
+            state.len(),
+            layout,
+            table.as_ptr(),
+            table.len(),
+        )
+    }
+}
+
 /// What making and reset answer.
 pub const DONE: Answer = Answer {
     kind: 3,
@@ -90,5 +104,15 @@ pub const DONE: Answer = Answer {
 pub fn fresh(layout: Layout) -> Vec<u8> {
     let mut state = vec![0xa5; sys::hall_state_size()];
     assert_eq!(make(&mut state, layout.code()), DONE);
+    state
+}
+
+/// A new block of that layout with that table.
+pub fn fresh_with(layout: Layout, table: &HallTable) -> Vec<u8> {
+    let mut state = vec![0xa5; sys::hall_state_size()];
+    assert_eq!(
+        make_with(&mut state, layout.code(), &table.to_bytes()),
+        DONE
+    );
     state
 }

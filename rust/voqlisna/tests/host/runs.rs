@@ -36,12 +36,12 @@ fn told(result: Result<&Rendered<'_>, &Refusal>) -> Answer {
 }
 
 impl Pair {
-    fn new(layout: Layout, stride: Stride) -> Self {
+    fn new(layout: Layout, table: &HallTable, stride: Stride) -> Self {
         let places = 12 * stride.samples();
         Self {
-            renderer: Renderer::new(layout).unwrap(),
+            renderer: Renderer::with_table(layout, table).unwrap(),
             out: vec![3.5; places],
-            block: raw::fresh(layout),
+            block: raw::fresh_with(layout, table),
             raw: 3.5f32.to_le_bytes().repeat(places),
             stride,
         }
@@ -169,7 +169,7 @@ fn the_crate_answers_as_the_entries_do() {
             Stride::new(draw.pick(&[64, 256, 512, 1536])).unwrap(),
         );
         let layout = draw.pick(&Layout::ALL);
-        let mut pair = Pair::new(layout, stride);
+        let mut pair = Pair::new(layout, &draw.table(), stride);
         for call in 0..CALLS {
             let answer = match draw.below(12) {
                 0 => pair.reset(),

@@ -1,5 +1,5 @@
 // SPDX-License-Identifier: Apache-2.0
-//! Numbers, blame and sentences of refusals, and names, bits and places of speakers.
+//! Numbers, blame and sentences of refusals, and names, bits and built-in places of speakers.
 
 use crate::raw;
 use voqlisna::sys::Answer;
@@ -24,13 +24,13 @@ fn a_refusal_keeps_its_number_and_counts() {
         let expected = match number {
             9 | 11 => (7, 8),
             13 | 14 => (7, 0),
-            1..=6 | 8 | 10 | 12 | 15 | 22 | 23 => (0, 0),
+            1..=6 | 8 | 10 | 12 | 15..=18 | 22 | 23 => (0, 0),
             _ => (7, 8),
         };
         assert_eq!(refusal.counts(), expected, "{number}");
         assert_eq!(
             matches!(refusal, Refusal::Other { .. }),
-            !matches!(number, 1..=6 | 8..=15 | 22 | 23),
+            !matches!(number, 1..=6 | 8..=18 | 22 | 23),
             "{number}"
         );
     }
@@ -53,7 +53,7 @@ fn blame_is_as_the_interface_has_it() {
         (5..=6, Blame::Programme),
         (8..=8, Blame::Decoder),
         (9..=14, Blame::Stream),
-        (15..=15, Blame::Host),
+        (15..=18, Blame::Host),
         (22..=23, Blame::Host),
     ] {
         assert!(
@@ -115,6 +115,16 @@ fn every_other_error_is_a_sentence() {
     let snapshot = [NotOne, Version(3), Damaged, Range, Memory { needed: 5 }];
     snapshot.iter().for_each(|error| is_a_sentence(error));
     is_a_sentence(&UnknownLayout);
+    is_a_sentence(&TableError::Length(143));
+    is_a_sentence(&TableError::Coordinate {
+        speaker: Speaker::Bass,
+        axis: Axis::Y,
+        value: f32::NAN,
+    });
+    is_a_sentence(&TableError::SamePlace {
+        first: Speaker::RearLeft,
+        second: Speaker::TopRearLeft,
+    });
     is_a_sentence(&records::first_fault(&[1; 40], 5).unwrap());
 }
 

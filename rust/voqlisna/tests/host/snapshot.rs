@@ -9,9 +9,9 @@ use voqlisna::*;
 fn running(case: u64) -> (Renderer, Scene, Draw) {
     let mut draw = Draw::new(6, case);
     let (scene, mut out) = (Scene::draw(&mut draw), Output::new(Stride::MAX));
-    let layout = draw.pick(&Layout::ALL);
-    let mut renderer = Renderer::new(layout).unwrap();
-    while renderer.block() == raw::fresh(layout) {
+    let (layout, table) = (draw.pick(&Layout::ALL), draw.table());
+    let mut renderer = Renderer::with_table(layout, &table).unwrap();
+    while renderer.block() == raw::fresh_with(layout, &table) {
         let _ = renderer.push(&scene.frame(&mut draw, 100).frame(), &mut out);
     }
     (renderer, scene, draw)
@@ -28,8 +28,12 @@ fn goes_on_where_it_was() {
         let snapshot = Snapshot::read(saved.as_bytes()).unwrap();
         let mut second = Renderer::restore(snapshot).unwrap();
         let mut third = Renderer::restore_over(snapshot, &mut memory).unwrap();
-        assert_eq!(second.layout(), first.layout());
-        assert_eq!(third.layout(), first.layout());
+        for restored in [second.layout(), third.layout()] {
+            assert_eq!(restored, first.layout());
+        }
+        for restored in [second.table(), third.table()] {
+            assert_eq!(restored.to_bytes(), first.table().to_bytes());
+        }
         for _ in 0..20 {
             let owned = scene.frame(&mut draw, 90);
             let rendered = first.push(&owned.frame(), &mut out).unwrap();
@@ -106,7 +110,7 @@ fn a_field_out_of_range_is_turned_down_by_the_library() {
     let (renderer, ..) = running(1);
     let mut file = vec![0; Snapshot::size()];
     renderer.save(&mut file).unwrap();
-    let layout = sys::LAYOUT_AT;
+    let (layout, table) = (sys::LAYOUT_AT, sys::TABLE_AT);
     for (byte, value) in [
         (4, 64),
         (64, 64),
@@ -114,6 +118,8 @@ fn a_field_out_of_range_is_turned_down_by_the_library() {
         (80, 33),
         (1424, 64),
         (layout, 4),
+        (table + 3, 0x40),
+        (table + 36 + 3, 0x7f),
     ] {
         let mut forged = file.clone();
         forged[16 + byte] = value;

@@ -53,6 +53,11 @@ fn a_call_stays_within_what_is_promised() {
         Renderer::new(Layout::Hall714).unwrap(),
         Output::new(Stride::MAX),
     );
+    // With a table of its own the speakers are sorted at each push.
+    let mut places = *HallTable::BUILT_IN.places();
+    places[0].y = 0.5;
+    let table = HallTable::new(places).unwrap();
+    let mut own = Renderer::with_table(Layout::Hall714, &table).unwrap();
     let (mut concealer, mut memory) = (Concealer::new(Stride::MAX), vec![0; Snapshot::size()]);
     let mut ways = Vec::new();
     let mut told = Vec::new();
@@ -64,13 +69,23 @@ fn a_call_stays_within_what_is_promised() {
         }));
     }
     assert_eq!(ways, [Way::Whole, Way::MetadataOnly]);
+    owned.pcm[1000] = 0.5;
+    told.push(depth(&mut || {
+        assert!(own.push(&owned.frame(), &mut out).is_ok())
+    }));
+    let mut block = vec![0; sys::STATE_SIZE];
+    told.push(depth(&mut || {
+        assert!(Renderer::over_with_table(&mut block, Layout::Hall714, &table).is_ok())
+    }));
     let saved = renderer.save(&mut memory).unwrap();
     let mut block = vec![0; sys::STATE_SIZE];
     told.push(depth(&mut || {
         assert!(Renderer::restore_over(saved, &mut block).is_ok())
     }));
     told.push(depth(&mut || assert!(renderer.flush(&mut out).is_none())));
-    println!("bytes of stack: push, concealed push, restore, flush: {told:?}");
+    println!(
+        "bytes of stack: push, concealed push, with a table, made with it, restore, flush: {told:?}"
+    );
     assert!(
         told.iter().all(|bytes| (1..PROMISED).contains(bytes)),
         "{told:?}"

@@ -51,6 +51,8 @@ fn numbers_of_the_header_are_those_of_the_crates() {
     assert_eq!(sys::hall_state_size(), sys::STATE_SIZE);
     assert_eq!(Renderer::block_size(), sys::STATE_SIZE);
     assert_eq!(defined("HALL_STATE_SIZE"), sys::STATE_SIZE as u64);
+    assert_eq!(defined("HALL_TABLE_SIZE"), sys::TABLE_SIZE as u64);
+    assert_eq!(HallTable::BUILT_IN.to_bytes().len(), sys::TABLE_SIZE);
     assert_eq!(defined("HALL_MAX_STRIDE"), Stride::MAX.samples() as u64);
     assert_eq!(defined("HALL_MAX_SAMPLES"), Stride::MAX.samples() as u64);
     let masks = ["", "_514", "_710", "_510"].map(|name| defined(&format!("HALL_WAVE_MASK{name}")));

@@ -6,6 +6,7 @@
 mod case;
 mod counts;
 mod fit;
+mod halls;
 mod leaves;
 mod million;
 mod planes;
@@ -24,10 +25,11 @@ use std::{env, fs, process, thread};
 use table::{Row, rows};
 
 const USAGE: &str = "\
-usage: measure [SECONDS] | million | sends | leaves | planes
+usage: measure [SECONDS] | million | sends | halls | leaves | planes
   SECONDS   for each case (0.8)
   million   only a million pushes of one sample
   sends     only what sends to the bass feed cost
+  halls     only what a hall table of its own costs
   leaves    times of single functions
   planes    times of the archive's planes, both ways";
 
@@ -95,6 +97,7 @@ const SWEEPS: usize = 6;
 /// The words on the command line for one of them.
 const SWEEP: &str = "sweep";
 const SWEEP_SENDS: &str = "sweep-sends";
+const SWEEP_HALLS: &str = "sweep-halls";
 
 /// What sends cost.
 fn sends(seconds: f64) -> Vec<sends::Row> {
@@ -102,6 +105,16 @@ fn sends(seconds: f64) -> Vec<sends::Row> {
     for _ in 0..SWEEPS {
         let sides = rows.iter_mut().flat_map(|row| &mut row.times);
         sweep_apart(SWEEP_SENDS, sides, seconds / SWEEPS as f64);
+    }
+    rows
+}
+
+/// What a hall table of its own costs.
+fn halls(seconds: f64) -> Vec<halls::Row> {
+    let mut rows = halls::rows();
+    for _ in 0..SWEEPS {
+        let sides = rows.iter_mut().flat_map(|row| &mut row.times);
+        sweep_apart(SWEEP_HALLS, sides, seconds / SWEEPS as f64);
     }
     rows
 }
@@ -122,6 +135,7 @@ fn all(seconds: f64) {
     println!("## Measured");
     table::print(&rows);
     sends::print(&sends(seconds));
+    halls::print(&halls(seconds));
     million::print();
     table::print_functions(&rows);
     fit::print(&rows);
@@ -153,6 +167,8 @@ fn main() {
         ["planes"] => planes::print(),
         ["million"] => million::print(),
         ["sends"] => sends::print(&sends(0.8)),
+        ["halls"] => halls::print(&halls(0.8)),
+        [SWEEP_HALLS, seconds] => halls::sweep(seconds.parse().unwrap()),
         [SWEEP_SENDS, seconds] => sends::sweep(seconds.parse().unwrap()),
         [SWEEP, seconds] => sweep(seconds.parse().unwrap()),
         [counts::COUNTED] => counts::counted(&warm()),

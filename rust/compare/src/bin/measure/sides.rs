@@ -2,7 +2,9 @@
 
 use crate::case::Inputs;
 use compare::calls::Call;
+#[cfg(base)]
 use compare::host::fresh;
+use compare::setup::Setup;
 use compare::{all_same, floats};
 use oracle::{Oracle, Pushed, amended};
 use std::hint::black_box;
@@ -89,24 +91,33 @@ pub struct Library {
 }
 
 impl Library {
-    /// Of layout 0, the one that the Rust has.
+    /// In the hall that the Rust has.
     pub fn new() -> Self {
+        Library::in_hall(&Setup::built_in(0))
+    }
+
+    pub fn in_hall(setup: &Setup) -> Self {
         Library {
             push: hall::push,
             reset: hall::reset,
-            state: fresh(0),
+            state: setup.fresh(),
             out: vec![0; 48 * STRIDE],
         }
     }
 
-    /// A library from before R-5 has this layout alone, and makes its renderers by reset; zeros have
-    /// its code.
+    /// A library from before R-6 has blocks of another length, of which reset makes a renderer of
+    /// layout 0 if they are zeros: one from before R-5 has no making call.
     #[cfg(base)]
     fn base() -> Self {
+        let (new, size) = (fresh(0), base::state_size());
         Library {
             push: base::push,
             reset: base::reset,
-            state: vec![0; base::state_size()],
+            state: if size == new.len() {
+                new
+            } else {
+                vec![0; size]
+            },
             out: vec![0; 48 * STRIDE],
         }
     }
@@ -237,7 +248,13 @@ pub fn assert_equal(sides: &mut [Side], inputs: &Inputs) {
 
 /// Every push of the library gives the samples of the Rust with sends.
 pub fn assert_sent(inputs: &Inputs) {
-    let (mut library, mut oracle) = (Library::new(), amended::Oracle::new());
+    assert_amended(inputs, &Setup::built_in(0));
+}
+
+/// Every push of the library gives those of the Rust with the rules of document 02, in that hall.
+pub fn assert_amended(inputs: &Inputs, setup: &Setup) {
+    let mut library = Library::in_hall(setup);
+    let mut oracle = amended::Oracle::in_hall(&setup.hall());
     library.reset();
     for (k, &frame) in inputs.order.iter().enumerate() {
         let Pushed::Ready(channels) = oracle.push(&inputs.frames[frame]) else {
