@@ -6,6 +6,7 @@
 ghost use Rattle.std.specs.Prelude.{◌≡◌, cond, ◌&&◌, ◌||◌, eqb, ltb, ◌-◌, ◌<◌, ◌≤◌};
 ghost use Rattle.rules.specs.Samples.{pushed};
 ghost use Rattle.rules.specs.Calls.{frame_of};
+ghost use Rattle.render.specs.Run.{silent_rows};
 ghost use Rattle.store.specs.Layout.{decode, setup_in};
 ghost use Rattle.panning.specs.Hall.{setup_of};
 ghost use Rattle.theorem.specs.Instance.{hall};
@@ -60,6 +61,15 @@ fn is_kept(k: usize, left: usize) -> bool
     k < 64 || left < 128
 }
 
+// Clears the rows, where another turn takes them: a push of one sample clears them once, as they are made.
+fn clear_rows(rows: &mut [f32; areas::PLACE_COUNT], more: bool)
+    ensures { rows.new ≡ cond more silent_rows rows.old }
+{
+    if more {
+        *rows = [0.0; areas::PLACE_COUNT];
+    }
+}
+
 // In a hall, infos and places being left in `state`; the rest is answered: its bytes in `state` stay.
 fn render_in(
     setup: &Hall,
@@ -82,6 +92,7 @@ fn render_in(
     let stride = n.stride as usize;
     let end = FrameOffset(n.samples);
     let mut work = Rendering::of(s.open(n.rate));
+    let mut rows = [0.0f32; areas::PLACE_COUNT];
     let mut t = START;
     // By `while`: how many samples a turn takes is found as it goes.
     while t < end {
@@ -112,7 +123,6 @@ fn render_in(
             objects,
             span,
         };
-        let mut rows = [0.0f32; areas::PLACE_COUNT];
         let pending = work.renderer.pending as usize;
         work = work.pass(setup, &mut rows, input);
         if is_kept(k, t.up_to(end)) {
@@ -124,6 +134,7 @@ fn render_in(
             work = work.give(&setup.present, state, out, stride);
         }
         t = t.plus(k as u32);
+        clear_rows(&mut rows, t < end);
     }
     work
 }

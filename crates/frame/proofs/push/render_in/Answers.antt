@@ -2,13 +2,14 @@
 use Prim.Native.Nat.{ℕ, ◌+◌, ◌<◌}
 use mathlib.Core.Path.{◌≡◌, refl, sym, ap, ◌∙◌, subst}
 use mathlib.Core.List.{List}
-use mathlib.Core.Bool.{Bool, true, false, ◌||◌}
+use mathlib.Core.Bool.{Bool, true, false, cond, ◌||◌}
 use lib.Dec.{T, ltb}
 use lib.Ieee.{of_bits}
 use native.Mathlib.Omega.{arith}
 use native.Mathlib.Nat.{le_of_lt}
 use borrow.Author.Rules.{rules}
 use borrow.Author.Tests.{ltb-false}
+use Rattle.std.specs.Ordering.{is_lt, nat_cmp}
 use Rattle.panning.specs.Setup.{Setup, marks_of}
 use Rattle.panning.specs.Hall.{setup_of}
 use Rattle.limiter.specs.Meters.{unmet}
@@ -51,12 +52,14 @@ open-requires c =
     is_rate s.s s.state.now (args_in s.frame s.out.now) c.requires.0
 
 pub loop-pcm-init : goal.loop-pcm-init
+unfolding of_bits silent_rows
 loop-pcm-init c =
     let s = c.args in (
       opens s.s c.of-work.result s.state.now (args_in s.frame s.out.now) s.frame.metadata.layout c.requires.0
           (taken (goal.at.loop-pcm-init c).After-open)
           (c.of-work.ensures ∙ ap (λ (r : Renderer714). record { renderer = r; ready = 0; meters = unmet }) c.«open».ensures),
       refl,
+      (λ h. refl),
     )
 
 -- ---- a turn
@@ -186,11 +189,10 @@ invariant_of-input c =
     record { few = q.few; framed = q.framed }
 
 pub pass-work-requires : goal.pass-work-requires
-unfolding of_bits silent_rows
 pass-work-requires c =
     let p = goal.at.pass-work-requires c in
     let k = taken p.After-open in
-    ((turn_passes (turning p.After-run_length-k k (begun p.Joined-slot_starts (updates_done p.Joined-is_sent k)))).passes, search rules)
+    ((turn_passes (turning p.After-run_length-k k (begun p.Joined-slot_starts (updates_done p.Joined-is_sent k)))).passes, c.loop-pcm.invariant.2 (more_left _ _ _ c.lt.ensures c.loop-pcm-test.true))
 
 -- what it leaves, by the offset
 passed_at : (c : After-pass-work) → let s = c.args in let v = c.if-slot_starts in
@@ -316,6 +318,9 @@ whole_runs c r o q y m e g₀ =
           (omega (arith, x, c.up_to.ensures, c.loop-pcm.invariant.1)))
     ]
 
+is_more : (t end : ℕ) (b : Bool) → b ≡ is_lt (nat_cmp t end) → t < end → b ≡ true
+is_more t end b e h = search rules
+
 pub loop-pcm-preserved : goal.loop-pcm-preserved
 loop-pcm-preserved c =
     let s = c.args in
@@ -337,6 +342,7 @@ loop-pcm-preserved c =
                 (turn_runs q _ _ _ (passes_on f p y (laid_part at.Joined-is_kept q m w.if-k-eq64.false) w.if-work-eq64.false))
           ]),
       c.loop-pcm.invariant.1,
+      (λ h. c.clear_rows.ensures ∙ ap (λ (more : Bool). cond more silent_rows c.pass-work.new.rows) (is_more _ _ _ c.lt-in-loop-pcm.ensures (subst (λ (n : ℕ). c.plus-t.result.0 < n) (sym c.loop-pcm.invariant.1) h))),
     )
 
 -- ---- at the end
