@@ -64,7 +64,7 @@ half_twice : 2 ^ 125 ≡ 2 * HalfUlp
 unfolding HalfUlp
 half_twice = refl
 
-one_fraction : Fraction 1·0
+pub one_fraction : Fraction 1·0
 one_fraction = record { f32 = one_f32; plus = refl; most = le_of_eq one_P }
 
 -- before the cap
@@ -104,7 +104,7 @@ module _ (n rate : ℕ) (d : Decay n rate) (g : Float) (k : Fraction g) where
       (sum_plus ∙ refl)
       (subst (λ (j : ℕ). 0 < j) (sym one_P) one_pos)
 
-  grown_fraction : Fraction (grown n rate g)
+  pub grown_fraction : Fraction (grown n rate g)
   grown_fraction = unfold grown in go (lt 1·0 (uncapped n rate g)) under_cap
     where
       go : (b : Bool) → (T (not b) → P (uncapped n rate g) ≤ One) → Fraction (cond b 1·0 (uncapped n rate g))
@@ -148,7 +148,7 @@ pub record Grows (k : ℕ) (g : Float) (n rate : ℕ) : Type 0 where
   pub gain : Fraction (grown_times k n rate g)
   pub risen : (grown_times k n rate g ≡ 1·0) ⊎ (P g + k * P (decay n rate) ≤ P (grown_times k n rate g) + k * HalfUlp)
 
-one_stays : (n rate : ℕ) → Decay n rate → grown n rate 1·0 ≡ 1·0
+pub one_stays : (n rate : ℕ) → Decay n rate → grown n rate 1·0 ≡ 1·0
 one_stays n rate d = grown_full n rate d 1·0 one_fraction (omega (arith, one_P))
 
 next : (n rate k : ℕ) (g : Float) → Decay n rate → Grows k g n rate → Grows (suc k) g n rate

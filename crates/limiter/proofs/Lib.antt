@@ -5,6 +5,8 @@ pub mod Blocks
 pub mod Lowered
 pub mod Growth
 pub mod Return
+pub mod Row
+pub mod LowPeaks
 pub mod InRange
 pub mod CallMeters
 pub mod Theorems

@@ -17,6 +17,7 @@ use Rattle.ieee.proofs.Ops.{small, mul_rounds, mul_over, div_rounds}
 use Rattle.ieee.proofs.Signed.{at_most, at_least, not_negative, near, mag_is, P-less}
 use Rattle.ieee.proofs.Compare.{lt→, nlt→}
 use Rattle.limiter.specs.Limiter.{lowered}
+use Rattle.limiter.specs.BlockInRange.{Fraction}
 
 top_is : 2097152 * Top ≡ One * One
 unfolding Top One
@@ -39,7 +40,7 @@ product_under x g p f k n l h =
     (r.f32, le_trans (le_of_eq r.up) i, le_trans (le_of_eq r.down) j)
 
 -- with p * g at most 1 when rounded
-gained : (x g : Float) (p : ℕ) → F32 x → F32 g → N g ≡ 0 → mag x ≤ p → rnd (p * P g) One ≤ One → Unitary (mul binary32 x g)
+pub gained : (x g : Float) (p : ℕ) → F32 x → F32 g → N g ≡ 0 → mag x ≤ p → rnd (p * P g) One ≤ One → Unitary (mul binary32 x g)
 gained x g p f k n l h =
     let u = product_under x g p f k n l (lt_of_le_of_lt h one_less) in
     record { f32 = u.0; high = le_trans u.1 h; deep = le_trans u.2 h }
@@ -66,7 +67,7 @@ product_is p g f n k z h =
     record { f32 = r.f32; is = r.up ∙ ap (λ (v : ℕ). rnd v One) AB; plus = not_negative one_pos r (omega arith) }
 
 -- ---- p * g above 1: then p is above 1, so 0.9 / p is in (0, 1]; and p * (0.9 / p) is 0.9 within an error far below 0.1
-peak_above : (p g : Float) → F32 p → N p ≡ 0 → Gain g → T (lt 1·0 (mul binary32 p g)) → One < P p
+peak_above : (p g : Float) → F32 p → N p ≡ 0 → Fraction g → T (lt 1·0 (mul binary32 p g)) → One < P p
 peak_above p g f n k h = lt_of_not-le bad
   where
     bad : P p ≤ One → ⊥
@@ -83,7 +84,7 @@ pub record Keeps (p h : Float) : Type 0 where
   pub gain : Gain h
   pub within : rnd (P p * P h) One ≤ One
 
-ninth_keeps : (p g : Float) → F32 p → N p ≡ 0 → Gain g → T (lt 1·0 (mul binary32 p g)) → Keeps p (div binary32 0·9 p)
+pub ninth_keeps : (p g : Float) → F32 p → N p ≡ 0 → Fraction g → T (lt 1·0 (mul binary32 p g)) → Keeps p (div binary32 0·9 p)
 ninth_keeps p g f n k h =
     let l : One < P p = peak_above p g f n k h in
     let C = P 0·9 in
@@ -146,7 +147,7 @@ same_keeps p g f n k h = go (ltb w Top) (ltb→lt w Top) (nltb→le w Top)
 -- ---- both
 pub lowered_keeps : (p g : Float) → F32 p → N p ≡ 0 → Gain g → Keeps p (lowered p g)
 unfolding lowered
-lowered_keeps p g f n k = go (lt 1·0 (mul binary32 p g)) (ninth_keeps p g f n k) (same_keeps p g f n k)
+lowered_keeps p g f n k = go (lt 1·0 (mul binary32 p g)) (ninth_keeps p g f n (record { f32 = k.f32; plus = k.plus; most = k.most })) (same_keeps p g f n k)
   where
     go : (b : Bool) → (T b → Keeps p (div binary32 0·9 p)) → (T (not b) → rnd (P p * P g) One ≤ One) → Keeps p (cond b (div binary32 0·9 p) g)
     go true t e = t tt

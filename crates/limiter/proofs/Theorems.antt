@@ -2,7 +2,11 @@
 
 -- from a gain in (0, 1] and finite samples: the samples given out are in [-1, 1] and no larger than the meters say, the next gain and the meters in range
 pub use Rattle.limiter.proofs.InRange.{limiter_in_range}
--- floor(rate / 64) + 2 blocks of 64 that do not lower the gain end with gain 1
+-- R-8: from a gain from 0 to 1, and whatever blocks came before, floor(rate / 64) + 2 quiet blocks of 64 in a row end with gain 1; no block takes the gain out of 0 to 1
+pub use Rattle.limiter.proofs.Row.{returns, returns_after, fraction, after_more, blocks_fraction, block_level}
+-- blocks whose peaks are at most 1 are quiet; a silent block's peak is +0.0
+pub use Rattle.limiter.proofs.LowPeaks.{low_peaks_quiet, Zero, silent_peak}
+-- growths by 64 / rate, of which 64 times the number is at least the rate and 65 more
 pub use Rattle.limiter.proofs.Return.{full_after}
 -- k blocks that do not lower it bring the gain to 1, or up by k times the decay less k roundings
 pub use Rattle.limiter.proofs.Growth.{Decay, decay_is, HalfUlp, Grows, grows}

@@ -37,6 +37,8 @@ pub mod Called
 pub mod Flushes
 pub mod Keeps
 pub mod Demand3FromFacts
+pub mod Returning
+pub mod EmptyScene
 pub mod Absent
 pub mod Unread
 pub mod Theorems

@@ -17,7 +17,7 @@ use Rattle.rules.specs.BlockCalls.{Layout, Outcome, left, out_of, stride_of, tak
 use Rattle.rules.proofs.Owed.{Facts, InRanges}
 
 -- what an answer says of the renderer after it
-abbrev Means : (L : Leaves) → Answer → State L → State L → Type 0
+abbrev pub Means : (L : Leaves) → Answer → State L → State L → Type 0
 Means L (refused k x y) s r = s ≡ r
 Means L (rendered v m) s r = Unit {0}
 Means L nothing s r = s ≡ r
@@ -37,7 +37,7 @@ module _ (L : Leaves) where
   making_means (stop n x y) h r = refl
   making_means clear h r = tt
 
-  step_means : (r : State L) (c : Call) → Means L (step L r c).answer (step L r c).next r
+  pub step_means : (r : State L) (c : Call) → Means L (step L r c).answer (step L r c).next r
   step_means r (push a) = asked_means (found L r a) a r
   step_means r (flush out stride) = drained_means (room stride (length out)) (eqb r.pending.count 0) r
   step_means r reset = tt

@@ -20,6 +20,9 @@ pub use Rattle.rules.proofs.Absent.{bed_absent, object_absent, Placed, absent_un
 pub use Rattle.rules.proofs.Unread.{absent_unread, absent_unread_along, absent_kept}
 -- 7 never occurs
 pub use Rattle.rules.proofs.Unused.{number_of, never_seven}
+-- R-8: from a gain from 0 to 1, of any renderer and of any block in its ranges, enough quiet blocks in a row end with gain 1; a push into an empty scene is silent
+pub use Rattle.rules.proofs.Returning.{level_returns, level_returns_on}
+pub use Rattle.rules.proofs.EmptyScene.{silent_peaks}
 -- ranges of a renderer, floats of any bits, kept by updates, slots, frames and flushes
 pub use Rattle.rules.proofs.Ranged.{R, fresh_ranged, updated_ranged, slotted_ranged, framed_ranged, opened_ranged, pushed_ranged, flushed_ranged}
 -- what updates and a slot leave alone, and the shape that they give; no sample changes the hall

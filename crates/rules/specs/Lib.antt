@@ -16,3 +16,4 @@ pub mod Ringing
 pub mod BlockCalls
 pub mod Demand3
 pub mod Absent
+pub mod Returning

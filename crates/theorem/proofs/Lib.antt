@@ -18,6 +18,9 @@ pub mod Opened
 pub mod Heard
 pub mod Elsewhere
 pub mod Waiting
+pub mod LevelReturned
+pub mod Explosion
+pub mod OneLess
 pub mod Forgotten
 pub mod Players
 pub mod Unwritten

@@ -16,6 +16,10 @@ pub use Rattle.theorem.proofs.Appends.{appends}
 pub use Rattle.theorem.proofs.Waiting.{both_wait}
 -- a list of calls whose loud past has left the low-pass
 pub use Rattle.theorem.proofs.Forgotten.{past_gone}
+-- R-8: how soon the level returns, read from a block's bytes; an explosion after which it does; with one block less it does not
+pub use Rattle.theorem.proofs.LevelReturned.{level_returns, gain_returns}
+pub use Rattle.theorem.proofs.Explosion.{level_back}
+pub use Rattle.theorem.proofs.OneLess.{one_less}
 -- 01's cases marked P
 pub use Rattle.theorem.proofs.Marked.{table}
 -- what a valid block holds is within its ranges, and what a push or a flush leaves of it

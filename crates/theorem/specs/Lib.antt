@@ -3,3 +3,4 @@ pub mod Halls
 pub mod Appends
 pub mod AbsentKept
 pub mod Marked
+pub mod GainPlace

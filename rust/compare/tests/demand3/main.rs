@@ -2,5 +2,6 @@
 
 mod erased;
 mod forgets;
+mod returns;
 mod rows;
 mod streams;
