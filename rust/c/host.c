@@ -1,13 +1,14 @@
 /* SPDX-License-Identifier: Apache-2.0 */
 /* A host in C: in a hall of each layout, and in one with a table of its own, one bed and one object that moves, frames of
    480 samples, one too loud, one broken, a flush. It prints what it hears: each answer, and peak, gain and each ready sample of the layout's channels as
-   the eight digits of their bits. Then it makes planes of some bytes, and prints these too. */
+   the eight digits of their bits. Then it makes planes of some bytes and 24-bit integers of
+   some samples, and prints these too. */
 #include "voqlisna.h"
 #include "voqlisna_records.h"
 #include <stdio.h>
 #include <stdlib.h>
 
-enum { SAMPLES = 480, STRIDE = 512, FRAMES = 8, LOUD = 3, BROKEN = 5, RATE = 48000, ARCHIVED = 2 };
+enum { SAMPLES = 480, STRIDE = 512, FRAMES = 8, LOUD = 3, BROKEN = 5, RATE = 48000, ARCHIVED = 2, HEARD = 64, PLAYED = 3 };
 
 /* Float modes, without the flags of bits 0 to 5. This thread flushes to zero and rounds up. */
 enum { USUAL = 0x1f80, AUDIO = 0xdf80, CONTROL = 0xffc0 };
@@ -82,6 +83,37 @@ static void archive(void) {
   print_answer("to_planes", hall_to_planes(sound, sizeof sound, ARCHIVED, planes, sizeof planes - 1));
 }
 
+/* Samples of two channels as an amplifier takes them, and again as floats, in the usual float mode. */
+static void amplifier(void) {
+  static const int channels[2] = {HALL_FL, HALL_TBR};
+  static float out[HALL_CHANNELS * HEARD];
+  const float step = 1.0f / 8388608;
+  const uint8_t *const sound = (const uint8_t *)out;
+  uint8_t pcm[36 * PLAYED], back[48 * PLAYED];
+  const uint32_t mode = hall_enter_floats();
+  size_t c, i;
+  out[HEARD * HALL_FL] = 0.5f * step, out[HEARD * HALL_FL + 1] = 1.5f * step, out[HEARD * HALL_FL + 2] = 1;
+  out[HEARD * HALL_TBR] = -1, out[HEARD * HALL_TBR + 1] = -2.5f * step, out[HEARD * HALL_TBR + 2] = 0.5f;
+  print_answer("write_24", hall_write_24(sound, sizeof out, HEARD, PLAYED, pcm, sizeof pcm));
+  for (c = 0; c < 2; c++)
+    for (i = 0; i < PLAYED; i++) {
+      const uint8_t *at = pcm + 36 * i + 3 * channels[c];
+      printf("%02x%02x%02x%c", at[0], at[1], at[2], i + 1 < PLAYED ? ' ' : '\n');
+    }
+  print_answer("read_24", hall_read_24(pcm, sizeof pcm, back, sizeof back));
+  for (c = 0; c < 2; c++)
+    for (i = 0; i < PLAYED; i++)
+      printf("%08x%c", bits(back + 4 * (channels[c] * PLAYED + i)), i + 1 < PLAYED ? ' ' : '\n');
+  print_answer("write_24", hall_write_24(sound, sizeof out, HEARD - 1, PLAYED, pcm, sizeof pcm));
+  print_answer("write_24", hall_write_24(sound, sizeof out, HEARD, HEARD + 1, pcm, sizeof pcm));
+  print_answer("write_24", hall_write_24(sound, sizeof out, HEARD, PLAYED, pcm, sizeof pcm - 1));
+  out[HEARD + 2] = 1 + 2 * step;
+  print_answer("write_24", hall_write_24(sound, sizeof out, HEARD, PLAYED, pcm, sizeof pcm));
+  print_answer("read_24", hall_read_24(pcm, sizeof pcm - 1, back, sizeof back));
+  print_answer("read_24", hall_read_24(pcm, sizeof pcm, back, sizeof back - 1));
+  hall_leave_floats(mode);
+}
+
 /* A hall table as it was measured: the built-in places, but the side speakers halfway up. Gives its bytes. */
 static const uint8_t *measured(void) {
   static float table[HALL_CHANNELS][3] = {
@@ -148,6 +180,7 @@ int main(int count, char **words) {
     kept = kept && (modes[0] & CONTROL) == thread && (modes[1] & CONTROL) == USUAL;
   }
   archive();
+  amplifier();
   for (number = 0; number < 24; number++) printf("%u: %s\n", number, hall_refusal_text(number));
   free(state);
   return kept ? 0 : 2;

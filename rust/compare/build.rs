@@ -7,9 +7,9 @@ use std::ffi::OsStr;
 use std::path::{Path, PathBuf};
 use std::process::Command;
 
-/// A library from before R-5 has no make, one from before R-6 none with a table, one from before R-10
-/// no planes; renaming what is not there changes nothing.
-const ENTRIES: [&str; 9] = [
+/// A library from before R-5 has no make, one from before R-6 none with a table, one from before R-9
+/// no 24-bit samples, one from before R-10 no planes; renaming what is not there changes nothing.
+const ENTRIES: [&str; 11] = [
     "push",
     "flush",
     "reset",
@@ -19,6 +19,8 @@ const ENTRIES: [&str; 9] = [
     "version",
     "to_planes",
     "from_planes",
+    "write_24",
+    "read_24",
 ];
 
 fn main() {

@@ -1,2 +1,3 @@
 pub mod Answers
 pub mod Conversions
+pub mod Conversions24

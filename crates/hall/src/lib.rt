@@ -18,6 +18,7 @@ use store::{Block, hall_table};
 
 pub mod answer;
 mod archive;
+mod pcm;
 mod work;
 
 const VERSION: u32 = 5;

@@ -1,8 +1,8 @@
-// The entries of `hall`, and the two of `planes`, under their C names: rust/voqlisna-sys/include/voqlisna.h. Each hands on what the one of its name answers, in C's form, and
+// The entries of `hall`, and the two each of `pcm24` and `planes`, under their C names: rust/voqlisna-sys/include/voqlisna.h. Each hands on what the one of its name answers, in C's form, and
 // promises what that promises.
 #![tactic(auto)]
 
-ghost use Rattle.std.specs.Prelude.{◌≡◌, ◌*◌, length};
+ghost use Rattle.std.specs.Prelude.{◌≡◌, ◌*◌, ◌/◌, length};
 ghost use Rattle.rules.specs.Calls.{push, flush, reset, make, make_with};
 ghost use Rattle.rules.specs.BlockCalls.{made};
 ghost use Rattle.theorem.specs.Instance.{hall, block};
@@ -10,6 +10,9 @@ ghost use Rattle.theorem.specs.Appends.{AppendsIfOpen};
 ghost use Rattle.store.specs.Layout.{size};
 ghost use Rattle.hall.specs.Answers.{Left, MadeNew, version};
 ghost use Rattle.hall.specs.Conversions.{converted_as};
+ghost use Rattle.hall.specs.Conversions24.{converted_24_as};
+ghost use Rattle.pcm24.specs.Interleaved.{interleaved, in_channels};
+ghost use Rattle.pcm24.specs.Refused.{judged_to_write, judged_to_read, left_by};
 ghost use Rattle.planes.specs.Planes.{planes, samples_of};
 ghost use Rattle.planes.specs.Conversion.{judged, written_over};
 ghost use Rattle.rules.specs.Refusals.{args_of};
@@ -79,6 +82,26 @@ pub extern "C" fn hall_version() -> u32
     ensures { result ≡ version }
 {
     hall::version()
+}
+
+// R-9: the first `count` samples of each channel of an output as 24-bit integers, interleaved.
+#[unsafe(no_mangle)]
+pub extern "C" fn hall_write_24(out: &[u8], stride: u32, count: u32, dest: &mut [u8]) -> Answer
+    ensures answer { result ≡ converted_24_as (judged_to_write out.now stride count (length dest.old)) }
+    ensures dest { dest.new ≡
+        left_by (judged_to_write out.now stride count (length dest.old)) (interleaved out.now stride count dest.old) dest.old }
+{
+    Answer::from(pcm24::write_24(out, stride, count, dest))
+}
+
+// Such bytes as samples, channel after channel.
+#[unsafe(no_mangle)]
+pub extern "C" fn hall_read_24(source: &[u8], dest: &mut [u8]) -> Answer
+    ensures answer { result ≡ converted_24_as (judged_to_read (length source.now) (length dest.old)) }
+    ensures dest { dest.new ≡
+        left_by (judged_to_read (length source.now) (length dest.old)) (in_channels source.now (length source.now / 36) dest.old) dest.old }
+{
+    Answer::from(pcm24::read_24(source, dest))
 }
 
 // R-10: samples, channel after channel, into planes.

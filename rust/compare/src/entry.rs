@@ -2,8 +2,8 @@
 
 use crate::calls::Call;
 use voqlisna_sys::{
-    hall_flush, hall_from_planes, hall_make, hall_make_with_table, hall_push, hall_reset,
-    hall_to_planes,
+    hall_flush, hall_from_planes, hall_make, hall_make_with_table, hall_push, hall_read_24,
+    hall_reset, hall_to_planes, hall_write_24,
 };
 
 pub use voqlisna_sys::Answer;
@@ -102,4 +102,23 @@ pub fn planes(way: Planes, source: &[u8], samples: u32, dest: &mut [u8]) -> Answ
             dest.len(),
         )
     }
+}
+
+pub fn write_24(out: &[u8], stride: u32, count: u32, dest: &mut [u8]) -> Answer {
+    // SAFETY: two slices that live through the call and do not overlap.
+    unsafe {
+        hall_write_24(
+            out.as_ptr(),
+            out.len(),
+            stride,
+            count,
+            dest.as_mut_ptr(),
+            dest.len(),
+        )
+    }
+}
+
+pub fn read_24(source: &[u8], dest: &mut [u8]) -> Answer {
+    // SAFETY: two slices that live through the call and do not overlap.
+    unsafe { hall_read_24(source.as_ptr(), source.len(), dest.as_mut_ptr(), dest.len()) }
 }

@@ -1,6 +1,7 @@
 // SPDX-License-Identifier: Apache-2.0
 //! The command line.
 use crate::trouble::Trouble;
+use crate::wave::Sample;
 use lexopt::{Arg, Parser, prelude::*};
 use std::ffi::OsString;
 use voqlisna::{Layout, UnknownLayout};
@@ -54,6 +55,7 @@ pub struct Render {
     pub policy: Policy,
     pub hall: Hall,
     pub rf64: bool,
+    pub sample: Sample,
     pub meters: Meters,
 }
 
@@ -61,6 +63,7 @@ pub struct Demo {
     pub to: OsString,
     pub seconds: f64,
     pub hall: Hall,
+    pub sample: Sample,
     pub meters: Meters,
 }
 
@@ -91,6 +94,12 @@ pub enum Command {
         to: OsString,
         rf64: bool,
     },
+    /// A WAVE file of 24 bits in f32.
+    Floats {
+        from: OsString,
+        to: OsString,
+        rf64: bool,
+    },
     Draw {
         what: Picture,
         to: OsString,
@@ -98,7 +107,7 @@ pub enum Command {
     Table(Hall),
 }
 
-const COMMANDS: [&str; 13] = [
+const COMMANDS: [&str; 14] = [
     "demo",
     "render",
     "check",
@@ -107,6 +116,7 @@ const COMMANDS: [&str; 13] = [
     "hex",
     "archive",
     "unarchive",
+    "floats",
     "map",
     "plot",
     "table",
@@ -134,9 +144,11 @@ fn parse(mut parser: Parser) -> Result<Command, Trouble> {
         Some(other) => return Err(unknown(&other, &["help", "version"])),
     };
     let known: &[&str] = match name.as_str() {
-        "demo" => &["o", "s", "layout", "table", "meters"],
-        "render" => &["o", "conceal", "stop", "layout", "table", "rf64", "meters"],
-        "unarchive" => &["o", "rf64"],
+        "demo" => &["o", "s", "layout", "table", "bits", "meters"],
+        "render" => &[
+            "o", "conceal", "stop", "layout", "table", "bits", "rf64", "meters",
+        ],
+        "unarchive" | "floats" => &["o", "rf64"],
         "map" => &["o", "layout", "table"],
         "table" => &["layout"],
         "undump" | "archive" | "plot" => &["o"],
@@ -160,6 +172,7 @@ fn command(name: &str, given: Given) -> Result<Command, Trouble> {
         "undump" => given.undump(),
         "archive" => given.archive(),
         "unarchive" => given.unarchive(),
+        "floats" => given.floats(),
         "map" => given.none().and_then(Given::map),
         "plot" => given.plot(),
         "table" => given.told_table(),
@@ -180,6 +193,7 @@ struct Given {
     seconds: Option<OsString>,
     layout: Option<OsString>,
     table: Option<OsString>,
+    bits: Option<OsString>,
     /// The option, and its file where it names one.
     meters: Option<Option<OsString>>,
     conceal: bool,
@@ -204,6 +218,9 @@ impl Given {
                 }
                 Long("table") if known.contains(&"table") => {
                     given.table = Some(parser.value().map_err(wrong)?);
+                }
+                Long("bits") if known.contains(&"bits") => {
+                    given.bits = Some(parser.value().map_err(wrong)?);
                 }
                 Long("conceal") if known.contains(&"conceal") => given.conceal = true,
                 Long("stop") if known.contains(&"stop") => given.stop = true,
@@ -256,6 +273,18 @@ impl Given {
         })
     }
 
+    /// f32 where none is named.
+    fn sample(&self) -> Result<Sample, Trouble> {
+        match self.bits.as_ref().map(|bits| bits.to_string_lossy()) {
+            None => Ok(Sample::Float),
+            Some(bits) if bits == "32" => Ok(Sample::Float),
+            Some(bits) if bits == "24" => Ok(Sample::Whole24),
+            Some(bits) => Err(Trouble::Wrong(format!(
+                "--bits {bits}: 32 (floats) or 24 (whole numbers)"
+            ))),
+        }
+    }
+
     fn hall(&self) -> Result<Hall, Trouble> {
         let (layout, table) = (self.layout()?, self.table.clone());
         Ok(Hall { layout, table })
@@ -299,6 +328,7 @@ impl Given {
             to,
             seconds,
             hall,
+            sample: given.sample()?,
             meters,
         }))
     }
@@ -326,6 +356,7 @@ impl Given {
             policy,
             hall: self.hall()?,
             rf64: self.rf64,
+            sample: self.sample()?,
         }))
     }
 
@@ -350,6 +381,14 @@ impl Given {
     fn unarchive(self) -> Result<Command, Trouble> {
         Ok(Command::Unarchive {
             from: self.only("IN")?,
+            to: self.wave()?,
+            rf64: self.rf64,
+        })
+    }
+
+    fn floats(self) -> Result<Command, Trouble> {
+        Ok(Command::Floats {
+            from: self.only("IN.wav")?,
             to: self.wave()?,
             rf64: self.rf64,
         })
@@ -471,7 +510,7 @@ mod tests {
         }
     }
 
-    const TAKEN: [&str; 40] = [
+    const TAKEN: [&str; 44] = [
         "demo",
         "demo -o x -s 0.5",
         "demo -s20",
@@ -483,6 +522,10 @@ mod tests {
         "render a -o b --conceal",
         "render - -o - --stop",
         "render a -o b --rf64",
+        "render a -o b --bits 24",
+        "demo --bits=32",
+        "floats a -o b",
+        "floats - -o b --rf64",
         "render a -o b --layout 5.1.4",
         "demo --layout=7.1.0",
         "map --layout 5.1.0 -o b",
@@ -515,7 +558,7 @@ mod tests {
     ];
 
     /// Lines, and what is said of them.
-    const NOT: [(&str, &str); 34] = [
+    const NOT: [(&str, &str); 37] = [
         ("rendr a", "unknown command rendr; did you mean render?"),
         ("sing", "unknown command sing"),
         (
@@ -558,6 +601,12 @@ mod tests {
             "render a -o - --meters=-",
             "-o and --meters: samples and meters cannot go to one file",
         ),
+        (
+            "render a -o b --bits 16",
+            "--bits 16: 32 (floats) or 24 (whole numbers)",
+        ),
+        ("demo --bits", "missing argument for option '--bits'"),
+        ("hex a --bits 24", "unknown option --bits"),
         ("check a --stop", "unknown option --stop"),
         (
             "render a",

@@ -2,6 +2,7 @@
 //! `voqlisna`: the hall renderer at a command line.
 mod archive;
 mod arguments;
+mod bits;
 mod commands;
 mod files;
 mod hall;

@@ -1,8 +1,9 @@
 // SPDX-License-Identifier: Apache-2.0
-//! A WAVE file of a layout's channels in f32: WAVE_FORMAT_EXTENSIBLE with the speakers' mask.
+//! A WAVE file of a layout's channels in f32 or 24 bits: WAVE_FORMAT_EXTENSIBLE with the speakers' mask.
 //!
 //! Behind `WAVE` a chunk `JUNK` of 28 bytes is kept free. Beyond 4 GiB it becomes `ds64` with sizes of 64 bits, and
 //! `RIFF` becomes `RF64` (EBU Tech 3306).
+use crate::bits;
 use std::fs::File;
 use std::io::{self, Seek, SeekFrom, Write};
 use voqlisna::{Layout, Rendered};
@@ -13,14 +14,43 @@ const HEAD: usize = 104;
 const FLOAT: [u8; 16] = [
     3, 0, 0, 0, 0, 0, 0x10, 0, 0x80, 0, 0, 0xaa, 0, 0x38, 0x9b, 0x71,
 ];
+/// KSDATAFORMAT_SUBTYPE_PCM.
+const PCM: [u8; 16] = [
+    1, 0, 0, 0, 0, 0, 0x10, 0, 0x80, 0, 0, 0xaa, 0, 0x38, 0x9b, 0x71,
+];
 /// Samples are written in pieces of about this many bytes.
 const PIECE: usize = 1 << 16;
+
+/// What a number is.
+#[derive(Clone, Copy, Debug, PartialEq)]
+pub enum Sample {
+    Float,
+    /// A whole number of 24 bits.
+    Whole24,
+}
+
+impl Sample {
+    fn bytes(self) -> usize {
+        match self {
+            Self::Float => 4,
+            Self::Whole24 => 3,
+        }
+    }
+
+    fn kind(self) -> [u8; 16] {
+        match self {
+            Self::Float => FLOAT,
+            Self::Whole24 => PCM,
+        }
+    }
+}
 
 /// What a sample is.
 #[derive(Clone, Copy)]
 pub struct Format {
     pub rate: u32,
     pub layout: Layout,
+    pub sample: Sample,
 }
 
 impl Format {
@@ -30,12 +60,12 @@ impl Format {
 
     /// Bytes of a sample on all channels.
     pub fn row(self) -> usize {
-        4 * usize::from(self.channels())
+        self.sample.bytes() * usize::from(self.channels())
     }
 
     /// The chunk that says it.
     pub fn write(self, h: &mut Vec<u8>) {
-        let (row, bits) = (self.row() as u16, 32u16);
+        let (row, bits) = (self.row() as u16, 8 * self.sample.bytes() as u16);
         h.extend(b"fmt ");
         h.extend(40u32.to_le_bytes());
         h.extend(0xfffeu16.to_le_bytes());
@@ -48,7 +78,7 @@ impl Format {
         h.extend(22u16.to_le_bytes());
         h.extend(bits.to_le_bytes());
         h.extend(self.layout.wave_mask().to_le_bytes());
-        h.extend(FLOAT);
+        h.extend(self.sample.kind());
     }
 }
 
@@ -103,11 +133,9 @@ impl Wave {
     }
 
     pub fn put(&mut self, sound: &Rendered<'_>) -> io::Result<()> {
-        let channels: Vec<&[f32]> = sound.channels().map(|(_, samples)| samples).collect();
-        for i in 0..sound.ready() {
-            for channel in &channels {
-                self.held.extend_from_slice(&channel[i].to_le_bytes());
-            }
+        match self.format.sample {
+            Sample::Float => put_floats(sound, &mut self.held),
+            Sample::Whole24 => bits::put(sound, &mut self.held)?,
         }
         self.rows += sound.ready() as u64;
         self.spill_a_piece()
@@ -161,6 +189,15 @@ impl Wave {
     }
 }
 
+fn put_floats(sound: &Rendered<'_>, to: &mut Vec<u8>) {
+    let channels: Vec<&[f32]> = sound.channels().map(|(_, samples)| samples).collect();
+    for i in 0..sound.ready() {
+        for channel in &channels {
+            to.extend_from_slice(&channel[i].to_le_bytes());
+        }
+    }
+}
+
 fn sizes(file: &mut File, format: Format, rows: u64, rf64: bool) -> io::Result<()> {
     let data = rows * format.row() as u64;
     let short = data + HEAD as u64 - 8 <= u64::from(u32::MAX) && !rf64;
@@ -207,8 +244,12 @@ mod tests {
     use super::*;
 
     const fn of(layout: Layout) -> Format {
-        let rate = 48_000;
-        Format { rate, layout }
+        let (rate, sample) = (48_000, Sample::Float);
+        Format {
+            rate,
+            layout,
+            sample,
+        }
     }
 
     /// The greatest number of rows whose sizes fit into 32 bits: in 7.1.4 31 minutes at 48,000 Hz.

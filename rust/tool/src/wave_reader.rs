@@ -1,9 +1,9 @@
 // SPDX-License-Identifier: Apache-2.0
-//! Reads a WAVE file such as `wave` writes: a layout's channels in f32, RIFF or RF64, sizes known or open.
+//! Reads a WAVE file such as `wave` writes: a layout's channels in f32 or 24 bits, RIFF or RF64, sizes known or open.
 use crate::archive::MOST;
 use crate::numbers::grouped;
 use crate::programme::{Broken, Window};
-use crate::wave::Format;
+use crate::wave::{Format, Sample};
 use std::io::Read;
 use voqlisna::{Layout, Rate};
 
@@ -25,7 +25,8 @@ struct Head {
 }
 
 impl<R: Read> WaveReader<R> {
-    pub fn new(from: R) -> Result<Self, Broken> {
+    /// `sample`: what the file must have.
+    pub fn new(from: R, sample: Sample) -> Result<Self, Broken> {
         let mut window = Window::new(from);
         let first = window.look(12).map_err(Broken::Read)?;
         if !matches!(first.get(..4), Some(b"RIFF" | b"RF64")) || !first.ends_with(b"WAVE") {
@@ -37,7 +38,7 @@ impl<R: Read> WaveReader<R> {
             let (name, size) = chunk(&mut window)?;
             match &name {
                 b"data" => return Self::begin(window, head, size),
-                b"fmt " => head.format = Some(format(&mut window, size)?),
+                b"fmt " => head.format = Some(format(&mut window, size, sample)?),
                 b"ds64" => head.long = Some(long(&mut window)?),
                 _ => {}
             }
@@ -106,8 +107,8 @@ fn chunk(window: &mut Window<impl Read>) -> Result<([u8; 4], u32), Broken> {
     Ok(told)
 }
 
-/// The format, where it is that of a layout's channels in f32 with the speakers' mask.
-fn format(window: &mut Window<impl Read>, size: u32) -> Result<Format, Broken> {
+/// The format, where it is that of a layout's channels with the speakers' mask.
+fn format(window: &mut Window<impl Read>, size: u32, sample: Sample) -> Result<Format, Broken> {
     let most = size.min(40) as usize;
     let told = window.look(most).map_err(Broken::Read)?;
     if told.len() < most {
@@ -120,6 +121,7 @@ fn format(window: &mut Window<impl Read>, size: u32) -> Result<Format, Broken> {
     let formats = Layout::ALL.map(|layout| Format {
         rate: rate.hertz(),
         layout,
+        sample,
     });
     let is_told = |format: &Format| {
         let mut wanted = Vec::new();
@@ -130,9 +132,13 @@ fn format(window: &mut Window<impl Read>, size: u32) -> Result<Format, Broken> {
     format.ok_or_else(|| {
         let masks = Layout::ALL.map(|layout| format!("{:#x}", layout.wave_mask()));
         let masks = masks.join(", ");
+        let numbers = match sample {
+            Sample::Float => "f32",
+            Sample::Whole24 => "24 bits",
+        };
         bad(
             window,
-            &format!("not a layout's channels in f32 with their mask ({masks})"),
+            &format!("not a layout's channels in {numbers} with their mask ({masks})"),
         )
     })
 }

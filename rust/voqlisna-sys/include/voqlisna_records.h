@@ -119,6 +119,9 @@ static inline const char *hall_refusal_text(uint32_t number) {
     case 16: return "the hall table has not 144 bytes";
     case 17: return "a coordinate of the hall table is not from -1 to 1";
     case 18: return "two full-range speakers of the hall table are at the same place";
+    case 19: return "24-bit samples of no whole number of 36 bytes";
+    case 20: return "too little memory for samples to or from 24 bits";
+    case 21: return "a sample to be written in 24 bits is NaN or outside -1 to 1";
     case 22: return "more than 1,536 samples to convert";
     case 23: return "the samples to convert have another length, or the destination is too short";
     default: return "an unknown refusal";

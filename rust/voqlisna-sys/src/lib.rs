@@ -45,7 +45,7 @@ pub struct Answer {
     pub first: u32,
     /// Its second count, 0 where it has none.
     pub second: u32,
-    /// Samples written on each channel; of planes the samples converted.
+    /// Samples written on each channel; of planes and 24-bit samples those converted.
     pub ready: usize,
     /// The greatest peak that the limiter met, before scaling, in the blocks that a push or flush
     /// gave out; 0 where there is none.
@@ -113,6 +113,31 @@ unsafe extern "C" {
     /// (the block has another length, a layout's code above 3, or a table that 17 or 18 would
     /// refuse). It looks at no other field.
     pub fn hall_reset(state: *mut u8, state_length: usize) -> Answer;
+
+    /// Writes the first `count` samples of each channel of an output with this stride as 24-bit
+    /// integers: three bytes, two's complement, least first, the twelve channels of a sample one
+    /// behind the other. Each is the whole number nearest to sample x 8,388,608, of two the even one,
+    /// and at most 8,388,607. Channels that a layout lacks are written too. Kind 3, or 1 by 1 (the
+    /// stride, or an output shorter than 48 x `stride`), 2 (a count above the stride), 20 (`dest`
+    /// shorter than 36 x `count`), 21 (a sample that is to be written is NaN, or outside -1 to 1).
+    pub fn hall_write_24(
+        out: *const u8,
+        out_length: usize,
+        stride: u32,
+        count: u32,
+        dest: *mut u8,
+        dest_length: usize,
+    ) -> Answer;
+
+    /// Reads such bytes, 36 x N, as f32 samples: whole number / 8,388,608 exactly, channel after
+    /// channel, N apart. Kind 3, or 1 by 19 (`source` is no multiple of 36 bytes), 20 (`dest` shorter
+    /// than 48 x N).
+    pub fn hall_read_24(
+        source: *const u8,
+        source_length: usize,
+        dest: *mut u8,
+        dest_length: usize,
+    ) -> Answer;
 
     /// Writes the f32 samples of twelve channels, channel after channel, as planes: the least
     /// significant byte of each, then the next byte of each. Kind 3, or 1 by 22 or 23.

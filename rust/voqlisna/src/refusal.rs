@@ -69,6 +69,12 @@ pub enum Refusal {
     TableCoordinate,
     /// 18: two full-range speakers of a hall table at one place.
     TablePlaces,
+    /// 19: 24-bit samples of no whole number of 36 bytes.
+    Pcm24Length,
+    /// 20: too little memory for samples to or from 24 bits.
+    Pcm24Destination,
+    /// 21: a sample that is to be written in 24 bits is NaN, or outside -1 to 1.
+    Pcm24Sample,
     /// 22: more than 1,536 samples to convert.
     ConvertedSamples,
     /// 23: the samples to convert have another length, or the destination is too short.
@@ -135,6 +141,9 @@ impl Refusal {
             16 => Self::TableLength,
             17 => Self::TableCoordinate,
             18 => Self::TablePlaces,
+            19 => Self::Pcm24Length,
+            20 => Self::Pcm24Destination,
+            21 => Self::Pcm24Sample,
             22 => Self::ConvertedSamples,
             23 => Self::ConvertedLength,
             number => Self::Other {
@@ -165,6 +174,9 @@ impl Refusal {
             Self::TableLength => 16,
             Self::TableCoordinate => 17,
             Self::TablePlaces => 18,
+            Self::Pcm24Length => 19,
+            Self::Pcm24Destination => 20,
+            Self::Pcm24Sample => 21,
             Self::ConvertedSamples => 22,
             Self::ConvertedLength => 23,
             Self::Other { number, .. } => number,
@@ -213,6 +225,9 @@ impl fmt::Display for Refusal {
             Self::TableLength => "the hall table has not 144 bytes",
             Self::TableCoordinate => "a coordinate of the hall table is not from -1 to 1",
             Self::TablePlaces => "two full-range speakers of the hall table are at the same place",
+            Self::Pcm24Length => "24-bit samples of no whole number of 36 bytes",
+            Self::Pcm24Destination => "too little memory for samples to or from 24 bits",
+            Self::Pcm24Sample => "a sample to be written in 24 bits is NaN or outside -1 to 1",
             Self::ConvertedSamples => "more than 1,536 samples to convert",
             Self::ConvertedLength => {
                 "the samples to convert have another length, or the destination is too short"

@@ -55,6 +55,11 @@ impl<'o> Rendered<'o> {
         }
     }
 
+    /// The output, and its stride.
+    pub(crate) const fn lent(&self) -> (&'o [f32], Stride) {
+        (self.samples, self.stride)
+    }
+
     pub(crate) const fn answer(&self) -> Answer {
         self.answer
     }

@@ -108,6 +108,11 @@ fn measure() {
         let mut planes = || entry::planes(way, &source, STRIDE as u32, &mut out);
         tell(&format!("planes, {way:?}"), depth(&mut planes));
     }
+    let silence = vec![0; 48 * STRIDE];
+    let mut write = || entry::write_24(&silence, STRIDE as u32, STRIDE as u32, &mut out);
+    tell("24 bits, written", depth(&mut write));
+    let mut read = || entry::read_24(&source[..36 * STRIDE], &mut out);
+    tell("24 bits, read", depth(&mut read));
 }
 
 /// On a new renderer's block.

@@ -8,6 +8,7 @@ mod halls;
 mod judged;
 mod met;
 mod meters;
+pub mod pcm24;
 pub mod planes;
 mod sends;
 

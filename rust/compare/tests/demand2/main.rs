@@ -2,8 +2,8 @@
 //! channel, or from an object's send, to the next reset that of the Rust with R-1's and R-3's rules.
 //! R-2's meters are those of its blocks, and R-4's places hold the samples that wait in it. In R-5's
 //! smaller layouts, and in halls with tables of their own, it is that of the Rust's own loops over
-//! the channels and places that are there. R-10's planes, which the Rust has not, are what the document
-//! says.
+//! the channels and places that are there. R-9's 24-bit samples and R-10's planes, which the Rust has not,
+//! are what the document says.
 
 mod appended;
 mod edges;
@@ -12,6 +12,7 @@ mod layouts;
 mod lifted;
 mod longest;
 mod meters;
+mod pcm24;
 mod planes;
 mod program;
 mod sends;

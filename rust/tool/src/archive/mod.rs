@@ -54,6 +54,7 @@ pub fn by_sample(sound: &[u8], format: Format, rows: &mut [u8]) {
 #[cfg(test)]
 mod tests {
     use super::*;
+    use crate::wave::Sample;
     use voqlisna::{Layout, Speaker};
 
     #[test]
@@ -65,6 +66,7 @@ mod tests {
             let format = Format {
                 rate: 48_000,
                 layout,
+                sample: Sample::Float,
             };
             let row = format.row();
             let rows: Vec<u8> = (0..row * samples).map(|i| i as u8 | 1).collect();

@@ -3,7 +3,7 @@
 use super::{HEAD, MAGIC, MOST, PLAIN, ROW, WITH_LAYOUT, by_sample};
 use crate::numbers::grouped;
 use crate::programme::{Broken, Window};
-use crate::wave::Format;
+use crate::wave::{Format, Sample};
 use std::io::Read;
 use voqlisna::{Layout, Rate, bytes_from_planes};
 
@@ -117,7 +117,15 @@ fn format(head: &[u8]) -> Result<(Format, usize), String> {
         return Err("an archive without a layout".to_owned());
     };
     match Rate::new(rate) {
-        Some(_) => Ok((Format { rate, layout }, bytes)),
+        Some(_) => {
+            let sample = Sample::Float;
+            let format = Format {
+                rate,
+                layout,
+                sample,
+            };
+            Ok((format, bytes))
+        }
         None => Err(format!("a rate of {} Hz", grouped(rate.into()))),
     }
 }

@@ -15,7 +15,7 @@ pub struct Writer {
 
 impl Writer {
     pub fn new(mut out: Out, format: Format) -> Result<Self, Trouble> {
-        let Format { rate, layout } = format;
+        let Format { rate, layout, .. } = format;
         out.put(&MAGIC)?;
         let plain = layout == Layout::Hall714;
         let version = if plain { PLAIN } else { WITH_LAYOUT };

@@ -6,7 +6,7 @@ use crate::files::{self, Out};
 use crate::numbers::{counted, grouped};
 use crate::programme::Broken;
 use crate::trouble::Trouble;
-use crate::wave::{Format, Wave};
+use crate::wave::{Format, Sample, Wave};
 use crate::wave_reader::WaveReader;
 use std::ffi::OsString;
 use std::fs::File;
@@ -17,7 +17,7 @@ pub fn archive(from: &OsString, to: &OsString) -> Result<(), Trouble> {
     files::apart(from, to)?;
     let (input, _) = files::open(from)?;
     let wrong = |broken: Broken| broken.trouble(&files::name_in(from));
-    let mut wave = WaveReader::new(input).map_err(wrong)?;
+    let mut wave = WaveReader::new(input, Sample::Float).map_err(wrong)?;
     let format = wave.format();
     let mut archive = Writer::new(Out::create(to)?, format)?;
     let (mut rows, mut samples) = (Vec::with_capacity(format.row() * MOST), 0);
@@ -63,7 +63,7 @@ pub fn unarchive(from: &OsString, to: &OsString, rf64: bool) -> Result<(), Troub
     end
 }
 
-fn begin(to: &OsString, format: Format, rf64: bool) -> io::Result<Wave> {
+pub fn begin(to: &OsString, format: Format, rf64: bool) -> io::Result<Wave> {
     match to == "-" {
         true => Wave::pipe(Box::new(io::stdout().lock()), format),
         false => Wave::file(File::create(to)?, format, rf64),
@@ -71,7 +71,7 @@ fn begin(to: &OsString, format: Format, rf64: bool) -> io::Result<Wave> {
 }
 
 /// After a failed write.
-fn closed(wave: Wave, trouble: Trouble) -> Trouble {
+pub fn closed(wave: Wave, trouble: Trouble) -> Trouble {
     match trouble {
         Trouble::Failed(message) => rescued(wave, message),
         other => other,
@@ -79,7 +79,7 @@ fn closed(wave: Wave, trouble: Trouble) -> Trouble {
 }
 
 /// "show.hall: 20.000 s, 960,000 samples at 48,000 Hz", on standard error where standard output is the file.
-fn say(to: &OsString, format: Format, samples: usize) -> Result<(), Trouble> {
+pub fn say(to: &OsString, format: Format, samples: usize) -> Result<(), Trouble> {
     let text = format!(
         "{}: {:.3} s, {} at {} Hz",
         files::name_out(to),

@@ -13,7 +13,7 @@ pub fn demo(given: &Demo) -> Result<(), Trouble> {
     let to = &given.to;
     let written: Vec<_> = given.meters.file().into_iter().chain([to]).collect();
     let setup = table::setup(&given.hall, &written)?;
-    let mut recorder = Recorder::new(to, false, &given.meters, told)?;
+    let mut recorder = Recorder::new(to, false, given.sample, &given.meters, told)?;
     let mut show = Show::new(given.seconds);
     let ran = Hall::new(&setup)?.run(&mut show, Policy::Conceal, &mut recorder);
     let ((counts, _), _) = recorder.close(ran)?;

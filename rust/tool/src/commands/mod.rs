@@ -3,6 +3,7 @@
 mod archive;
 mod check;
 mod demo;
+mod floats;
 mod hex;
 mod meters;
 mod record;
@@ -30,6 +31,7 @@ pub fn run(command: Command) -> Result<(), Trouble> {
         Command::Hex { from } => hex::hex(&from),
         Command::Archive { from, to } => archive::archive(&from, &to),
         Command::Unarchive { from, to, rf64 } => archive::unarchive(&from, &to, rf64),
+        Command::Floats { from, to, rf64 } => floats::convert(&from, &to, rf64),
         Command::Draw { what, to } => {
             let picture = match what {
                 Picture::Map(hall) => pictures::map(&table::setup(&hall, &[&to])?)?,

@@ -6,7 +6,7 @@ use crate::files;
 use crate::hall::{Counts, Listener, Refused};
 use crate::numbers::{clock, decibels};
 use crate::trouble::Trouble;
-use crate::wave::{Format, Wave};
+use crate::wave::{Format, Sample, Wave};
 use std::ffi::OsString;
 use std::fs::File;
 use std::io::{self, IsTerminal, Write};
@@ -17,6 +17,7 @@ use voqlisna::{Layout, Rendered};
 pub struct Recorder<'a> {
     to: &'a OsString,
     rf64: bool,
+    sample: Sample,
     wave: Option<Wave>,
     rate: u32,
     /// Of the hall, from the first samples on.
@@ -37,6 +38,7 @@ impl<'a> Recorder<'a> {
     pub fn new(
         to: &'a OsString,
         rf64: bool,
+        sample: Sample,
         meters: &arguments::Meters,
         tell: fn(&Refused<'_>) -> String,
     ) -> Result<Self, Trouble> {
@@ -48,6 +50,7 @@ impl<'a> Recorder<'a> {
             meters,
             to,
             rf64,
+            sample,
             wave: None,
             rate: 0,
             layout: Layout::default(),
@@ -60,7 +63,12 @@ impl<'a> Recorder<'a> {
     }
 
     fn begin(&mut self, rate: u32, layout: Layout) -> io::Result<()> {
-        let format = Format { rate, layout };
+        let sample = self.sample;
+        let format = Format {
+            rate,
+            layout,
+            sample,
+        };
         self.wave = Some(if self.to == "-" {
             Wave::pipe(Box::new(io::stdout().lock()), format)?
         } else {

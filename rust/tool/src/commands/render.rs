@@ -18,7 +18,7 @@ pub fn render(given: &Render) -> Result<(), Trouble> {
     let (name, to) = (files::name_in(&given.from), &given.to);
     let (input, length) = files::open(&given.from)?;
     let mut programme = Reader::new(input, Limits::TOOL, length);
-    let mut recorder = Recorder::new(to, given.rf64, &given.meters, told::line)?;
+    let mut recorder = Recorder::new(to, given.rf64, given.sample, &given.meters, told::line)?;
     let ran = Hall::new(&setup)?.run(&mut programme, given.policy, &mut recorder);
     let ((counts, broken), written) = recorder.close(ran)?;
     if written {

@@ -155,6 +155,7 @@ fn expected() -> String {
         Renderer::with_table(Layout::Hall714, &measured()).unwrap(),
     );
     archive(&mut text);
+    amplifier(&mut text);
     text
 }
 
@@ -214,6 +215,19 @@ fn archive(text: &mut String) {
     print_answer(text, "to_planes", refused(23));
 }
 
+/// Three samples on two channels, ties and both ends among them; the bytes and the words by hand.
+fn amplifier(text: &mut String) {
+    print_answer(text, "write_24", done(3));
+    text.push_str("000000 020000 ffff7f\n000080 feffff 000040\n");
+    print_answer(text, "read_24", done(3));
+    text.push_str("00000000 34800000 3f7ffffe\nbf800000 b4800000 3f000000\n");
+    for (name, numbers) in [("write_24", &[1, 2, 20, 21][..]), ("read_24", &[19, 20])] {
+        for number in numbers {
+            print_answer(text, name, refused(*number));
+        }
+    }
+}
+
 /// The refusals that host.c lists at its end are worded as the crate words them, where no count
 /// stands in the sentence.
 fn says_the_same(lines: &str) {
@@ -222,7 +236,7 @@ fn says_the_same(lines: &str) {
         let said = line.strip_prefix(&format!("{number}: ")).unwrap();
         let refusal = Refusal::from_answer(refused(number)).unwrap();
         match number {
-            0 | 7 | 19..22 => assert_eq!(said, "an unknown refusal"),
+            0 | 7 => assert_eq!(said, "an unknown refusal"),
             9 | 11 | 13 | 14 => assert!(said.contains(' ')),
             _ => assert_eq!(said, refusal.to_string().replace('±', "+-")),
         }
@@ -279,10 +293,12 @@ fn the_library_has_prefixed_names_and_needs_two() {
             "hall_make",
             "hall_make_with_table",
             "hall_push",
+            "hall_read_24",
             "hall_reset",
             "hall_state_size",
             "hall_to_planes",
-            "hall_version"
+            "hall_version",
+            "hall_write_24"
         ]
     );
     let mut needed = symbols(names("--undefined-only"));

@@ -27,7 +27,7 @@ fn set(mode: u32) {
 }
 
 /// Runs `f` with the mode set, and answers also the mode behind it.
-fn under<R>(control: u32, f: impl FnOnce() -> R) -> (R, u32) {
+pub fn under<R>(control: u32, f: impl FnOnce() -> R) -> (R, u32) {
     let before = mode();
     set(control);
     let result = f();

@@ -10,6 +10,7 @@ mod floats;
 mod outside;
 mod panics;
 mod parser;
+mod pcm24;
 mod planes;
 mod raw;
 mod runs;

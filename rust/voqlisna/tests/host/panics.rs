@@ -133,6 +133,23 @@ fn planes(draw: &mut Draw) {
     let _ = bytes_from_planes(&others, samples, &mut bytes);
 }
 
+/// 24-bit samples of any lengths and counts; half of the lengths fit.
+fn pcm_24(draw: &mut Draw) {
+    let (stride, samples) = (64 * draw.below(4), draw.below(100));
+    let fitting = if draw.once_in(2) {
+        samples
+    } else {
+        draw.below(100)
+    };
+    let mut out = vec![draw.float(); 12 * draw.below(200)];
+    let mut bytes = draw.bytes(36 * fitting);
+    let _ = write_24(&out, stride, samples, &mut bytes);
+    let _ = write_24(&out, count(draw), count(draw), &mut bytes);
+    let _ = read_24(&bytes, &mut out);
+    let length = draw.below(2_000);
+    let _ = read_24(&draw.bytes(length), &mut out);
+}
+
 /// Any bytes as records.
 fn any_records(draw: &mut Draw) {
     let length = draw.below(400);
@@ -163,6 +180,7 @@ fn nothing_panics() {
         lent(&mut draw);
         any_records(&mut draw);
         planes(&mut draw);
+        pcm_24(&mut draw);
         let samples = draw.below(200);
         let owned = Scene::draw(&mut draw).frame(&mut draw, samples);
         calls(&mut draw, &owned.frame(), Stride::MAX);

@@ -9,6 +9,7 @@ mod fit;
 mod halls;
 mod leaves;
 mod million;
+mod pcm24;
 mod planes;
 mod sends;
 mod sides;
@@ -25,13 +26,14 @@ use std::{env, fs, process, thread};
 use table::{Row, rows};
 
 const USAGE: &str = "\
-usage: measure [SECONDS] | million | sends | halls | leaves | planes
+usage: measure [SECONDS] | million | sends | halls | leaves | planes | pcm24
   SECONDS   for each case (0.8)
   million   only a million pushes of one sample
   sends     only what sends to the bass feed cost
   halls     only what a hall table of its own costs
   leaves    times of single functions
-  planes    times of the archive's planes, both ways";
+  planes    times of the archive's planes, both ways
+  pcm24     times of 24-bit samples, both ways";
 
 /// Rounds of all cases, a line for each case and side: seconds a push.
 fn sweep(seconds: f64) {
@@ -165,6 +167,7 @@ fn main() {
         [] => all(0.8),
         ["leaves"] => leaves::print(),
         ["planes"] => planes::print(),
+        ["pcm24"] => pcm24::print(),
         ["million"] => million::print(),
         ["sends"] => sends::print(&sends(0.8)),
         ["halls"] => halls::print(&halls(0.8)),

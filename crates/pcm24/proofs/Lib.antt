@@ -1,0 +1,13 @@
+pub mod Steps
+pub mod Nearest
+pub mod Signed
+pub mod Three
+pub mod Passes
+pub mod Table
+pub mod Laid
+pub mod Four
+pub mod Interleaving
+pub mod Separating
+pub mod Exact
+pub mod Near
+pub mod RoundTrip
