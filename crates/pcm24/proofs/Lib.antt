@@ -11,3 +11,4 @@ pub mod Separating
 pub mod Exact
 pub mod Near
 pub mod RoundTrip
+pub mod WrittenRead

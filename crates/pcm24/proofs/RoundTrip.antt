@@ -31,7 +31,7 @@ use Rattle.pcm24.proofs.Nearest.{code_small}
 use Rattle.pcm24.proofs.Near.{code_again, sample_bounded}
 
 -- ---- numbers that were written are read back
-numbers_length : (w : ℕ) (vs s : List ℕ) (at : ℕ) → length (with_numbers w s at vs) ≡ length s
+pub numbers_length : (w : ℕ) (vs s : List ℕ) (at : ℕ) → length (with_numbers w s at vs) ≡ length s
 numbers_length w [] s at = refl
 numbers_length w (v ∷ vs) s at = numbers_length w vs (with_number s at w v) (at + w) ∙ length_kept s at w v
 
@@ -45,7 +45,7 @@ numbers_past w (v ∷ vs) s at k h =
     let e : w * suc (length vs) ≡ w * length vs + w = mul-suc w (length vs) in
     numbers_past w vs (with_number s at w v) (at + w) k (omega arith) ∙ (number_keeps s at w v).past k (omega arith)
 
-number_same : (s t : List ℕ) (at n : ℕ) → ((k : ℕ) → k < at + n → get_or t k 0 ≡ get_or s k 0) → number t at n ≡ number s at n
+pub number_same : (s t : List ℕ) (at n : ℕ) → ((k : ℕ) → k < at + n → get_or t k 0 ≡ get_or s k 0) → number t at n ≡ number s at n
 unfolding number
 number_same s t at zero h = refl
 number_same s t at (suc n) h = ap₂ (λ (x b : ℕ). x + b * 256 ^ n) (number_same s t at n (λ k q. h k (omega arith))) (h (at + n) (omega arith))

@@ -1,3 +1,4 @@
 pub mod Codes
 pub mod Interleaved
 pub mod Refused
+pub mod WrittenRead
