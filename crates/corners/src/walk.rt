@@ -108,6 +108,7 @@ impl SortedSpeakers {
     }
 
     // The eight corners about a place.
+    #[inline(always)]
     pub fn cube(&self, place: Vec3) -> Cube
         requires { CanWalk self.now }
         ensures { (sp : ℕ → Vec3) (l : List ℕ) → StandIn sp l self.now → chosen result ≡ corner sp l place }

@@ -8,6 +8,8 @@ pub mod Weighing
 pub mod Once
 pub mod Audible
 pub mod Roots
+pub mod NoRoot
+pub mod SoundingBits
 pub mod Facts
 pub mod Speakers
 pub mod Corners714

@@ -7,6 +7,7 @@ pub mod Fault
 pub mod Hall
 pub mod Facts
 pub mod Shares
+pub mod Sounding
 -- what the clauses cite of the crate below
 pub use Rattle.corners.specs.Choice
 pub use Rattle.corners.specs.Table

@@ -68,6 +68,7 @@ fn ceiling_ends(z: f32, x: f32) -> Layer
     }
 }
 
+#[inline(always)]
 pub fn cube_714(place: Vec3) -> Cube
     ensures { result ≡ cube714 place }
 {

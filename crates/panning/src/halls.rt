@@ -84,6 +84,9 @@ const PLACES: [Vec3; 12] = [
 
 pub static SPEAKERS: [Vec3; 12] = PLACES;
 
+// The channel that is none of the full-range ones.
+pub const BASS: usize = 3;
+
 // The largest code of a layout.
 pub const LAST_LAYOUT: u32 = 3;
 
@@ -107,7 +110,7 @@ fn divisor(layout: u32) -> f32
     [12.0, 10.0, 8.0, 6.0][layout as usize]
 }
 
-// The 7.1.4 hall with the built-in places, whose corners are found by comparisons: nothing in it is sorted. A constant, since what a function answers is copied once more.
+// The 7.1.4 hall with the built-in places, whose corners are found by comparisons: nothing in it is sorted. A constant, since Rattle has no static of a struct with facts.
 pub const HALL_714: Hall = Hall {
     layout: 0,
     places: PLACES,
@@ -124,7 +127,7 @@ impl Hall {
     {
         let present = marks(layout);
         let mut full_range = present;
-        full_range[3] = false;
+        full_range[BASS] = false;
         Hall {
             layout,
             places: *places,
@@ -134,7 +137,8 @@ impl Hall {
         }
     }
 
-    // The corners about a place.
+    // The corners about a place. Two call it: without the hint, here and in what it calls, `pan` takes 42 instructions more.
+    #[inline(always)]
     pub fn corners(&self, place: Vec3) -> Cube
         ensures { chosen result ≡ corner (place_among self.now.places) (speakers_in self.now.layout) place }
     {

@@ -20,10 +20,12 @@ use vectors::Vec3;
 mod corners_714;
 mod hall;
 mod halls;
+mod sounds;
 mod table;
 
 pub use hall::Hall;
-pub use halls::{HALL_714, LAST_LAYOUT, SPEAKERS, marks};
+pub use halls::{BASS, HALL_714, LAST_LAYOUT, SPEAKERS, marks};
+pub use sounds::sounding;
 pub use table::{TableFault, table_fault};
 
 // The share of b where v lies between a and b.
@@ -118,6 +120,7 @@ fn layer_shares(places: &[Vec3; 12], layer: Layer, place: Vec3) -> LayerShares
     }
 }
 
+#[inline(always)]
 fn shares_at(hall: &Hall, c: Cube, place: Vec3) -> Shares
     requires { Inside c × (chosen c ≡ corner (place_among hall.now.places) (speakers_in hall.now.layout) place) }
     ensures { SharesOf (place_among hall.now.places) c place result }

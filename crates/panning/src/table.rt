@@ -8,10 +8,8 @@ ghost use Rattle.corners.specs.Axes.{place_among};
 ghost use Rattle.panning.specs.Setup.{all_inside, all_apart};
 ghost use Rattle.panning.specs.Fault.{fault_of, stands_alone};
 
+use crate::halls::BASS;
 use vectors::Vec3;
-
-// The channel that is none of the full-range ones.
-const BASS: usize = 3;
 
 // What is wrong with a table: a coordinate that is not from -1 to 1, or two full-range speakers at one place.
 #[derive(Clone, Copy)]

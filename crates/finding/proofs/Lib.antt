@@ -1,0 +1,10 @@
+pub mod Walks
+pub mod Masks
+pub mod Halls
+pub mod Bits
+pub mod Firsts
+pub mod Grids
+pub mod Sets
+pub mod Steps
+pub mod Theorems
+pub mod Examples
