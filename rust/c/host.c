@@ -1,14 +1,14 @@
 /* SPDX-License-Identifier: Apache-2.0 */
-/* A host in C: in a hall of each layout, and in one with a table of its own, one bed and one object that moves, frames of
-   480 samples, one too loud, one broken, a flush. It prints what it hears: each answer, and peak, gain and each ready sample of the layout's channels as
-   the eight digits of their bits. Then it makes planes of some bytes and 24-bit integers of
-   some samples, and prints these too. */
+/* A host in C: in a hall of each layout, and in one with a table of its own, one bed and one object that moves and is held
+   on its way, frames of 480 samples, one too loud, one broken, a flush. It prints what it hears: each answer, and peak, gain
+   and each ready sample of the layout's channels as the eight digits of their bits. Then it asks where to put a sound, makes
+   planes of some bytes and 24-bit integers of some samples, and prints these too. */
 #include "voqlisna.h"
 #include "voqlisna_records.h"
 #include <stdio.h>
 #include <stdlib.h>
 
-enum { SAMPLES = 480, STRIDE = 512, FRAMES = 8, LOUD = 3, BROKEN = 5, RATE = 48000, ARCHIVED = 2, HEARD = 64, PLAYED = 3 };
+enum { SAMPLES = 480, STRIDE = 512, FRAMES = 8, LOUD = 3, HELD = 4, BROKEN = 5, RELEASED = 7, RATE = 48000, ARCHIVED = 2, HEARD = 64, PLAYED = 3 };
 
 /* Float modes, without the flags of bits 0 to 5. This thread flushes to zero and rounds up. */
 enum { USUAL = 0x1f80, AUDIO = 0xdf80, CONTROL = 0xffc0 };
@@ -67,6 +67,16 @@ static void sound(float *pcm, int frame) {
     pcm[SAMPLES + i] = level * ((float)((frame * SAMPLES + i) % 37) / 32.0f - 0.5f);
   }
   if (frame == BROKEN) memset(pcm + 7, 0xff, 4);
+}
+
+/* Where these speakers sound alone, as panned and as a record has it. */
+static void find(const uint8_t *state, size_t size, uint32_t mask) {
+  const hall_place place = hall_find(state, size, mask);
+  hall_object object = hall_keep;
+  printf("find %u %u %08x %08x %08x\n", place.kind, place.number, bits(&place.x), bits(&place.y), bits(&place.z));
+  if (place.kind != HALL_FOUND) return;
+  hall_set_place(&object, &place);
+  printf("record %u %u %08x %08x %08x\n", object.anchor, object.flags, bits(&object.x), bits(&object.y), bits(&object.z));
 }
 
 /* Planes of samples whose bytes count up, and these samples again. */
@@ -149,6 +159,8 @@ static void show(uint8_t *state, size_t size, uint32_t layout, const uint8_t *ta
     hall_answer answer;
     sound(pcm, frame);
     mode = hall_enter_floats();
+    if (frame == HELD) print_answer("hold", hall_hold(state, size, 0));
+    if (frame == RELEASED) print_answer("release", hall_release(state, size, 0));
     answer = hall_push(state, size, (const uint8_t *)pcm, sizeof pcm, meta, length, out, sizeof out, codes, sizeof codes,
                        RATE, SAMPLES, 1, STRIDE);
     hall_leave_floats(mode);
@@ -158,6 +170,11 @@ static void show(uint8_t *state, size_t size, uint32_t layout, const uint8_t *ta
   modes[1] = hall_enter_floats();
   print("flush", hall_flush(state, size, out, sizeof out, STRIDE), layout, out);
   print("flush", hall_flush(state, size, out, sizeof out, STRIDE), layout, out);
+  print_answer("hold", hall_hold(state, size, 1));
+  find(state, size, 1u << HALL_FL | 1u << HALL_FC);
+  find(state, size, 1u << HALL_BL | 1u << HALL_SL);
+  find(state, size, 1u << HALL_LFE);
+  find(state, size - 1, 1u << HALL_FL);
   hall_leave_floats(modes[0]);
   print_answer("reset", hall_reset(state, size));
 }
@@ -181,7 +198,7 @@ int main(int count, char **words) {
   }
   archive();
   amplifier();
-  for (number = 0; number < 24; number++) printf("%u: %s\n", number, hall_refusal_text(number));
+  for (number = 0; number < 25; number++) printf("%u: %s\n", number, hall_refusal_text(number));
   free(state);
   return kept ? 0 : 2;
 }

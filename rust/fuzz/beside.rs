@@ -17,6 +17,7 @@ pub struct Made {
     objects: u32,
     stride: u32,
     layout: u32,
+    object: u32,
     state: *const u8,
     out: *const u8,
     before: *const u8,
@@ -61,7 +62,9 @@ pub unsafe extern "C" fn beside(made: &Made) {
             1 => Step::Flush,
             2 => Step::Reset,
             3 => Step::Make(made.layout),
-            _ => Step::MakeWith(made.layout, copy(made.table, made.table_length)),
+            4 => Step::MakeWith(made.layout, copy(made.table, made.table_length)),
+            5 => Step::Hold(made.object),
+            _ => Step::Release(made.object),
         };
         let case = Case {
             state: copy(made.before, made.state_length),

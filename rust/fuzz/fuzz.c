@@ -14,7 +14,7 @@
 enum { CALLS = 24, HEAD = 32, STRIDE = 1536, CHANNELS = 34, RECORDS = 1024, STREAM = 40, BEHIND = 64 };
 /* Of the block: where sources, elements, infos, the layout's code and the hall table stand, and how long a source and an element are
    (docs/STATE-BLOCK.md). */
-enum { SOURCES = 240, SOURCE = 28, ELEMENTS = SOURCES + 16 * SOURCE, ELEMENT = 368, INFOS = ELEMENTS + 2 * ELEMENT };
+enum { SOURCES = 240, SOURCE = 28, ELEMENTS = SOURCES + 16 * SOURCE, ELEMENT = 368, INFOS = ELEMENTS + 2 * ELEMENT, MARKS = 20 };
 enum { TABLE = HALL_STATE_SIZE - HALL_TABLE_SIZE, LAYOUT = TABLE - 4 };
 
 /* One renderer's memory, longer than what is lent of it. */
@@ -79,6 +79,7 @@ static size_t room_of(uint32_t stride, uint8_t b) {
 }
 
 static unsigned entry_of(const uint8_t *head) {
+  if ((head[0] & 7) == 5 && head[9] & 1) return head[9] & 2 ? RELEASE : HOLD;
   if ((head[0] & 7) == 6) return !(head[1] & 1) ? RESET : head[1] & 2 ? MAKE_WITH : MAKE;
   return (head[0] & 7) == 5 ? FLUSH : PUSH;
 }
@@ -87,6 +88,7 @@ static unsigned entry_of(const uint8_t *head) {
 static made call(const uint8_t *head, size_t count, size_t size) {
   made m = {.entry = entry_of(head), .stride = stride_of(head[1])};
   m.layout = head[8] < 240 ? head[8] % 5 : word(head + 2);
+  m.object = head[8] < 240 ? head[8] : word(head + 2);
   m.state = state, m.before = before, m.state_length = size - (head[13] == 254);
   m.out = out, m.kept = kept, m.out_length = room_of(m.stride, head[13]);
   m.pcm = m.meta = m.codes = m.table = records;
@@ -97,6 +99,8 @@ static made call(const uint8_t *head, size_t count, size_t size) {
   else if (m.entry == MAKE) m.answer = hall_make(m.state, m.state_length, m.layout);
   else if (m.entry == MAKE_WITH)
     m.answer = hall_make_with_table(m.state, m.state_length, m.layout, m.table, m.table_length);
+  else if (m.entry == HOLD) m.answer = hall_hold(m.state, m.state_length, m.object);
+  else if (m.entry == RELEASE) m.answer = hall_release(m.state, m.state_length, m.object);
   else if (m.entry == FLUSH) m.answer = hall_flush(m.state, m.state_length, m.out, m.out_length, m.stride);
   else
     m.answer = hall_push(m.state, m.state_length, m.pcm, m.pcm_length, m.meta, m.meta_length, m.out, m.out_length, m.codes,
@@ -122,6 +126,7 @@ static void damage(const uint8_t *head, size_t size) {
 /* By a number above 1. */
 static int can_refuse(unsigned entry, uint32_t number) {
   if (entry == PUSH) return number < 15;
+  if (entry == HOLD || entry == RELEASE) return number == 24;
   return entry == MAKE ? number == 15 : entry == MAKE_WITH && number >= 15;
 }
 
@@ -132,7 +137,7 @@ static void check_answer(const made *m) {
   if (!damaged && !(__builtin_isfinite(a.peak) && a.gain > 0.0f && a.gain <= 1.0f)) fail("a peak or gain out of range");
   if (a.kind > 3 || (a.kind != HALL_REFUSED && (a.number || a.first || a.second))) fail("an answer that cannot be");
   if (a.kind != HALL_REFUSED) return;
-  if (a.number < 1 || a.number > 18 || a.number == 7 || a.ready) fail("a refusal that cannot be");
+  if (a.number < 1 || (a.number > 18 && a.number != 24) || a.number == 7 || a.ready) fail("a refusal that cannot be");
   if (a.number != 1 && !can_refuse(m->entry, a.number)) fail("a refusal that is not this entry's");
   int counts = a.number == 9 || a.number == 11 || a.number == 13 || a.number == 14;
   if (!counts && (a.first || a.second)) fail("counts that cannot be");
@@ -177,8 +182,8 @@ static unsigned heights(void) {
 
 /* What the fuzzer is told of the answer and of the block that it left. */
 static void tell(hall_answer a, size_t stride, uint32_t last) {
-  spot(a.kind == HALL_REFUSED ? a.number : 24 + a.kind);
-  spot(1024 + 19 * last + a.number);                            /* the refusal, and the one before */
+  spot(a.kind == HALL_REFUSED ? a.number : 25 + a.kind);
+  spot(1024 + 25 * last + a.number);                            /* the refusal, and the one before */
   spot(288 + word(state + 80) % 33);                            /* objects */
   spot(328 + word(state + 88) % 19 * 3 + word(state + 92) % 3); /* beds, elements */
   spot(392 + (unsigned)a.ready / 64);
@@ -196,11 +201,22 @@ static void tell(hall_answer a, size_t stride, uint32_t last) {
   unsigned heard = 0;
   for (uint32_t c = 0; c < 12 && a.ready; c++) heard += hall_has(word(state + LAYOUT), c) && word(out + 4 * c * stride) != 0;
   spot(820 + heard); /* channels that are heard */
-  unsigned sent = 0;
+  unsigned sent = 0, marks = 0;
   for (size_t i = 0; i < 16; i++) sent += word(state + SOURCES + SOURCE * i + 24) << 1 != 0;
-  spot(840 + sent); /* objects with a send */
+  for (size_t i = 0; i < 16; i++) marks |= 1u << (word(state + SOURCES + SOURCE * i + MARKS) & 7);
+  spot(840 + sent);          /* objects with a send */
+  spot(1700 + (marks & 255)); /* which marks some object has */
   spot(860 + word(state + LAYOUT) % 5);
   spot(870 + heights());
+}
+
+/* A hold or a release changes at most its object's mark; NaNs that a write has left may get other bits. */
+static void check_mark(const made *m, size_t size) {
+  size_t at = SOURCES + SOURCE * (size_t)m->object + MARKS;
+  uint32_t was = word(before + at), marks = m->entry == HOLD ? was | 2 : was & ~2u;
+  if (word(state + at) != marks || memcmp(out, kept, sizeof out)) fail("a mark");
+  if (damaged && marks != was) return;
+  if (memcmp(before, state, at) || memcmp(before + at + 4, state + at + 4, size - at - 4)) fail("a byte beside the mark");
 }
 
 static void check(const made *m, size_t size) {
@@ -215,6 +231,7 @@ static void check(const made *m, size_t size) {
   if (m->entry == PUSH && a.ready != (pending + m->samples) / 64 * 64) fail("ready of a push");
   if (m->entry == FLUSH && a.ready != pending) fail("ready of a flush");
   if (m->entry == RESET || m->entry == MAKE || m->entry == MAKE_WITH) damaged = 0;
+  else if (m->entry == HOLD || m->entry == RELEASE) check_mark(m, size);
   else check_output(a.ready, m->stride);
   if (refused_by_1(size)) fail("an accepted call left a block out of range");
 }

@@ -4,10 +4,10 @@
 #define MADE_H
 #include "voqlisna.h"
 
-enum { PUSH, FLUSH, RESET, MAKE, MAKE_WITH };
+enum { PUSH, FLUSH, RESET, MAKE, MAKE_WITH, HOLD, RELEASE };
 
 typedef struct {
-  uint32_t entry, rate, samples, objects, stride, layout;
+  uint32_t entry, rate, samples, objects, stride, layout, object;
   uint8_t *state, *out;           /* after the call */
   const uint8_t *before, *kept;   /* the same before it */
   const uint8_t *pcm, *meta, *codes, *table;

@@ -105,6 +105,55 @@ const SENT_INPUT: [Substitution; 1] = [(
     "pub struct RenderMetadataObject {\n    pub send: f32,",
 )];
 
+/// Document 02's R-11: of a source a hold is wanted, and in effect. While it is wanted no ramp and no
+/// block moves the source; in the slot that releases it, where no ramp is left, it goes to its
+/// target; what a slot leaves wanted is then in effect.
+const HELD: [Substitution; 7] = [
+    (
+        "    cubical_position: Vec3,",
+        "    wanted: bool,\n    held: bool,\n    cubical_position: Vec3,",
+    ),
+    (
+        "            cubical_position: ZERO_VEC3,",
+        "            wanted: false,\n            held: false,\n            cubical_position: ZERO_VEC3,",
+    ),
+    (
+        "        cubical_position: bed_channel_position(channel),",
+        "        wanted: false,\n        held: false,
+        cubical_position: bed_channel_position(channel),",
+    ),
+    (
+        "source.cubical_position = self.future[dynamic_index];",
+        "if !source.wanted {
+                        source.cubical_position = self.future[dynamic_index];
+                    }",
+    ),
+    (
+        "if self.update_last[dynamic_index] && source.position_valid {",
+        "if source.wanted {
+                            source.cubical_position
+                        } else if self.update_last[dynamic_index] && source.position_valid {",
+    ),
+    (
+        "        if self.future_distance > 0 {",
+        "        if self.future_distance <= 0 {
+            for (dynamic_index, source) in dynamic_sources.iter_mut().enumerate() {
+                if self.update_now[dynamic_index] && source.held && !source.wanted {
+                    source.cubical_position = self.future[dynamic_index];
+                }
+            }
+        }
+        if self.future_distance > 0 {",
+    ),
+    (
+        "                &mut self.dynamic_sources,\n            );\n        }",
+        "                &mut self.dynamic_sources,\n            );\n        }
+        for source in &mut self.dynamic_sources {
+            source.held = source.wanted;
+        }",
+    ),
+];
+
 /// Document 02's R-5 and R-6, the texts that occur once: a renderer has a hall, and hands it to the
 /// functions that mix. Corners and the size term are over the hall's speakers, the divisor is the
 /// number of its channels, a bed whose speaker is absent is folded, and a channel that is absent
@@ -266,7 +315,8 @@ fn main() {
             "render.rs" => {
                 let lifted = substituted(name, unchanged.clone(), &LIFTED);
                 let sent = substituted(name, lifted, &SENT);
-                let hall = substituted(name, sent, &HALL);
+                let held = substituted(name, sent, &HELD);
+                let hall = substituted(name, held, &HALL);
                 HALL_PLACES.iter().fold(hall, |text, &(times, pair)| {
                     replaced(name, text, times, pair)
                 })

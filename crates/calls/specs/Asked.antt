@@ -2,7 +2,7 @@
 use Rattle.std.specs.Prelude.{ℕ, Bool, cond, ◌&&◌, ◌||◌, List, eqb, get_or, take, drop}
 use Rattle.words.specs.Words.{half, word}
 use Rattle.rules.specs.Refusals.{Args, args_of}
-use Rattle.rules.specs.Calls.{Call, push, flush, reset, make, make_with}
+use Rattle.rules.specs.Calls.{Call, push, flush, reset, make, make_with, mark, find}
 use Rattle.rules.specs.BlockCalls.{made}
 use Rattle.theorem.specs.Instance.{hall, block}
 use Rattle.framing.specs.declared.request.Plain.{Plain}
@@ -13,13 +13,15 @@ use Rattle.framing.specs.Framing.{bed_count, is_frame, is_plain, is_body, metada
 abbrev pub frame_args : List ℕ → List ℕ → List ℕ → List ℕ → Args
 frame_args r meta pcm out = args_of pcm meta out (take (bed_count r) (drop 14 r)) (word r 4) (half r 8) (get_or r 11 0) 256
 
--- what a call leaves of the output; a reset is lent none, and no record makes a renderer
+-- what a call leaves of the output; a reset is lent none, and no record makes a renderer, holds an object or searches
 abbrev pub out_after : Call → List ℕ → List ℕ → List ℕ
 out_after (push a) b out = (made hall block (push a) b).out
 out_after (flush o stride) b out = (made hall block (flush o stride) b).out
 out_after reset b out = out
 out_after (make n) b out = out
 out_after (make_with n t) b out = out
+out_after (mark w d) b out = out
+out_after (find m) b out = out
 
 -- the push of a frame with the header r: of the metadata in its body, and of the PCM that the body's records hold
 abbrev pub push_of : List ℕ → List ℕ → List ℕ → Call

@@ -24,7 +24,8 @@ fn tell(answer: Result<Outcome, Refusal>, out: &[u8; 12288]) -> Text
     match answer {
         Ok(Outcome::Ready(given)) => listing::ready(given.samples, out),
         Ok(Outcome::Nothing) => listing::none(),
-        Ok(Outcome::Fresh) => listing::reset(),
+        // no record holds an object
+        Ok(Outcome::Fresh | Outcome::Marked) => listing::reset(),
         Err(refusal) => {
             let Stop {
                 number,

@@ -1,7 +1,7 @@
 -- What others may cite of this crate, a line each. Assumes nothing.
 
 -- each format has the laws: of one word or two
-pub use Rattle.formats.proofs.Word.{lawful_u32_where, lawful_u32_to, lawful_u32_below, lawful_usize_to, lawful_u8_to, lawful_flag, lawful_float, lawful_u64_to}
+pub use Rattle.formats.proofs.Word.{lawful_u32_where, lawful_u32_to, lawful_u32_below, lawful_usize_to, lawful_u8_to, lawful_flag, lawful_three_flags, lawful_float, lawful_u64_to}
 -- of a pair, an array, a struct, another range, a test more
 pub use Rattle.formats.proofs.PairsAndArrays.{lawful_pair, lawful_array, lawful_struct, lawful_ranged, lawful_such}
 -- of a vector, of an info's head, of an info; the test of infos is that of their heads, and a head is in range exactly if its fields are

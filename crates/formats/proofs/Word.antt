@@ -10,7 +10,7 @@ use lib.ListN.{get_or}
 use lib.Ieee.{binary32, of_bits}
 use lib.Ieee.Bits.{of_bits-to_bits, of_bits-fits, to_bits-lt}
 use Rattle.formats.specs.NumberWords.{low, high, bit, Single, bits}
-use Rattle.formats.specs.Format.{Stands, one_word, u32_where, u32_to, u32_below, usize_to, u8_to, flag, float, u64_to}
+use Rattle.formats.specs.Format.{Stands, one_word, u32_where, u32_to, u32_below, usize_to, u8_to, flag, three_bits, three_of, three_flags, float, u64_to}
 use Rattle.formats.specs.Lawful.{Lawful}
 use Rattle.formats.proofs.Places.{stands_at, stands_rest, same_at}
 
@@ -82,22 +82,50 @@ lawful_u8_to limit h =
       exact = λ n i c. le→leb n limit (rw (mod-eq_of_lt c) at i);
     })
 
+bit_most : (b : Bool) → bit b ≤ 1
+bit_most true = lit≤ tt
+bit_most false = lit≤ tt
+
 pub lawful_flag : Lawful flag
 lawful_flag =
     lawful_one_word bit (λ n. eqb n 1) (λ n. leb n 1) (λ b. Unit {0}) (λ n. n ≤ 1)
-    (record { small = λ b i. bit_word b; again = λ b i. bit_back b; tidy = λ b i. bit_most b; within = λ n t. tt; plain = λ n t. leb→le n 1 t; exact = λ n i c. le→leb n 1 c })
+    (record {
+      small = λ b i. let l = bit_most b in omega arith;
+      again = λ b i. bit_back b;
+      tidy = λ b i. bit_most b;
+      within = λ n t. tt;
+      plain = λ n t. leb→le n 1 t;
+      exact = λ n i c. le→leb n 1 c;
+    })
   where
-    bit_word : (b : Bool) → bit b < 2 ^ 32
-    bit_word true = lit< tt
-    bit_word false = lit< tt
-
     bit_back : (b : Bool) → eqb (bit b) 1 ≡ b
     bit_back true = refl
     bit_back false = refl
 
-    bit_most : (b : Bool) → bit b ≤ 1
-    bit_most true = lit≤ tt
-    bit_most false = lit≤ tt
+pub lawful_three_flags : Lawful three_flags
+lawful_three_flags =
+    lawful_one_word three_bits three_of (λ n. leb n 7) (λ x. Unit {0}) (λ n. n ≤ 7)
+    (record {
+      small = λ x i. let l = most x in omega arith;
+      again = λ x i. back x.0 x.1.0 x.1.1;
+      tidy = λ x i. most x;
+      within = λ n t. tt;
+      plain = λ n t. leb→le n 7 t;
+      exact = λ n i c. le→leb n 7 c;
+    })
+  where
+    most : (x : Bool × (Bool × Bool)) → three_bits x ≤ 7
+    most x = let a = bit_most x.0 in let b = bit_most x.1.0 in let c = bit_most x.1.1 in omega arith
+
+    back : (a b c : Bool) → three_of (three_bits (a, (b, c))) ≡ (a, (b, c))
+    back true true true = refl
+    back true true false = refl
+    back true false true = refl
+    back true false false = refl
+    back false true true = refl
+    back false true false = refl
+    back false false true = refl
+    back false false false = refl
 
 pub lawful_float : Lawful float
 lawful_float =

@@ -1,6 +1,6 @@
 -- Formats: how a value stands in a run of words, which words are in range, and what is in range. Document 01, "What a call receives": "the renderer's state is a block of
 -- fixed length, its layout and each field's range written in docs/, its floats of any bits". `Plain`, `Reads` and `Spells` serve the proofs alone. Assumes nothing.
-use Rattle.std.specs.Prelude.{ℕ, zero, suc, ◌+◌, ◌*◌, ◌%◌, ◌≤◌, ◌<◌, ◌≡◌, Bool, true, ◌&&◌, List, [], ◌∷◌, ◌++◌, T, eqb, leb, ltb, length, get_or, replicate, Float}
+use Rattle.std.specs.Prelude.{ℕ, zero, suc, ◌+◌, ◌*◌, ◌/◌, ◌%◌, ◌≤◌, ◌<◌, ◌≡◌, Bool, true, ◌&&◌, List, [], ◌∷◌, ◌++◌, T, eqb, leb, ltb, length, get_or, replicate, Float}
 use Rattle.std.specs.Float.{binary32}
 use Rattle.std.specs.Float.Ieee.{of_bits}
 use Rattle.ieee.specs.Bounds.{All}
@@ -71,6 +71,16 @@ u8_to limit = one_word (λ n. n) (λ n. n % 256) (λ n. leb n limit) (λ n. n �
 -- a bool
 abbrev pub flag : Format Bool
 flag = one_word bit (λ n. eqb n 1) (λ n. leb n 1) (λ b. Unit {0}) (λ n. n ≤ 1)
+
+-- three bools in one word: 1 of it, 2 of it and 4 of it
+abbrev pub three_bits : Bool × (Bool × Bool) → ℕ
+three_bits x = bit x.0 + (2 * bit x.1.0 + 4 * bit x.1.1)
+
+abbrev pub three_of : ℕ → Bool × (Bool × Bool)
+three_of n = (eqb (n % 2) 1, (eqb (n / 2 % 2) 1, eqb (n / 4 % 2) 1))
+
+abbrev pub three_flags : Format (Bool × (Bool × Bool))
+three_flags = one_word three_bits three_of (λ n. leb n 7) (λ x. Unit {0}) (λ n. n ≤ 7)
 
 -- an f32 of any bits; every NaN is read as one
 abbrev pub float : Format Float

@@ -25,7 +25,7 @@ use rendering::Rendering;
 use store::Block;
 use store::renderer::Renderer714;
 
-// How many samples a turn takes, of those from t up to `end`, the next update or the frame's end. (b) Here and in `slot_starts` of the renderer's parts: with the renderer
+// How many samples a turn takes, of those from t up to `end`, the next update or the frame's end. Here and in `slot_starts` of the renderer's parts: with the renderer
 // lent in their place, the library's code was a third larger.
 fn run_length(started: bool, phase: u32, pending: u32, t: FrameOffset, end: FrameOffset) -> usize
     requires { (phase < 64) × (pending < 64) × (t.0 ≤ end.0) }

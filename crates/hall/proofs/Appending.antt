@@ -7,7 +7,7 @@ use native.Mathlib.Omega.{arith}
 use Rattle.words.specs.Words.{Bytes}
 use Rattle.rules.specs.Refusals.{Args}
 use Rattle.rules.specs.Calls as rules
-use Rattle.rules.specs.Calls.{push, refused, rendered, nothing, cleared, is_refused}
+use Rattle.rules.specs.Calls.{push, refused, rendered, nothing, cleared, marked, place, is_refused}
 use Rattle.rules.specs.BlockCalls.{made}
 use Rattle.theorem.specs.Instance.{hall, block}
 use Rattle.theorem.specs.Appends.{AppendsIfOpen}
@@ -22,6 +22,8 @@ not_refused (refused n x y) e = absurd (omega arith)
 not_refused (rendered g m) e = refl
 not_refused nothing e = refl
 not_refused cleared e = refl
+not_refused (marked c) e = refl
+not_refused (place p) e = refl
 
 -- where something is given out, R-4
 module _ (a : Args) (b : List ℕ) (h : Bytes b × Bytes a.meta) {state out : List ℕ} where

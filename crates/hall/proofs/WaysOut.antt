@@ -12,9 +12,10 @@ use Rattle.refusals.specs.declared.Refusal.TheVariants.{Lent}
 use Rattle.std.specs.Prelude.{Ok, Err}
 use Rattle.rules.specs.Samples.{pushed, flushed}
 use Rattle.rules.specs.Calls as rules
-use Rattle.rules.specs.Calls.{Call, push, flush, reset, make, make_with, refused, rendered, nothing, cleared, Result, frame_of, found, answered, asked, drained, making, step}
+use Rattle.rules.specs.Calls.{Call, push, flush, reset, make, make_with, find, refused, rendered, nothing, cleared, marked, place, Result, frame_of, found, answered, asked, drained, making, step}
 use Rattle.rules.specs.BlockCalls.{Outcome, out_of, stride_of, written, left, takes, made}
 use Rattle.rules.proofs.Theorems.{number_of, never_seven}
+use Rattle.finding.specs.Search.{search}
 use Rattle.rules.specs.Making.{layout_found, table_found, hall_of}
 use Rattle.panning.specs.Setup.{Setup, hall_with}
 use Rattle.store.specs.Layout.{size, setup_in, decode, encode, fresh_renderer}
@@ -27,13 +28,13 @@ use Rattle.hall.specs.Answers.{code_of, coded, Left, MadeNew}
 -- ---- a block that is not taken, and one that is
 
 -- what a result leaves
-abbrev leaves : Call → List ℕ → Result hall → Outcome
+abbrev pub leaves : Call → List ℕ → Result hall → Outcome
 leaves c b x = left hall block x.answer x.next (out_of c) (stride_of c) b
 
 pub wrong : (c : Call) (b : List ℕ) → takes hall block c b ≡ false → made hall block c b ≡ record { answer = refused 1 0 0; state = b; out = out_of c }
 wrong c b e = ap (λ (t : Bool). cond t (leaves c b (step hall (decode b) c)) (record { answer = refused 1 0 0; state = b; out = out_of c })) e
 
-taken : (c : Call) (b : List ℕ) (x : Result hall) → takes hall block c b ≡ true → step hall (decode b) c ≡ x → made hall block c b ≡ leaves c b x
+pub taken : (c : Call) (b : List ℕ) (x : Result hall) → takes hall block c b ≡ true → step hall (decode b) c ≡ x → made hall block c b ≡ leaves c b x
 taken c b x e s = ap (λ (t : Bool). cond t (leaves c b (step hall (decode b) c)) (record { answer = refused 1 0 0; state = b; out = out_of c })) e ∙ ap (leaves c b) s
 
 -- an entry left what o says, o being given by a law above
@@ -124,6 +125,12 @@ module _ (b : List ℕ) (e : eqb (length b) size ≡ true) where
   unfolding decode
   resets h = taken reset b _ (rw (e, h) refl) refl
 
+-- ---- a search
+
+pub searched : (m : ℕ) (b : List ℕ) → valid b ≡ true → (made hall block (find m) b).answer ≡ place (search (setup_in b) m)
+unfolding decode
+searched m b v = ap (λ (o : Outcome). o.answer) (taken (find m) b _ v refl)
+
 -- ---- R-1: "7 never occurs again"
 
 number_told : (x : rules.Answer) → (code_of x).number ≡ number_of x
@@ -131,6 +138,8 @@ number_told (refused n a b) = refl
 number_told (rendered given m) = refl
 number_told nothing = refl
 number_told cleared = refl
+number_told (marked c) = refl
+number_told (place p) = refl
 
 -- whatever an entry is lent, its contract being `Left` of what is made of the block
 pub seven_unanswered : (c : Call) (b : List ℕ) (r : Answer) (state out : List ℕ) → Left (made hall block c b) r state out → r.number ≡ 7 → ⊥

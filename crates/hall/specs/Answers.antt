@@ -4,7 +4,7 @@ use Rattle.limiter.specs.Limiter.{0·0, 1·0}
 use Rattle.limiter.specs.declared.meters.Meters.{Meters}
 use Rattle.rules.specs.Refusals.{room}
 use Rattle.rules.specs.Calls as rules
-use Rattle.rules.specs.Calls.{refused, rendered, nothing, cleared}
+use Rattle.rules.specs.Calls.{refused, rendered, nothing, cleared, marked, place}
 use Rattle.rules.specs.BlockCalls as block
 use Rattle.refusals.specs.RefusalNumbers.{numbers_of}
 use Rattle.refusals.specs.declared.Refusal.{Refusal}
@@ -16,7 +16,7 @@ use Rattle.store.specs.ValidBlocks.{valid}
 use Rattle.hall.specs.declared.answer.Answer.{Answer}
 use Rattle.hall.specs.declared.answer.Given.{Given}
 use Rattle.hall.specs.declared.answer.Outcome.{Outcome}
-use Rattle.hall.specs.declared.answer.Outcome.TheVariants.{Ready, Nothing, Fresh}
+use Rattle.hall.specs.declared.answer.Outcome.TheVariants.{Ready, Nothing, Fresh, Marked}
 
 -- "`ready N`": so many samples given out on each channel that is there; R-2: "the greatest peak and the least gain of the call"
 abbrev pub ready_of : ℕ → Meters → Answer
@@ -32,10 +32,13 @@ code_of (rendered given m) = ready_of (length (given 0)) m
 code_of (refused n a b) = bare 1 n a b
 code_of nothing = bare 2 0 0 0
 code_of cleared = bare 3 0 0 0
+code_of (marked c) = bare 3 0 0 0
+-- a search answers in a form of its own: `place_of` of specs/Places
+code_of (place p) = bare 3 0 0 0
 
 -- the interface's number: it steps with every change of the block's layout or of a signature
 abbrev pub version : ℕ
-version = 5
+version = 6
 
 abbrev pub given_as : Given → Answer
 given_as g = ready_of g.samples g.meters
@@ -45,6 +48,7 @@ abbrev pub coded : Result Outcome Refusal → Answer
 coded (Ok (Ready g)) = given_as g
 coded (Ok Nothing) = bare 2 0 0 0
 coded (Ok Fresh) = bare 3 0 0 0
+coded (Ok Marked) = bare 3 0 0 0
 coded (Err r) = let n = numbers_of r in bare 1 n.number n.first n.second
 
 -- an entry left what the rules say: the answer, the state block, the output
@@ -53,7 +57,7 @@ pub record Left (o : block.Outcome) (r : Answer) (state out : List ℕ) : Type 0
   pub block : state ≡ o.state
   pub output : out ≡ o.out
 
--- a making call or a reset left what the rules say: the answer and the state block. No output is lent.
+-- a making call, a reset, a hold or a release left what the rules say: the answer and the state block. No output is lent.
 pub record MadeNew (o : block.Outcome) (r : Answer) (state : List ℕ) : Type 0 where
   pub answer : r ≡ code_of o.answer
   pub block : state ≡ o.state

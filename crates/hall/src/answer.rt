@@ -20,11 +20,13 @@ pub enum Outcome {
     Nothing,
     // a renderer made new
     Fresh,
+    // a hold or a release, one that changes nothing too
+    Marked,
 }
 
 // An enum does not cross the C boundary, so a refusal's number and counts do.
-// kind 0: rendered, with `ready` samples a channel; 1: refused, with document 01's number and two counts; 2: a flush with nothing pending; 3: done, a reset or `ready`
-// samples a channel converted. `peak` and `gain` are the meters of what was given out, 0 and 1 where nothing was.
+// kind 0: rendered, with `ready` samples a channel; 1: refused, with document 01's number and two counts; 2: a flush with nothing pending; 3: done, a renderer made
+// new, a hold or a release, or `ready` samples a channel converted. `peak` and `gain` are the meters of what was given out, 0 and 1 where nothing was.
 #[repr(C)]
 #[derive(Clone, Copy)]
 pub struct Answer {
@@ -60,7 +62,7 @@ impl From<Result<Outcome, Refusal>> for Answer {
                 ..BARE
             },
             Ok(Outcome::Nothing) => Answer { kind: 2, ..BARE },
-            Ok(Outcome::Fresh) => Answer { kind: 3, ..BARE },
+            Ok(Outcome::Fresh | Outcome::Marked) => Answer { kind: 3, ..BARE },
             Err(refusal) => {
                 let Stop {
                     number,

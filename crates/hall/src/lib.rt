@@ -2,26 +2,30 @@
 // of a push that completes no block which bytes of the places stay (R-4).
 #![tactic(auto)]
 
-ghost use Rattle.std.specs.Prelude.{◌≡◌, OnOk};
-ghost use Rattle.rules.specs.Calls.{push, flush, reset, make, make_with};
+ghost use Rattle.std.specs.Prelude.{◌≡◌, ◌-◌, cond, OnOk};
+ghost use Rattle.rules.specs.Calls.{push, flush, reset, make, make_with, hold, release, mark, find};
 ghost use Rattle.rules.specs.BlockCalls.{made};
 ghost use Rattle.theorem.specs.Instance.{hall, block};
 ghost use Rattle.theorem.specs.Appends.{AppendsIfOpen};
 ghost use Rattle.store.specs.Layout.{size};
 ghost use Rattle.hall.specs.Answers.{Left, MadeNew, coded, version};
+ghost use Rattle.hall.specs.Places.{place_of, placed_as};
 ghost use Rattle.rules.specs.Refusals.{args_of};
 
 use answer::Outcome;
 use panning::LAST_LAYOUT;
 use refusals::{Numbers, Push, Refusal};
 use store::{Block, hall_table};
+use timed::state::MetadataRendererState;
+use vectors::Vec3;
 
 pub mod answer;
 mod archive;
 mod pcm;
+pub mod place;
 mod work;
 
-const VERSION: u32 = 5;
+const VERSION: u32 = 6;
 
 // The bytes of a state block.
 pub const STATE_BYTES: usize = store::SIZE;
@@ -138,6 +142,57 @@ pub fn reset(state: &mut [u8]) -> Result<Outcome, Refusal>
     let table = store::table(block);
     store::make(block, layout, &table);
     Ok(Outcome::Fresh)
+}
+
+// How many dynamic objects there are to hold: those of the last applied update, and none before one.
+fn held_most(s: &MetadataRendererState) -> usize
+    ensures { result ≡ cond s.now.initialized (s.now.objects - s.now.isf) 0 }
+{
+    if s.initialized { s.dynamic() } else { 0 }
+}
+
+// Holds a dynamic object, numbered as in the PCM, from the next slot on, or releases it. What is asked for already leaves the block as it is, a NaN of any bits too.
+#[tactic(auto, using(crate::proofs::Known::valid_long))]
+fn mark(state: &mut [u8], object: u32, wanted: bool) -> Result<Outcome, Refusal>
+    ensures { MadeNew (made hall block (mark wanted object) state.old) (coded result) state.new }
+{
+    if !store::ranges::is_valid(state) {
+        return Err(Refusal::Lent);
+    }
+    let block: &mut Block = state.as_mut_array().unwrap();
+    let s = store::load(block);
+    let d = object as usize;
+    if d >= held_most(&s.state) {
+        return Err(Refusal::ObjectNumber);
+    }
+    if s.state.wants(d) != wanted {
+        store::write::save(block, s.with_state(s.state.want(d, wanted)));
+    }
+    Ok(Outcome::Marked)
+}
+
+pub fn hold(state: &mut [u8], object: u32) -> Result<Outcome, Refusal>
+    ensures { MadeNew (made hall block (hold object) state.old) (coded result) state.new }
+{
+    mark(state, object, true)
+}
+
+pub fn release(state: &mut [u8], object: u32) -> Result<Outcome, Refusal>
+    ensures { MadeNew (made hall block (release object) state.old) (coded result) state.new }
+{
+    mark(state, object, false)
+}
+
+// Where to put a sound: the first place of the grid in which exactly the speakers of the mask sound, bit c for channel c.
+#[tactic(auto, using(crate::proofs::Known::valid_long))]
+pub fn find(state: &[u8], mask: u32) -> Result<Option<Vec3>, Refusal>
+    ensures { placed_as result ≡ place_of (made hall block (find mask) state.now).answer }
+{
+    if !store::ranges::is_valid(state) {
+        return Err(Refusal::Lent);
+    }
+    let block: &Block = state.as_array().unwrap();
+    Ok(work::find(block, mask))
 }
 
 // The bytes of a state block.

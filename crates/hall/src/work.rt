@@ -1,5 +1,9 @@
 // An accepted push and a flush with samples waiting, on the state block in place.
+ghost use Rattle.std.specs.Prelude.{◌≡◌, true};
 ghost use Rattle.rules.specs.Calls.{push, flush};
+ghost use Rattle.finding.specs.Search.{search};
+ghost use Rattle.store.specs.Layout.{setup_in};
+ghost use Rattle.store.specs.ValidBlocks.{valid};
 ghost use Rattle.rules.specs.BlockCalls.{made};
 ghost use Rattle.theorem.specs.Instance.{hall, block};
 ghost use Rattle.hall.specs.Answers.{Waiting, Left, given_as};
@@ -11,6 +15,7 @@ use refusals::Frame;
 use rendering::Rendering;
 use store::Block;
 use store::renderer::Renderer714;
+use vectors::Vec3;
 
 // A push that no refusal turned away.
 pub fn render(s: Renderer714, state: &mut Block, frame: Frame<'_>, out: &mut [u8]) -> Given
@@ -25,7 +30,7 @@ pub fn render(s: Renderer714, state: &mut Block, frame: Frame<'_>, out: &mut [u8
     }
 }
 
-// A flush with samples waiting. (d) It ends as `render` does: a function of these lines would have a contract longer than they are.
+// A flush with samples waiting. It ends as `render` does: a function of these lines would have a contract longer than they are.
 pub fn drain(s: Renderer714, state: &mut Block, out: &mut [u8], stride: u32) -> Given
     requires { Waiting s state.old out.old stride }
     ensures { Left (made hall block (flush out.old stride) state.old) (given_as result) state.new out.new }
@@ -36,4 +41,15 @@ pub fn drain(s: Renderer714, state: &mut Block, out: &mut [u8], stride: u32) -> 
         samples: last.ready,
         meters: last.meters.shown(),
     }
+}
+
+// A search in the hall of a valid block.
+pub fn find(state: &Block, mask: u32) -> Option<Vec3>
+    requires { valid state.now ≡ true }
+    ensures { result ≡ search (setup_in state.now) mask }
+{
+    if store::is_714(state) {
+        return finding::find(&panning::HALL_714, mask);
+    }
+    finding::find(&store::hall(state), mask)
 }

@@ -3,12 +3,13 @@
 #![tactic(auto)]
 
 ghost use Rattle.std.specs.Prelude.{◌≡◌, ◌*◌, ◌/◌, length};
-ghost use Rattle.rules.specs.Calls.{push, flush, reset, make, make_with};
+ghost use Rattle.rules.specs.Calls.{push, flush, reset, make, make_with, hold, release, find};
 ghost use Rattle.rules.specs.BlockCalls.{made};
 ghost use Rattle.theorem.specs.Instance.{hall, block};
 ghost use Rattle.theorem.specs.Appends.{AppendsIfOpen};
 ghost use Rattle.store.specs.Layout.{size};
 ghost use Rattle.hall.specs.Answers.{Left, MadeNew, version};
+ghost use Rattle.hall.specs.Places.{place_of};
 ghost use Rattle.hall.specs.Conversions.{converted_as};
 ghost use Rattle.hall.specs.Conversions24.{converted_24_as};
 ghost use Rattle.pcm24.specs.Interleaved.{interleaved, in_channels};
@@ -18,6 +19,7 @@ ghost use Rattle.planes.specs.Conversion.{judged, written_over};
 ghost use Rattle.rules.specs.Refusals.{args_of};
 
 use hall::answer::Answer;
+use hall::place::Place;
 
 #[unsafe(no_mangle)]
 pub extern "C" fn hall_push(
@@ -68,6 +70,29 @@ pub extern "C" fn hall_reset(state: &mut [u8]) -> Answer
     ensures { MadeNew (made hall block reset state.old) result state.new }
 {
     Answer::from(hall::reset(state))
+}
+
+// R-11: a dynamic object stays where it is from the next slot on, until it is released.
+#[unsafe(no_mangle)]
+pub extern "C" fn hall_hold(state: &mut [u8], object: u32) -> Answer
+    ensures { MadeNew (made hall block (hold object) state.old) result state.new }
+{
+    Answer::from(hall::hold(state, object))
+}
+
+#[unsafe(no_mangle)]
+pub extern "C" fn hall_release(state: &mut [u8], object: u32) -> Answer
+    ensures { MadeNew (made hall block (release object) state.old) result state.new }
+{
+    Answer::from(hall::release(state, object))
+}
+
+// R-13: where to put a sound.
+#[unsafe(no_mangle)]
+pub extern "C" fn hall_find(state: &[u8], mask: u32) -> Place
+    ensures { result ≡ place_of (made hall block (find mask) state.now).answer }
+{
+    Place::from(hall::find(state, mask))
 }
 
 #[unsafe(no_mangle)]

@@ -23,7 +23,7 @@ pub fn ready(count: usize, out: &[u8; 12288]) -> Text
     text
 }
 
-// "`refused K A B` in decimal". (d) Three numbers and no `refusals::Stop`: of this crate's callers one has it, and the crate knows no refusals.
+// "`refused K A B` in decimal". Three numbers and no `refusals::Stop`: of this crate's callers one has it, and the crate knows no refusals.
 pub fn refused(number: u32, first: u32, second: u32) -> Text
     ensures { result ≡ refused_text number first second }
 {

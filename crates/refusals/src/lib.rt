@@ -20,7 +20,7 @@ use records::metadata::{Fault, Metadata};
 use shapes::present_of;
 use store::renderer::Renderer714;
 
-// The refusals of a push, and those of a making call: `stop` gives document 01's number and counts of each.
+// The refusals of a push, of a making call, and of a hold or a release: `stop` gives document 01's number and counts of each.
 #[derive(Clone, Copy, PartialEq, Eq, Debug)]
 pub enum Refusal {
     // 1 to 8; 7 is not in use
@@ -43,9 +43,11 @@ pub enum Refusal {
     TableLength,
     TableCoordinate,
     TablePlaces,
+    // 24, of a hold or a release
+    ObjectNumber,
 }
 
-// What is told of a refusal: document 01's number and two counts, zero where unnamed. (a) Numbers, since they cross to C and are printed.
+// What is told of a refusal: document 01's number and two counts, zero where unnamed. Numbers, since they cross to C and are printed.
 #[derive(Clone, Copy)]
 pub struct Stop {
     pub number: u32,
@@ -88,6 +90,7 @@ impl Refusal {
             Refusal::TableLength => Stop::new(16, 0, 0),
             Refusal::TableCoordinate => Stop::new(17, 0, 0),
             Refusal::TablePlaces => Stop::new(18, 0, 0),
+            Refusal::ObjectNumber => Stop::new(24, 0, 0),
         }
     }
 }

@@ -24,7 +24,7 @@ fn starts_slot(started: bool, t: FrameOffset) -> bool
     !started || t == START
 }
 
-// The renderer with another timed state, and in a new slot where `new`. (b) By a flag: an `if` in `apply_one` in its place made the library's code 2 kB larger.
+// The renderer with another timed state, and in a new slot where `new`. By a flag: an `if` in `apply_one` in its place made the library's code 2 kB larger.
 fn restated(renderer: Renderer714, state: MetadataRendererState, new: bool) -> Renderer714
     ensures { result ≡ restated new renderer state }
 {

@@ -49,8 +49,8 @@ impl Rendering {
         self
     }
 
-    // A whole block that is still in rows: the one peak is that of all rows, of which an absent channel's is +0.0. (d) The limiter's function over places takes these steps too:
-    // one for both would have eight parameters, the block and its peak among them. (d) `out` and `stride` are no struct: it would be taken apart in the line that hands both to
+    // A whole block that is still in rows: the one peak is that of all rows, of which an absent channel's is +0.0. The limiter's function over places takes these steps too:
+    // one for both would have eight parameters, the block and its peak among them. `out` and `stride` are no struct: it would be taken apart in the line that hands both to
     // the limiter.
     pub fn give_rows(
         mut self,

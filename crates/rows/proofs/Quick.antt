@@ -23,10 +23,10 @@ use Rattle.rules.specs.Mix.{send_of, sample_at, Moment}
 use Rattle.rules.specs.Samples as rules
 use Rattle.rules.specs.Samples.{Setup, Frame, State, After, sounding, opened, updated, slotted, sampled, moment, closing}
 use Rattle.rules.specs.Refusals.{Args, Found, clear, stop}
-use Rattle.rules.specs.Calls.{Call, push, flush, reset, make, make_with, Answer, refused, rendered, nothing, cleared, Result, frame_of, found, answered, step}
+use Rattle.rules.specs.Calls.{Call, push, flush, reset, make, make_with, mark, find, Answer, refused, rendered, nothing, cleared, marked, place, Result, frame_of, found, answered, step}
 use Rattle.rules.specs.BlockCalls.{written, out_of, stride_of}
 use Rattle.theorem.specs.Instance.{hall, Sent}
-use Rattle.rows.specs.Rows.{Said, refusal, ready, none, renewed, samples_on, Row, starting_at, calls}
+use Rattle.rows.specs.Rows.{Said, refusal, ready, none, renewed, noted, said_place, samples_on, Row, starting_at, calls}
 use Rattle.theorem.proofs.Opened.{everything}
 
 -- ---- a function whose first n values are worked out once; d is any value
@@ -219,6 +219,8 @@ stepped run r (flush out stride) = step hall r (flush out stride)
 stepped run r reset = step hall r reset
 stepped run r (make n) = step hall r (make n)
 stepped run r (make_with n t) = step hall r (make_with n t)
+stepped run r (mark w d) = step hall r (mark w d)
+stepped run r (find m) = step hall r (find m)
 
 unfoldable pub said_of : Answer → ℕ → List ℕ → Said
 unfolding read
@@ -226,6 +228,8 @@ said_of (refused n a b) stride out = refusal n a b
 said_of (rendered g m) stride out = ready (read g stride out)
 said_of nothing stride out = none
 said_of cleared stride out = renewed
+said_of (marked c) stride out = noted c
+said_of (place p) stride out = said_place p
 
 unfoldable pub said_by : Run → State hall → List Call → List Said
 unfolding stepped said_of

@@ -27,7 +27,7 @@ use Rattle.rules.specs.Mix.{object_terms, adds_of, added_terms, object_adds, sam
 use Rattle.rules.specs.Samples.{Setup, Frame, State, After, opened, updated, slotted, moment, sampled, framed, pushed}
 use Rattle.rules.specs.Refusals.{Args, Found, clear, stop}
 use Rattle.rules.specs.Calls as rules
-use Rattle.rules.specs.Calls.{Call, push, flush, reset, make, make_with, Answer, refused, rendered, nothing, cleared, Result, frame_of, found, step}
+use Rattle.rules.specs.Calls.{Call, push, flush, reset, make, make_with, mark, find, Answer, refused, rendered, nothing, cleared, marked, place, Result, frame_of, found, step}
 use Rattle.rules.specs.BlockCalls.{written, out_of, stride_of, left, told}
 use Rattle.rules.proofs.Theorems.{written_reads, length_map}
 use Rattle.rules.proofs.Written.{written_beside}
@@ -295,6 +295,8 @@ said_is (refused n a b) s stride out b' = refl
 said_is (rendered g m) s stride out b = ap ready (read_is g stride out)
 said_is nothing s stride out b = refl
 said_is cleared s stride out b = refl
+said_is (marked c) s stride out b = refl
+said_is (place p) s stride out b = refl
 
 module _ (run : Run) (is : (f : Frame Sent) (r : State hall) → run f r ≡ pushed hall f r) where
   asked_is : (x : Found) (a : Args) (r : State hall) → asked run x a r ≡ rules.asked hall x a r
@@ -309,6 +311,8 @@ module _ (run : Run) (is : (f : Frame Sent) (r : State hall) → run f r ≡ pus
   stepped_is r reset = refl
   stepped_is r (make n) = refl
   stepped_is r (make_with n t) = refl
+  stepped_is r (mark w d) = refl
+  stepped_is r (find m) = refl
 
   all_said_is : (r : State hall) (cs : List Call) → said_by run r cs ≡ all_said cs (told hall block r cs)
   unfolding said_by

@@ -3,9 +3,11 @@ use mathlib.Core.Path.{◌≡◌, refl, sym, ◌∙◌}
 use mathlib.Core.List.{List, [], ◌∷◌, map}
 use Rattle.ieee.specs.Bounds.{All}
 use Rattle.rules.proofs.Theorems.{all_append}
+use Rattle.finding.specs.Grid as grid
+use Rattle.finding.specs.Search as search
 use Rattle.rows.specs.Rows.{Said, Row, Holds, says, seen}
 use Rattle.rows.specs.Notation.{concat}
-use Rattle.rows.specs.Lists.{refusals, outputs, block_rows, bed_rows, object_rows, updates, slots, halls, tables, groups, rows}
+use Rattle.rows.specs.Lists.{refusals, outputs, block_rows, bed_rows, object_rows, updates, slots, halls, tables, hold_rows, searches, groups, rows}
 use Rattle.theorem.proofs.Opened.{everything, judging}
 use Rattle.rows.proofs.Quick.{plainly, quickly}
 use Rattle.rows.proofs.QuickIsRules.{plainly_is, quickly_is}
@@ -64,6 +66,14 @@ tables_hold : All Holds tables
 unfolding quickly judging
 tables_hold = after halls_hold (held quickly quickly_is tables refl)
 
+hold_rows_hold : All Holds hold_rows
+unfolding quickly
+hold_rows_hold = after tables_hold (held quickly quickly_is hold_rows refl)
+
+searches_hold : All Holds searches
+unfolding everything grid.across_at grid.up_at search.search
+searches_hold = after hold_rows_hold (held seen (λ r. refl) searches refl)
+
 -- ---- all rows
 
 all_joined : (gs : List (List Row)) → All (All Holds) gs → All Holds (concat gs)
@@ -71,4 +81,4 @@ all_joined [] h = tt
 all_joined (g ∷ gs) h = all_append Holds g (concat gs) h.0 (all_joined gs h.1)
 
 pub table : All Holds rows
-table = all_joined groups (refusals_hold, (outputs_hold, (blocks_hold, (beds_hold, (objects_hold, (updates_hold, (slots_hold, (halls_hold, (tables_hold, tt)))))))))
+table = all_joined groups (refusals_hold, (outputs_hold, (blocks_hold, (beds_hold, (objects_hold, (updates_hold, (slots_hold, (halls_hold, (tables_hold, (hold_rows_hold, (searches_hold, tt)))))))))))

@@ -1,7 +1,7 @@
 -- The rows. `cargo run --release --offline -p compare --bin rows` in rust/ writes this file: the calls are that program's, what is seen of them is the oracle's. Assumes nothing.
-use Rattle.std.specs.Prelude.{List, [], ◌∷◌, ◌++◌, replicate}
-use Rattle.rules.specs.Calls.{reset, make, make_with}
-use Rattle.rows.specs.Rows.{Row, ◌⇒◌, refusal, ready, none, renewed}
+use Rattle.std.specs.Prelude.{true, false, List, [], ◌∷◌, ◌++◌, replicate}
+use Rattle.rules.specs.Calls.{reset, make, make_with, hold, release, find}
+use Rattle.rows.specs.Rows.{Row, ◌⇒◌, refusal, ready, none, renewed, noted, found}
 use Rattle.rows.specs.Notation.{concat, as_row, row_at, sent, sent_by, of_bed, of_object, flush_at, short, quiet, diagonal_words, silence, only}
 use Rattle.rows.specs.Notation.{update, bed, spoilt, element, at_once, block_from, minus, object, at, valid_position, place, differential, gain, distance, with_size}
 use Rattle.rows.specs.Notation.{screen, depth, screen_anchor, on_speakers, words}
@@ -837,11 +837,122 @@ abbrev pub tables : List Row
 tables =
     no_table ∷ own_table ∷ any_heights ∷ same_table ∷ built_in_again ∷ []
 
+-- ---- hold_rows
+
+-- held from the next slot on; a second hold says nothing new; released it goes on, half of the way left, with what remains of the ramp
+abbrev pub held_and_released : Row
+held_and_released =
+    as_row
+    (of_object (update 0 [] 1 (at_once 0 (gain 0x3f800000 (at 0 0 0) ∷ []) ∷ []) ∷ []) ⇒ ready []
+    ∷ hold 0 ⇒ noted true
+    ∷ hold 0 ⇒ noted false
+    ∷ of_object (update 0 [] 1 (at_once 193 (at 0x3f800000 0 0 ∷ []) ∷ []) ∷ []) ⇒ ready []
+    ∷ release 0 ⇒ noted true
+    ∷ release 0 ⇒ noted false
+    ∷ of_object (update 0 [] 1 (element (block_from 0 0 ∷ block_from 5 0 ∷ []) (object ∷ object ∷ []) ∷ []) ∷ []) ⇒ ready []
+    ∷ flush_at 64 ⇒ ready (only 0 0x3f000000 ∷ only 0 0x3f000000 ∷ only 2 0x3f000000 ∷ [])
+    ∷ [])
+
+-- the same without the hold: a third of the way, and half of the rest
+abbrev pub not_held : Row
+not_held =
+    as_row
+    (of_object (update 0 [] 1 (at_once 0 (gain 0x3f800000 (at 0 0 0) ∷ []) ∷ []) ∷ []) ⇒ ready []
+    ∷ of_object (update 0 [] 1 (at_once 193 (at 0x3f800000 0 0 ∷ []) ∷ []) ∷ []) ⇒ ready []
+    ∷ of_object (update 0 [] 1 (element (block_from 0 0 ∷ block_from 5 0 ∷ []) (object ∷ object ∷ []) ∷ []) ∷ []) ⇒ ready []
+    ∷ flush_at 64 ⇒ ready (only 0 0x3f000000 ∷ (0x3eafc44c ∷ 0 ∷ 0x3eba1fab ∷ 0 ∷ 0 ∷ 0 ∷ 0 ∷ 0 ∷ 0 ∷ 0 ∷ 0 ∷ 0 ∷ []) ∷
+    (0 ∷ 0x3eafc44c ∷ 0x3eba1fab ∷ 0 ∷ 0 ∷ 0 ∷ 0 ∷ 0 ∷ 0 ∷ 0 ∷ 0 ∷ 0 ∷ []) ∷ [])
+    ∷ [])
+
+-- held it stays where no ramp is left, and where there is none; released it is at its target
+abbrev pub held_past_the_ramp : Row
+held_past_the_ramp =
+    as_row
+    (of_object (update 0 [] 1 (at_once 0 (gain 0x3f800000 (at 0 0 0) ∷ []) ∷ []) ∷ []) ⇒ ready []
+    ∷ hold 0 ⇒ noted true
+    ∷ of_object (update 0 [] 1 (at_once 65 (at 0x3f800000 0 0 ∷ []) ∷ []) ∷ []) ⇒ ready []
+    ∷ of_object (update 0 [] 1 (element (block_from 0 0 ∷ block_from 5 0 ∷ []) (object ∷ object ∷ []) ∷ []) ∷ []) ⇒ ready []
+    ∷ of_object (update 0 [] 1 (at_once 0 (at 0x3f800000 0 0 ∷ []) ∷ []) ∷ []) ⇒ ready []
+    ∷ release 0 ⇒ noted true
+    ∷ of_object (update 0 [] 1 (element (block_from 0 0 ∷ block_from 5 0 ∷ []) (object ∷ object ∷ []) ∷ []) ∷ []) ⇒ ready []
+    ∷ flush_at 64 ⇒ ready (only 0 0x3f000000 ∷ only 0 0x3f000000 ∷ only 0 0x3f000000 ∷ only 0 0x3f000000 ∷ only 1 0x3f000000 ∷ [])
+    ∷ [])
+
+-- before one slot a release undoes a hold, and a hold a release
+abbrev pub undone : Row
+undone =
+    as_row
+    (of_object (update 0 [] 1 (at_once 0 (gain 0x3f800000 (at 0 0 0) ∷ []) ∷ []) ∷ []) ⇒ ready []
+    ∷ hold 0 ⇒ noted true
+    ∷ release 0 ⇒ noted true
+    ∷ of_object (update 0 [] 1 (at_once 193 (at 0x3f800000 0 0 ∷ []) ∷ []) ∷ []) ⇒ ready []
+    ∷ hold 0 ⇒ noted true
+    ∷ of_object (update 0 [] 1 (element (block_from 0 0 ∷ block_from 5 0 ∷ []) (object ∷ object ∷ []) ∷ []) ∷ []) ⇒ ready []
+    ∷ release 0 ⇒ noted true
+    ∷ hold 0 ⇒ noted true
+    ∷ of_object (update 0 [] 1 (element (block_from 0 0 ∷ block_from 5 0 ∷ []) (object ∷ object ∷ []) ∷ []) ∷ []) ⇒ ready []
+    ∷ flush_at 64 ⇒ ready (only 0 0x3f000000 ∷ (0x3eafc44c ∷ 0 ∷ 0x3eba1fab ∷ 0 ∷ 0 ∷ 0 ∷ 0 ∷ 0 ∷ 0 ∷ 0 ∷ 0 ∷ 0 ∷ []) ∷
+    (0x3eafc44c ∷ 0 ∷ 0x3eba1fab ∷ 0 ∷ 0 ∷ 0 ∷ 0 ∷ 0 ∷ 0 ∷ 0 ∷ 0 ∷ 0 ∷ []) ∷ (0x3eafc44c ∷ 0 ∷ 0x3eba1fab ∷ 0 ∷ 0 ∷ 0 ∷ 0 ∷ 0 ∷ 0 ∷ 0 ∷ 0 ∷ 0 ∷ []) ∷ [])
+    ∷ [])
+
+-- 24: before the first update, from the number of dynamic objects on
+abbrev pub no_object : Row
+no_object =
+    as_row
+    (hold 0 ⇒ refusal 24 0 0
+    ∷ release 0 ⇒ refusal 24 0 0
+    ∷ sent 1 (0 ∷ []) 1 (0 ∷ 0x3f000000 ∷ []) (update 0 (0 ∷ []) 1 [] ∷ []) ⇒ ready []
+    ∷ hold 1 ⇒ refusal 24 0 0
+    ∷ hold 4294967295 ⇒ refusal 24 0 0
+    ∷ hold 0 ⇒ noted true
+    ∷ release 1 ⇒ refusal 24 0 0
+    ∷ [])
+
+-- another number of objects, a reset and a making call end all holds
+abbrev pub holds_end : Row
+holds_end =
+    as_row
+    (of_object (update 0 [] 1 (at_once 0 (gain 0x3f800000 (at 0 0 0) ∷ []) ∷ []) ∷ []) ⇒ ready []
+    ∷ hold 0 ⇒ noted true
+    ∷ sent 1 [] 2 (0x3f000000 ∷ 0 ∷ []) (update 0 [] 2 [] ∷ []) ⇒ ready []
+    ∷ release 0 ⇒ noted false
+    ∷ hold 1 ⇒ noted true
+    ∷ reset ⇒ renewed
+    ∷ release 1 ⇒ refusal 24 0 0
+    ∷ of_object (update 0 [] 1 (at_once 0 (gain 0x3f800000 (at 0 0 0) ∷ []) ∷ []) ∷ []) ⇒ ready []
+    ∷ release 0 ⇒ noted false
+    ∷ hold 0 ⇒ noted true
+    ∷ make 0 ⇒ renewed
+    ∷ of_object (update 0 [] 1 (at_once 0 (gain 0x3f800000 (at 0 0 0) ∷ []) ∷ []) ∷ []) ⇒ ready []
+    ∷ release 0 ⇒ noted false
+    ∷ [])
+
+abbrev pub hold_rows : List Row
+hold_rows =
+    held_and_released ∷ not_held ∷ held_past_the_ramp ∷ undone ∷ no_object ∷ holds_end ∷ []
+
+-- ---- searches
+
+-- the first places: rear left, rear right, between them; where they are absent, left surround
+abbrev pub where_to_put : Row
+where_to_put =
+    as_row
+    (find 16 ⇒ found 0xbf800000 0 0xbf800000
+    ∷ find 32 ⇒ found 0x3f380000 0 0xbf800000
+    ∷ find 48 ⇒ found 0xbf300000 0 0xbf800000
+    ∷ make 1 ⇒ renewed
+    ∷ find 64 ⇒ found 0xbf800000 0 0xbf800000
+    ∷ [])
+
+abbrev pub searches : List Row
+searches =
+    where_to_put ∷ []
+
 -- ---- all
 
 abbrev pub groups : List (List Row)
 groups =
-    refusals ∷ outputs ∷ block_rows ∷ bed_rows ∷ object_rows ∷ updates ∷ slots ∷ halls ∷ tables ∷ []
+    refusals ∷ outputs ∷ block_rows ∷ bed_rows ∷ object_rows ∷ updates ∷ slots ∷ halls ∷ tables ∷ hold_rows ∷ searches ∷ []
 
 abbrev pub rows : List Row
 rows = concat groups

@@ -1,7 +1,7 @@
 -- How the rows are written: metadata, calls, samples. A float is given by its bits, a negative number by `minus`. Assumes nothing.
 use Rattle.std.specs.Prelude.{ℕ, zero, suc, ◌+◌, ◌-◌, ◌*◌, ◌/◌, ◌%◌, ◌^◌, List, [], ◌∷◌, ◌++◌, length, get_or, take, drop, set, replicate}
 use Rattle.rules.specs.Refusals.{args_of}
-use Rattle.rules.specs.Calls.{Call, push, flush, reset, make, make_with}
+use Rattle.rules.specs.Calls.{Call, push, flush, reset, make, make_with, mark, find}
 use Rattle.rows.specs.Rows.{Turn, Row}
 
 -- ---- bytes
@@ -134,6 +134,8 @@ short (flush out stride) = flush (drop 1 out) stride
 short reset = reset
 short (make n) = make n
 short (make_with n t) = make_with n t
+short (mark w d) = mark w d
+short (find m) = find m
 
 -- ---- samples
 

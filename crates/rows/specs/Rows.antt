@@ -1,8 +1,11 @@
 -- A row: calls in turn, each with what the host sees of it. `Holds`: that is what it sees by the definitions alone, with no block and no code. Assumes nothing.
-use Rattle.std.specs.Prelude.{ℕ, zero, suc, ◌+◌, ◌*◌, ◌≡◌, List, [], ◌∷◌, map, length}
+use Rattle.std.specs.Prelude.{ℕ, zero, suc, ◌+◌, ◌*◌, ◌≡◌, Bool, List, [], ◌∷◌, map, length, Option, Some, None}
+use Rattle.std.specs.Float.{binary32}
+use Rattle.std.specs.Float.Ieee.{to_bits}
+use Rattle.vectors.specs.declared.Vec3.{Vec3}
 use Rattle.words.specs.Words.{word}
 use Rattle.rules.specs.Samples.{hall_with, State, fresh}
-use Rattle.rules.specs.Calls.{Call, Answer, refused, rendered, nothing, cleared}
+use Rattle.rules.specs.Calls.{Call, Answer, refused, rendered, nothing, cleared, marked, place}
 use Rattle.rules.specs.BlockCalls.{Seen, stride_of, told}
 use Rattle.theorem.specs.Instance.{hall, block}
 
@@ -17,6 +20,11 @@ pub data Said : Type 0 where
   none : Said
   -- a reset, or a renderer made
   renewed : Said
+  -- a hold or a release: whether it changed anything
+  noted : Bool → Said
+  -- a search: the words of the place, or that there is none
+  found : ℕ → ℕ → ℕ → Said
+  nowhere : Said
 
 -- the words of an output at sample i, on the n channels from c on
 abbrev pub words_on : ℕ → ℕ → ℕ → ℕ → List ℕ → List ℕ
@@ -28,12 +36,18 @@ abbrev pub samples_on : ℕ → ℕ → ℕ → List ℕ → List (List ℕ)
 samples_on zero i stride out = []
 samples_on (suc n) i stride out = words_on 12 0 stride i out ∷ samples_on n (suc i) stride out
 
+abbrev pub said_place : Option Vec3 → Said
+said_place (Some p) = found (to_bits binary32 p.x) (to_bits binary32 p.y) (to_bits binary32 p.z)
+said_place None = nowhere
+
 -- from an answer, the call's stride, and the output after the call
 abbrev pub said : Answer → ℕ → List ℕ → Said
 said (refused n a b) stride out = refusal n a b
 said (rendered g m) stride out = ready (samples_on (length (g 0)) 0 stride out)
 said nothing stride out = none
 said cleared stride out = renewed
+said (marked c) stride out = noted c
+said (place p) stride out = said_place p
 
 -- call after call
 abbrev pub all_said : List Call → List (Seen hall block) → List Said

@@ -43,11 +43,11 @@ module _ (L : Leaves) where
   at t [] = false
   at t (u ∷ us) = eqb (L.offset u) t || at t us
 
-  first_at : (us : List L.Update) → up_to L 0 us ≡ at 0 us
+  pub first_at : (us : List L.Update) → up_to L 0 us ≡ at 0 us
   first_at [] = refl
   first_at (u ∷ us) = ap₂ (λ (a b : Bool). a || b) (none_below (L.offset u)) (first_at us)
 
-  next_at : (t : ℕ) (us : List L.Update) → up_to L (suc t) us ≡ (up_to L t us || at (suc t) us)
+  pub next_at : (t : ℕ) (us : List L.Update) → up_to L (suc t) us ≡ (up_to L t us || at (suc t) us)
   next_at t [] = refl
   next_at t (u ∷ us) =
       ap₂ (λ (a b : Bool). a || b) (one_more (L.offset u) t) (next_at t us) ∙ crossed (leb (L.offset u) t) (up_to L t us) (eqb (L.offset u) (suc t)) (at (suc t) us)

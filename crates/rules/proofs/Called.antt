@@ -7,7 +7,7 @@ use Prim.Native.Nat.{ℕ, ◌+◌, ◌*◌, ◌%◌, ◌≤◌, ◌<◌, zero-le
 use native.Mathlib.Nat.{le_trans, le_of_eq, le_of_lt, not-suc-le-zero}
 use native.Mathlib.Omega.{arith}
 use borrow.Author.Tests.{eqb-false}
-use lib.Dec.{T, eqb, lit<}
+use lib.Dec.{T, eqb, ltb, lit<}
 use lib.ListN.{length, get_or}
 use Rattle.ieee.specs.Units.{Unitary}
 use Rattle.ieee.specs.Bounds.{All}
@@ -22,7 +22,7 @@ use Rattle.rules.specs.Leaves.{Leaves}
 use Rattle.rules.specs.Samples.{State, fresh, pushed, flushed}
 use Rattle.rules.specs.Refusals.{Args, Found, clear, stop, room}
 use Rattle.rules.specs.Making.{hall_of, layout_found, table_found}
-use Rattle.rules.specs.Calls.{Call, push, flush, reset, make, make_with, refused, rendered, nothing, cleared, given, meters_of, frame_of, found, Result, asked, drained, making, step}
+use Rattle.rules.specs.Calls.{Call, push, flush, reset, make, make_with, mark, find, refused, rendered, nothing, cleared, marked, given, meters_of, frame_of, found, numbered, alike_marks, with_meta, Result, asked, drained, making, marking, step}
 use Rattle.rules.specs.Ranges.{HallRanged}
 use Rattle.rules.specs.BlockCalls.{Layout, Outcome, left, out_of, stride_of}
 use Rattle.rules.specs.Promises.{count_on}
@@ -31,7 +31,7 @@ use Rattle.rules.proofs.EachOf.{count_most, none_count, here_count}
 use Rattle.rules.proofs.Owed.{Facts}
 use Rattle.rules.proofs.Judged.{is_passed, is_roomy, samples_fit}
 use Rattle.rules.proofs.Making.{ranged_fits, layout_makes, table_makes}
-use Rattle.rules.proofs.Invariant.{Steady, Good, Rest, fresh_rest}
+use Rattle.rules.proofs.Invariant.{Steady, Good, Rest, fresh_rest, marked_rest}
 use Rattle.rules.proofs.Frames.{pushed_fine, flushed_fine}
 use Rattle.rules.proofs.Written.{bits_words, written_reads, written_beside, written_past, written_tame, length_written}
 
@@ -79,7 +79,7 @@ module _ (L : Leaves) (B : Layout L) (F : Facts L B) where
     pub rest : Rest L B F x.next
     pub range : (b : List ℕ) → GivenOut h (stride_of c) (out_of c) (left L B x.answer x.next (out_of c) (stride_of c) b)
 
-  steady : {r : State L} → Rest L B F r → Steady L B F r
+  pub steady : {r : State L} → Rest L B F r → Steady L B F r
   steady (inl g) = g.steady
   steady (inr g) = g.steady
 
@@ -129,9 +129,18 @@ module _ (L : Leaves) (B : Layout L) (F : Facts L B) where
     made_quiet (stop n x y) h b = quiet r.setup 0 [] (left L B (refused n x y) r [] 0 b) refl refl refl refl
     made_quiet clear h b = quiet r.setup 0 [] (left L B cleared (fresh L h) [] 0 b) refl refl refl refl
 
+    marking_called : (v known w : Bool) (d : ℕ) → Called r.setup (mark w d) (marking L v known w d r)
+    marking_called false known w d = record { rest = rest; range = λ b. quiet r.setup 0 [] (left L B (refused 24 0 0) r [] 0 b) refl refl refl refl }
+    marking_called true true w d = record { rest = rest; range = λ b. quiet r.setup 0 [] (left L B (marked false) r [] 0 b) refl refl refl refl }
+    marking_called true false w d =
+        let s = with_meta L (L.want w d r.meta) r in
+        record { rest = marked_rest L B F w d r rest; range = λ b. quiet r.setup 0 [] (left L B (marked true) s [] 0 b) refl refl refl refl }
+
     pub called : (c : Call) → Lent c → Called r.setup c (step L r c)
     called (push a) h = asked_called a h (found L r a) refl
     called (flush out stride) h = drained_called out stride (room stride (length out)) (eqb r.pending.count 0) refl refl
     called reset h = record { rest = fresh_rest L B F r.setup (steady rest).hall; range = λ b. quiet r.setup 0 [] (left L B cleared (fresh L r.setup) [] 0 b) refl refl refl refl }
     called (make n) h = record { rest = made_rest (layout_found n) (hall_with n) (layout_makes n); range = made_quiet (layout_found n) (hall_with n) }
     called (make_with n t) h = record { rest = made_rest (table_found n t) (hall_of n t) (table_makes n t h); range = made_quiet (table_found n t) (hall_of n t) }
+    called (mark w d) h = marking_called (ltb d (numbered L r)) (alike_marks w (L.wants d r.meta)) w d
+    called (find m) h = record { rest = rest; range = λ b. quiet r.setup 0 [] (left L B (step L r (find m)).answer r [] 0 b) refl refl refl refl }

@@ -5,16 +5,16 @@ use mathlib.Core.Bool.{Bool, true, false}
 use mathlib.Core.List.{List, [], ◌∷◌}
 use Prim.Native.Nat.{ℕ}
 use borrow.Author.Tests.{lt-leb}
-use lib.Dec.{eqb}
+use lib.Dec.{eqb, ltb}
 use lib.ListN.{length}
 use lib.Ieee.{Float}
 use Rattle.panning.specs.Setup.{Setup, hall_with, table_right}
 use Rattle.panning.proofs.Theorems.{built_in_right}
-use Rattle.rules.specs.Leaves.{Leaves}
+use Rattle.rules.specs.Leaves.{Leaves, Shape}
 use Rattle.rules.specs.Samples.{State, fresh, flushed}
 use Rattle.rules.specs.Refusals.{Args, Found, clear, stop, unless, room}
 use Rattle.rules.specs.Making.{hall_of, layout_found, table_found}
-use Rattle.rules.specs.Calls.{Call, push, flush, reset, make, make_with, is_refused, found, asked, drained, making, step, final}
+use Rattle.rules.specs.Calls.{Call, push, flush, reset, make, make_with, mark, find, is_refused, found, numbered, alike_marks, asked, drained, making, marking, step, final}
 use Rattle.rules.specs.Promises.{Refuses, MakeHolds, CallHolds, AllHold}
 use Rattle.rules.specs.Ringing.{fed_since, AllRing}
 use Rattle.rules.specs.Ranges.{HallRanged}
@@ -24,7 +24,8 @@ use Rattle.rules.proofs.Owed.{Facts, InRanges}
 use Rattle.rules.proofs.Invariant.{Rest, fresh_rest}
 use Rattle.rules.proofs.Making.{ranged_fits, layout_good, table_good, as_layout, layout_makes, table_makes}
 use Rattle.rules.proofs.Ranged.{fresh_ranged}
-use Rattle.rules.proofs.Called.{called}
+use Rattle.rules.proofs.Called.{called, steady}
+use Rattle.rules.proofs.Marks.{mark_holds}
 use Rattle.rules.proofs.Keeps.{step_ranged}
 use Rattle.rules.proofs.Quiet.{Hush}
 use Rattle.rules.proofs.Pushes.{push_holds, hush_pushed}
@@ -36,13 +37,13 @@ use Rattle.rules.proofs.StateBlocks.{erased, erased_left, made_by, made_new, mad
 
 module _ (L : Leaves) (B : Layout L) (F : Facts L B) where
   -- what holds of a renderer between calls, xs having been fed to its low-pass
-  record Between (xs : List Float) (r : State L) : Type 0 where
-    rest : Rest L B F r
-    ranges : InRanges F r
-    hush : Hush L r
-    fed : Fed L xs r
+  pub record Between (xs : List Float) (r : State L) : Type 0 where
+    pub rest : Rest L B F r
+    pub ranges : InRanges F r
+    pub hush : Hush L r
+    pub fed : Fed L xs r
 
-  between_fresh : (h : Setup) → HallRanged h → Between [] (fresh L h)
+  pub between_fresh : (h : Setup) → HallRanged h → Between [] (fresh L h)
   between_fresh h r = record { rest = fresh_rest L B F h (ranged_fits r); ranges = fresh_ranged L B F h r; hush = λ e. inl refl; fed = fresh_fed L h }
 
   -- a making call, stopped or not
@@ -50,9 +51,14 @@ module _ (L : Leaves) (B : Layout L) (F : Facts L B) where
   made_stopped v h r n x y e = record { answer = ap (λ (w : Found). (making L w h r).answer) e; next = ap (λ (w : Found). (making L w h r).next) e }
 
   made_holds : (v : Found) (h : Setup) (r : State L) → v ≡ clear → MakeHolds L h (making L v h r)
-  made_holds v h r e = record { answer = ap (λ (w : Found). (making L w h r).answer) e; next = ap (λ (w : Found). (making L w h r).next) e }
+  made_holds v h r e =
+      record {
+        answer = ap (λ (w : Found). (making L w h r).answer) e;
+        next = ap (λ (w : Found). (making L w h r).next) e;
+        freed = λ d. ap (λ (w : Found). L.wants d (making L w h r).next.meta) e ∙ F.wants_blank d;
+      }
 
-  call_holds : {xs : List Float} (r : State L) (c : Call) → Between xs r → Lent c → CallHolds L r c
+  pub call_holds : {xs : List Float} (r : State L) (c : Call) → Between xs r → Lent c → CallHolds L r c
   call_holds r (push a) g h = (
     λ n x y e. record { answer = ap (λ (v : Found). (asked L v a r).answer) e; next = ap (λ (v : Found). (asked L v a r).next) e },
     λ e. push_holds L B F r a h.0 h.1 g.rest e g.hush,
@@ -64,12 +70,14 @@ module _ (L : Leaves) (B : Layout L) (F : Facts L B) where
     },
     flush_holds L B F r g.rest out stride,
   )
-  call_holds r reset g h = record { answer = refl; next = refl }
+  call_holds r reset g h = record { answer = refl; next = refl; freed = F.wants_blank }
   call_holds r (make n) g h = (
     λ l. made_stopped (layout_found n) (hall_with n) r 15 0 0 (ap (λ (t : Bool). unless t 15 0 0) (lt-leb n 3 l)),
     λ l. made_holds (layout_found n) (hall_with n) r (layout_good n l),
   )
   call_holds r (make_with n t) g h = (made_stopped (table_found n t) (hall_of n t) r, made_holds (table_found n t) (hall_of n t) r)
+  call_holds r (mark w d) g h = mark_holds L B F w d r (steady L B F g.rest).meta
+  call_holds r (find m) g h = record { answer = refl; next = refl; silent = refl }
 
   asked_hush : {xs : List Float} (r : State L) (a : Args) → Between xs r → Lent (push a) → (v : Found) → found L r a ≡ v → Hush L (asked L v a r).next
   asked_hush r a g h (stop n x y) e = g.hush
@@ -85,12 +93,19 @@ module _ (L : Leaves) (B : Layout L) (F : Facts L B) where
   made_hush (stop n x y) h r g = g
   made_hush clear h r g = λ e. inl refl
 
+  marking_hush : (v known w : Bool) (d : ℕ) (r : State L) → Hush L r → Hush L (marking L v known w d r).next
+  marking_hush false known w d r g = g
+  marking_hush true true w d r g = g
+  marking_hush true false w d r g = λ e. g (sym (ap (λ (s : Shape). s.started) (F.shape_want w d r.meta)) ∙ e)
+
   step_hush : {xs : List Float} (r : State L) (c : Call) → Between xs r → Lent c → Hush L (step L r c).next
   step_hush r (push a) g h = asked_hush r a g h (found L r a) refl
   step_hush r (flush out stride) g h = drained_hush r (room stride (length out)) (eqb r.pending.count 0) g.hush
   step_hush r reset g h = λ e. inl refl
   step_hush r (make n) g h = made_hush (layout_found n) (hall_with n) r g.hush
   step_hush r (make_with n t) g h = made_hush (table_found n t) (hall_of n t) r g.hush
+  step_hush r (mark w d) g h = marking_hush (ltb d (numbered L r)) (alike_marks w (L.wants d r.meta)) w d r g.hush
+  step_hush r (find m) g h = g.hush
 
   -- what holds of the calls from a renderer, and from its block
   record Run (xs : List Float) (r : State L) (cs : List Call) : Type 0 where
@@ -101,7 +116,7 @@ module _ (L : Leaves) (B : Layout L) (F : Facts L B) where
     calls : AllHold L r cs
     rings : AllRing L xs r cs
 
-  step_between : (xs : List Float) (r : State L) (c : Call) → Between xs r → Lent c → Between (fed_since L xs r c) (step L r c).next
+  pub step_between : (xs : List Float) (r : State L) (c : Call) → Between xs r → Lent c → Between (fed_since L xs r c) (step L r c).next
   step_between xs r c g h =
       record { rest = (called L B F r g.rest c h).rest; ranges = step_ranged L B F r c h g.ranges; hush = step_hush r c g h; fed = step_fed L B F xs r c h g.rest g.fed }
 
@@ -152,6 +167,8 @@ module _ (L : Leaves) (B : Layout L) (F : Facts L B) where
   made_in b reset l h s e = absurd s
   made_in b (make n) l h s e =
       subst (λ (h : Setup). HallRanged h × ((made L B (make n) b).state ≡ B.encode (fresh L h))) (sym s) (made_by_in b (layout_found n) (hall_with n) (layout_makes n) e)
+  made_in b (mark w d) l h s e = absurd s
+  made_in b (find m) l h s e = absurd s
   made_in b (make_with n t) l h s e =
       subst (λ (h : Setup). HallRanged h × ((made L B (make_with n t) b).state ≡ B.encode (fresh L h))) (sym s)
       (made_by_in b (table_found n t) (hall_of n t) (table_makes n t l) e)

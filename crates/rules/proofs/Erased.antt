@@ -2,14 +2,15 @@
 use mathlib.Core.Path.{◌≡◌, refl, sym, ap, subst}
 use mathlib.Core.Bool.{Bool, true, false, cond}
 use mathlib.Core.List.{List, [], ◌∷◌}
-use lib.Dec.{T, eqb}
+use Prim.Native.Nat.{ℕ}
+use lib.Dec.{T, eqb, ltb}
 use lib.ListN.{length}
 use Rattle.panning.specs.Setup.{Setup, hall_with}
 use Rattle.rules.specs.Leaves.{Leaves}
 use Rattle.rules.specs.Samples.{State}
 use Rattle.rules.specs.Refusals.{Args, Found, clear, stop, room}
 use Rattle.rules.specs.Making.{hall_of, layout_found, table_found}
-use Rattle.rules.specs.Calls.{Call, push, flush, reset, make, make_with, found, Result, is_refused, asked, drained, making, step, run, final, kept, accepted}
+use Rattle.rules.specs.Calls.{Call, push, flush, reset, make, make_with, mark, find, found, numbered, alike_marks, Result, is_refused, asked, drained, making, marking, step, run, final, kept, accepted}
 
 module _ (L : Leaves) where
   asked_stays : (v : Found) (a : Args) (r : State L) → T (is_refused (asked L v a r).answer) → (asked L v a r).next ≡ r
@@ -25,6 +26,11 @@ module _ (L : Leaves) where
   made_stays (stop n x y) h r t = refl
   made_stays clear h r t = absurd t
 
+  marking_stays : (v known w : Bool) (d : ℕ) (r : State L) → T (is_refused (marking L v known w d r).answer) → (marking L v known w d r).next ≡ r
+  marking_stays false known w d r t = refl
+  marking_stays true true w d r t = absurd t
+  marking_stays true false w d r t = absurd t
+
   -- a refused call leaves the renderer as it was
   pub stays : (r : State L) (c : Call) → T (is_refused (step L r c).answer) → (step L r c).next ≡ r
   stays r (push a) h = asked_stays (found L r a) a r h
@@ -32,6 +38,8 @@ module _ (L : Leaves) where
   stays r reset h = absurd h
   stays r (make n) h = made_stays (layout_found n) (hall_with n) r h
   stays r (make_with n t) h = made_stays (table_found n t) (hall_of n t) r h
+  stays r (mark w d) h = marking_stays (ltb d (numbered L r)) (alike_marks w (L.wants d r.meta)) w d r h
+  stays r (find m) h = absurd h
 
   pub forgotten : (r : State L) (cs : List Call) → run L r (kept L r cs) ≡ accepted L (run L r cs)
   forgotten r [] = refl

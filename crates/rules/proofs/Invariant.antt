@@ -26,6 +26,7 @@ use Rattle.rules.specs.Parts.{Channels, none, Places, floats, laid, zeros}
 use Rattle.rules.specs.Leaves.{Leaves, started}
 use Rattle.rules.specs.Mix.{sample_at, Moment, heard, fed}
 use Rattle.rules.specs.Samples.{Frame, State, fresh, sounding, limited, metered, row, applied_at, updated, slotted, moment, After, passed, opened}
+use Rattle.rules.specs.Calls.{with_meta}
 use Rattle.rules.specs.Sounds.{AllMetered}
 use Rattle.rules.specs.Promises.{count_on}
 use Rattle.rules.specs.BlockCalls.{Layout}
@@ -85,6 +86,14 @@ module _ (L : Leaves) (B : Layout L) (F : Facts L B) where
   pub fresh_rest : (h : Setup) → HallFits h → Rest (fresh L h)
   fresh_rest h f =
       inl (record { rate = refl; none = refl; steady = record { hall = f; meta = F.sound_blank; gain = one_gain; places = zeros_finite; long = zeros_long; few = lit< tt } })
+
+  -- ---- a hold, a release
+  wanted_steady : (w : Bool) (d : ℕ) (r : State L) → Steady r → Steady (with_meta L (L.want w d r.meta) r)
+  wanted_steady w d r s = record { hall = s.hall; meta = F.sound_want w d r.meta s.meta; gain = s.gain; places = s.places; long = s.long; few = s.few }
+
+  pub marked_rest : (w : Bool) (d : ℕ) (r : State L) → Rest r → Rest (with_meta L (L.want w d r.meta) r)
+  marked_rest w d r (inl g) = inl (record { rate = g.rate; none = g.none; steady = wanted_steady w d r g.steady })
+  marked_rest w d r (inr g) = inr (record { rate = g.rate; calm = g.calm; steady = wanted_steady w d r g.steady })
 
   -- ---- updates, slots, a rate
   applied_good : (t : ℕ) (u : L.Update) (r : State L) → F.Checked u → Good r → Good (applied_at L t u r)

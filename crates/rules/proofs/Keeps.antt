@@ -3,7 +3,7 @@ use mathlib.Core.Path.{◌≡◌, refl, subst}
 use mathlib.Core.Bool.{Bool, true, false, cond}
 use mathlib.Core.List.{List, []}
 use Prim.Native.Nat.{ℕ}
-use lib.Dec.{T, eqb}
+use lib.Dec.{T, eqb, ltb}
 use lib.ListN.{length}
 use Rattle.words.specs.Words.{Bytes}
 use Rattle.panning.specs.Setup.{Setup, hall_with}
@@ -11,14 +11,14 @@ use Rattle.rules.specs.Leaves.{Leaves}
 use Rattle.rules.specs.Samples.{State, fresh}
 use Rattle.rules.specs.Refusals.{Args, Found, clear, stop, room}
 use Rattle.rules.specs.Making.{hall_of, layout_found, table_found}
-use Rattle.rules.specs.Calls.{Call, push, flush, reset, make, make_with, Answer, refused, rendered, nothing, cleared, is_refused, found, asked, drained, making, step}
+use Rattle.rules.specs.Calls.{Call, push, flush, reset, make, make_with, mark, find, Answer, refused, rendered, nothing, cleared, marked, place, is_refused, found, numbered, alike_marks, asked, drained, making, marking, step}
 use Rattle.rules.specs.Ranges.{HallRanged}
 use Rattle.rules.specs.BlockCalls.{Layout, Outcome, left, out_of, stride_of, takes}
 use Rattle.rules.specs.Demand3.{Lent, Keeps}
 use Rattle.rules.proofs.Owed.{Facts, InRanges}
 use Rattle.rules.proofs.Judged.{is_passed, and_true}
 use Rattle.rules.proofs.Making.{layout_makes, table_makes}
-use Rattle.rules.proofs.Ranged.{fresh_ranged, pushed_ranged, flushed_ranged}
+use Rattle.rules.proofs.Ranged.{fresh_ranged, pushed_ranged, flushed_ranged, marked_ranged}
 
 module _ (L : Leaves) (B : Layout L) (F : Facts L B) where
   -- ---- a call keeps the ranges of the renderer
@@ -35,12 +35,19 @@ module _ (L : Leaves) (B : Layout L) (F : Facts L B) where
   making_ranged (stop n x y) h r e g = g
   making_ranged clear h r e g = fresh_ranged L B F h (e refl)
 
+  marking_ranged : (v known w : Bool) (d : ℕ) (r : State L) → InRanges F r → InRanges F (marking L v known w d r).next
+  marking_ranged false known w d r g = g
+  marking_ranged true true w d r g = g
+  marking_ranged true false w d r g = marked_ranged L B F w d r g
+
   pub step_ranged : (r : State L) (c : Call) → Lent c → InRanges F r → InRanges F (step L r c).next
   step_ranged r (push a) h g = asked_ranged r a h.1 (found L r a) refl g
   step_ranged r (flush out stride) h g = drained_ranged r (room stride (length out)) (eqb r.pending.count 0) g
   step_ranged r reset h g = fresh_ranged L B F r.setup g.setup
   step_ranged r (make n) h g = making_ranged (layout_found n) (hall_with n) r (layout_makes n) g
   step_ranged r (make_with n t) h g = making_ranged (table_found n t) (hall_of n t) r (table_makes n t h) g
+  step_ranged r (mark w d) h g = marking_ranged (ltb d (numbered L r)) (alike_marks w (L.wants d r.meta)) w d r g
+  step_ranged r (find m) h g = g
 
   -- ---- a block that was taken
   left_valid : (a : Answer) (s : State L) (out : List ℕ) (n : ℕ) (b : List ℕ) → B.valid b ≡ true → InRanges F s → B.valid (left L B a s out n b).state ≡ true
@@ -48,6 +55,9 @@ module _ (L : Leaves) (B : Layout L) (F : Facts L B) where
   left_valid (rendered w m) s out n b v g = F.valid s g
   left_valid nothing s out n b v g = v
   left_valid cleared s out n b v g = F.valid s g
+  left_valid (marked true) s out n b v g = F.valid s g
+  left_valid (marked false) s out n b v g = v
+  left_valid (place p) s out n b v g = v
 
   pub keeps : Keeps L B
   keeps b bytes c h e = go (takes L B c b) refl e
@@ -73,6 +83,8 @@ module _ (L : Leaves) (B : Layout L) (F : Facts L B) where
       by reset h t e = F.valid (fresh L r.setup) (fresh_ranged L B F r.setup (F.setup b bytes (and_true (eqb (length b) B.size) (B.hall_valid b) t).1))
       by (make n) h t e = new (layout_found n) (hall_with n) (layout_makes n) e
       by (make_with n s) h t e = new (table_found n s) (hall_of n s) (table_makes n s h) e
+      by (mark w d) h t e = left_valid (step L r (mark w d)).answer (step L r (mark w d)).next [] 0 b t (step_ranged r (mark w d) h (F.decoded b bytes t))
+      by (find m) h t e = t
 
       go : (t : Bool) → takes L B c b ≡ t → is_refused (cond t (good c) bad).answer ≡ false → B.valid (cond t (good c) bad).state ≡ true
       go true t e = by c h t e

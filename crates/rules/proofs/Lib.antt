@@ -30,6 +30,8 @@ pub mod Quiet
 pub mod Bass
 pub mod Energy
 pub mod BedsHeard
+pub mod Marks
+pub mod Holds
 pub mod Pushes
 pub mod Ringing
 pub mod Clean
@@ -37,8 +39,10 @@ pub mod Called
 pub mod Flushes
 pub mod Keeps
 pub mod Demand3FromFacts
+pub mod Held
 pub mod Returning
 pub mod EmptyScene
 pub mod Absent
 pub mod Unread
+pub mod OtherSlots
 pub mod Theorems

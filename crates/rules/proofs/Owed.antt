@@ -1,7 +1,7 @@
 -- What the theorem over every list of calls takes from the crates `timed`, `records` and `store`. All else is taken from the proofs of the crates below. Assumes nothing.
-use Prim.Native.Nat.{ℕ, ◌≤◌}
+use Prim.Native.Nat.{ℕ, ◌≤◌, ◌<◌}
 use mathlib.Core.Path.{◌≡◌}
-use mathlib.Core.Bool.{true}
+use mathlib.Core.Bool.{Bool, true, false, not}
 use mathlib.Core.List.{List, map}
 use lib.Dec.{T}
 use lib.ListN.{length}
@@ -12,6 +12,7 @@ use Rattle.panning.specs.Table.{between, 8·0, Position}
 use Rattle.rules.specs.Parts.{0·0}
 use Rattle.rules.specs.Leaves.{Leaves, Source, Bed, started}
 use Rattle.rules.specs.Samples.{State}
+use Rattle.rules.specs.Promises.{object_in}
 use Rattle.rules.specs.Ranges.{HallRanged, Ranged}
 use Rattle.rules.specs.BlockCalls.{Layout}
 
@@ -45,11 +46,30 @@ pub record Facts (L : Leaves) (B : Layout L) : Type 1 where
   pub shape_slot : (n : ℕ) (m : L.Meta) → Sound m → L.shape (L.slot n m) ≡ L.shape m
   pub shape_objects : (m : L.Meta) → Sound m → started L m ≡ true → length (L.objects m) ≡ (L.shape m).objects
   pub shape_beds : (m : L.Meta) → Sound m → started L m ≡ true → map (λ (b : Bed). b.code) (L.beds m) ≡ (L.shape m).beds
+  -- R-11: a hold or a release changes what is asked for of its own object, and nothing that is heard
+  pub sound_want : (w : Bool) (d : ℕ) (m : L.Meta) → Sound m → Sound (L.want w d m)
+  pub shape_want : (w : Bool) (d : ℕ) (m : L.Meta) → L.shape (L.want w d m) ≡ L.shape m
+  pub beds_want : (w : Bool) (d : ℕ) (m : L.Meta) → L.beds (L.want w d m) ≡ L.beds m
+  pub objects_want : (w : Bool) (d : ℕ) (m : L.Meta) → L.objects (L.want w d m) ≡ L.objects m
+  pub wants_want : (w : Bool) (d : ℕ) (m : L.Meta) → Sound m → d < (L.shape m).objects → L.wants d (L.want w d m) ≡ w
+  -- and the later of two undoes the earlier
+  pub want_back : (w : Bool) (d : ℕ) (m : L.Meta) → Sound m → d < (L.shape m).objects → L.wants d m ≡ w → L.want w d (L.want (not w) d m) ≡ m
+  pub wants_other : (w : Bool) (d k : ℕ) (m : L.Meta) → (k ≡ d → ⊥) → L.wants k (L.want w d m) ≡ L.wants k m
+  -- nothing is asked for of a new renderer; a slot keeps what is asked for, and leaves a held object where it is
+  pub wants_blank : (d : ℕ) → L.wants d L.blank ≡ false
+  pub wants_slot : (n d : ℕ) (m : L.Meta) → Sound m → d < (L.shape m).objects → L.wants d (L.slot n m) ≡ L.wants d m
+  pub held_slot : (n d : ℕ) (m : L.Meta) → Sound m → d < (L.shape m).objects → L.wants d m ≡ true
+      → (object_in L (L.slot n m) d).place ≡ (object_in L m d).place
+  -- so does an update with as many objects; one with another number ends all holds
+  pub wants_apply : (n d : ℕ) (u : L.Update) (m : L.Meta) → (L.sent u).objects ≡ (L.shape m).objects → L.wants d (L.apply n u m) ≡ L.wants d m
+  pub objects_apply : (n : ℕ) (u : L.Update) (m : L.Meta) → (L.sent u).objects ≡ (L.shape m).objects → L.objects (L.apply n u m) ≡ L.objects m
+  pub ends_apply : (n d : ℕ) (u : L.Update) (m : L.Meta) → ((L.sent u).objects ≡ (L.shape m).objects → ⊥) → L.wants d (L.apply n u m) ≡ false
   -- the timed state's ranges at a stream position, gains of any bits
   pub Within : ℕ → L.Meta → Type 0
   pub within_blank : Within 0 L.blank
   pub within_later : (n k : ℕ) (m : L.Meta) → n ≤ k → Within n m → Within k m
   pub within_apply : (n : ℕ) (u : L.Update) (m : L.Meta) → n ≤ 1099511627776 → Checked u → Within n m → Within n (L.apply n u m)
+  pub within_want : (n : ℕ) (w : Bool) (d : ℕ) (m : L.Meta) → Within n m → Within n (L.want w d m)
   pub within_slot : (n start : ℕ) (m : L.Meta) → start ≤ n → n ≤ 1099511627776 → Within n m → Within n (L.slot start m)
   -- a block whose hall is in its range holds a renderer for such a hall
   pub setup : (b : List ℕ) → Bytes b → B.hall_valid b ≡ true → HallRanged (B.decode b).setup

@@ -36,7 +36,7 @@ module _ (all : List Announced) (objects : ℕ) (codes : List ℕ) where
   abbrev pub Matches : Shape → Type 0
   Matches s = s.started ≡ true → s.objects ≡ objects
 
-  match_clear : (s : Shape) → objects_match all objects codes s ≡ clear → s.objects ≡ objects
+  pub match_clear : (s : Shape) → objects_match all objects codes s ≡ clear → s.objects ≡ objects
   match_clear s e = eqb-true s.objects objects (unless_clear (eqb s.objects objects) 11 s.objects objects e)
 
   -- updates that passed 11 leave a shape that matches
@@ -209,11 +209,14 @@ module _ (L : Leaves) (B : Layout L) (F : Facts L B) where
         started_at = met_started t (s t) i.good i.begins
 
         -- refusal 11
+        pub count_there : started L m ≡ true → (L.shape m).objects ≡ a.objects
+        count_there e = subst Fit (sym (met_shape t (s t) i.good)) (i.fits h) e
+
         pub objects_there : length (cond (begun L r a t) (L.objects m) []) ≡ cond (begun L r a t) a.objects 0
         objects_there = go (begun L r a t) started_at
           where
             go : (b : Bool) → started L m ≡ b → length (cond b (L.objects m) []) ≡ cond b a.objects 0
-            go true e = F.shape_objects m (met_good t (s t) i.good).steady.meta e ∙ subst Fit (sym (met_shape t (s t) i.good)) (i.fits h) e
+            go true e = F.shape_objects m (met_good t (s t) i.good).steady.meta e ∙ count_there e
             go false e = refl
 
         -- refusals 13 and 14

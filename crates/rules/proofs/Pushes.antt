@@ -33,7 +33,7 @@ use Rattle.rules.proofs.Moments.{moment_of, moments_count, next_at, moment_at_is
 use Rattle.rules.proofs.Order.{updated_in_order}
 use Rattle.rules.proofs.OneMore.{moment_is}
 use Rattle.rules.proofs.Sounding.{hearable_at, line, sounds_at, enters_at}
-use Rattle.rules.proofs.PushShapes.{started_at, objects_there, beds_there}
+use Rattle.rules.proofs.PushShapes.{started_at, count_there, objects_there, beds_there}
 use Rattle.rules.proofs.Quiet as silence
 use Rattle.rules.proofs.Quiet.{Hush}
 use Rattle.rules.proofs.Sends.{sent_alone, send_zero}
@@ -42,6 +42,7 @@ use Rattle.rules.proofs.Energy.{squared, stilled}
 use Rattle.rules.proofs.BedsHeard.{beds_heard}
 use Rattle.rules.proofs.Absent.{bed_absent, object_absent}
 use Rattle.rules.proofs.Unread.{framed_kept}
+use Rattle.rules.proofs.Holds.{holding}
 
 -- whole blocks and the remainder
 halves : (blocks left all : ℕ) → 64 * blocks + left ≡ all → left < 64 → (blocks ≡ all / 64) × (left ≡ all % 64)
@@ -177,6 +178,13 @@ module _ (L : Leaves) (B : Layout L) (F : Facts L B) (r : State L) (a : Args) (b
         (subst (λ (x : Moment). HallFits x.hall) here i.hall) (subst (λ (x : Moment). All InHall x.objects) here i.sources.objects))
         ∙ ap fed (sym here)
 
+  -- after the last sample
+  numbers_after : (n : ℕ) → n ≡ a.samples → 0 < n → let m = (before L r a n).meta in started L m ≡ true → (L.shape m).objects ≡ a.objects
+  numbers_after zero q h = absurd (omega arith)
+  numbers_after (suc t) q h =
+      subst (λ (x : State L). started L x.meta ≡ true → (L.shape x.meta).objects ≡ a.objects) (sym (next_at L f start t))
+      (count_there L B F r a passes k good t (omega arith))
+
   pub push_holds : Hush L r → PushHolds L r a
   unfolding pushed
   push_holds hush =
@@ -196,6 +204,8 @@ module _ (L : Leaves) (B : Layout L) (F : Facts L B) (r : State L) (a : Args) (b
         rest = i.waits;
         moments = count;
         samples = at_sample hush;
+        numbers = numbers_after a.samples refl;
+        holds = λ d l. holding L B F r a passes k d l good;
         bass = λ t j h l z qcm p. (still_clear L r a (length a.codes + j) qcm p e, fed_same j qcm p t h z);
         sends = λ t j h. sent_alone (object_heard L r a t j) (in_hall t j h) r.setup good.steady.hall;
         alone = λ t z. send_zero (moment_at L r a t) (fits_at t) (hall t) z;

@@ -19,7 +19,7 @@ use Rattle.rules.specs.Samples.{Frame, State, fresh, row, sounding, applied_at, 
 use Rattle.rules.specs.Refusals.{Args, listed}
 use Rattle.panning.specs.Setup.{Setup}
 use Rattle.rules.specs.Ranges.{Fits, FilterFits, HallRanged, Ranged}
-use Rattle.rules.specs.Calls.{frame_of}
+use Rattle.rules.specs.Calls.{frame_of, with_meta}
 use Rattle.rules.specs.BlockCalls.{Layout}
 use Rattle.rules.proofs.EachOf.{either, length_laid, all_sounding, zeros_long, few_left}
 use Rattle.rules.proofs.Owed.{Facts}
@@ -198,6 +198,23 @@ module _ (L : Leaves) (B : Layout L) (F : Facts L B) where
     meta = g.meta;
     pending = lit< tt;
     idle = λ e. refl;
+    long = g.long;
+    words = g.words;
+    none = g.none;
+  }
+
+  pub marked_ranged : (w : Bool) (d : ℕ) (r : State L) → R r → R (with_meta L (L.want w d r.meta) r)
+  marked_ranged w d r g = record {
+    setup = g.setup;
+    rate = g.rate;
+    position = g.position;
+    phase = g.phase;
+    start = g.start;
+    gain = g.gain;
+    filter = g.filter;
+    meta = F.within_want r.clock.position w d r.meta g.meta;
+    pending = g.pending;
+    idle = g.idle;
     long = g.long;
     words = g.words;
     none = g.none;

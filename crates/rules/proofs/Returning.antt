@@ -20,14 +20,15 @@ use Rattle.limiter.specs.declared.meters.Meters.{Meters}
 use Rattle.limiter.specs.declared.Limiter.{Limiter}
 use Rattle.limiter.proofs.Theorems.{returns_after, after_more, block_level}
 use Rattle.lowpass.specs.Lowpass.{next}
-use Rattle.panning.specs.Setup.{Setup}
+use Rattle.panning.specs.Setup.{Setup, hall_with}
 use Rattle.rules.specs.Parts.{Channels, Places, floats, twelve}
 use Rattle.rules.specs.Leaves.{Leaves}
 use Rattle.rules.specs.Mix.{fed}
 use Rattle.rules.specs.Samples.{Frame, State, sounding, metered, gain_after, row, updated, slotted, moment, settled, sampled, framed, opened, pushed}
 use Rattle.rules.specs.Refusals.{Args, Found, clear, stop, unless, listed}
+use Rattle.rules.specs.Making.{hall_of, layout_found, table_found}
 use Rattle.rules.specs.Ranges.{Fits}
-use Rattle.rules.specs.Calls.{Call, push, flush, reset, make, make_with, Answer, refused, rendered, nothing, cleared, frame_of, found, asked, step, final}
+use Rattle.rules.specs.Calls.{Call, push, flush, reset, make, make_with, mark, find, Answer, refused, rendered, nothing, cleared, marked, place, frame_of, found, asked, making, step, final}
 use Rattle.rules.specs.BlockCalls.{Layout, Outcome, left, out_of, stride_of, takes, made, final_on}
 use Rattle.rules.specs.Demand3.{Lent, AllLent}
 use Rattle.rules.specs.Returning.{peaks, is_idle, is_push, pushes_blocks, completed, all_completed, Unbroken, LevelReturns, LevelReturnsOn}
@@ -174,24 +175,36 @@ module _ (L : Leaves) where
         all_append Level (peaks d.meters) (all_completed L d.next cs) (after_levels r a e) i.levels,
       )
 
-  idle_then : (r s : State L) (cs : List Call) → s ≡ r → Row s cs → Then r s [] cs
+  -- the rate and the gain stay
+  abbrev Level_stays : State L → State L → Type 0
+  Level_stays s r = (s.rate ≡ r.rate) × (s.limiter ≡ r.limiter)
+
+  idle_then : (r s : State L) (cs : List Call) → Level_stays s r → Row s cs → Then r s [] cs
   idle_then r s cs e i = (
     i.rated,
-    λ l. i.kept (ap (λ (x : State L). listed x.rate) e ∙ l) ∙ ap (λ (x : State L). x.rate) e,
-    i.gain ∙ ap (λ (x : State L). after_blocks (final L s cs).rate x.limiter.gain (all_completed L s cs)) e,
+    λ l. i.kept (ap listed e.0 ∙ l) ∙ e.0,
+    i.gain ∙ ap (λ (x : Limiter). after_blocks (final L s cs).rate x.gain (all_completed L s cs)) e.1,
     i.levels,
   )
 
-  -- an idle answer leaves the renderer as it was
-  idle_next : (x : Answer) (s r : State L) → T (is_idle x) → Means L x s r → s ≡ r
-  idle_next (refused n a b) s r t m = m
+  -- an idle answer leaves the renderer as it was, but for what is asked for of an object
+  idle_next : (x : Answer) (s r : State L) → T (is_idle x) → Means L x s r → Level_stays s r
+  idle_next (refused n a b) s r t m = (ap (λ (x : State L). x.rate) m, ap (λ (x : State L). x.limiter) m)
   idle_next (rendered rs ms) s r t m = absurd t
-  idle_next nothing s r t m = m
+  idle_next nothing s r t m = (ap (λ (x : State L). x.rate) m, ap (λ (x : State L). x.limiter) m)
   idle_next cleared s r t m = absurd t
+  idle_next (marked true) s r t m = (ap (λ (x : State L). x.rate) m, ap (λ (x : State L). x.limiter) m)
+  idle_next (marked false) s r t m = (ap (λ (x : State L). x.rate) m, ap (λ (x : State L). x.limiter) m)
+  idle_next (place p) s r t m = (ap (λ (x : State L). x.rate) m, ap (λ (x : State L). x.limiter) m)
+
+  -- a making call that is stopped leaves all
+  making_idle : (v : Found) (h : Setup) (r : State L) → T (is_idle (making L v h r).answer) → (making L v h r).next ≡ r
+  making_idle (stop n x y) h r t = refl
+  making_idle clear h r t = absurd t
 
   asked_then : (r : State L) (a : Args) (v : Found) → found L r a ≡ v → (cs : List Call) → Row (asked L v a r).next cs
       → Then r (asked L v a r).next (pushes_blocks L v r a) cs
-  asked_then r a (stop n x y) e cs i = idle_then r r cs refl i
+  asked_then r a (stop n x y) e cs i = idle_then r r cs (refl, refl) i
   asked_then r a clear e cs i = pushed_then r a e cs i
 
   call_then : (r : State L) (c : Call) → T (is_push c || is_idle (step L r c).answer) → (cs : List Call) → Row (step L r c).next cs → Then r (step L r c).next (completed L r c) cs
@@ -201,6 +214,8 @@ module _ (L : Leaves) where
   call_then r reset t cs i = absurd t
   call_then r (make n) t cs i = let c = make n in idle_then r (step L r c).next cs (idle_next (step L r c).answer (step L r c).next r t (step_means L r c)) i
   call_then r (make_with n b) t cs i = let c = make_with n b in idle_then r (step L r c).next cs (idle_next (step L r c).answer (step L r c).next r t (step_means L r c)) i
+  call_then r (mark w d) t cs i = let c = mark w d in idle_then r (step L r c).next cs (idle_next (step L r c).answer (step L r c).next r t (step_means L r c)) i
+  call_then r (find m) t cs i = idle_then r r cs (refl, refl) i
 
   in_row : (r : State L) (cs : List Call) → Unbroken L r cs → Row r cs
   in_row r [] u = record { rated = inr refl; kept = λ l. refl; gain = refl; levels = tt }
@@ -240,6 +255,9 @@ module _ (L : Leaves) where
     left_on (rendered w x) s out n b m v g = (F.valid s g, F.back s g)
     left_on nothing s out n b m v g = (v, sym m)
     left_on cleared s out n b m v g = (F.valid s g, F.back s g)
+    left_on (marked true) s out n b m v g = (F.valid s g, F.back s g)
+    left_on (marked false) s out n b m v g = (v, sym m)
+    left_on (place p) s out n b m v g = (v, sym m)
 
     -- and where it did not
     not_taken : (c : Call) (b : List ℕ) → B.valid b ≡ true → takes L B c b ≡ false → T (is_push c || is_idle (step L (B.decode b) c).answer)
@@ -247,14 +265,10 @@ module _ (L : Leaves) where
     not_taken (push a) b v e t = absurd (subst T (sym v ∙ e) tt)
     not_taken (flush out stride) b v e t = absurd (subst T (sym v ∙ e) tt)
     not_taken reset b v e t = absurd t
-    not_taken (make n) b v e t =
-        let r = B.decode b in
-        let x = step L r (make n) in
-        sym (idle_next x.answer x.next r t (step_means L r (make n)))
-    not_taken (make_with n w) b v e t =
-        let r = B.decode b in
-        let x = step L r (make_with n w) in
-        sym (idle_next x.answer x.next r t (step_means L r (make_with n w)))
+    not_taken (make n) b v e t = sym (making_idle (layout_found n) (hall_with n) (B.decode b) t)
+    not_taken (make_with n w) b v e t = sym (making_idle (table_found n w) (hall_of n w) (B.decode b) t)
+    not_taken (mark w d) b v e t = absurd (subst T (sym v ∙ e) tt)
+    not_taken (find m) b v e t = absurd (subst T (sym v ∙ e) tt)
 
     made_on : (c : Call) (b : List ℕ) → Lent c → B.valid b ≡ true → InRanges F (B.decode b) → T (is_push c || is_idle (step L (B.decode b) c).answer)
         → let b' = (made L B c b).state in (B.valid b' ≡ true) × (B.decode b' ≡ (step L (B.decode b) c).next)

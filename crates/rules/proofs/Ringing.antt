@@ -8,7 +8,7 @@ use Prim.Native.Nat.{ℕ, zero, suc, ◌≤◌, ◌<◌}
 use native.Mathlib.Nat.{le_trans, le_of_eq, le_of_lt, le_refl, not-suc-le-zero}
 use native.Mathlib.Omega.{arith}
 use borrow.Author.Tests.{eq-eqb, ne_eqb}
-use lib.Dec.{eqb}
+use lib.Dec.{eqb, ltb}
 use lib.ListN.{length, take, get_or-map}
 use lib.Seq.{take-suc, take_all}
 use lib.Ieee.{Float}
@@ -24,7 +24,7 @@ use Rattle.rules.specs.Mix.{fed}
 use Rattle.rules.specs.Samples.{State, idle, fresh, opened, pushed, flushed}
 use Rattle.rules.specs.Refusals.{Args, Found, clear, stop, room}
 use Rattle.rules.specs.Making.{hall_of, layout_found, table_found}
-use Rattle.rules.specs.Calls.{Call, push, flush, reset, make, make_with, is_refused, frame_of, found, asked, drained, making, step}
+use Rattle.rules.specs.Calls.{Call, push, flush, reset, make, make_with, mark, find, is_refused, frame_of, found, numbered, alike_marks, asked, drained, making, marking, step}
 use Rattle.rules.specs.Sounds.{silent, before, moment_at, sound_at}
 use Rattle.rules.specs.Ringing.{fed_since, Rings, CallRings}
 use Rattle.rules.specs.BlockCalls.{Layout}
@@ -151,12 +151,19 @@ module _ (L : Leaves) where
     made_fed (stop n x y) h was = was
     made_fed clear h was = fresh_fed h
 
+    marking_fed : (v known w : Bool) (d : ℕ) → Fed xs r → Fed xs (marking L v known w d r).next
+    marking_fed false known w d was = was
+    marking_fed true true w d was = was
+    marking_fed true false w d was = record { modest = was.modest; since = was.since }
+
     pub call_rings : (c : Call) → Lent c → Rest L B F r → Fed xs r → CallRings L xs r c
     call_rings (push a) h rest was = asked_rings a h rest was (found L r a) refl
     call_rings (flush out stride) h rest was = tt
     call_rings reset h rest was = tt
     call_rings (make n) h rest was = tt
     call_rings (make_with n t) h rest was = tt
+    call_rings (mark w d) h rest was = tt
+    call_rings (find m) h rest was = tt
 
     pub step_fed : (c : Call) → Lent c → Rest L B F r → Fed xs r → Fed (fed_since L xs r c) (step L r c).next
     step_fed (push a) h rest was = asked_fed a h rest was (found L r a) refl
@@ -164,3 +171,5 @@ module _ (L : Leaves) where
     step_fed reset h rest was = fresh_fed r.setup
     step_fed (make n) h rest was = made_fed (layout_found n) (hall_with n) was
     step_fed (make_with n t) h rest was = made_fed (table_found n t) (hall_of n t) was
+    step_fed (mark w d) h rest was = marking_fed (ltb d (numbered L r)) (alike_marks w (L.wants d r.meta)) w d was
+    step_fed (find m) h rest was = was

@@ -4,7 +4,7 @@ use Prim.Native.Nat.{ℕ}
 use mathlib.Core.Path.{◌≡◌, refl, sym, ap, ap₂, ◌∙◌, subst}
 use mathlib.Core.Bool.{Bool, true, false, cond, ◌&&◌}
 use mathlib.Core.List.{List, [], ◌∷◌}
-use lib.Dec.{T, eqb}
+use lib.Dec.{T, eqb, ltb}
 use lib.ListN.{length}
 use borrow.Author.Tests.{eq-eqb, eqb-true}
 use Rattle.panning.specs.Setup.{Setup, hall_with}
@@ -12,8 +12,9 @@ use Rattle.rules.specs.Leaves.{Leaves}
 use Rattle.rules.specs.Samples.{State, fresh}
 use Rattle.rules.specs.Refusals.{Args, Found, clear, stop, room}
 use Rattle.rules.specs.Making.{hall_of, layout_found, table_found}
-use Rattle.rules.specs.Calls.{Call, push, flush, reset, make, make_with, Answer, refused, rendered, nothing, cleared, found, Result, is_refused, asked, drained, making, step}
+use Rattle.rules.specs.Calls.{Call, push, flush, reset, make, make_with, mark, find, Answer, refused, rendered, nothing, cleared, marked, place, found, numbered, alike_marks, with_meta, Result, is_refused, asked, drained, making, marking, step}
 use Rattle.rules.specs.BlockCalls.{Layout, Outcome, left, out_of, stride_of, takes, made, run_on, final_on, kept_on, accepted_on, as_seen}
+use Rattle.rules.specs.Demand3.{changes, LeftAlone}
 use Rattle.rules.proofs.Owed.{Facts, InRanges}
 
 -- what an answer says of the renderer after it
@@ -22,6 +23,9 @@ Means L (refused k x y) s r = s ≡ r
 Means L (rendered v m) s r = Unit {0}
 Means L nothing s r = s ≡ r
 Means L cleared s r = Unit {0}
+Means L (marked true) s r = s ≡ with_meta L s.meta r
+Means L (marked false) s r = s ≡ r
+Means L (place p) s r = s ≡ r
 
 module _ (L : Leaves) where
   asked_means : (v : Found) (a : Args) (r : State L) → Means L (asked L v a r).answer (asked L v a r).next r
@@ -37,12 +41,19 @@ module _ (L : Leaves) where
   making_means (stop n x y) h r = refl
   making_means clear h r = tt
 
+  marking_means : (v known w : Bool) (d : ℕ) (r : State L) → Means L (marking L v known w d r).answer (marking L v known w d r).next r
+  marking_means false known w d r = refl
+  marking_means true true w d r = refl
+  marking_means true false w d r = refl
+
   pub step_means : (r : State L) (c : Call) → Means L (step L r c).answer (step L r c).next r
   step_means r (push a) = asked_means (found L r a) a r
   step_means r (flush out stride) = drained_means (room stride (length out)) (eqb r.pending.count 0) r
   step_means r reset = tt
   step_means r (make n) = making_means (layout_found n) (hall_with n) r
   step_means r (make_with n t) = making_means (table_found n t) (hall_of n t) r
+  step_means r (mark w d) = marking_means (ltb d (numbered L r)) (alike_marks w (L.wants d r.meta)) w d r
+  step_means r (find m) = refl
 
 module _ (L : Leaves) (B : Layout L) where
   -- ---- a refused call leaves the block as it was, byte for byte
@@ -51,6 +62,8 @@ module _ (L : Leaves) (B : Layout L) where
   left_stays (rendered g m) s out n b h = absurd h
   left_stays nothing s out n b h = absurd h
   left_stays cleared s out n b h = absurd h
+  left_stays (marked c) s out n b h = absurd h
+  left_stays (place p) s out n b h = absurd h
 
   made_stays : (c : Call) (b : List ℕ) → T (is_refused (made L B c b).answer) → (made L B c b).state ≡ b
   made_stays c b = go (takes L B c b)
@@ -67,6 +80,32 @@ module _ (L : Leaves) (B : Layout L) where
       go : (t : Bool) → T (is_refused (cond t good bad).answer) → (cond t good bad).state ≡ b
       go true h = left_stays x.answer x.next (out_of c) (stride_of c) b h
       go false h = refl
+
+  -- and so does an answer that changes nothing
+  alone : (a : Answer) (s : State L) (out : List ℕ) (n : ℕ) (b : List ℕ) → changes (left L B a s out n b).answer ≡ false → (left L B a s out n b).state ≡ b
+  alone (refused k x y) s out n b e = refl
+  alone (rendered g m) s out n b e = absurd (subst T e tt)
+  alone nothing s out n b e = refl
+  alone cleared s out n b e = absurd (subst T e tt)
+  alone (marked true) s out n b e = absurd (subst T e tt)
+  alone (marked false) s out n b e = refl
+  alone (place p) s out n b e = refl
+
+  pub left_alone : LeftAlone L B
+  left_alone b c = go (takes L B c b)
+    where
+      x : Result L
+      x = step L (B.decode b) c
+
+      good : Outcome
+      good = left L B x.answer x.next (out_of c) (stride_of c) b
+
+      bad : Outcome
+      bad = record { answer = refused 1 0 0; state = b; out = out_of c }
+
+      go : (t : Bool) → changes (cond t good bad).answer ≡ false → (cond t good bad).state ≡ b
+      go true e = alone x.answer x.next (out_of c) (stride_of c) b e
+      go false e = refl
 
   pub erased : (b : List ℕ) (cs : List Call) → run_on L B b (kept_on L B b cs) ≡ accepted_on L B (run_on L B b cs)
   erased b [] = refl
@@ -128,6 +167,8 @@ module _ (L : Leaves) (B : Layout L) where
     takes_it reset r g = ap₂ (λ (x y : Bool). x && y) (eq-eqb (length (B.encode r)) B.size (F.size r g)) (F.hall_valid r g)
     takes_it (make n) r g = eq-eqb (length (B.encode r)) B.size (F.size r g)
     takes_it (make_with n t) r g = eq-eqb (length (B.encode r)) B.size (F.size r g)
+    takes_it (mark w d) r g = F.valid r g
+    takes_it (find m) r g = F.valid r g
 
     -- on the block of r, a call is what the rules say of r
     pub made_is : (c : Call) (r : State L) → InRanges F r → made L B c (B.encode r) ≡ left L B (step L r c).answer (step L r c).next (out_of c) (stride_of c) (B.encode r)
@@ -145,6 +186,9 @@ module _ (L : Leaves) (B : Layout L) where
     left_state (rendered v x) s r out n m = refl
     left_state nothing s r out n m = ap B.encode (sym m)
     left_state cleared s r out n m = refl
+    left_state (marked true) s r out n m = refl
+    left_state (marked false) s r out n m = ap B.encode (sym m)
+    left_state (place p) s r out n m = ap B.encode (sym m)
 
     -- and the block after it is the next renderer's
     pub made_state : (c : Call) (r : State L) → InRanges F r → (made L B c (B.encode r)).state ≡ B.encode (step L r c).next
@@ -155,3 +199,5 @@ module _ (L : Leaves) (B : Layout L) where
     same_seen (rendered v m) s out n b = refl
     same_seen nothing s out n b = refl
     same_seen cleared s out n b = refl
+    same_seen (marked c) s out n b = refl
+    same_seen (place p) s out n b = refl

@@ -5,6 +5,11 @@
 pub use Rattle.rules.proofs.Owed.{Mixable, Facts}
 pub use Rattle.rules.proofs.Demand3FromFacts.{made_in, from_fresh, every_list, every_layout, every_table, built_in_alike}
 pub use Rattle.rules.proofs.Keeps.{keeps}
+-- R-11: an object with a hold asked for stays where it is over calls in a row, until something ends the hold
+pub use Rattle.rules.proofs.Held.{held_still}
+-- what changes nothing leaves every byte of the block; a search answers by the hall alone
+pub use Rattle.rules.proofs.StateBlocks.{left_alone}
+pub use Rattle.rules.proofs.Marks.{find_alike}
 -- the halls in their ranges
 pub use Rattle.rules.proofs.Making.{ranged_fits, right_hall, hall_good, TableGood}
 -- a push that no reason speaks against is accepted, and what an accepted one passed
@@ -36,3 +41,5 @@ pub use Rattle.rules.proofs.EachOf.{all_append, length_map, length_laid}
 pub use Rattle.rules.proofs.Written.{written_reads}
 -- a push that completes no block, on any renderer: which bits stand where; those of a channel that the hall lacks stay
 pub use Rattle.rules.proofs.OpenBlock.{Behind, behind}
+-- R-11: a slot that does the same wherever no hold is accepted
+pub use Rattle.rules.proofs.OtherSlots.{calls_same}

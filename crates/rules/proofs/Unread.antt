@@ -3,7 +3,7 @@ use mathlib.Core.Path.{◌≡◌, refl, sym, ap, fun_ext, ◌∙◌, subst}
 use mathlib.Core.Bool.{Bool, true, false, cond}
 use mathlib.Core.List.{List, [], ◌∷◌, ◌++◌, map}
 use Prim.Native.Nat.{ℕ, zero, suc, ◌+◌}
-use lib.Dec.{T, eqb, leb}
+use lib.Dec.{T, eqb, leb, ltb}
 use lib.ListN.{length, take}
 use lib.Ieee.{binary32, of_bits}
 use Rattle.limiter.specs.Meters.{call_meters}
@@ -16,8 +16,9 @@ use Rattle.rules.specs.Samples.{Frame, State, After, sounding, limited, metered,
 use Rattle.rules.specs.Samples.{moment, passed, sampled, framed, opened, fresh, pushed, waiting, flushed}
 use Rattle.rules.specs.Refusals.{Args, Found, clear, stop, is_clear, room}
 use Rattle.rules.specs.Making.{hall_of, layout_found, table_found}
-use Rattle.rules.specs.Calls.{Call, push, flush, reset, make, make_with, rendered, frame_of, found, asked, drained, making, step}
+use Rattle.rules.specs.Calls.{Call, push, flush, reset, make, make_with, mark, find, rendered, place, frame_of, found, numbered, alike_marks, asked, drained, making, marking, step}
 use Rattle.rules.specs.Absent.{starts_anew, AlikeButAbsent, SameButAbsent, SameAlong}
+use Rattle.finding.specs.Search.{search}
 use Rattle.rules.proofs.Clock.{untouched, met_alike}
 
 -- ---- what the channels of a hall hold
@@ -186,6 +187,25 @@ module _ (L : Leaves) where
     made_unread (stop n x y) h = record { answer = refl; moments = refl; next = a }
     made_unread clear h = record { answer = refl; moments = refl; next = alike_to_itself (fresh L h) }
 
+    marking_unread : (v known w : Bool) (d : ℕ) → SameButAbsent L (marking L v known w d r) (marking L v known w d s)
+    marking_unread false known w d = record { answer = refl; moments = refl; next = a }
+    marking_unread true true w d = record { answer = refl; moments = refl; next = a }
+    marking_unread true false w d =
+        record {
+          answer = refl;
+          moments = refl;
+          next = record {
+            setup = a.setup;
+            rate = a.rate;
+            clock = a.clock;
+            limiter = a.limiter;
+            filter = a.filter;
+            meta = λ i. L.want w d (a.meta i);
+            count = a.count;
+            places = a.places;
+          };
+        }
+
     reset_unread : AlikeButAbsent L (fresh L r.setup) (fresh L s.setup)
     reset_unread = record { setup = a.setup; rate = refl; clock = refl; limiter = refl; filter = refl; meta = refl; count = refl; places = λ c h. refl }
 
@@ -200,6 +220,11 @@ module _ (L : Leaves) where
   absent_unread r s a reset = record { answer = refl; moments = refl; next = reset_unread r s a }
   absent_unread r s a (make n) = made_unread r s a (layout_found n) (hall_with n)
   absent_unread r s a (make_with n t) = made_unread r s a (table_found n t) (hall_of n t)
+  absent_unread r s a (mark w d) =
+      let v : L.Meta → Bool = λ m. let x = L.shape m in ltb d (cond x.started x.objects 0) in
+      subst (λ (m : L.Meta). SameButAbsent L (marking L (v r.meta) (alike_marks w (L.wants d r.meta)) w d r) (marking L (v m) (alike_marks w (L.wants d m)) w d s)) a.meta
+      (marking_unread r s a (v r.meta) (alike_marks w (L.wants d r.meta)) w d)
+  absent_unread r s a (find m) = record { answer = ap (λ (h : Setup). place (search h m)) a.setup; moments = refl; next = a }
 
   -- and so do all calls in a row
   pub absent_unread_along : (r s : State L) → AlikeButAbsent L r s → (cs : List Call) → SameAlong L r s cs
@@ -222,6 +247,11 @@ module _ (L : Leaves) where
     drained_kept true true = refl
     drained_kept true false = refl
 
+    marking_kept : (v known w : Bool) (d : ℕ) → (marking L v known w d r).next.pending.places c ≡ r.pending.places c
+    marking_kept false known w d = refl
+    marking_kept true true w d = refl
+    marking_kept true false w d = refl
+
     made_kept : (v : Found) (h : Setup) → is_clear v ≡ false → (making L v h r).next.pending.places c ≡ r.pending.places c
     made_kept (stop n x y) h e = refl
     made_kept clear h e = absurd (subst T e tt)
@@ -232,3 +262,5 @@ module _ (L : Leaves) where
   absent_kept r reset e c away = absurd (subst T e tt)
   absent_kept r (make n) e c away = made_kept r c away (layout_found n) (hall_with n) e
   absent_kept r (make_with n t) e c away = made_kept r c away (table_found n t) (hall_of n t) e
+  absent_kept r (mark w d) e c away = marking_kept r c away (ltb d (numbered L r)) (alike_marks w (L.wants d r.meta)) w d
+  absent_kept r (find m) e c away = refl

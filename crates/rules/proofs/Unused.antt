@@ -3,7 +3,7 @@ use Prim.Native.Nat.{ℕ, zero, suc, ◌+◌, ◌*◌}
 use mathlib.Core.Path.{◌≡◌, refl, sym, ap, ◌∙◌}
 use mathlib.Core.Bool.{Bool, true, false, cond, not, ◌||◌}
 use mathlib.Core.List.{List, [], ◌∷◌}
-use lib.Dec.{eqb, leb}
+use lib.Dec.{eqb, leb, ltb}
 use lib.ListN.{length}
 use native.Mathlib.Omega.{arith}
 use Rattle.mixing.specs.FrameSamples.{all_pass}
@@ -14,7 +14,7 @@ use Rattle.rules.specs.Samples.{State}
 use Rattle.rules.specs.Refusals.{Args, Found, clear, stop, ◌then◌, unless, room, sized, listed, early, beds_found, Announced, objects_match, counts_at, shape_at, walk, none_sent}
 use Rattle.rules.specs.Refusals.{later}
 use Rattle.rules.specs.Making.{table_words, hall_of, layout_found, table_found}
-use Rattle.rules.specs.Calls.{Call, push, flush, reset, make, make_with, Answer, refused, rendered, nothing, cleared, announced, found, asked, drained, making, step}
+use Rattle.rules.specs.Calls.{Call, push, flush, reset, make, make_with, mark, find, Answer, refused, rendered, nothing, cleared, marked, place, announced, found, numbered, alike_marks, asked, drained, making, marking, step}
 use Rattle.rules.specs.BlockCalls.{Layout, out_of, stride_of, left, takes, made}
 
 -- ---- what stops, if anything, is not 7
@@ -111,6 +111,8 @@ number_of (refused n a b) = n
 number_of (rendered rs m) = 0
 number_of nothing = 0
 number_of cleared = 0
+number_of (marked c) = 0
+number_of (place p) = 0
 
 module _ (L : Leaves) (B : Layout L) where
   of_push : (f : Found) (a : Args) (r : State L) → Free f → number_of (asked L f a r).answer ≡ 7 → ⊥
@@ -126,18 +128,27 @@ module _ (L : Leaves) (B : Layout L) where
   of_making clear h r p e = omega arith
   of_making (stop n x y) h r p e = p.never e
 
+  of_marking : (v known w : Bool) (d : ℕ) (r : State L) → number_of (marking L v known w d r).answer ≡ 7 → ⊥
+  of_marking false known w d r e = omega arith
+  of_marking true true w d r e = omega arith
+  of_marking true false w d r e = omega arith
+
   of_step : (r : State L) (c : Call) → number_of (step L r c).answer ≡ 7 → ⊥
   of_step r (push a) e = of_push (found L r a) a r (free_found L r a) e
   of_step r (flush out stride) e = of_flush (room stride (length out)) (eqb r.pending.count 0) r e
   of_step r reset e = omega arith
   of_step r (make n) e = of_making (layout_found n) (hall_with n) r (free_layout n) e
   of_step r (make_with n t) e = of_making (table_found n t) (hall_of n t) r (free_table n t) e
+  of_step r (mark w d) e = of_marking (ltb d (numbered L r)) (alike_marks w (L.wants d r.meta)) w d r e
+  of_step r (find m) e = omega arith
 
   as_answered : (x : Answer) (s : State L) (out : List ℕ) (stride : ℕ) (b : List ℕ) → (left L B x s out stride b).answer ≡ x
   as_answered (refused n x y) s out stride b = refl
   as_answered (rendered rs m) s out stride b = refl
   as_answered nothing s out stride b = refl
   as_answered cleared s out stride b = refl
+  as_answered (marked c) s out stride b = refl
+  as_answered (place p) s out stride b = refl
 
   pub never_seven : (c : Call) (b : List ℕ) → number_of (made L B c b).answer ≡ 7 → ⊥
   never_seven c b = by (takes L B c b)

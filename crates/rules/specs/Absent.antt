@@ -5,7 +5,7 @@ use Rattle.rules.specs.Leaves.{Leaves}
 use Rattle.rules.specs.Samples.{State}
 use Rattle.rules.specs.Refusals.{is_clear}
 use Rattle.rules.specs.Making.{layout_found, table_found}
-use Rattle.rules.specs.Calls.{Call, push, flush, reset, make, make_with, Result, run, final}
+use Rattle.rules.specs.Calls.{Call, push, flush, reset, make, make_with, mark, find, Result, run, final}
 
 -- a reset and an accepted making call start anew
 abbrev pub starts_anew : Call → Bool
@@ -14,6 +14,8 @@ starts_anew (flush out stride) = false
 starts_anew reset = true
 starts_anew (make n) = is_clear (layout_found n)
 starts_anew (make_with n t) = is_clear (table_found n t)
+starts_anew (mark w d) = false
+starts_anew (find m) = false
 
 module _ (L : Leaves) where
   -- r and s are alike but for the places of the channels that their hall lacks

@@ -6,7 +6,7 @@ use Rattle.words.specs.Words.{with_words}
 use Rattle.rules.specs.Parts.{Channels}
 use Rattle.rules.specs.Leaves.{Leaves}
 use Rattle.rules.specs.Samples.{State}
-use Rattle.rules.specs.Calls.{Call, push, flush, reset, make, make_with, Answer, refused, rendered, nothing, cleared, is_refused, step}
+use Rattle.rules.specs.Calls.{Call, push, flush, reset, make, make_with, mark, find, Answer, refused, rendered, nothing, cleared, marked, place, is_refused, step}
 
 -- The block's layout: how long it is, which blocks have every field in its range, which have the hall in its range, the renderer that a block holds, and the block that
 -- holds a renderer.
@@ -37,6 +37,8 @@ out_of (flush out stride) = out
 out_of reset = []
 out_of (make n) = []
 out_of (make_with n t) = []
+out_of (mark w d) = []
+out_of (find m) = []
 
 abbrev pub stride_of : Call → ℕ
 stride_of (push a) = a.stride
@@ -44,14 +46,18 @@ stride_of (flush out stride) = stride
 stride_of reset = 0
 stride_of (make n) = 0
 stride_of (make_with n t) = 0
+stride_of (mark w d) = 0
+stride_of (find m) = 0
 
 module _ (L : Leaves) (B : Layout L) where
-  -- only an answer with samples, a reset and a making call change the block
+  -- only an answer with samples, a reset, a making call, and a hold or a release that is not known change the block
   abbrev pub left : Answer → State L → List ℕ → ℕ → List ℕ → Outcome
   left (refused n x y) s out stride b = record { answer = refused n x y; state = b; out = out }
   left (rendered g m) s out stride b = record { answer = rendered g m; state = B.encode s; out = written g stride out }
   left nothing s out stride b = record { answer = nothing; state = b; out = out }
   left cleared s out stride b = record { answer = cleared; state = B.encode s; out = out }
+  left (marked c) s out stride b = record { answer = marked c; state = cond c (B.encode s) b; out = out }
+  left (place p) s out stride b = record { answer = place p; state = b; out = out }
 
   -- "a state block of wrong length, or with a field outside its range"; R-5: reset "refuses by 1 a block whose code is above 3", and R-6: one
   -- whose table "breaks these rules"; a making call one of "a wrong length"
@@ -61,6 +67,8 @@ module _ (L : Leaves) (B : Layout L) where
   takes reset b = eqb (length b) B.size && B.hall_valid b
   takes (make n) b = eqb (length b) B.size
   takes (make_with n t) b = eqb (length b) B.size
+  takes (mark w d) b = B.valid b
+  takes (find m) b = B.valid b
 
   -- a call on a block: what the entries' contracts say
   abbrev pub made : Call → List ℕ → Outcome

@@ -1,5 +1,6 @@
 -- Calls in a row: what each answers, gives out and leaves, on a renderer. Assumes nothing.
-use Rattle.std.specs.Prelude.{ℕ, Bool, true, false, cond, List, [], ◌∷◌, map, eqb, length}
+use Rattle.std.specs.Prelude.{ℕ, Bool, true, false, not, cond, List, [], ◌∷◌, map, eqb, ltb, length, Option}
+use Rattle.vectors.specs.declared.Vec3.{Vec3}
 use Rattle.limiter.specs.Meters.{call_meters, idle_meters}
 use Rattle.limiter.specs.declared.meters.Meters.{Meters}
 use Rattle.panning.specs.Setup.{Setup, hall_with}
@@ -9,6 +10,7 @@ use Rattle.rules.specs.Mix.{Moment}
 use Rattle.rules.specs.Samples.{Frame, State, fresh, After, pushed, flushed}
 use Rattle.rules.specs.Refusals.{Args, Found, clear, stop, ◌then◌, room, early, Announced, later}
 use Rattle.rules.specs.Making.{layout_found, table_found, hall_of}
+use Rattle.finding.specs.Search.{search}
 
 -- A call, with all that the host lends besides the state block. Later requests add their calls here.
 pub data Call : Type 0 where
@@ -20,6 +22,16 @@ pub data Call : Type 0 where
   make : ℕ → Call
   -- R-6: "A second making call takes [a hall table] in place of the built-in table": the layout's code and the table's bytes
   make_with : ℕ → List ℕ → Call
+  -- R-11: hold a dynamic object (true), or release it (false): its number
+  mark : Bool → ℕ → Call
+  -- R-13: where to put a sound: the mask of the speakers that should sound
+  find : ℕ → Call
+
+abbrev pub hold : ℕ → Call
+hold d = mark true d
+
+abbrev pub release : ℕ → Call
+release d = mark false d
 
 pub data Answer : Type 0 where
   -- number and two counts
@@ -30,12 +42,18 @@ pub data Answer : Type 0 where
   nothing : Answer
   -- a reset, or a renderer made
   cleared : Answer
+  -- a hold or a release: whether it changed anything
+  marked : Bool → Answer
+  -- the place that was asked for, or none
+  place : Option Vec3 → Answer
 
 abbrev pub is_refused : Answer → Bool
 is_refused (refused n a b) = true
 is_refused (rendered rs m) = false
 is_refused nothing = false
 is_refused cleared = false
+is_refused (marked c) = false
+is_refused (place p) = false
 
 -- "Given out are the ready samples that accepted pushes and flushes write."
 abbrev pub given : Answer → Channels
@@ -43,6 +61,8 @@ given (refused n a b) = none
 given (rendered rs m) = rs
 given nothing = none
 given cleared = none
+given (marked c) = none
+given (place p) = none
 
 -- R-2: "with no block ready, they are 0 and 1": so too of every other answer
 abbrev pub meters_of : Answer → Meters
@@ -50,6 +70,13 @@ meters_of (refused n a b) = idle_meters
 meters_of (rendered rs m) = m
 meters_of nothing = idle_meters
 meters_of cleared = idle_meters
+meters_of (marked c) = idle_meters
+meters_of (place p) = idle_meters
+
+-- both, or neither
+abbrev pub alike_marks : Bool → Bool → Bool
+alike_marks true b = b
+alike_marks false b = not b
 
 module _ (L : Leaves) where
   abbrev pub frame_of : Args → Frame L.Update
@@ -89,6 +116,20 @@ module _ (L : Leaves) where
   making (stop n a b) h r = record { answer = refused n a b; next = r; moments = [] }
   making clear h r = record { answer = cleared; next = fresh L h; moments = [] }
 
+  -- R-11: "24, an object number not below the last applied update's count, 0 without one": how many objects can be held
+  abbrev pub numbered : State L → ℕ
+  numbered r = let s = L.shape r.meta in cond s.started s.objects 0
+
+  -- the renderer with another timed state
+  abbrev pub with_meta : L.Meta → State L → State L
+  with_meta m r = record { setup = r.setup; rate = r.rate; clock = r.clock; limiter = r.limiter; filter = r.filter; meta = m; pending = r.pending }
+
+  -- "A second hold, or a release without one, changes nothing": where `known`, what is asked for has been asked for
+  abbrev pub marking : Bool → Bool → Bool → ℕ → State L → Result
+  marking false known w d r = record { answer = refused 24 0 0; next = r; moments = [] }
+  marking true true w d r = record { answer = marked false; next = r; moments = [] }
+  marking true false w d r = record { answer = marked true; next = with_meta (L.want w d r.meta) r; moments = [] }
+
   -- reset starts anew in the hall that the renderer has; R-6: "reset keeps [the table]"
   abbrev pub step : State L → Call → Result
   step r (push a) = asked (found r a) a r
@@ -96,6 +137,9 @@ module _ (L : Leaves) where
   step r reset = record { answer = cleared; next = fresh L r.setup; moments = [] }
   step r (make n) = making (layout_found n) (hall_with n) r
   step r (make_with n t) = making (table_found n t) (hall_of n t) r
+  step r (mark w d) = marking (ltb d (numbered r)) (alike_marks w (L.wants d r.meta)) w d r
+  -- R-13: "The renderer's present layout and hall table apply."
+  step r (find mask) = record { answer = place (search r.setup mask); next = r; moments = [] }
 
   -- the list's results, each call being handed what the one before left
   abbrev pub run : State L → List Call → List Result

@@ -1,5 +1,5 @@
 -- Demand 3: one theorem about a whole list of calls, from a block that a making call has filled. Assumes nothing.
-use Rattle.std.specs.Prelude.{ℕ, ◌+◌, ◌*◌, ◌≤◌, ◌<◌, ◌≡◌, true, false, List, [], ◌∷◌, T, length, get_or, Float}
+use Rattle.std.specs.Prelude.{ℕ, ◌+◌, ◌*◌, ◌≤◌, ◌<◌, ◌≡◌, Bool, true, false, List, [], ◌∷◌, T, length, get_or, Float}
 use Rattle.std.specs.Float.{binary32}
 use Rattle.std.specs.Float.Ieee.{to_bits}
 use Rattle.words.specs.Words.{Bytes, word, float_at}
@@ -12,7 +12,7 @@ use Rattle.rules.specs.Parts.{0·0, Tame, floats}
 use Rattle.rules.specs.Leaves.{Leaves}
 use Rattle.rules.specs.Samples.{State, fresh}
 use Rattle.rules.specs.Making.{table_words, hall_of}
-use Rattle.rules.specs.Calls.{Call, push, flush, reset, make, make_with, Answer, refused, rendered, nothing, cleared, is_refused, given, meters_of, step, run, final, kept, accepted}
+use Rattle.rules.specs.Calls.{Call, push, flush, reset, make, make_with, mark, find, Answer, refused, rendered, nothing, cleared, marked, place, is_refused, given, meters_of, step, run, final, kept, accepted}
 use Rattle.rules.specs.Promises.{count_on, AllHold}
 use Rattle.rules.specs.Ringing.{AllRing}
 use Rattle.rules.specs.BlockCalls.{Layout, Outcome, stride_of, out_of, made, run_on, final_on, kept_on, accepted_on, seen_on, told}
@@ -23,6 +23,17 @@ ready (refused n a b) = 0
 ready (rendered g m) = length (g 0)
 ready nothing = 0
 ready cleared = 0
+ready (marked c) = 0
+ready (place p) = 0
+
+-- whether an answer tells of a renderer that is another after it
+abbrev pub changes : Answer → Bool
+changes (refused n a b) = false
+changes (rendered g m) = true
+changes nothing = false
+changes cleared = true
+changes (marked c) = c
+changes (place p) = false
 
 -- What a call leaves of the output, in the hall h.
 pub record GivenOut (h : Setup) (stride : ℕ) (lent : List ℕ) (o : Outcome) : Type 0 where
@@ -57,6 +68,8 @@ Lent (flush out stride) = Bytes out
 Lent reset = Unit {0}
 Lent (make n) = Unit {0}
 Lent (make_with n t) = Bytes t
+Lent (mark w d) = Unit {0}
+Lent (find m) = Unit {0}
 
 abbrev pub AllLent : List Call → Type 0
 AllLent [] = Unit {0}
@@ -69,6 +82,8 @@ Makes (flush out stride) h = ⊥
 Makes reset h = ⊥
 Makes (make n) h = h ≡ hall_with n
 Makes (make_with n t) h = h ≡ hall_of n t
+Makes (mark w d) h = ⊥
+Makes (find m) h = ⊥
 
 -- before each call of the list, and after the last
 abbrev pub AllClean : (L : Leaves) → State L → List Call → Type 0
@@ -93,7 +108,7 @@ module _ (L : Leaves) (B : Layout L) where
     pub block : final_on L B b cs ≡ B.encode (final L (fresh L h) cs)
     -- nothing but finite numbers stays in the limiter, the low-pass and the samples that wait
     pub clean : AllClean L (fresh L h) cs
-    -- what accepted pushes sound like and what they owe their objects; flushes; resets; renderers made
+    -- what accepted pushes sound like and what they owe their objects; flushes; resets; renderers made; holds, releases and searches
     pub calls : AllHold L (fresh L h) cs
     -- what the low-pass gives is at most twice the largest that it has been fed since the start, a reset or a making call, and a loud past leaves it in time
     pub rings : AllRing L [] (fresh L h) cs
@@ -123,6 +138,14 @@ module _ (L : Leaves) (B : Layout L) where
   -- "With the built-in values loaded, the samples equal those without a table": the answer and the block are the same, so all that follows is
   abbrev pub BuiltInAlike : Type 0
   BuiltInAlike = (b : List ℕ) (n : ℕ) (t : List ℕ) → length t ≡ 144 → table_words t ≡ built_in_table → made L B (make_with n t) b ≡ made L B (make n) b
+
+  -- "A second hold, or a release without one, changes nothing", and a search does not: no byte of the block
+  abbrev pub LeftAlone : Type 0
+  LeftAlone = (b : List ℕ) (c : Call) → changes (made L B c b).answer ≡ false → (made L B c b).state ≡ b
+
+  -- R-13, "The renderer's present layout and hall table apply.": and nothing else of the renderer
+  abbrev pub FindAlike : Type 0
+  FindAlike = (r s : State L) (mask : ℕ) → r.setup ≡ s.setup → (step L r (find mask)).answer ≡ (step L s (find mask)).answer
 
   -- "every block that an accepted call leaves lies within these": from a block of any bytes
   abbrev pub Keeps : Type 0

@@ -29,6 +29,9 @@ pub record Leaves : Type 1 where
   -- an update applied at a stream position; the start of a slot at a stream position
   pub apply : ℕ → Update → Meta → Meta
   pub slot : ℕ → Meta → Meta
+  -- R-11: whether a hold of a dynamic object is asked for, and one that is asked for (true) or no more
+  pub wants : ℕ → Meta → Bool
+  pub want : Bool → ℕ → Meta → Meta
   -- what is heard: beds and dynamic objects, in order
   pub beds : Meta → List Bed
   pub objects : Meta → List Source

@@ -15,5 +15,7 @@ pub mod Promises
 pub mod Ringing
 pub mod BlockCalls
 pub mod Demand3
+pub mod Held
 pub mod Absent
 pub mod Returning
+pub mod OtherSlots

@@ -1,5 +1,5 @@
--- What each call promises on the renderer that it finds: a push that was accepted, a flush, a reset, a making call. Assumes nothing.
-use Rattle.std.specs.Prelude.{ℕ, suc, ◌+◌, ◌*◌, ◌%◌, ◌≤◌, ◌<◌, ◌≡◌, Bool, true, false, cond, ◌||◌, List, [], ◌∷◌, T, leb, length, get_or, drop, Some}
+-- What each call promises on the renderer that it finds: a push that was accepted, a flush, a reset, a making call, a hold or a release, a search. Assumes nothing.
+use Rattle.std.specs.Prelude.{ℕ, suc, ◌+◌, ◌*◌, ◌%◌, ◌≤◌, ◌<◌, ◌≡◌, Bool, true, false, cond, not, ◌||◌, List, [], ◌∷◌, T, leb, length, get_or, drop, Some}
 use Rattle.std.specs.Float.{binary32}
 use Rattle.std.specs.Float.Ieee.{eq, to_bits}
 use Rattle.words.specs.Words.{Bytes}
@@ -20,7 +20,8 @@ use Rattle.rules.specs.Mix.{object_terms, send_of, object_adds, adds_of, sample_
 use Rattle.rules.specs.Samples.{State, fresh, limited, metered, gain_after, slotted, pushed, waiting}
 use Rattle.rules.specs.Refusals.{Args, clear, stop, room}
 use Rattle.rules.specs.Making.{table_found, hall_of}
-use Rattle.rules.specs.Calls.{Call, push, flush, reset, make, make_with, refused, rendered, nothing, cleared, given, frame_of, found, answered, Result, step}
+use Rattle.rules.specs.Calls.{Call, push, flush, reset, make, make_with, mark, find, refused, rendered, nothing, cleared, marked, place, given, frame_of, found, answered, Result, step}
+use Rattle.finding.specs.Search.{search}
 use Rattle.rules.specs.Order.{at_offset}
 use Rattle.rules.specs.Sounds.{gain_before, limited_blocks, blocks_metered, AllMetered, applied_all, before, met, moment_at, sound_at, unlimited, whole}
 
@@ -83,6 +84,10 @@ abbrev pub with_pcm : List ℕ → Args → Args
 with_pcm qcm a = record { pcm = qcm; meta = a.meta; out = a.out; codes = a.codes; rate = a.rate; samples = a.samples; objects = a.objects; stride = a.stride }
 
 module _ (L : Leaves) where
+  -- object d of a timed state
+  abbrev pub object_in : L.Meta → ℕ → Source
+  object_in m d = get_or (L.objects m) d nobody
+
   -- object j at sample t
   abbrev pub object_heard : State L → Args → ℕ → ℕ → Source
   object_heard r a t j = get_or (moment_at L r a t).objects j nobody
@@ -119,6 +124,24 @@ module _ (L : Leaves) where
     -- "Samples before the first update are silent."
     pub quiet : begun r a t ≡ false → (c : ℕ) → sound_at L r a c t ≡ 0·0
 
+  -- R-11: "an object number .. below the last applied update's count, 0 without one"
+  abbrev pub Numbered : State L → ℕ → Type 0
+  Numbered r d = (started L r.meta ≡ true) × (d < (L.shape r.meta).objects)
+
+  -- object d along a push, which brings a.objects of them
+  pub record Holding (r : State L) (a : Args) (d : ℕ) : Type 0 where
+    -- where there were as many before: what is asked for lasts, and an object with a hold asked for is heard where it stood and stays there; whether the hold was in effect before
+    -- plays no part, since before the next slot no object moves
+    pub numbered : (L.shape r.meta).objects ≡ a.objects → Numbered r d → Numbered (pushed L (frame_of L a) r).next d
+    pub lasts : (L.shape r.meta).objects ≡ a.objects → L.wants d (pushed L (frame_of L a) r).next.meta ≡ L.wants d r.meta
+    pub heard : (L.shape r.meta).objects ≡ a.objects → L.wants d r.meta ≡ true → (t : ℕ) → t < a.samples → begun r a t ≡ true
+        → (object_heard r a t d).place ≡ (object_in r.meta d).place
+    pub stays : (L.shape r.meta).objects ≡ a.objects → L.wants d r.meta ≡ true
+        → (object_in (pushed L (frame_of L a) r).next.meta d).place ≡ (object_in r.meta d).place
+    -- "A change in the number of objects .. end[s] all holds": the first update of another number does
+    pub ended : ((L.shape r.meta).objects ≡ a.objects → ⊥) → (t : ℕ) → t < a.samples → T (up_to t (L.updates a.meta))
+        → L.wants d (pushed L (frame_of L a) r).next.meta ≡ false
+
   -- ---- a call that is refused: "State and lent memory stay as before the call"
   pub record Refuses (r : State L) (n x y : ℕ) (s : Result L) : Type 0 where
     pub answer : s.answer ≡ refused n x y
@@ -146,6 +169,9 @@ module _ (L : Leaves) where
     -- a moment for each sample
     pub moments : length (pushed L (frame_of L a) r).moments ≡ a.samples
     pub samples : (t : ℕ) → t < a.samples → AtSample r a t
+    -- R-11: "the last applied update's count" is the push's, and what is held stays where it is
+    pub numbers : 0 < a.samples → started L (pushed L (frame_of L a) r).next.meta ≡ true → (L.shape (pushed L (frame_of L a) r).next.meta).objects ≡ a.objects
+    pub holds : (d : ℕ) → d < a.objects → Holding r a d
     -- R-3, the bass feed: "it gets nothing from an object whose gain or send is zero, whatever its size": with its row of the PCM replaced by any that refusal 8 lets pass, the
     -- push is accepted and the same number is fed
     pub bass : (t j : ℕ) → t < a.samples → j < a.objects → T (unsent (object_heard r a t j)) → (qcm : List ℕ) → Replaced a.samples (length a.codes + j) a.pcm qcm
@@ -183,14 +209,49 @@ module _ (L : Leaves) where
     pub gain : 0 < r.pending.count → x.next.limiter.gain ≡ gain_after r.pending.count r.rate r.limiter.gain (waiting L r)
     pub untouched : 0 < r.pending.count → Drained r x.next
 
+  -- R-11: reset ends all holds
   pub record ResetHolds (r : State L) (x : Result L) : Type 0 where
     pub answer : x.answer ≡ cleared
     pub next : x.next ≡ fresh L r.setup
+    pub freed : (d : ℕ) → L.wants d x.next.meta ≡ false
 
   -- R-5: a new renderer in that hall, whatever renderer it was
   pub record MakeHolds (h : Setup) (x : Result L) : Type 0 where
     pub answer : x.answer ≡ cleared
     pub next : x.next ≡ fresh L h
+    pub freed : (d : ℕ) → L.wants d x.next.meta ≡ false
+
+  -- s is r but for what is asked for of object d: w
+  pub record Asks (w : Bool) (d : ℕ) (r s : State L) : Type 0 where
+    pub setup : s.setup ≡ r.setup
+    pub rate : s.rate ≡ r.rate
+    pub clock : s.clock ≡ r.clock
+    pub limiter : s.limiter ≡ r.limiter
+    pub filter : s.filter ≡ r.filter
+    pub pending : s.pending ≡ r.pending
+    pub meta : s.meta ≡ L.want w d r.meta
+    pub asked : L.wants d s.meta ≡ w
+    pub others : (k : ℕ) → (k ≡ d → ⊥) → L.wants k s.meta ≡ L.wants k r.meta
+    -- "takes effect at the next slot": nothing that is heard has changed
+    pub shape : L.shape s.meta ≡ L.shape r.meta
+    pub beds : L.beds s.meta ≡ L.beds r.meta
+    pub objects : L.objects s.meta ≡ L.objects r.meta
+
+  -- a hold (w) or a release (not w) of object d
+  pub record MarkHolds (w : Bool) (d : ℕ) (r : State L) (x : Result L) : Type 0 where
+    pub unnumbered : (Numbered r d → ⊥) → Refuses r 24 0 0 x
+    -- "A second hold, or a release without one, changes nothing."
+    pub known : Numbered r d → L.wants d r.meta ≡ w → (x.answer ≡ marked false) × (x.next ≡ r)
+    pub noted : Numbered r d → (L.wants d r.meta ≡ w → ⊥) → (x.answer ≡ marked true) × Asks w d r x.next
+    -- "Of a hold and a release before the same slot, the later undoes the earlier."
+    pub undone : Numbered r d → (L.wants d r.meta ≡ w → ⊥) → (step L x.next (mark (not w) d)).next ≡ r
+    pub silent : x.moments ≡ []
+
+  -- R-13, a search: it changes nothing, and answers what the hall has
+  pub record FindHolds (mask : ℕ) (r : State L) (x : Result L) : Type 0 where
+    pub answer : x.answer ≡ place (search r.setup mask)
+    pub next : x.next ≡ r
+    pub silent : x.moments ≡ []
 
   abbrev pub CallHolds : State L → Call → Type 0
   CallHolds r (push a) = ((n x y : ℕ) → found L r a ≡ stop n x y → Refuses r n x y (step L r (push a))) × (found L r a ≡ clear → PushHolds r a)
@@ -201,6 +262,8 @@ module _ (L : Leaves) where
   CallHolds r (make_with n t) =
       ((k x y : ℕ) → table_found n t ≡ stop k x y → Refuses r k x y (step L r (make_with n t)))
       × (table_found n t ≡ clear → MakeHolds (hall_of n t) (step L r (make_with n t)))
+  CallHolds r (mark w d) = MarkHolds w d r (step L r (mark w d))
+  CallHolds r (find m) = FindHolds m r (step L r (find m))
 
   -- of each call of the list, each handed what the one before left
   abbrev pub AllHold : State L → List Call → Type 0

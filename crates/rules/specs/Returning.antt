@@ -1,5 +1,6 @@
 -- How soon the level returns, over calls in a row. Document 02, R-8: "from any limiter gain from 0 to 1, floor(rate / 64) + 2 completed blocks of 64 in a row, in none of which
--- p × g > 1, end with gain exactly 1." The blocks are those that accepted pushes complete; between them may stand refused calls and flushes that say none. Assumes nothing.
+-- p × g > 1, end with gain exactly 1." The blocks are those that accepted pushes complete; between them may stand refused calls, flushes that say none, holds, releases and
+-- searches. Assumes nothing.
 use Rattle.std.specs.Prelude.{ℕ, ◌≡◌, Bool, true, false, ◌||◌, List, [], ◌∷◌, ◌++◌, T, map, Float}
 use Rattle.words.specs.Words.{Bytes}
 use Rattle.limiter.specs.Limiter.{1·0}
@@ -8,19 +9,21 @@ use Rattle.limiter.specs.declared.meters.Meters.{Meters}
 use Rattle.rules.specs.Leaves.{Leaves}
 use Rattle.rules.specs.Samples.{State, pushed}
 use Rattle.rules.specs.Refusals.{Args, Found, clear, stop}
-use Rattle.rules.specs.Calls.{Call, push, flush, reset, make, make_with, Answer, refused, rendered, nothing, cleared, frame_of, found, step, final}
+use Rattle.rules.specs.Calls.{Call, push, flush, reset, make, make_with, mark, find, Answer, refused, rendered, nothing, cleared, marked, place, frame_of, found, step, final}
 use Rattle.rules.specs.BlockCalls.{Layout, final_on}
 use Rattle.rules.specs.Demand3.{AllLent}
 
 abbrev pub peaks : List Meters → List Float
 peaks ms = map (λ (m : Meters). m.peak) ms
 
--- refused, or a flush that says none
+-- refused, a flush that says none, a hold, a release, a search
 abbrev pub is_idle : Answer → Bool
 is_idle (refused n a b) = true
 is_idle (rendered rs m) = false
 is_idle nothing = true
 is_idle cleared = false
+is_idle (marked c) = true
+is_idle (place p) = true
 
 abbrev pub is_push : Call → Bool
 is_push (push a) = true
@@ -28,6 +31,8 @@ is_push (flush out stride) = false
 is_push reset = false
 is_push (make n) = false
 is_push (make_with n t) = false
+is_push (mark w d) = false
+is_push (find m) = false
 
 module _ (L : Leaves) where
   -- the peaks of the blocks of 64 that a push completes; none where it is refused
@@ -41,6 +46,8 @@ module _ (L : Leaves) where
   completed r reset = []
   completed r (make n) = []
   completed r (make_with n t) = []
+  completed r (mark w d) = []
+  completed r (find m) = []
 
   -- of calls in a row, each handed what the one before left
   abbrev pub all_completed : State L → List Call → List Float

@@ -9,7 +9,7 @@ use Rattle.rules.specs.Leaves.{Leaves}
 use Rattle.rules.specs.Mix.{fed}
 use Rattle.rules.specs.Samples.{State}
 use Rattle.rules.specs.Refusals.{Args}
-use Rattle.rules.specs.Calls.{Call, push, flush, reset, make, make_with, is_refused, step}
+use Rattle.rules.specs.Calls.{Call, push, flush, reset, make, make_with, mark, find, is_refused, step}
 use Rattle.rules.specs.Sounds.{before, sound_at}
 
 module _ (L : Leaves) where
@@ -24,6 +24,8 @@ module _ (L : Leaves) where
   fed_since xs r reset = []
   fed_since xs r (make n) = cond (is_refused (step L r (make n)).answer) xs []
   fed_since xs r (make_with n t) = cond (is_refused (step L r (make_with n t)).answer) xs []
+  fed_since xs r (mark w d) = xs
+  fed_since xs r (find m) = xs
 
   -- sample t of a push, ys being what has been fed, that sample included
   pub record Rings (r : State L) (a : Args) (t : ℕ) (ys : List Float) : Type 0 where
@@ -42,6 +44,8 @@ module _ (L : Leaves) where
   CallRings xs r reset = Unit {0}
   CallRings xs r (make n) = Unit {0}
   CallRings xs r (make_with n t) = Unit {0}
+  CallRings xs r (mark w d) = Unit {0}
+  CallRings xs r (find m) = Unit {0}
 
   -- of each call of the list, each handed what the one before left and had been fed
   abbrev pub AllRing : List Float → State L → List Call → Type 0

@@ -56,6 +56,10 @@ table_cases =
     case 0 (moved 1 0x8000_0000 0x8000_0000 0x3f80_0000) (stop 18 0 0) ∷
     -- "17 for a coordinate, 18 for equal positions, checked in that order": both are there
     case 0 (moved_to 1 0 0 0x3f80_0000 (moved 0 0 0 0x4000_0000)) (stop 17 0 0) ∷
+    -- 0 where 1 is, and a coordinate of the last record
+    case 0 (moved_to 11 0 0 0x4000_0000 (moved 0 0x3f35_04f3 0 0x3f80_0000)) (stop 17 0 0) ∷
+    -- and without that coordinate
+    case 0 (moved 0 0x3f35_04f3 0 0x3f80_0000) (stop 18 0 0) ∷
     -- "Any number of heights is allowed": eleven, from -1 to 1
     case 0
     (bytes_of_words

@@ -20,7 +20,7 @@ use Rattle.formats.proofs.Theorems.{word_of_run, word_of_bytes}
 use Rattle.formats.proofs.Theorems.{most, all_same, all_both, all_any, and_true, and_false}
 use Rattle.store.specs.Fields.{longest, source_format, block_format, track_format, element_format, tables_format, small_format, small_of}
 use Rattle.store.specs.FieldPlaces.{phase_at, position_at, start_at, pending_at, objects_at, isf_at, beds_at, in_use_at}
-use Rattle.store.specs.FieldPlaces.{tables_at, gains_at, sources_at, placed_in, flags_in, remaining_in, first_at, second_at}
+use Rattle.store.specs.FieldPlaces.{tables_at, gains_at, sources_at, marks_in, flags_in, remaining_in, first_at, second_at}
 use Rattle.store.specs.Layout.{small_width, size, infos_of, layout_of, table_in}
 use Rattle.store.specs.ValidBlocks.{clock_in, counts_in, least, element_in, related, small_valid, heads_valid, hall_valid, valid}
 use Rattle.store.proofs.SmallPartBack.{lawful_small, lawful_small_part}
@@ -37,8 +37,8 @@ module _ (w : List ℕ) where
   pub codes_test : (n at : ℕ) → all_at ((u8_to 17).test w) 1 n at ≡ all_at (col 0 17) 1 n at
   codes_test = all_same 1 ((u8_to 17).test w) (col 0 17) (λ a. place 17 (omega arith))
 
-  pub sources_test : (n at : ℕ) → all_at (source_format.test w) source_format.width n at ≡ all_at (col placed_in 1) source_format.width n at
-  sources_test = all_same source_format.width (source_format.test w) (col placed_in 1) (λ a. and_true _ true refl ∙ place 1 (omega arith))
+  pub sources_test : (n at : ℕ) → all_at (source_format.test w) source_format.width n at ≡ all_at (col marks_in 7) source_format.width n at
+  sources_test = all_same source_format.width (source_format.test w) (col marks_in 7) (λ a. and_true _ true refl ∙ place 7 (omega arith))
 
   pub tracks_test : (n at : ℕ) → all_at (track_format.test w) track_format.width n at ≡ all_at (col 0 1) track_format.width n at
   tracks_test = all_same track_format.width (track_format.test w) (col 0 1) (λ a. and_true (leb (get_or w a 0) 1) true refl ∙ place 1 (omega arith))
@@ -55,7 +55,7 @@ module _ (w : List ℕ) where
   elements_test at = ap (λ (x : Bool). element_format.test w at && x) (and_true (element_format.test w (at + element_format.width)) true refl)
 
   pub tables_test : tables_format.test w tables_at
-      ≡ (all_at (col 0 17) 1 18 tables_at && (all_at (col placed_in 1) source_format.width 16 sources_at && (element_format.test w first_at && element_format.test w second_at)))
+      ≡ (all_at (col 0 17) 1 18 tables_at && (all_at (col marks_in 7) source_format.width 16 sources_at && (element_format.test w first_at && element_format.test w second_at)))
   tables_test =
       λ i. codes_test 18 tables_at i && (all_any 1 18 gains_at i && (sources_test 16 sources_at i && elements_test first_at i))
 

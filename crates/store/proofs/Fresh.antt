@@ -131,7 +131,7 @@ state_fresh =
       beds = all_same Single 18 0·0 zero_single;
       sources = refl;
       objects =
-          all_same SourceSingles 16 (record { gain = 0·0; size = 0·0; place = still; placed = false; send = 0·0 })
+          all_same SourceSingles 16 (record { gain = 0·0; size = 0·0; place = still; placed = false; wanted = false; held = false; send = 0·0 })
           (record { gain = zero_single; size = zero_single; place = still_singles; send = zero_single });
       states = refl;
       elements = λ i l.

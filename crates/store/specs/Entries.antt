@@ -2,8 +2,8 @@
 use mathlib.Core.Path.{refl}
 use lib.Dec.{lit<}
 use Rattle.formats.specs.Lawful.{Lawful}
-use Rattle.formats.specs.Format.{u8_to, flag, float, usize_to, u64_to, u32_to, ◌⊗◌, array}
-use Rattle.formats.proofs.Theorems.{lawful_u32_to, lawful_usize_to, lawful_u8_to, lawful_flag, lawful_u64_to}
+use Rattle.formats.specs.Format.{u8_to, flag, three_flags, float, usize_to, u64_to, u32_to, ◌⊗◌, array}
+use Rattle.formats.proofs.Theorems.{lawful_u32_to, lawful_usize_to, lawful_u8_to, lawful_flag, lawful_three_flags, lawful_u64_to}
 pub use Rattle.formats.proofs.Theorems.{lawful_float}
 use Rattle.formats.proofs.Theorems.{lawful_vec}
 use Rattle.formats.proofs.Theorems.{lawful_pair, lawful_array, lawful_struct, lawful_ranged}
@@ -18,7 +18,7 @@ lawful_source =
     lawful_ranged SourceSingles _ (λ s h. (h.gain, (h.size, (h.place, (tt, h.send)))))
     (λ s h. record { gain = h.0; size = h.1.0; place = h.1.1.0; send = h.1.1.1.1 })
     (lawful_struct _ _ _ (λ s. refl) (λ y. refl)
-    (lawful_pair float _ lawful_float (lawful_pair float _ lawful_float (lawful_pair vec_format _ lawful_vec (lawful_pair flag float lawful_flag lawful_float)))))
+    (lawful_pair float _ lawful_float (lawful_pair float _ lawful_float (lawful_pair vec_format _ lawful_vec (lawful_pair three_flags float lawful_three_flags lawful_float)))))
 
 pub lawful_block : Lawful block_format
 lawful_block =

@@ -49,9 +49,9 @@ gains_at = tables_at + (array 18 (u8_to 17)).width
 abbrev pub sources_at : ℕ
 sources_at = gains_at + (array 18 float).width
 
--- whether a source is placed, in its words
-abbrev pub placed_in : ℕ
-placed_in = 2 + vec_format.width
+-- a source's marks (placed, wanted, held), in its words
+abbrev pub marks_in : ℕ
+marks_in = 2 + vec_format.width
 
 -- an element's flags and its remaining ramp, in its words
 abbrev pub flags_in : ℕ

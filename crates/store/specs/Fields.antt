@@ -2,7 +2,7 @@
 -- each field's range written in docs/, its floats of any bits". Its places, its words, what words say and the range test follow from these. What is added to a source goes last
 -- in it. Assumes nothing.
 use Rattle.std.specs.Prelude.{ℕ, Bool, ◌||◌, List, eqb, Float}
-use Rattle.formats.specs.Format.{Format, u32_where, u32_to, u32_below, usize_to, u8_to, flag, float, u64_to, ◌⊗◌, array, struct, ranged}
+use Rattle.formats.specs.Format.{Format, u32_where, u32_to, u32_below, usize_to, u8_to, flag, three_flags, float, u64_to, ◌⊗◌, array, struct, ranged}
 pub use Rattle.formats.specs.Vector.{vec_format}
 use Rattle.lowpass.specs.declared.BiquadLowpassState.{BiquadLowpassState}
 use Rattle.clock.specs.declared.StreamSample.{StreamSample}
@@ -23,14 +23,15 @@ longest = 1099511627776
 
 -- ---- entries of tables
 
--- a dynamic object
+-- a dynamic object; whether it is placed, a hold of it asked for, and it held, in one word
 abbrev pub source_format : Format DynamicSourceState
 source_format =
     ranged SourceSingles
     (struct
-    (λ s. (s.gain, (s.size, (s.place, (s.placed, s.send)))))
-    (λ (gain, (size, (place, (placed, send)))). record { gain = gain; size = size; place = place; placed = placed; send = send })
-    (float ⊗ float ⊗ vec_format ⊗ flag ⊗ float))
+    (λ s. (s.gain, (s.size, (s.place, ((s.placed, (s.wanted, s.held)), s.send)))))
+    (λ (gain, (size, (place, ((placed, (wanted, held)), send)))).
+    record { gain = gain; size = size; place = place; placed = placed; wanted = wanted; held = held; send = send })
+    (float ⊗ float ⊗ vec_format ⊗ three_flags ⊗ float))
 
 -- a block: offset and ramp, each plus 2^20, and whether it was applied; "an offset or ramp outside ±1,048,576" is refused in a frame, and "other fields as in frames"
 abbrev pub block_format : Format BlockState

@@ -105,7 +105,7 @@ blank =
         codes = replicate 18 0;
         gains = replicate 18 0·0;
         states = replicate 2 no_blocks;
-        sources = replicate 16 (record { gain = 0·0; size = 0·0; place = still; placed = false; send = 0·0 });
+        sources = replicate 16 (record { gain = 0·0; size = 0·0; place = still; placed = false; wanted = false; held = false; send = 0·0 });
       };
       infos = replicate infos_bytes 0;
     }

@@ -94,13 +94,16 @@ impl Entry for DynamicSourceState {
     fn read(s: &[u8], at: usize) -> DynamicSourceState {
         let size = at + 1;
         let place = size + 1;
-        let placed = place + places::VEC;
-        let send = placed + 1;
+        let marks = place + places::VEC;
+        let send = marks + 1;
+        let m = word_of(s, marks);
         DynamicSourceState {
             gain: float(s, at),
             size: float(s, size),
             place: vec(s, place),
-            placed: flag(s, placed),
+            placed: m % 2 == 1,
+            wanted: m / 2 % 2 == 1,
+            held: m / 4 % 2 == 1,
             send: float(s, send),
         }
     }
@@ -112,7 +115,8 @@ impl Entry for DynamicSourceState {
             words::bits_of(self.place.x),
             words::bits_of(self.place.y),
             words::bits_of(self.place.z),
-            formats::bit(self.placed),
+            formats::bit(self.placed)
+                + (2 * formats::bit(self.wanted) + 4 * formats::bit(self.held)),
             words::bits_of(self.send),
         ];
         words::put_words(s, at, &w);

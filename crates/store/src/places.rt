@@ -1,10 +1,10 @@
 // Widths in words, and where each field of the small part stands: at the place before it plus that field's width.
 pub const VEC: usize = 3;
 
-// Whether a source is placed, and its send, in its words.
-pub const PLACED: usize = 2 + VEC;
+// A source's marks (1: placed, 2: a hold asked for, 4: held), and its send, in its words.
+pub const MARKS: usize = 2 + VEC;
 
-pub const SEND: usize = PLACED + 1;
+pub const SEND: usize = MARKS + 1;
 
 pub const SOURCE: usize = SEND + 1;
 

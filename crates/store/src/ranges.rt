@@ -73,7 +73,7 @@ fn tables_fields(s: &Block) -> bool
     ensures { result ≡ tables_format.test (in_words s.now) tables_at }
 {
     at_most(s, places::CODES, 0, 1, 18, 17)
-        && at_most(s, places::SOURCES, places::PLACED, places::SOURCE, 16, 1)
+        && at_most(s, places::SOURCES, places::MARKS, places::SOURCE, 16, 7)
         && element_fields(s, places::FIRST)
         && element_fields(s, places::SECOND)
 }

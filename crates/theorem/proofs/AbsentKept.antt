@@ -14,7 +14,7 @@ use Rattle.rules.specs.Ranges.{Ranged}
 use Rattle.rules.specs.Absent.{starts_anew}
 use Rattle.rules.specs.Refusals.{Found, clear, stop, is_clear}
 use Rattle.rules.specs.Making.{hall_of, layout_found, table_found}
-use Rattle.rules.specs.Calls.{Call, push, flush, reset, make, make_with, Answer, refused, rendered, nothing, cleared, making, step}
+use Rattle.rules.specs.Calls.{Call, push, flush, reset, make, make_with, mark, find, Answer, refused, rendered, nothing, cleared, marked, place, making, step}
 use Rattle.rules.specs.BlockCalls.{left, out_of, stride_of}
 use Rattle.rules.specs.Demand3.{Lent}
 use Rattle.rules.proofs.Theorems as rules
@@ -50,6 +50,9 @@ module _ (b : List ℕ) (bytes : Bytes b) (call : Call) (lent : Lent call) (h : 
     by_answer (rendered given m) = encoded_kept
     by_answer nothing = refl
     by_answer cleared = encoded_kept
+    by_answer (marked true) = encoded_kept
+    by_answer (marked false) = refl
+    by_answer (place p) = refl
 
   by : (v : Bool) → valid b ≡ v → present (decode b).setup.layout c ≡ false
       → SameByte b (cond v (left hall block (step hall (decode b) call).answer (step hall (decode b) call).next (out_of call) (stride_of call) b)
@@ -71,3 +74,5 @@ absent_kept b bytes (flush out stride) lent h c k row away near = by b bytes (fl
 absent_kept b bytes reset lent h c k row away near = absurd (subst T h tt)
 absent_kept b bytes (make n) lent h c k row away near = refused_so b c k (eqb (length b) block.size) (layout_found n) (hall_with n) h
 absent_kept b bytes (make_with n t) lent h c k row away near = refused_so b c k (eqb (length b) block.size) (table_found n t) (hall_of n t) h
+absent_kept b bytes (mark w d) lent h c k row away near = by b bytes (mark w d) lent h c k row near (valid b) refl away
+absent_kept b bytes (find m) lent h c k row away near = by b bytes (find m) lent h c k row near (valid b) refl away

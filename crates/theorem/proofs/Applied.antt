@@ -236,6 +236,7 @@ module _ (m : List ℕ) (bytes : Bytes m) (laid : laid_out m ≡ true) (fit : in
         states = states_long (is_same s u) u s.states t.infos ∙ h.states;
         gains = λ k l. gains_next (λ (gs : List Float). T (between 0·0 8·0 (get_or gs k nan))) s.beds u.beds s.gains (h.gains k l)
             (subst (λ (x : Float). T (between 0·0 8·0 x)) (sym (get_or-replicate 18 k 0·707 nan l)) start_gain);
+        dynamic = sources_next (λ (ss : List DynamicSourceState). length ss ≡ 16) (s.objects - s.isf) (u.objects - u.isf) s.sources h.dynamic refl;
         sources = λ d l. sources_next (λ (ss : List DynamicSourceState). SourceSound (get_or ss d no_source)) (s.objects - s.isf) (u.objects - u.isf) s.sources (h.sources d l)
             (subst SourceSound (sym (get_or-replicate 16 d new_source no_source l)) new_sound);
         tracks = λ e l. (es e l).tracks;

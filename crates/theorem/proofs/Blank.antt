@@ -76,7 +76,8 @@ sound_blank =
       codes = refl;
       states = refl;
       gains = λ k l. subst (λ (x : Float). T (between 0·0 8·0 x)) (sym (get_or-replicate 18 k 0·0 nan l)) zero_gain;
-      sources = λ d l. subst SourceSound (sym (get_or-replicate 16 d (record { gain = 0·0; size = 0·0; place = still; placed = false; send = 0·0 }) no_source l))
+      dynamic = refl;
+      sources = λ d l. subst SourceSound (sym (get_or-replicate 16 d (record { gain = 0·0; size = 0·0; place = still; placed = false; wanted = false; held = false; send = 0·0 }) no_source l))
           (record { gain = zero_gain; size = zero_size; place = still_fits; send = zero_size });
       tracks = λ e l. subst (λ (x : ElementRendererState). length x.tracks ≡ 16) (sym (element_blank e l)) refl;
       targets = λ e d l q. subst (λ (x : ElementRendererState). Position (get_or x.tracks d no_track).future) (sym (element_blank e l))

@@ -6,12 +6,13 @@ use mathlib.Core.List.{List}
 use lib.ListN.{length, replicate, length-replicate}
 use Rattle.words.specs.Words.{Bytes}
 use Rattle.panning.specs.Setup.{Setup, hall_with, table_right}
-use Rattle.rules.specs.Demand3.{Lent, AllLent, Demand3, EveryList, EveryLayout, EveryTable, BuiltInAlike, Keeps}
+use Rattle.rules.specs.Demand3.{Lent, AllLent, Demand3, EveryList, EveryLayout, EveryTable, BuiltInAlike, LeftAlone, FindAlike, Keeps}
 use Rattle.rules.proofs.Theorems.{Facts, Passed, fresh_ranged, pushed_ranged, flushed_ranged}
 use Rattle.rules.specs.Refusals.{Args}
 use Rattle.rules.specs.Making.{table_words, hall_of}
 use Rattle.rules.specs.Samples.{State, fresh, pushed, flushed}
 use Rattle.rules.specs.Ranges.{HallRanged, Ranged}
+use Rattle.rules.specs.Held.{HeldStill}
 use Rattle.rules.specs.Calls.{Call, make, make_with, is_refused, frame_of, step}
 use Rattle.rules.specs.BlockCalls.{made}
 use Rattle.rules.proofs.Theorems as rules
@@ -24,6 +25,7 @@ use Rattle.theorem.proofs.Applied.{sound_apply, within_apply}
 use Rattle.theorem.proofs.TimedShapes.{mixable, shape_apply, shape_slot, shape_objects, shape_beds}
 use Rattle.theorem.proofs.SlotSound.{sound_slot}
 use Rattle.theorem.proofs.SlotWithin.{within_slot}
+use Rattle.theorem.proofs.Wanting.{sound_want, within_want, shape_want, beds_want, objects_want, wants_want, want_back, wants_other, wants_blank, wants_slot, held_slot, wants_apply, objects_apply, ends_apply}
 use Rattle.theorem.proofs.Blank.{sound_blank, within_blank, within_later}
 use Rattle.theorem.proofs.BlockRanges.{setup_of, size_of, valid_of, hall_valid_of, back_of, decoded_of}
 
@@ -43,10 +45,24 @@ facts =
       shape_slot = λ n m h. shape_slot n m;
       shape_objects = λ m h e. shape_objects m;
       shape_beds = λ m h e. shape_beds m;
+      sound_want = sound_want;
+      shape_want = shape_want;
+      beds_want = beds_want;
+      objects_want = objects_want;
+      wants_want = wants_want;
+      want_back = λ w d m h l. want_back w d m;
+      wants_other = λ w d k m. wants_other w d m k;
+      wants_blank = wants_blank;
+      wants_slot = λ n d m h l. wants_slot n d m;
+      held_slot = λ n d m h l. held_slot n d m l;
+      wants_apply = λ n d u m. wants_apply n u m d;
+      objects_apply = objects_apply;
+      ends_apply = λ n d u m. ends_apply n u m d;
       Within = Within;
       within_blank = within_blank;
       within_later = within_later;
       within_apply = within_apply;
+      within_want = λ n w d m. within_want w d m n;
       within_slot = within_slot;
       setup = setup_of;
       size = size_of;
@@ -94,6 +110,18 @@ made_ranged {m} {h} made =
 -- a call that is accepted, on a block of any bytes, leaves a valid block
 pub keeps : Keeps hall block
 keeps = rules.keeps hall block facts
+
+-- R-11: "A second hold, or a release without one, changes nothing", and a search does not: no byte of a block
+pub left_alone : LeftAlone hall block
+left_alone = rules.left_alone hall block
+
+-- R-11: "the object's panned position stops": over any calls, until its release, a reset, a making call or another number of objects
+pub held_still : HeldStill hall
+held_still = rules.held_still hall block facts
+
+-- R-13: a search answers by the hall alone
+pub find_alike : FindAlike hall block
+find_alike = rules.find_alike hall block
 
 -- the same of the renderers between blocks
 pub stepped_within : (r : State hall) (c : Call) → Lent c → Ranged hall Within r → Ranged hall Within (step hall r c).next

@@ -1,6 +1,5 @@
 pub mod Sound
 pub mod SlotShape
-pub mod SlotInfos
 pub mod SlotObjects
 pub mod SlotState
 pub mod SlotSound
@@ -9,6 +8,7 @@ pub mod InfosWritten
 pub mod Checked
 pub mod Applied
 pub mod TimedShapes
+pub mod Wanting
 pub mod Blank
 pub mod BlockRanges
 pub mod Demand3
@@ -17,6 +17,7 @@ pub mod AbsentKept
 pub mod Opened
 pub mod Heard
 pub mod Elsewhere
+pub mod HoldHeard
 pub mod Waiting
 pub mod LevelReturned
 pub mod Explosion
@@ -25,4 +26,5 @@ pub mod Forgotten
 pub mod Players
 pub mod Unwritten
 pub mod Marked
+pub mod Unheld
 pub mod Theorems

@@ -19,6 +19,7 @@ use Rattle.records.specs.Laid as laid
 use Rattle.records.specs.ValuesInRange as ranges
 use Rattle.timed.specs.Infos as infos
 use Rattle.timed.specs.State as timed
+use Rattle.timed.specs.Holds as holds
 use Rattle.updates.specs.Applied as applied
 use Rattle.beds.specs.Routes as routes
 use Rattle.beds.specs.Positions as positions
@@ -52,7 +53,7 @@ metadata = tt
 
 unfoldable pub time : Unit {0}
 unfolding
-    vectors.map_to_cube anchors.room_anchored anchors.screen_anchored target.moved target.placed infos.with_vec timed.slot_at applied.applied store.blank
+    vectors.map_to_cube anchors.room_anchored anchors.screen_anchored target.moved target.placed infos.with_vec timed.slot_at holds.wanting applied.applied store.blank
 time = tt
 
 unfoldable pub sound : Unit {0}

@@ -2,7 +2,7 @@
 -- size and send (`Z`) still does. Assumes nothing.
 use Prim.Native.Nat.{ℕ, ◌+◌, ◌*◌, ◌<◌, ◌≤◌}
 use mathlib.Core.Path.{◌≡◌}
-use mathlib.Core.Bool.{Bool, ◌&&◌}
+use mathlib.Core.Bool.{Bool, not, ◌&&◌}
 use mathlib.Core.List.{List}
 use native.Mathlib.Omega.{arith}
 use lib.ListN.{get_or}
@@ -15,14 +15,13 @@ use Rattle.vectors.specs.Target.{placed}
 use Rattle.vectors.specs.Fit.{VecFits, BlockFits, PlacedFits}
 use Rattle.vectors.proofs.Fitting.{placed_fits, lerp_fits}
 use Rattle.timed.specs.Infos.{maybe_at, vec_at, gain_at, size_at, send_at, block_position}
-use Rattle.timed.specs.Objects.{no_source, no_track, object_moved, moved_at, moved_all, bed_at, bed_gains, ramped, ramped_at, ramped_all}
+use Rattle.timed.specs.Objects.{no_source, no_track, object_moved, moved_at, moved_all, bed_at, bed_gains, ramped, ramped_at, ramped_all, freed, freed_at, freed_all}
 use Rattle.timed.specs.Objects as objects
 use Rattle.timed.specs.declared.state.Track.{Track}
 use Rattle.timed.specs.declared.state.DynamicSourceState.{DynamicSourceState}
 use Rattle.timed.specs.declared.objects.Moving.{Moving}
-use Rattle.timed.proofs.Theorems.{times_in, cond_keeps, set_each}
+use Rattle.timed.proofs.Theorems.{times_in, cond_keeps, set_each, Like, like_head, moved_like}
 use Rattle.timed.specs.InfoSizes.{info_bytes, position_byte, last_byte}
-use Rattle.theorem.proofs.SlotInfos.{Like, like_head, moved_like}
 
 -- absent, or with P
 abbrev pub Holds : (Float → Type 0) → Option Float → Type 0
@@ -84,7 +83,7 @@ module _ (G Z : Float → Type 0) where
         record {
           gain = or_else_holds G (gain_at is k) s.gain (i.gain k) h.gain;
           size = or_else_holds Z (size_at is k) s.size (i.size k) h.size;
-          place = cond_keeps VecFits ((block_position is k).valid && arrived) (placed (block_position is k) s.place).target s.place (λ _. target_fits.target_fits)
+          place = cond_keeps VecFits ((block_position is k).valid && arrived && not s.wanted) (placed (block_position is k) s.place).target s.place (λ _. target_fits.target_fits)
               (λ _. h.place);
           send = i.send k;
         }
@@ -100,10 +99,16 @@ module _ (G Z : Float → Type 0) where
       (λ _. record {
         gain = h.gain;
         size = h.size;
-        place = cond_keeps VecFits (last && s.placed) (lerp_vec3 s.place k.future t) k.future (λ _. lerp_fits s.place k.future t) (λ _. f);
+        place = cond_keeps VecFits s.wanted s.place _ (λ _. h.place)
+            (λ _. cond_keeps VecFits (last && s.placed) (lerp_vec3 s.place k.future t) k.future (λ _. lerp_fits s.place k.future t) (λ _. f));
         send = h.send;
       })
       (λ _. h)
+
+  pub freed_has : (k : Track) (s : DynamicSourceState) → SourceHas G Z s → VecFits k.future → SourceHas G Z (freed k s)
+  unfolding freed
+  freed_has k s h f =
+      cond_keeps (SourceHas G Z) (k.now && (s.held && not s.wanted)) _ s (λ _. record { gain = h.gain; size = h.size; place = f; send = h.send }) (λ _. h)
 
 -- ---- the loops
 
@@ -146,6 +151,19 @@ module _ (G Z : Float → Type 0) where
       record {
         sources = set_each (λ i x. i < 16 → SourceHas G Z x) w.sources d (ramped t last track s) no_source (λ _. ramped_has G Z t last track s (k.sources d b) (k.targets d b))
             k.sources;
+        targets = k.targets;
+      })
+      count 0 (omega arith) m h
+
+  pub freed_all_has : (count : ℕ) (m : Moving) → count ≤ 16 → MovingHas G Z m → MovingHas G Z (freed_all count m)
+  unfolding freed_all
+  freed_all_has count m l h =
+      times_in (MovingHas G Z) freed_at 16
+      (λ d w b k.
+      let track = get_or w.tracks d no_track in
+      let s = get_or w.sources d no_source in
+      record {
+        sources = set_each (λ i x. i < 16 → SourceHas G Z x) w.sources d (freed track s) no_source (λ _. freed_has G Z track s (k.sources d b) (k.targets d b)) k.sources;
         targets = k.targets;
       })
       count 0 (omega arith) m h

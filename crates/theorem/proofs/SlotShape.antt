@@ -1,18 +1,21 @@
 -- What a slot leaves as it was: the counts, the codes, each element's blocks and flags, and the length of every table. Assumes nothing.
-use Prim.Native.Nat.{ℕ, ◌+◌, ◌*◌}
+use Prim.Native.Nat.{ℕ, ◌+◌, ◌-◌, ◌*◌}
 use mathlib.Core.Path.{◌≡◌, refl, ◌∙◌}
 use mathlib.Core.Bool.{Bool, true}
 use mathlib.Core.List.{List}
 use lib.Dec.{eqb}
-use lib.ListN.{length, get_or, length-set}
+use lib.ListN.{length, get_or, set, length-set}
 use lib.Ieee.{Float, nan}
 use Rattle.std.specs.Prelude.{unwrap_or}
 use Rattle.timed.specs.Infos.{gain_at}
-use Rattle.timed.specs.Objects.{no_source, no_track, object_moved, moved_at, moved_all, bed_at, bed_gains, ramped, ramped_at, ramped_all}
+use Rattle.timed.specs.Objects.{no_source, no_track, object_moved, moved_at, moved_all, bed_at, bed_gains, ramped, ramped_at, ramped_all, freed, freed_at, freed_all}
 use Rattle.timed.specs.Objects as objects
 use Rattle.timed.specs.Rules.{no_block, remaining_of, due, left_after, ramp_over, share, active}
 use Rattle.timed.specs.Slot.{SlotWork, block_applied, block_turn, blocks_applied, ramp_applied, updated_sources}
-use Rattle.timed.specs.State.{Timed, no_element, element_of, timing_of, reach_of, element_taken, slot_of, slot_at}
+use Rattle.timed.specs.State.{Timed, no_element, element_of, timing_of, reach_of, element_taken, slot_of, slot_moved, slot_at}
+use Rattle.timed.specs.Turns.{times}
+use Rattle.timed.specs.Holds.{with_sources, with_marks, wanting, mark_settled_at, holds_settled}
+use Rattle.timed.specs.declared.state.DynamicSourceState.{DynamicSourceState}
 use Rattle.timed.specs.declared.state.Track.{Track}
 use Rattle.timed.specs.declared.state.ElementRendererState.{ElementRendererState}
 use Rattle.timed.specs.declared.state.MetadataRendererState.{MetadataRendererState}
@@ -75,6 +78,13 @@ ramped_all_long t before count m =
     })
     count 0 m (record { sources = refl; tracks = refl })
 
+freed_all_long : (count : ℕ) (m : Moving) → MovingLong m (freed_all count m)
+unfolding freed_all
+freed_all_long count m =
+    times_keeps (MovingLong m) freed_at
+    (λ d w h. record { sources = length-set w.sources d (freed (get_or w.tracks d no_track) (get_or w.sources d no_source)) ∙ h.sources; tracks = h.tracks })
+    count 0 m (record { sources = refl; tracks = refl })
+
 bed_gains_long : (is : List ℕ) (first count : ℕ) (gs : List Float) → length (bed_gains is first count gs) ≡ length gs
 unfolding bed_gains
 bed_gains_long is first count gs =
@@ -113,7 +123,8 @@ blocks_long w r n k =
 ramp_long : (before : List Track) (n : ℕ) (s : Slot) → Long s (ramp_applied before n s)
 unfolding ramp_applied
 ramp_long before n s =
-    cond_keeps (Long s) (ramp_over (remaining_of s.remaining)) s _ (λ _. long_refl s)
+    cond_keeps (Long s) (ramp_over (remaining_of s.remaining)) _ _
+    (λ _. record { schedule = refl; gains = refl; sources = (freed_all_long n s.moving).sources; tracks = (freed_all_long n s.moving).tracks })
     (λ _. record {
       schedule = refl;
       gains = refl;
@@ -169,11 +180,65 @@ slot_of_shape w i t =
           (λ j. record { blocks = refl; flags = refl; schedule = refl; tracks = refl });
     }
 
-pub shape_slot : (start : ℕ) (t : Timed) → Shaped t.state (slot_at start t).state
-unfolding slot_at
-shape_slot start t =
+shaped_trans : {s t u : MetadataRendererState} → Shaped s t → Shaped t u → Shaped s u
+shaped_trans a b =
+    record {
+      initialized = b.initialized ∙ a.initialized;
+      payload = b.payload ∙ a.payload;
+      objects = b.objects ∙ a.objects;
+      isf = b.isf ∙ a.isf;
+      beds = b.beds ∙ a.beds;
+      elements = b.elements ∙ a.elements;
+      codes = b.codes ∙ a.codes;
+      gains = b.gains ∙ a.gains;
+      sources = b.sources ∙ a.sources;
+      states = b.states ∙ a.states;
+      element = λ e.
+          let f = a.element e in
+          let g = b.element e in
+          record { blocks = g.blocks ∙ f.blocks; flags = g.flags ∙ f.flags; schedule = g.schedule ∙ f.schedule; tracks = g.tracks ∙ f.tracks };
+    }
+
+moved_shape : (start : ℕ) (t : Timed) → Shaped t.state (slot_moved start t).state
+unfolding slot_moved
+moved_shape start t =
     let w = timing_of start t.state in
     let i = element_taken w t.state.states t.state.elements in
     let P : Timed → Type 0 = λ x. Shaped t.state x.state in
     cond_keeps P (eqb t.state.elements 0) t _ (λ _. shaped_refl t.state)
     (λ _. cond_keeps P (active (element_of t.state i)) (slot_of w i t) t (λ _. slot_of_shape w i t) (λ _. shaped_refl t.state))
+
+-- other dynamic objects, as many
+with_sources_shape : (sources : List DynamicSourceState) (s : MetadataRendererState) → length sources ≡ length s.sources → Shaped s (with_sources sources s)
+with_sources_shape sources s e =
+    record {
+      initialized = refl;
+      payload = refl;
+      objects = refl;
+      isf = refl;
+      beds = refl;
+      elements = refl;
+      codes = refl;
+      gains = refl;
+      sources = e;
+      states = refl;
+      element = λ j. record { blocks = refl; flags = refl; schedule = refl; tracks = refl };
+    }
+
+settled_shape : (s : MetadataRendererState) → Shaped s (holds_settled s)
+unfolding holds_settled
+settled_shape s =
+    with_sources_shape (times (s.objects - s.isf) 0 mark_settled_at s.sources) s
+    (times_keeps (λ (l : List DynamicSourceState). length l ≡ length s.sources) mark_settled_at
+    (λ d l h. let o = get_or l d no_source in length-set l d (with_marks o.wanted o.wanted o) ∙ h) (s.objects - s.isf) 0 s.sources refl)
+
+pub shape_slot : (start : ℕ) (t : Timed) → Shaped t.state (slot_at start t).state
+unfolding slot_at
+shape_slot start t = shaped_trans (moved_shape start t) (settled_shape (slot_moved start t).state)
+
+-- a hold that is asked for, or none any more
+pub shape_wanting : (w : Bool) (d : ℕ) (s : MetadataRendererState) → Shaped s (wanting w d s)
+unfolding wanting
+shape_wanting w d s =
+    let o = get_or s.sources d no_source in
+    with_sources_shape (set s.sources d (with_marks w o.held o)) s (length-set s.sources d (with_marks w o.held o))

@@ -19,13 +19,13 @@ use Rattle.timed.specs.Infos.{maybe_at, gain_at, size_at, send_at}
 use Rattle.timed.specs.State.{Timed, slot_at}
 use Rattle.timed.specs.declared.state.DynamicSourceState.{DynamicSourceState}
 use Rattle.timed.specs.InfoSizes.{info_bytes, all_bytes, send_byte}
+use Rattle.timed.proofs.Theorems.{Like, slot_like}
 use Rattle.theorem.proofs.Sound.{UpTo, SourceSound, InfosSound, Sound}
 use Rattle.theorem.proofs.SlotShape.{shape_slot}
-use Rattle.theorem.proofs.SlotInfos.{Like, slot_like}
 use Rattle.theorem.proofs.SlotObjects.{Holds, SourceHas, InfosHave, like_has}
 use Rattle.theorem.proofs.SlotState.{StateHas, slot_has}
 
-abbrev Upto : Float → Float → Type 0
+abbrev pub Upto : Float → Float → Type 0
 Upto most x = T (between 0·0 most x)
 
 -- ---- past the last info nothing is present
@@ -85,13 +85,13 @@ infos_have is h =
 fits_of : {v : Vec3} → Position v → VecFits v
 fits_of h = record { x_fits = h.x; y_fits = h.y; z_fits = h.z }
 
-position_of : {v : Vec3} → VecFits v → Position v
+pub position_of : {v : Vec3} → VecFits v → Position v
 position_of h = record { x = h.x_fits; y = h.y_fits; z = h.z_fits }
 
 source_has : {s : DynamicSourceState} → SourceSound s → SourceHas (Upto 8·0) (Upto 1·0) s
 source_has h = record { gain = h.gain; size = h.size; place = fits_of h.place; send = h.send }
 
-source_sound : {s : DynamicSourceState} → SourceHas (Upto 8·0) (Upto 1·0) s → SourceSound s
+pub source_sound : {s : DynamicSourceState} → SourceHas (Upto 8·0) (Upto 1·0) s → SourceSound s
 source_sound h = record { gain = h.gain; size = h.size; place = position_of h.place; send = h.send }
 
 -- ---- infos and state
@@ -107,7 +107,7 @@ like_sound {is} {js} l h =
       send = λ k _. g.send k;
     }
 
-state_has : (m : Timed) → Sound m → StateHas (Upto 8·0) (Upto 1·0) m.state
+pub state_has : (m : Timed) → Sound m → StateHas (Upto 8·0) (Upto 1·0) m.state
 state_has m h =
     record {
       beds = h.beds;
@@ -128,6 +128,7 @@ sound_slot start m h =
       codes = ap length s.codes ∙ h.codes;
       states = g.states;
       gains = g.gains;
+      dynamic = s.sources ∙ h.dynamic;
       sources = λ d l. source_sound (g.sources d l);
       tracks = λ e l. (s.element e).tracks ∙ h.tracks e l;
       targets = λ e d l k. position_of (g.targets e l d k);

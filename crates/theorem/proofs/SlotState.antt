@@ -12,16 +12,17 @@ use Rattle.vectors.specs.Fit.{VecFits}
 use Rattle.timed.specs.Objects.{no_source, no_track}
 use Rattle.timed.specs.Rules.{no_block, remaining_of, due, left_after, ramp_over, share, active}
 use Rattle.timed.specs.Slot.{SlotWork, block_applied, block_turn, blocks_applied, ramp_applied, updated_sources}
-use Rattle.timed.specs.State.{Timed, no_element, element_of, timing_of, reach_of, element_taken, slot_of, slot_at}
+use Rattle.timed.specs.State.{Timed, no_element, element_of, timing_of, reach_of, element_taken, slot_of, slot_moved, slot_at}
+use Rattle.timed.specs.Holds.{with_marks, wanting, mark_settled_at, holds_settled}
+use Rattle.timed.specs.declared.state.DynamicSourceState.{DynamicSourceState}
 use Rattle.timed.specs.declared.state.Track.{Track}
 use Rattle.timed.specs.declared.state.MetadataRendererState.{MetadataRendererState}
 use Rattle.timed.specs.declared.slot.Slot.{Slot}
 use Rattle.timed.specs.declared.slot.Timing.{Timing}
 use Rattle.timed.specs.declared.slot.Reach.{Reach}
-use Rattle.timed.proofs.Theorems.{times_keeps, cond_keeps, set_each}
+use Rattle.timed.proofs.Theorems.{times_keeps, cond_keeps, set_each, applied_like}
 use Rattle.theorem.proofs.SlotShape.{slot_on}
-use Rattle.theorem.proofs.SlotInfos.{applied_like}
-use Rattle.theorem.proofs.SlotObjects.{SourceHas, InfosHave, MovingHas, like_has, moved_all_has, ramped_all_has, bed_gains_have}
+use Rattle.theorem.proofs.SlotObjects.{SourceHas, InfosHave, MovingHas, like_has, moved_all_has, ramped_all_has, freed_all_has, bed_gains_have}
 
 record SlotHas (G Z : Float → Type 0) (s : Slot) : Type 0 where
   gains : (i : ℕ) → i < 18 → G (get_or s.gains i nan)
@@ -67,7 +68,7 @@ module _ (G Z : Float → Type 0) where
   ramp_has : (before : List Track) (n : ℕ) (s : Slot) → n ≤ 16 → SlotHas G Z s → SlotHas G Z (ramp_applied before n s)
   unfolding ramp_applied
   ramp_has before n s l h =
-      cond_keeps (SlotHas G Z) (ramp_over (remaining_of s.remaining)) s _ (λ _. h)
+      cond_keeps (SlotHas G Z) (ramp_over (remaining_of s.remaining)) _ _ (λ _. record { gains = h.gains; moving = freed_all_has G Z n s.moving l h.moving })
       (λ _.
       record { gains = h.gains; moving = ramped_all_has G Z (share (remaining_of s.remaining)) before n s.moving l h.moving })
 
@@ -102,12 +103,51 @@ active_low s i l a false e =
     let n : element_of s i ≡ no_element = get_or-eq_default s.states no_element (omega arith) in
     absurd (subst T (sym (rw n at a)) tt)
 
-pub slot_has : (G Z : Float → Type 0) (start : ℕ) (t : Timed) → StateHas G Z t.state → InfosHave G Z t.infos → StateHas G Z (slot_at start t).state
-unfolding slot_at
-slot_has G Z start t h is =
+moved_has : (G Z : Float → Type 0) (start : ℕ) (t : Timed) → StateHas G Z t.state → InfosHave G Z t.infos → StateHas G Z (slot_moved start t).state
+unfolding slot_moved
+moved_has G Z start t h is =
     let s = t.state in
     let w = timing_of start s in
     let i = element_taken w s.states s.elements in
     let P : Timed → Type 0 = λ x. StateHas G Z x.state in
     cond_keeps P (eqb s.elements 0) t _ (λ _. h)
     (λ _. cond_keeps P (active (element_of s i)) (slot_of w i t) t (λ a. slot_of_has G Z w i t (active_low s i h.states a (ltb i 2) refl) h is) (λ _. h))
+
+-- ---- holds
+
+module _ (G Z : Float → Type 0) where
+  marks_have : (wanted held : Bool) (s : DynamicSourceState) → SourceHas G Z s → SourceHas G Z (with_marks wanted held s)
+  marks_have wanted held s h = record { gain = h.gain; size = h.size; place = h.place; send = h.send }
+
+  settled_has : (s : MetadataRendererState) → StateHas G Z s → StateHas G Z (holds_settled s)
+  unfolding holds_settled
+  settled_has s h =
+      record {
+        beds = h.beds;
+        objects = h.objects;
+        states = h.states;
+        gains = h.gains;
+        sources = times_keeps (λ (l : List DynamicSourceState). (d : ℕ) → d < 16 → SourceHas G Z (get_or l d no_source)) mark_settled_at
+            (λ d l k.
+            let o = get_or l d no_source in
+            set_each (λ i x. i < 16 → SourceHas G Z x) l d (with_marks o.wanted o.wanted o) no_source (λ q. marks_have o.wanted o.wanted o (k d q)) k)
+            (s.objects - s.isf) 0 s.sources h.sources;
+        targets = h.targets;
+      }
+
+  pub slot_has : (start : ℕ) (t : Timed) → StateHas G Z t.state → InfosHave G Z t.infos → StateHas G Z (slot_at start t).state
+  unfolding slot_at
+  slot_has start t h is = settled_has (slot_moved start t).state (moved_has G Z start t h is)
+
+  pub wanting_has : (w : Bool) (d : ℕ) (s : MetadataRendererState) → StateHas G Z s → StateHas G Z (wanting w d s)
+  unfolding wanting
+  wanting_has w d s h =
+      let o = get_or s.sources d no_source in
+      record {
+        beds = h.beds;
+        objects = h.objects;
+        states = h.states;
+        gains = h.gains;
+        sources = set_each (λ i x. i < 16 → SourceHas G Z x) s.sources d (with_marks w o.held o) no_source (λ q. marks_have w o.held o (h.sources d q)) h.sources;
+        targets = h.targets;
+      }

@@ -18,14 +18,13 @@ use Rattle.timed.specs.Objects.{no_source, no_track}
 use Rattle.timed.specs.Slot.{InRange}
 use Rattle.timed.specs.State.{Timed, element_of, slot_at}
 use Rattle.timed.specs.declared.state.MetadataRendererState.{MetadataRendererState}
-use Rattle.timed.proofs.Theorems.{slot_within}
+use Rattle.timed.proofs.Theorems.{slot_within, Like, like_head, slot_like}
 use Rattle.store.specs.ValidBlocks.{least_flags, heads_valid}
 use Rattle.store.specs.Ranged.{Single, Singles, SourceSingles, TrackSingles, ElementRanged, StateRanged, InfosRanged}
 use Rattle.store.proofs.Whole.{all_at}
 use Rattle.timed.specs.InfoSizes.{info_bytes}
 use Rattle.theorem.proofs.Sound.{Within}
 use Rattle.theorem.proofs.SlotShape.{Shaped, shape_slot}
-use Rattle.theorem.proofs.SlotInfos.{Like, like_head, slot_like}
 use Rattle.theorem.proofs.SlotObjects.{Holds, InfosHave}
 use Rattle.theorem.proofs.SlotState.{StateHas, slot_has}
 
@@ -56,7 +55,7 @@ singles_of : {v : Vec3} → VecFits v → Singles v
 singles_of h = record { x = h.x_fits; y = h.y_fits; z = h.z_fits }
 
 module _ (n : ℕ) (s : MetadataRendererState) (h : StateRanged n s) where
-  state_has : StateHas Single Single s
+  pub state_has : StateHas Single Single s
   state_has =
       record {
         beds = h.within.beds;
@@ -84,7 +83,7 @@ module _ (n : ℕ) (s : MetadataRendererState) (h : StateRanged n s) where
           targets = all_at TrackSingles no_track (element_of t i).tracks (λ d k. singles_of (g.targets i l d (rw long at k)));
         }
 
-    state_ranged : ((e : ℕ) → e < 2 → InRange n (element_of t e)) → StateRanged n t
+    pub state_ranged : ((e : ℕ) → e < 2 → InRange n (element_of t e)) → StateRanged n t
     state_ranged r =
         let gains = same.gains ∙ h.gains in
         let sources = same.sources ∙ h.sources in

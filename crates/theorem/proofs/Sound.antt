@@ -41,6 +41,7 @@ pub record Sound (m : Timed) : Type 0 where
   pub codes : length m.state.codes ≡ 18
   pub states : length m.state.states ≡ 2
   pub gains : (k : ℕ) → k < 18 → T (between 0·0 8·0 (get_or m.state.gains k nan))
+  pub dynamic : length m.state.sources ≡ 16
   pub sources : (d : ℕ) → d < 16 → SourceSound (get_or m.state.sources d no_source)
   -- each element's tables, full and of f32 values
   pub tracks : (e : ℕ) → e < 2 → length (element_of m.state e).tracks ≡ 16

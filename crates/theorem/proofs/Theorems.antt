@@ -5,6 +5,10 @@
 pub use Rattle.theorem.proofs.Demand3.{demand3, makes_accepted, tables_accepted, built_in_alike, layout_made, table_made, demand3_in, demand3_from, keeps}
 pub use Rattle.theorem.proofs.Players.{not_silent, not_all_refused, all_mixed, every_block, ready_counts, flush_gives}
 pub use Rattle.theorem.proofs.Heard.{meters_show}
+-- R-11: what is held stays; what changes nothing leaves every byte of a block; R-13: a search answers by the hall alone
+pub use Rattle.theorem.proofs.Demand3.{held_still, left_alone, find_alike}
+-- an object that is held and released, as it is heard
+pub use Rattle.theorem.proofs.HoldHeard.{hold_heard, release_heard}
 -- R-5: in a hall without a bed's speaker the bed is heard on another; no call writes an output's places of absent channels, no push and no flush a block's
 pub use Rattle.theorem.proofs.Heard.{absent_heard}
 pub use Rattle.theorem.proofs.Unwritten.{absent_unwritten}

@@ -8,9 +8,9 @@ use native.Mathlib.Omega.{arith}
 use Rattle.records.specs.Runs.{each}
 use Rattle.records.proofs.Theorems.{each_length}
 use Rattle.timed.specs.State.{Timed}
+use Rattle.timed.proofs.Theorems.{turned_at}
 use Rattle.updates.specs.Said.{Update}
 use Rattle.updates.specs.Applied.{codes_given, applied}
-use Rattle.updates.proofs.Elements.{turned_at}
 use Rattle.rules.specs.Leaves.{Bed}
 use Rattle.rules.proofs.Theorems.{Mixable}
 use Rattle.theorem.specs.Instance.{Sent, bed_of, source_of, hall}
@@ -46,12 +46,12 @@ shape_beds m = each_map (λ (b : Bed). b.code) (bed_of m.state) m.state.beds
 
 -- ---- the codes that an update gives
 
-pub each_same : (f g : ℕ → ℕ) (n : ℕ) → ((k : ℕ) → k < n → f k ≡ g k) → each f n ≡ each g n
+pub each_same : {A : Type 0} (f g : ℕ → A) (n : ℕ) → ((k : ℕ) → k < n → f k ≡ g k) → each f n ≡ each g n
 unfolding each
 each_same f g zero h = refl
-each_same f g (suc n) h =
-    subst (λ (x : ℕ). each f (suc n) ≡ x ∷ each (λ k. g (suc k)) n) (h 0 (omega arith))
-    (ap (λ (l : List ℕ). f 0 ∷ l) (each_same (λ k. f (suc k)) (λ k. g (suc k)) n (λ k l. h (suc k) (omega arith))))
+each_same {A} f g (suc n) h =
+    subst (λ (x : A). each f (suc n) ≡ x ∷ each (λ k. g (suc k)) n) (h 0 (omega arith))
+    (ap (λ (l : List A). f 0 ∷ l) (each_same (λ k. f (suc k)) (λ k. g (suc k)) n (λ k l. h (suc k) (omega arith))))
 
 pub codes_are : (u : Update) (cs : List ℕ) (k : ℕ) → length cs ≡ 18 → k < 18 → get_or (codes_given u cs) k 0 ≡ u.code k
 unfolding codes_given

@@ -3,6 +3,7 @@ use Rattle.std.specs.Prelude.{ℕ, ◌-◌, true, List, get_or}
 use Rattle.std.specs.Float.{nan}
 use Rattle.timed.specs.State.{Timed, slot_at}
 use Rattle.timed.specs.Objects.{no_source}
+use Rattle.timed.specs.Holds.{wants, wanting}
 use Rattle.timed.specs.declared.state.MetadataRendererState.{MetadataRendererState}
 use Rattle.fields.specs.Update.{offset}
 use Rattle.records.specs.Runs.{each}
@@ -44,6 +45,8 @@ hall =
       blank = store.blank;
       apply = λ n u m. applied n u.said m;
       slot = slot_at;
+      wants = λ d m. wants d m.state;
+      want = λ w d m. record { state = wanting w d m.state; infos = m.infos };
       beds = λ m. each (bed_of m.state) m.state.beds;
       objects = λ m. each (source_of m.state) (m.state.objects - m.state.isf);
       shape = λ m. shape_of m.state;

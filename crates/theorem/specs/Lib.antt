@@ -4,3 +4,4 @@ pub mod Appends
 pub mod AbsentKept
 pub mod Marked
 pub mod GainPlace
+pub mod Unheld

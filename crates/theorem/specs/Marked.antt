@@ -82,7 +82,7 @@ case_object offset timecode = get_or (slot_at (4096 + timecode) (applied 4096 (m
 
 -- the object as the block has it
 abbrev pub moved_object : DynamicSourceState
-moved_object = record { gain = 0·5; size = 0·0; place = vec3 1·0 1·0 -1·0; placed = true; send = 0·0 }
+moved_object = record { gain = 0·5; size = 0·0; place = vec3 1·0 1·0 -1·0; placed = true; wanted = false; held = false; send = 0·0 }
 
 -- ---- a block of the limiter
 

@@ -64,7 +64,7 @@ pub ramp_ramps : (p : ℕ) (before : List Track) (n : ℕ) (s : Slot) → Ramps 
     Ramps p (ramp_applied before n s).schedule (ramp_applied before n s).remaining
 unfolding ramp_applied
 ramp_ramps p before n s h =
-    cond_keeps (λ (x : Slot). Ramps p x.schedule x.remaining) (ramp_over (remaining_of s.remaining)) s _ (λ _. h)
+    cond_keeps (λ (x : Slot). Ramps p x.schedule x.remaining) (ramp_over (remaining_of s.remaining)) _ _ (λ _. h)
     (λ e.
     let g = leb-false s.remaining middle (sym (over_shifted s.remaining) ∙ e) in
     record {

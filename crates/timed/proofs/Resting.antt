@@ -1,5 +1,5 @@
 -- A slot that rests changes nothing. Assumes nothing.
-use Prim.Native.Nat.{ℕ, zero, suc, ◌+◌, ◌<◌, ◌≤◌}
+use Prim.Native.Nat.{ℕ, zero, suc, ◌+◌, ◌-◌, ◌<◌, ◌≤◌}
 use mathlib.Core.Path.{◌≡◌, refl, ap, ◌∙◌}
 use mathlib.Core.Bool.{Bool, true, false, cond, not, ◌&&◌, ◌||◌}
 use mathlib.Core.List.{List}
@@ -12,8 +12,9 @@ use Rattle.std.specs.List.{list_all}
 use Rattle.std.proofs.lemmas.List.Folds.{list_all_more}
 use lib.Seq.{set-get_or}
 use Rattle.timed.specs.Rules.{middle, no_block, no_element, element_of, remaining_of, ramp_over, due, active}
-use Rattle.timed.specs.Slot.{SlotWork, block_turn, blocks_applied, ramp_applied, updated_sources}
-use Rattle.timed.specs.State.{Timed, element_taken, timing_of, reach_of, slot_of, slot_at}
+use Rattle.timed.specs.Slot.{SlotWork, slot_begun, block_turn, blocks_applied, ramp_applied, updated_sources}
+use Rattle.timed.specs.State.{Timed, element_taken, timing_of, reach_of, slot_of, slot_moved, slot_at}
+use Rattle.timed.specs.Holds.{holds_settled, all_settled}
 use Rattle.timed.specs.Resting.{none_due, resting, rests_at}
 use Rattle.timed.specs.declared.state.BlockState.{BlockState}
 use Rattle.timed.specs.declared.state.ElementRendererState.{ElementRendererState}
@@ -21,12 +22,9 @@ use Rattle.timed.specs.declared.slot.Timing.{Timing}
 use Rattle.timed.specs.declared.slot.Reach.{Reach}
 use Rattle.timed.proofs.Invariants.{times_in}
 use Rattle.timed.proofs.Shifted.{over_shifted}
+use Rattle.timed.proofs.Settled.{both, freed_none, holds_stand}
 
 -- ---- tests
-both : (a b : Bool) → (a && b) ≡ true → (a ≡ true) × (b ≡ true)
-both true b e = (refl, e)
-both false b e = let z : ◌≡◌ {A = ℕ} 0 1 = cc in absurd (omega arith)
-
 not_so : (a : Bool) → not a ≡ true → a ≡ false
 not_so true e = let z : ◌≡◌ {A = ℕ} 0 1 = cc in absurd (omega arith)
 not_so false e = refl
@@ -70,26 +68,29 @@ none_applied w r n k h =
     times_in (λ (s : SlotWork). s ≡ k) (block_turn w r) n (λ i s l e. rw (e, not_due w k.slot.schedule n i h l)) n 0 (omega arith) k refl
 
 module _ (w : Timing) (t : Timed) (i : ℕ) where
-  -- a slot of an element that rests
-  rest_of : resting w (element_of t.state i) ≡ true → slot_of w i t ≡ t
+  -- a slot of an element that rests, where no hold or release waits
+  rest_of : all_settled t.state.sources (t.state.objects - t.state.isf) ≡ true → resting w (element_of t.state i) ≡ true → slot_of w i t ≡ t
   unfolding resting slot_of updated_sources ramp_applied
-  rest_of h =
+  rest_of settled h =
       let s = t.state in
       let e = element_of s i in
       let p = both (ramp_over (remaining_of e.remaining)) (none_due w e.schedule e.blocks) h in
-      let k : SlotWork =
-      record { slot = record { schedule = e.schedule; remaining = e.remaining; gains = s.gains; moving = record { sources = s.sources; tracks = e.tracks } }; infos = t.infos } in
-      rw (none_applied w (reach_of s i) e.blocks k p.1, p.0, set-get_or s.states i no_element)
+      let k = slot_begun e s.gains s.sources t.infos in
+      let still = freed_none (reach_of s i).count (record { sources = s.sources; tracks = e.tracks }) settled in
+      rw (none_applied w (reach_of s i) e.blocks k p.1, p.0, still, set-get_or s.states i no_element)
 
 -- ---- the slot
 
 pub slot_rests : (start : ℕ) (t : Timed) → rests_at start t.state ≡ true → slot_at start t ≡ t
-unfolding rests_at slot_at
+unfolding rests_at slot_at slot_moved
 slot_rests start t h =
     let s = t.state in
     let w = timing_of start s in
     let i = element_taken w s.states s.elements in
-    by (eqb s.elements 0) (active (element_of s i)) (resting w (element_of s i)) (slot_of w i t) h (rest_of w t i)
+    let p = both (all_settled s.sources (s.objects - s.isf)) (eqb s.elements 0 || not (active (element_of s i)) || resting w (element_of s i)) h in
+    let moved = by (eqb s.elements 0) (active (element_of s i)) (resting w (element_of s i)) (slot_of w i t) p.1 (rest_of w t i p.0) in
+    let stands = holds_stand s p.0 in
+    ap (λ (m : Timed). record { state = holds_settled m.state; infos = m.infos }) moved ∙ (λ j. record { state = stands j; infos = t.infos })
   where
     by : (none on still : Bool) (after : Timed) → (none || not on || still) ≡ true → (still ≡ true → after ≡ t) → cond none t (cond on after t) ≡ t
     by true on still after e f = refl

@@ -4,9 +4,10 @@ use mathlib.Core.Path.{◌≡◌, refl}
 use mathlib.Core.Bool.{Bool, true, false, ◌&&◌, cond}
 use mathlib.Core.List.{List}
 use lib.Ieee.{Float}
+use Rattle.vectors.specs.declared.Vec3.{Vec3}
 use Rattle.vectors.specs.Vectors.{lerp_vec3}
 use Rattle.timed.specs.Infos.{send_at}
-use Rattle.timed.specs.Objects.{object_moved, ramped}
+use Rattle.timed.specs.Objects.{put_at, object_moved, ramped}
 use Rattle.timed.specs.declared.state.Track.{Track}
 use Rattle.timed.specs.declared.state.DynamicSourceState.{DynamicSourceState}
 
@@ -16,11 +17,8 @@ block_sets_send arrived k s is = refl
 
 pub ramp_keeps_send : (t : Float) (last : Bool) (k : Track) (s : DynamicSourceState) → (ramped t last k s).send ≡ s.send
 unfolding ramped
-ramp_keeps_send t last k s = go k.now
+ramp_keeps_send t last k s = go k.now (cond s.wanted s.place (cond (last && s.placed) (lerp_vec3 s.place k.future t) k.future))
   where
-    there : DynamicSourceState
-    there = record { gain = s.gain; size = s.size; place = cond (last && s.placed) (lerp_vec3 s.place k.future t) k.future; placed = true; send = s.send }
-
-    go : (b : Bool) → (cond b there s).send ≡ s.send
-    go true = refl
-    go false = refl
+    go : (b : Bool) (place : Vec3) → (cond b (put_at place true s) s).send ≡ s.send
+    go true place = refl
+    go false place = refl

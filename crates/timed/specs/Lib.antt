@@ -6,7 +6,11 @@ pub mod Objects
 pub mod Rules
 pub mod Shifted
 pub mod Slot
+pub mod Holds
 pub mod State
+pub mod HoldLaws
+pub mod Alone
+pub mod Plain
 pub mod Resting
 pub mod Preconditions
 pub mod TimedResults

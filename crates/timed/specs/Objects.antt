@@ -1,6 +1,6 @@
 -- What a block that is applied and a ramp do to beds and dynamic objects: `update_source_state`, `update_bed_source_state` and the loops of `update_sources` over objects.
 -- Assumes nothing.
-use Rattle.std.specs.Prelude.{ℕ, ◌+◌, ◌*◌, Bool, true, false, ◌&&◌, ◌||◌, cond, List, get_or, set, Float, unwrap_or}
+use Rattle.std.specs.Prelude.{ℕ, ◌+◌, ◌*◌, Bool, true, false, not, ◌&&◌, ◌||◌, cond, List, get_or, set, Float, unwrap_or}
 use Rattle.std.specs.Float.{nan}
 use Rattle.vectors.specs.declared.Vec3.{Vec3}
 use Rattle.vectors.specs.declared.BlockPosition.{BlockPosition}
@@ -21,7 +21,7 @@ abbrev pub nowhere : Vec3
 nowhere = record { x = nan; y = nan; z = nan }
 
 abbrev pub no_source : DynamicSourceState
-no_source = record { gain = nan; size = nan; place = nowhere; placed = false; send = nan }
+no_source = record { gain = nan; size = nan; place = nowhere; placed = false; wanted = false; held = false; send = nan }
 
 abbrev pub no_track : Track
 no_track = record { now = false; future = nowhere }
@@ -35,25 +35,25 @@ pub record ObjectAfter : Type 0 where
 
 -- the object where it is, with another gain, size and send
 abbrev pub heard_with : DynamicSourceState → Float → Float → Float → DynamicSourceState
-heard_with s gain size send = record { gain = gain; size = size; place = s.place; placed = s.placed; send = send }
+heard_with s gain size send =
+    record { gain = gain; size = size; place = s.place; placed = s.placed; wanted = s.wanted; held = s.held; send = send }
+
+-- the object at another place, and whether one was given
+abbrev pub put_at : Vec3 → Bool → DynamicSourceState → DynamicSourceState
+put_at place placed s =
+    record { gain = s.gain; size = s.size; place = place; placed = placed; wanted = s.wanted; held = s.held; send = s.send }
 
 -- gain and size where info k has them, and the send; R-3: "a block that is applied sets it"
 abbrev pub with_levels : List ℕ → ℕ → DynamicSourceState → DynamicSourceState
 with_levels is k s = heard_with s (unwrap_or (gain_at is k) s.gain) (unwrap_or (size_at is k) s.size) (send_at is k)
 
--- what block position b and its target p make of an object, for info k
+-- What block position b and its target p make of an object, for info k. R-11: while it is held "the object's panned position stops, while gain, size, targets, flags .. continue";
+-- "Whether a slot ramps or goes straight is decided as without the hold", so `placed` goes on too.
 abbrev pub after_move : Bool → ℕ → DynamicSourceState → List ℕ → BlockPosition → Placed → ObjectAfter
 after_move arrived k s is b p =
-    let heard = with_levels is k s in
     record {
       moved = record {
-        source = record {
-          gain = heard.gain;
-          size = heard.size;
-          place = cond (b.valid && arrived) p.target s.place;
-          placed = (b.valid && arrived) || s.placed;
-          send = heard.send;
-        };
+        source = put_at (cond (b.valid && arrived && not s.wanted) p.target s.place) ((b.valid && arrived) || s.placed) (with_levels is k s);
         track = record { now = b.valid; future = p.target };
       };
       infos = with_vec (with_vec is (info_at k + position_byte) p.position) (info_at k + last_byte) p.last;
@@ -94,12 +94,10 @@ bed_gains is first count gs = times count 0 (bed_at is first) gs
 -- ---- a ramp
 
 -- Document 01, item 5: "A ramp moves by 64 / remaining, at most 1, when the object was also being moved before (its flag set at this element's previous slot, and a
--- position already given); otherwise it goes straight to the target." t is the share, `last` the flag at the previous slot.
+-- position already given); otherwise it goes straight to the target." t is the share, `last` the flag at the previous slot. R-11: a held object stays where it is.
 unfoldable pub ramped : Float → Bool → Track → DynamicSourceState → DynamicSourceState
 ramped t last k s =
-    cond k.now
-    (record { gain = s.gain; size = s.size; place = cond (last && s.placed) (lerp_vec3 s.place k.future t) k.future; placed = true; send = s.send })
-    s
+    cond k.now (put_at (cond s.wanted s.place (cond (last && s.placed) (lerp_vec3 s.place k.future t) k.future)) true s) s
 
 abbrev pub ramped_at : Float → List Track → ℕ → Moving → Moving
 ramped_at t before d m =
@@ -108,3 +106,17 @@ ramped_at t before d m =
 unfoldable pub ramped_all : Float → List Track → ℕ → Moving → Moving
 unfolding times ramped
 ramped_all t before count m = times count 0 (ramped_at t before) m
+
+-- ---- no ramp
+
+-- R-11, "Release takes effect at the next slot: an unfinished ramp goes on from the held position with what remains, a finished one puts the object at its target. .. an object
+-- not being moved there has no target and stays put."
+unfoldable pub freed : Track → DynamicSourceState → DynamicSourceState
+freed k s = cond (k.now && (s.held && not s.wanted)) (put_at k.future s.placed s) s
+
+abbrev pub freed_at : ℕ → Moving → Moving
+freed_at d m = record { sources = set m.sources d (freed (get_or m.tracks d no_track) (get_or m.sources d no_source)); tracks = m.tracks }
+
+unfoldable pub freed_all : ℕ → Moving → Moving
+unfolding times freed
+freed_all count m = times count 0 freed_at m

@@ -4,7 +4,7 @@ use Rattle.timed.specs.Turns.{times}
 pub use Rattle.timed.specs.Rules.{middle, no_block}
 pub use Rattle.timed.specs.Preconditions.{InRange}
 use Rattle.timed.specs.Rules.{remaining_of, kept_as, due, left_after, ramp_over, share, slot_less}
-use Rattle.timed.specs.Objects.{moved_all, bed_gains, ramped_all}
+use Rattle.timed.specs.Objects.{moved_all, bed_gains, ramped_all, freed_all}
 use Rattle.timed.specs.declared.state.Track.{Track}
 use Rattle.timed.specs.declared.state.DynamicSourceState.{DynamicSourceState}
 use Rattle.timed.specs.declared.state.ElementRendererState.{ElementRendererState}
@@ -48,11 +48,13 @@ blocks_applied w r n k = times n 0 (block_turn w r) k
 
 -- ---- the ramp
 
--- where a ramp remains, each object moves by its share, and 64 samples of the ramp are over; `before` has the flags of the element's previous slot
+-- Where a ramp remains, each object moves by its share, and 64 samples of the ramp are over; `before` has the flags of the element's previous slot. Where none remains, objects
+-- that are released are put at their targets.
 unfoldable pub ramp_applied : List Track → ℕ → Slot → Slot
-unfolding ramped_all
+unfolding ramped_all freed_all
 ramp_applied before n s =
-    cond (ramp_over (remaining_of s.remaining)) s
+    cond (ramp_over (remaining_of s.remaining))
+    (record { schedule = s.schedule; remaining = s.remaining; gains = s.gains; moving = freed_all n s.moving })
     (record {
       schedule = s.schedule;
       remaining = kept_as (slot_less (remaining_of s.remaining));
@@ -67,11 +69,15 @@ pub record Sourced : Type 0 where
   pub updated : Updated
   pub infos : List ℕ
 
+-- its slot before any block
+abbrev pub slot_begun : ElementRendererState → List Float → List DynamicSourceState → List ℕ → SlotWork
+slot_begun e gains sources is =
+    record { slot = record { schedule = e.schedule; remaining = e.remaining; gains = gains; moving = record { sources = sources; tracks = e.tracks } }; infos = is }
+
 unfoldable pub updated_sources : Timing → Reach → ElementRendererState → List Float → List DynamicSourceState → List ℕ → Sourced
 unfolding due left_after remaining_of kept_as share blocks_applied ramp_applied
 updated_sources w r e gains sources is =
-    let begun : Slot = record { schedule = e.schedule; remaining = e.remaining; gains = gains; moving = record { sources = sources; tracks = e.tracks } } in
-    let k = blocks_applied w r e.blocks (record { slot = begun; infos = is }) in
+    let k = blocks_applied w r e.blocks (slot_begun e gains sources is) in
     let s = ramp_applied e.tracks r.count k.slot in
     record {
       updated = record {

@@ -5,6 +5,7 @@ pub use Rattle.timed.specs.Rules.{no_element, element_of}
 use Rattle.timed.specs.Rules.{active, begins}
 pub use Rattle.timed.specs.Preconditions.{Within}
 use Rattle.timed.specs.Slot.{Sourced, updated_sources}
+use Rattle.timed.specs.Holds.{holds_settled}
 use Rattle.timed.specs.declared.state.ElementRendererState.{ElementRendererState}
 use Rattle.timed.specs.declared.state.MetadataRendererState.{MetadataRendererState}
 use Rattle.timed.specs.declared.slot.Timing.{Timing}
@@ -57,9 +58,14 @@ abbrev pub timing_of : ℕ → MetadataRendererState → Timing
 timing_of start s = record { start = record { 0 = start }; payload = s.payload }
 
 -- "At the start of each 64-sample slot, take the last element .. An element with no blocks, or a first offset below 0, does nothing."
-unfoldable pub slot_at : ℕ → Timed → Timed
+unfoldable pub slot_moved : ℕ → Timed → Timed
 unfolding element_taken slot_of active
-slot_at start t =
+slot_moved start t =
     let w = timing_of start t.state in
     let i = element_taken w t.state.states t.state.elements in
     cond (eqb t.state.elements 0) t (cond (active (element_of t.state i)) (slot_of w i t) t)
+
+-- R-11, "takes effect at the next slot", whether it takes an element or not: from its end on, the holds that were asked for are those in effect
+unfoldable pub slot_at : ℕ → Timed → Timed
+unfolding slot_moved holds_settled
+slot_at start t = let m = slot_moved start t in record { state = holds_settled m.state; infos = m.infos }

@@ -4,7 +4,7 @@
 // What a block and a ramp do to beds and dynamic objects.
 ghost use Rattle.std.specs.Prelude.{◌≡◌, ◌+◌, ◌<◌};
 ghost use Rattle.timed.specs.InfoSizes.{most_blocks};
-ghost use Rattle.timed.specs.Objects.{with_levels, object_moved, moved_all, bed_gains, ramped, ramped_all};
+ghost use Rattle.timed.specs.Objects.{with_levels, object_moved, moved_all, bed_gains, ramped, ramped_all, freed, freed_all};
 ghost use Rattle.timed.specs.TimedResults.{IsMoved, IsMovedAll};
 
 use crate::infos;
@@ -48,12 +48,9 @@ fn update_source_state(
         future: to.target,
     };
     if block.valid && arrived {
+        let place = if heard.wanted { heard.place } else { to.target };
         return Moved {
-            source: DynamicSourceState {
-                place: to.target,
-                placed: true,
-                ..heard
-            },
+            source: heard.put_at(place, true),
             track,
         };
     }
@@ -96,6 +93,16 @@ impl Moving {
             self.sources[d] = ramp_one(self.sources[d], self.tracks[d], before[d].now, t);
         }
     }
+
+    // No ramp remains: the released ones of the objects that the element reaches are put at their targets.
+    #[tactic(auto, using(crate::proofs::LoopTurns::turns), unfolding(crate::specs::Objects::freed_all))]
+    pub(crate) fn free(&mut self, reach: Reach)
+        ensures { self.new ≡ freed_all reach.count self.old }
+    {
+        for d in 0..reach.count {
+            self.sources[d] = free_one(self.sources[d], self.tracks[d]);
+        }
+    }
 }
 
 // One object of a ramp: `last` is its flag at the element's previous slot.
@@ -106,15 +113,25 @@ fn ramp_one(source: DynamicSourceState, track: Track, last: bool, t: f32) -> Dyn
     if !track.now {
         return source;
     }
-    let place = if last && source.placed {
+    let place = if source.wanted {
+        source.place
+    } else if last && source.placed {
         source.place.lerp(track.future, t)
     } else {
         track.future
     };
-    DynamicSourceState {
-        place,
-        placed: true,
-        ..source
+    source.put_at(place, true)
+}
+
+// One object where no ramp remains: a released one is put at its target.
+#[tactic(auto, unfolding(crate::specs::Objects::freed))]
+fn free_one(source: DynamicSourceState, track: Track) -> DynamicSourceState
+    ensures { result ≡ freed track source }
+{
+    if track.now && source.held && !source.wanted {
+        source.put_at(track.future, source.placed)
+    } else {
+        source
     }
 }
 

@@ -131,7 +131,7 @@ impl Slot {
         }
     }
 
-    // The ramp, where one remains; `before` has the flags of the element's previous slot.
+    // The ramp, where one remains, else what releases leave to do; `before` has the flags of the element's previous slot.
     #[tactic(auto, using(crate::proofs::Shifted::over_shifted, crate::proofs::Shifted::less_shifted), unfolding(crate::specs::Slot::ramp_applied))]
     fn ramp(&mut self, before: &[Track; 16], reach: Reach)
         requires { self.old.remaining ≤ 140737489403904 }
@@ -140,6 +140,8 @@ impl Slot {
         if self.remaining > RAMP_OVER {
             self.moving.ramp(before, reach, share(self.remaining));
             self.remaining -= 64;
+        } else {
+            self.moving.free(reach);
         }
     }
 }

@@ -5,13 +5,13 @@
 // Tables have their full length, with counts beside them, and stand each on its own, as in the state block: there is no heap, and C may hold a state as it stands.
 // A flag stands beside a value and is no Option of it: the value is panned or kept whatever the flag says.
 ghost use Rattle.std.specs.Prelude.{◌≡◌, ◌-◌};
-ghost use Rattle.timed.specs.Objects.{heard_with};
+ghost use Rattle.timed.specs.Objects.{heard_with, put_at};
 
 use clock::StreamSample;
 use vectors::Vec3;
 
 // A dynamic object as it is panned; `place` is the source's `cubical_position`, `placed` its `position_valid`, `send` its share in
-// the bass feed.
+// the bass feed. `wanted` is the hold that the host asks for (R-11), `held` the one that the last slot had in effect.
 #[repr(C)]
 #[derive(Clone, Copy)]
 pub struct DynamicSourceState {
@@ -19,6 +19,8 @@ pub struct DynamicSourceState {
     pub size: f32,
     pub place: Vec3,
     pub placed: bool,
+    pub wanted: bool,
+    pub held: bool,
     pub send: f32,
 }
 
@@ -31,6 +33,17 @@ impl DynamicSourceState {
             gain,
             size,
             send,
+            ..self
+        }
+    }
+
+    // At another place, and whether one was given.
+    pub fn put_at(self, place: Vec3, placed: bool) -> DynamicSourceState
+        ensures { result ≡ put_at place placed self }
+    {
+        DynamicSourceState {
+            place,
+            placed,
             ..self
         }
     }

@@ -4,7 +4,7 @@
 // A slot of the whole state: the element that it takes, and what that element moves.
 ghost use Rattle.std.specs.Prelude.{◌≡◌, ◌+◌, ◌<◌, ◌≤◌, length};
 ghost use Rattle.timed.specs.InfoSizes.{most_elements, all_bytes};
-ghost use Rattle.timed.specs.State.{element_taken, reach_of, slot_of, slot_at};
+ghost use Rattle.timed.specs.State.{element_taken, reach_of, slot_of, slot_moved, slot_at};
 ghost use Rattle.timed.specs.Resting.{rests_at};
 ghost use Rattle.timed.specs.Preconditions.{Within};
 ghost use Rattle.timed.specs.TimedResults.{IsTimed};
@@ -76,6 +76,9 @@ impl MetadataRendererState {
         requires { (start.0 ≤ 1099511627776) × Within 1099511627776 self }
         ensures { result ≡ rests_at start.0 self }
     {
+        if !self.holds_stand() {
+            return false;
+        }
         if self.elements == 0 {
             return true;
         }
@@ -87,11 +90,11 @@ impl MetadataRendererState {
         !element.active() || element.rests(when)
     }
 
-    // The slot that starts at a sample of the stream. The infos come as the range of a block that C lends: an array would ask more of who has a slice.
+    // The slot that starts at a sample of the stream, up to the holds that take effect. The infos come as the range of a block that C lends: an array would ask more of who has a slice.
     #[tactic(auto, using(crate::proofs::Slots::slot_empty, crate::proofs::Slots::slot_idle))]
-    pub fn update_timeslot(self, infos: &mut [u8], start: StreamSample) -> MetadataRendererState
+    fn move_sources(self, infos: &mut [u8], start: StreamSample) -> MetadataRendererState
         requires { (length infos.old ≡ all_bytes) × (start.0 ≤ 1099511627776) × Within 1099511627776 self }
-        ensures { IsTimed (slot_at start.0 (record { state = self; infos = infos.old })) result infos.new }
+        ensures { IsTimed (slot_moved start.0 (record { state = self; infos = infos.old })) result infos.new }
     {
         if self.elements == 0 {
             return self;
@@ -105,5 +108,14 @@ impl MetadataRendererState {
             return self.slot_of(infos.as_mut_array().unwrap(), index, when);
         }
         self
+    }
+
+    // The slot that starts at a sample of the stream.
+    #[tactic(auto, unfolding(crate::specs::State::slot_at))]
+    pub fn update_timeslot(self, infos: &mut [u8], start: StreamSample) -> MetadataRendererState
+        requires { (length infos.old ≡ all_bytes) × (start.0 ≤ 1099511627776) × Within 1099511627776 self }
+        ensures { IsTimed (slot_at start.0 (record { state = self; infos = infos.old })) result infos.new }
+    {
+        self.move_sources(infos, start).settle_holds()
     }
 }

@@ -1,46 +1,20 @@
 -- What an applied update makes of each element, from what that element was. Assumes nothing.
-use Prim.Native.Nat.{ℕ, zero, suc, ◌+◌, ◌-◌, ◌≤◌, ◌<◌}
+use Prim.Native.Nat.{ℕ, zero, suc, ◌-◌, ◌≤◌, ◌<◌}
 use mathlib.Core.Path.{◌≡◌, refl, ap, ◌∙◌}
 use mathlib.Core.Bool.{Bool, true, false, ◌&&◌, cond}
 use mathlib.Core.List.{List}
-use lib.Dec.{eqb, ltb}
-use lib.ListN.{length, get_or, set, length-set}
-use lib.Seq.{get_or-set_same, get_or-set_other}
+use lib.Dec.{eqb}
+use lib.ListN.{length, get_or}
 use native.Mathlib.Omega.{arith}
-use borrow.Author.Tests.{eqb-true, ltb-true, ltb-false}
+use borrow.Author.Tests.{eqb-true}
 use Rattle.fields.proofs.All.{and_left, and_right}
+use Rattle.timed.proofs.Theorems.{turned, turned_at}
 use Rattle.timed.specs.Turns.{times}
 use Rattle.timed.specs.State.{Timed, element_of, no_element}
 use Rattle.timed.specs.declared.state.MetadataRendererState.{MetadataRendererState}
 use Rattle.timed.specs.declared.state.ElementRendererState.{ElementRendererState}
 use Rattle.updates.specs.Said.{Update}
 use Rattle.updates.specs.Applied.{Work, is_kept, is_same, element_next, element_given, elements_applied, applied}
-
--- ---- turn i changes entry i of a table, by what that entry is
-
-module _ {A : Type 0} (g : ℕ → A → A) (d : A) where
-  abbrev pub turned : ℕ → List A → List A
-  turned i l = set l i (g i (get_or l i d))
-
-  turned_past : (n i k : ℕ) (l : List A) → k < i → get_or (times n i turned l) k d ≡ get_or l k d
-  unfolding times
-  turned_past zero i k l h = refl
-  turned_past (suc n) i k l h = turned_past n (suc i) k (turned i l) (omega arith) ∙ get_or-set_other l i k (g i (get_or l i d)) d (λ e. omega arith)
-
-  turned_from : (n i k : ℕ) (l : List A) (later : Bool) → ltb i k ≡ later → i ≤ k → k < i + n → k < length l → get_or (times n i turned l) k d ≡ g k (get_or l k d)
-  unfolding times
-  turned_from zero i k l later e h m o = absurd (omega arith)
-  turned_from (suc n) i k l true e h m o =
-      let q = ltb-true i k e in
-      let r = length-set l i (g i (get_or l i d)) in
-      turned_from n (suc i) k (turned i l) (ltb (suc i) k) refl (omega arith) (omega arith) (omega arith) ∙ ap (g k) (get_or-set_other l i k (g i (get_or l i d)) d (λ x. omega arith))
-  turned_from (suc n) i k l false e h m o =
-      let q = ltb-false i k e in
-      let s : i ≡ k = omega arith in
-      turned_past n (suc i) k (turned i l) (omega arith) ∙ rw s (get_or-set_same l k (g k (get_or l k d)) d o)
-
-  pub turned_at : (n k : ℕ) (l : List A) → k < n → k < length l → get_or (times n 0 turned l) k d ≡ g k (get_or l k d)
-  turned_at n k l h o = turned_from n 0 k l (ltb 0 k) refl (omega arith) (omega arith) o
 
 -- ---- the elements
 

@@ -1,5 +1,5 @@
 -- R-1's sentence on an element that would have been kept. Assumes nothing.
-use Prim.Native.Nat.{ℕ, zero, suc, ◌+◌, ◌-◌, ◌*◌, ◌≤◌, ◌<◌}
+use Prim.Native.Nat.{ℕ, suc, ◌+◌, ◌-◌, ◌*◌, ◌≤◌, ◌<◌}
 use mathlib.Core.Path.{◌≡◌, refl, ap, ◌∙◌, subst}
 use mathlib.Core.Logic.{◌⊎◌, inl, inr}
 use mathlib.Core.Bool.{Bool, true, false, ◌&&◌, and-false}
@@ -23,37 +23,14 @@ use Rattle.timed.specs.Turns.{times}
 use Rattle.timed.specs.State.{Timed, element_of}
 use Rattle.timed.specs.declared.state.BlockState.{BlockState}
 use Rattle.timed.specs.declared.state.MetadataRendererState.{MetadataRendererState}
-use Rattle.timed.proofs.Theorems.{remaining_shifted}
+use Rattle.timed.proofs.Theorems.{remaining_shifted, turned_at, made}
 use Rattle.updates.specs.Said.{Element, Update}
 use Rattle.info.specs.Written.{with_three, cleared, with_place, head_of, with_head, with_info}
 use Rattle.updates.specs.Stored.{info_given, object_stored, object_given, objects_stored}
 use Rattle.updates.specs.Applied.{Work, is_same, scheduled, element_next, element_given, elements_applied, applied}
 use Rattle.updates.specs.Lifted.{WithinCounts, Afresh}
 use Rattle.updates.proofs.StoredInfos.{Stored, one, head_stored, place_stored, three, info_stored, object_stored_is, objects_stored_is}
-use Rattle.updates.proofs.Elements.{turned_at, element_at}
-
--- ---- turn k makes what the others leave
-
-module _ {S : Type 0} (Q P : S → Type 0) (f : ℕ → S → S) (m k : ℕ)
-    (keeps : (i : ℕ) (s : S) → i < m → Q s → Q (f i s)) (makes : (s : S) → Q s → P (f k s)) (leaves : (i : ℕ) (s : S) → i < m → (i ≡ k → ⊥) → P s → P (f i s)) where
-  past : (n i : ℕ) → i + n ≤ m → k < i → (s : S) → P s → P (times n i f s)
-  unfolding times
-  past zero i l h s p = p
-  past (suc n) i l h s p = past n (suc i) (omega arith) (omega arith) (f i s) (leaves i s (omega arith) (λ e. omega arith) p)
-
-  made_from : (n i : ℕ) (later : Bool) → ltb i k ≡ later → i + n ≤ m → i ≤ k → k < i + n → (s : S) → Q s → P (times n i f s)
-  unfolding times
-  made_from zero i later e l a b s q = absurd (omega arith)
-  made_from (suc n) i true e l a b s q =
-      let h = ltb-true i k e in
-      made_from n (suc i) (ltb (suc i) k) refl (omega arith) (omega arith) (omega arith) (f i s) (keeps i s (omega arith) q)
-  made_from (suc n) i false e l a b s q =
-      let h = ltb-false i k e in
-      let o : k ≡ i = omega arith in
-      past n (suc i) (omega arith) (omega arith) (f i s) (subst (λ (j : ℕ). P (f j s)) o (makes s q))
-
-  made : k < m → (s : S) → Q s → P (times m 0 f s)
-  made l s q = made_from m 0 (ltb 0 k) refl (omega arith) (omega arith) (omega arith) s q
+use Rattle.updates.proofs.Elements.{element_at}
 
 -- ---- three words
 

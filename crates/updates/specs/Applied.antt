@@ -20,9 +20,9 @@ use Rattle.updates.specs.Stored.{objects_stored}
 abbrev pub 0·707 : Float
 0·707 = of_bits binary32 0x3f34fdf4
 
--- "Objects start at gain 0.707, size 0 and the origin"; R-3: "An object starts with send 0"
+-- "Objects start at gain 0.707, size 0 and the origin"; R-3: "An object starts with send 0"; R-11: "A change in the number of objects .. end[s] all holds"
 abbrev pub new_source : DynamicSourceState
-new_source = record { gain = 0·707; size = 0·0f; place = zero_vec3; placed = false; send = 0·0f }
+new_source = record { gain = 0·707; size = 0·0f; place = zero_vec3; placed = false; wanted = false; held = false; send = 0·0f }
 
 abbrev pub new_track : Track
 new_track = record { now = false; future = zero_vec3 }

@@ -4,3 +4,5 @@ pub mod InfoAfter
 pub mod Applied
 pub mod UpdateResults
 pub mod Lifted
+pub mod HoldsEnd
+pub mod UpdateAlone

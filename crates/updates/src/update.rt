@@ -23,6 +23,8 @@ const NEW_SOURCE: DynamicSourceState = DynamicSourceState {
     size: 0.0,
     place: vectors::ORIGIN,
     placed: false,
+    wanted: false,
+    held: false,
     send: 0.0,
 };
 

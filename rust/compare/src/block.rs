@@ -1,7 +1,7 @@
 //! A state block (docs/STATE-BLOCK.md) beside the Rust's own state.
 
-use crate::same;
 use crate::setup::{Setup, Table};
+use crate::{all_same, floats, same};
 use oracle::frame::{ANCHORS, DEPTHS};
 use oracle::state::{Element, Info, Metadata, Source, State};
 
@@ -18,6 +18,10 @@ pub const ROW: usize = 256;
 /// Where the layout's code stands, and the hall table.
 pub const LAYOUT: usize = PLACES + 12 * ROW;
 pub const TABLE: usize = LAYOUT + 4;
+/// Where a source has its marks: 1 it was given a place, 2 a hold is wanted, 4 one is in effect.
+pub const SOURCE_MARKS: usize = 20;
+pub const WANTED: u32 = 2;
+pub const HELD: u32 = 4;
 /// Where the send stands in a source and in an info.
 pub const SOURCE_SEND: usize = 24;
 pub const INFO_SEND: usize = 44;
@@ -79,7 +83,7 @@ impl Block<'_> {
     fn same_source(&self, at: usize, source: &Source) -> bool {
         self.holds(at, &[source.gain, source.size])
             && self.holds(at + 8, &source.cubical_position)
-            && self.flag(at + 20) == source.position_valid
+            && self.word(at + SOURCE_MARKS) == marks(source)
             && self.holds(at + SOURCE_SEND, &[source.send])
     }
 
@@ -162,6 +166,32 @@ pub fn difference(block: &[u8], setup: &Setup, state: &State) -> Option<&'static
     parts.iter().find(|(_, same)| !same).map(|(name, _)| *name)
 }
 
+/// The word of a source's marks.
+fn marks(source: &Source) -> u32 {
+    let marks = [source.position_valid, source.wanted, source.held];
+    (0..3).map(|k| u32::from(marks[k]) << k).sum()
+}
+
+/// The block after a hold or a release that is not known: another mark of that object, and all NaNs
+/// being equal nothing else.
+pub fn marked(block: &[u8], object: usize, wanted: bool) -> Vec<u8> {
+    let at = SOURCES + SOURCE * object + SOURCE_MARKS;
+    let marks = Block(block).word(at);
+    let marks = if wanted {
+        marks | WANTED
+    } else {
+        marks & !WANTED
+    };
+    let mut marked = block.to_vec();
+    marked[at..at + 4].copy_from_slice(&marks.to_le_bytes());
+    marked
+}
+
+/// The same words, all NaNs being equal.
+pub fn same_words(a: &[u8], b: &[u8]) -> bool {
+    a == b || all_same(&floats(a), &floats(b))
+}
+
 /// The code that a block holds.
 pub fn layout(block: &[u8]) -> u32 {
     Block(block).word(LAYOUT)
@@ -230,12 +260,15 @@ impl Block<'_> {
     }
 
     fn source(&self, at: usize) -> Source {
+        let marks = self.word(at + SOURCE_MARKS);
         Source {
             gain: self.float(at),
             size: self.float(at + 4),
             cubical_position: self.floats(at + 8),
-            position_valid: self.flag(at + 20),
+            position_valid: marks & 1 != 0,
             send: self.float(at + SOURCE_SEND),
+            wanted: marks & WANTED != 0,
+            held: marks & HELD != 0,
         }
     }
 

@@ -38,6 +38,9 @@ pub enum Step {
     /// By the layout's code, and with a table's bytes.
     Make(u32),
     MakeWith(u32, Vec<u8>),
+    /// Of a dynamic object.
+    Hold(u32),
+    Release(u32),
 }
 
 impl Step {
@@ -49,6 +52,8 @@ impl Step {
             Step::Reset => entry::reset(state),
             Step::Make(layout) => entry::make(state, *layout),
             Step::MakeWith(layout, table) => entry::make_with(state, *layout, table),
+            Step::Hold(object) => entry::mark(state, *object, true),
+            Step::Release(object) => entry::mark(state, *object, false),
         }
     }
 
@@ -94,6 +99,10 @@ pub struct Calls {
     frames: Frames,
     /// The layout that most making calls have, where there are such calls.
     makes: Option<u32>,
+    /// Objects are held and released.
+    holds: bool,
+    /// The last one that was to be held.
+    held: u32,
 }
 
 impl Calls {
@@ -102,6 +111,8 @@ impl Calls {
             inputs: Generator::new(!seed),
             frames: Frames::new(seed, most_samples),
             makes: None,
+            holds: false,
+            held: 0,
         }
     }
 
@@ -111,6 +122,8 @@ impl Calls {
             inputs: Generator::new(!seed),
             frames: Frames::for_entries(seed, most_samples),
             makes: None,
+            holds: false,
+            held: 0,
         }
     }
 
@@ -120,6 +133,8 @@ impl Calls {
             inputs: Generator::new(!seed),
             frames: Frames::lifting(seed, most_samples),
             makes: None,
+            holds: false,
+            held: 0,
         }
     }
 
@@ -129,6 +144,19 @@ impl Calls {
             inputs: Generator::new(!seed),
             frames: Frames::sending(seed, most_samples),
             makes: None,
+            holds: false,
+            held: 0,
+        }
+    }
+
+    /// Calls in which moving objects are held and released.
+    pub fn holding(seed: u64, most_samples: u64) -> Self {
+        Calls {
+            inputs: Generator::new(!seed),
+            frames: Frames::moving(seed, most_samples),
+            makes: None,
+            holds: true,
+            held: 0,
         }
     }
 
@@ -150,7 +178,17 @@ impl Calls {
         self.frames.set_most_samples(most_samples);
     }
 
+    /// One call in three is a hold or a release, before frames, between them, and twice in a row.
+    pub fn with_holds(mut self) -> Self {
+        self.holds = true;
+        self
+    }
+
     pub fn next_step(&mut self) -> Step {
+        let likely = if self.frames.has_started() { 3 } else { 30 };
+        if self.holds && self.inputs.chance(likely) {
+            return self.mark();
+        }
         match self.inputs.below(24) {
             0 => self.new_renderer(),
             1..4 => Step::Flush,
@@ -166,6 +204,21 @@ impl Calls {
 }
 
 impl Calls {
+    /// Mostly of an object of the frame before; most releases of the one that was held last.
+    fn mark(&mut self) -> Step {
+        let (inputs, count) = (&mut self.inputs, self.frames.dynamic());
+        let any = inputs.below(u64::from(count.max(1))) as u32;
+        let object = match inputs.below(24) {
+            0 => inputs.pick(&[count, count + 1, 16, 255, 1 << 31, u32::MAX]),
+            _ => any,
+        };
+        if !inputs.chance(3) {
+            self.held = object;
+            return Step::Hold(object);
+        }
+        Step::Release(inputs.pick(&[object, self.held, self.held, self.held]))
+    }
+
     fn new_renderer(&mut self) -> Step {
         let Calls { inputs, makes, .. } = self;
         let made = makes

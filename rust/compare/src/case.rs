@@ -4,7 +4,7 @@
 use crate::calls::Step;
 use crate::entry::{Answer, BLOCK, same_answer};
 use crate::host::only_ready_is_written;
-use crate::model::{Model, Outcome, judged, rightly_lent};
+use crate::model::{Model, Outcome, holds, judged, rightly_lent};
 use crate::setup::Setup;
 use crate::{block, ranges};
 
@@ -31,13 +31,21 @@ impl Case {
         Seen { answer, state, out }
     }
 
-    /// The refusal among 1 to 8 but 7, and 15 to 18, by a reading that needs no Rust; else 0.
+    /// The refusal among 1 to 8 but 7, 15 to 18 and 24, by a reading that needs no Rust; else 0.
     pub fn early(&self) -> u32 {
         let lent = || rightly_lent(&self.state, self.out.len(), self.stride);
         match &self.step {
             _ if self.state.len() != BLOCK => 1,
             step @ (Step::Make(_) | Step::MakeWith(..)) => step.made(),
             Step::Reset => u32::from(!Setup::of_block(&self.state).holds()),
+            Step::Hold(_) | Step::Release(_) if !ranges::hold(&self.state) => 1,
+            Step::Hold(object) | Step::Release(object) => {
+                let metadata = block::state(&self.state).metadata;
+                match holds::object(&metadata, *object) {
+                    Some(_) => 0,
+                    None => 24,
+                }
+            }
             _ if !lent() => 1,
             Step::Flush => 0,
             Step::Push(call) => {
@@ -78,6 +86,11 @@ impl Case {
             Outcome::Ready(..) => assert!(ranges::hold(&seen.state), "{name}: the ranges"),
             Outcome::New(setup) => {
                 assert!(seen.state == setup.fresh(), "{name}: a new renderer");
+            }
+            Outcome::Marked(Some((object, wanted))) => {
+                let marked = block::marked(&self.state, *object, *wanted);
+                assert!(block::same_words(&seen.state, &marked), "{name}: a mark");
+                assert!(ranges::hold(&seen.state), "{name}: the ranges");
             }
             _ => assert!(seen.state == self.state, "{name}: {outcome:?}: the block"),
         }

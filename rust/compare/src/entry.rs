@@ -2,11 +2,11 @@
 
 use crate::calls::Call;
 use voqlisna_sys::{
-    hall_flush, hall_from_planes, hall_make, hall_make_with_table, hall_push, hall_read_24,
-    hall_reset, hall_to_planes, hall_write_24,
+    hall_find, hall_flush, hall_from_planes, hall_hold, hall_make, hall_make_with_table, hall_push,
+    hall_read_24, hall_release, hall_reset, hall_to_planes, hall_write_24,
 };
 
-pub use voqlisna_sys::Answer;
+pub use voqlisna_sys::{Answer, Place};
 
 /// Equal word for word: the two zeros differ.
 pub fn same_answer(a: Answer, b: Answer) -> bool {
@@ -78,6 +78,18 @@ pub fn make_with(state: &mut [u8], layout: u32, table: &[u8]) -> Answer {
 pub fn reset(state: &mut [u8]) -> Answer {
     // SAFETY: one slice that lives through the call.
     unsafe { hall_reset(state.as_mut_ptr(), state.len()) }
+}
+
+/// R-11's two calls: a hold is wanted, or none.
+pub fn mark(state: &mut [u8], object: u32, wanted: bool) -> Answer {
+    let entry = if wanted { hall_hold } else { hall_release };
+    // SAFETY: one slice that lives through the call.
+    unsafe { entry(state.as_mut_ptr(), state.len(), object) }
+}
+
+pub fn find(state: &[u8], mask: u32) -> Place {
+    // SAFETY: one slice that lives through the call.
+    unsafe { hall_find(state.as_ptr(), state.len(), mask) }
 }
 
 /// R-10's two calls, by which of them it is.

@@ -4,7 +4,7 @@ use crate::calls::{Call, Step};
 use crate::entry::{self, Answer, BLOCK, same_answer};
 use crate::model::{Model, Outcome, STREAM_END};
 use crate::setup::Setup;
-use crate::{Frames, Generator, same, tables};
+use crate::{Frames, Generator, block, same, tables};
 
 /// What making with the built-in table makes of any block.
 pub fn fresh(layout: u32) -> Vec<u8> {
@@ -100,8 +100,15 @@ impl Host {
             only_ready_is_written(&self.out, &out, outcome, self.stride),
             "{name}: {answer:?}: the output"
         );
-        if matches!(outcome, Outcome::Refused(_) | Outcome::Nothing) {
-            assert!(self.state == state, "{name}: {answer:?}: the block");
+        match outcome {
+            Outcome::Refused(_) | Outcome::Nothing | Outcome::Marked(None) => {
+                assert!(self.state == state, "{name}: {answer:?}: the block");
+            }
+            Outcome::Marked(Some((object, wanted))) => {
+                let marked = block::marked(&state, *object, *wanted);
+                assert!(block::same_words(&self.state, &marked), "{name}: the mark");
+            }
+            Outcome::Ready(..) | Outcome::New(_) => (),
         }
     }
 

@@ -2,7 +2,8 @@
 //! which blocks are in range, and blocks drawn from all of these.
 
 use crate::block::{
-    ELEMENT, ELEMENTS, INFO, INFO_SEND, INFOS, LAYOUT, SOURCE, SOURCE_SEND, SOURCES, TABLE,
+    ELEMENT, ELEMENTS, INFO, INFO_SEND, INFOS, LAYOUT, SOURCE, SOURCE_MARKS, SOURCE_SEND, SOURCES,
+    TABLE,
 };
 use crate::entry::BLOCK;
 use crate::model::STREAM_END;
@@ -63,7 +64,7 @@ fn table() -> Vec<Field> {
     let mut fields = clock().to_vec();
     fields.extend(counts());
     fields.extend((0..18).map(|i| field(96 + 4 * i, 4, 0, 17)));
-    fields.extend((0..16).map(|i| field(SOURCES + SOURCE * i + 20, 4, 0, 1)));
+    fields.extend((0..16).map(|i| field(SOURCES + SOURCE * i + SOURCE_MARKS, 4, 0, 7)));
     for element in EACH_ELEMENT {
         fields.extend([blocks(element), flags(element), remaining(element)]);
         for block in 0..8 {
@@ -182,7 +183,7 @@ fn end(inputs: &mut Generator, field: &Field) -> u64 {
 
 /// A block in range: each number at an end of its range or between; floats of any bits, in every
 /// second block mostly small ones, so that not all that follows is NaN; in every second block no
-/// send, and in every second the built-in table, so that the Rust goes on from it.
+/// send and no hold, and in every second the built-in table, so that the Rust goes on from it.
 pub fn drawn(inputs: &mut Generator) -> Vec<u8> {
     let tame = inputs.chance(2);
     let mut float = || {
@@ -201,12 +202,16 @@ pub fn drawn(inputs: &mut Generator) -> Vec<u8> {
     if inputs.chance(8) {
         block[..4].fill(0);
     }
-    if inputs.chance(2) {
+    let [no_send, no_hold] = inputs.pick(&[[true; 2], [true; 2], [true, false], [false; 2]]);
+    if no_send {
         let sources = (0..16).map(|i| SOURCES + SOURCE * i + SOURCE_SEND);
         let infos = (0..512).map(|i| INFOS + INFO * i + INFO_SEND);
         sources
             .chain(infos)
             .for_each(|at| block[at..at + 4].fill(0));
+    }
+    if no_hold {
+        (0..16).for_each(|i| block[SOURCES + SOURCE * i + SOURCE_MARKS] &= 1);
     }
     let table = match inputs.chance(2) {
         true => built_in(),

@@ -17,6 +17,7 @@ pub fn append(stream: &mut Vec<u8>, step: &Step) {
         Step::Flush => return stream.extend(record(7)),
         Step::Reset => return stream.extend(record(8)),
         Step::Make(_) | Step::MakeWith(..) => panic!("hallrender makes its renderer itself"),
+        Step::Hold(_) | Step::Release(_) => panic!("hallrender holds no object"),
     };
     let mut header = record(5);
     header[4..8].copy_from_slice(&call.rate.to_le_bytes());
@@ -151,6 +152,7 @@ fn print(text: &mut String, outcome: &Outcome) {
         }
         Outcome::Nothing => text.push_str("none\n"),
         Outcome::New(_) => text.push_str("reset\n"),
+        Outcome::Marked(_) => panic!("hallrender holds no object"),
     }
 }
 

@@ -1,7 +1,7 @@
 //! The oracle: `Renderer714` compiled from its own sources, with the nearest value where it calls
 //! the machine's libm, and references in exact arithmetic. `amended` is the same sources with the
 //! rules of document 02 that the Rust has not (build.rs): R-1's lifted channels, R-3's sends, the
-//! halls of.
+//! halls of, R-11's holds.
 //!
 //! Where the sources are not at hand (cfg `no_sources`, see build.rs) everything here compiles and
 //! only `exact` runs; tests that need the sources carry
@@ -51,6 +51,20 @@ macro_rules! send_of {
         0.0
     };
 }
+/// A source of these; it has no marks either.
+#[cfg(not(no_sources))]
+macro_rules! with_send_and_marks {
+    ($source:expr, $name:ident { $($fields:tt)* }) => {
+        $name { $($fields)* }
+    };
+}
+/// Whether a hold of a source is wanted, and held.
+#[cfg(not(no_sources))]
+macro_rules! marks_of {
+    ($source:expr) => {
+        [false; 2]
+    };
+}
 /// A value of the sources; these have no hall.
 #[cfg(not(no_sources))]
 macro_rules! with_hall {
@@ -90,6 +104,25 @@ macro_rules! with_send {
 macro_rules! send_of {
     ($value:expr) => {
         $value.send
+    };
+}
+/// A source with its send and its marks.
+#[cfg(not(no_sources))]
+macro_rules! with_send_and_marks {
+    ($source:expr, $name:ident { $($fields:tt)* }) => {
+        $name {
+            send: $source.send,
+            wanted: $source.wanted,
+            held: $source.held,
+            $($fields)*
+        }
+    };
+}
+/// Whether a hold of a source is wanted, and held.
+#[cfg(not(no_sources))]
+macro_rules! marks_of {
+    ($source:expr) => {
+        [$source.wanted, $source.held]
     };
 }
 /// A value of the sources with its hall.

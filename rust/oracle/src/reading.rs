@@ -34,6 +34,8 @@ pub fn source(cubical_position: Vector, gain: f32, size: f32) -> Source {
         cubical_position,
         position_valid: true,
         send: 0.0,
+        wanted: false,
+        held: false,
     }
 }
 

@@ -76,4 +76,7 @@ pub struct Source {
     pub position_valid: bool,
     /// Of the amended sources; 0 else.
     pub send: f32,
+    /// Of the amended sources, false else: a hold is asked for, and in effect (document 02, R-11).
+    pub wanted: bool,
+    pub held: bool,
 }

@@ -2,18 +2,12 @@
 
 use oracle::frame::{Block, Element, Object, Update};
 use oracle::leaf::{self, Timed};
-use oracle::state::Source;
+use oracle::reading::source;
 use oracle::{Vector, exact};
 
 /// What a sample of 1 puts on each channel, at size 0.
 fn coefficients(cubical_position: Vector, gain: f32) -> Vec<f32> {
-    let source = Source {
-        gain,
-        size: 0.0,
-        cubical_position,
-        position_valid: true,
-        send: 0.0,
-    };
+    let source = source(cubical_position, gain, 0.0);
     let mut output = vec![vec![0.0]; 12];
     leaf::render_object_timeslot_to_714(&[1.0], &mut output, 0, &source);
     output.concat()

@@ -4,7 +4,7 @@ use crate::trouble::Trouble;
 use crate::wave::Sample;
 use lexopt::{Arg, Parser, prelude::*};
 use std::ffi::OsString;
-use voqlisna::{Layout, UnknownLayout};
+use voqlisna::{Layout, Speaker, UnknownLayout};
 
 /// What a refused frame does to a rendering.
 #[derive(Clone, Copy, PartialEq)]
@@ -28,6 +28,7 @@ pub enum Picture {
     Decay,
     Limiter,
     Levels,
+    Hold,
 }
 
 /// Where the limiter's meters go.
@@ -57,6 +58,8 @@ pub struct Render {
     pub rf64: bool,
     pub sample: Sample,
     pub meters: Meters,
+    /// A file of them.
+    pub cues: Option<OsString>,
 }
 
 pub struct Demo {
@@ -65,6 +68,15 @@ pub struct Demo {
     pub hall: Hall,
     pub sample: Sample,
     pub meters: Meters,
+    pub cues: Option<OsString>,
+}
+
+/// A question for a place, where just these speakers sound.
+pub struct Where {
+    pub speakers: Vec<Speaker>,
+    pub hall: Hall,
+    /// The SVG file to draw it into.
+    pub picture: Option<OsString>,
 }
 
 pub enum Command {
@@ -105,9 +117,12 @@ pub enum Command {
         to: OsString,
     },
     Table(Hall),
+    Where(Where),
+    /// Each set of speakers for which there is a place.
+    Places(Hall),
 }
 
-const COMMANDS: [&str; 14] = [
+const COMMANDS: [&str; 15] = [
     "demo",
     "render",
     "check",
@@ -120,10 +135,11 @@ const COMMANDS: [&str; 14] = [
     "map",
     "plot",
     "table",
+    "where",
     "version",
     "help",
 ];
-const PLOTS: [&str; 4] = ["bass", "decay", "limiter", "levels"];
+const PLOTS: [&str; 5] = ["bass", "decay", "limiter", "levels", "hold"];
 
 /// The seconds that a demo may have: a frame at least, an hour at most.
 const SECONDS: std::ops::RangeInclusive<f64> = 0.01..=3600.0;
@@ -144,10 +160,11 @@ fn parse(mut parser: Parser) -> Result<Command, Trouble> {
         Some(other) => return Err(unknown(&other, &["help", "version"])),
     };
     let known: &[&str] = match name.as_str() {
-        "demo" => &["o", "s", "layout", "table", "bits", "meters"],
+        "demo" => &["o", "s", "layout", "table", "bits", "meters", "cues"],
         "render" => &[
-            "o", "conceal", "stop", "layout", "table", "bits", "rf64", "meters",
+            "o", "conceal", "stop", "layout", "table", "bits", "rf64", "meters", "cues",
         ],
+        "where" => &["layout", "table", "picture", "all"],
         "unarchive" | "floats" => &["o", "rf64"],
         "map" => &["o", "layout", "table"],
         "table" => &["layout"],
@@ -176,6 +193,8 @@ fn command(name: &str, given: Given) -> Result<Command, Trouble> {
         "map" => given.none().and_then(Given::map),
         "plot" => given.plot(),
         "table" => given.told_table(),
+        "where" if given.all => given.places(),
+        "where" => given.place(),
         "version" => given.none().map(|_| Command::Version),
         "help" => given.none().map(|_| Command::Help),
         _ => {
@@ -196,6 +215,9 @@ struct Given {
     bits: Option<OsString>,
     /// The option, and its file where it names one.
     meters: Option<Option<OsString>>,
+    cues: Option<OsString>,
+    picture: Option<OsString>,
+    all: bool,
     conceal: bool,
     stop: bool,
     rf64: bool,
@@ -222,6 +244,13 @@ impl Given {
                 Long("bits") if known.contains(&"bits") => {
                     given.bits = Some(parser.value().map_err(wrong)?);
                 }
+                Long("cues") if known.contains(&"cues") => {
+                    given.cues = Some(parser.value().map_err(wrong)?);
+                }
+                Long("picture") if known.contains(&"picture") => {
+                    given.picture = Some(parser.value().map_err(wrong)?);
+                }
+                Long("all") if known.contains(&"all") => given.all = true,
                 Long("conceal") if known.contains(&"conceal") => given.conceal = true,
                 Long("stop") if known.contains(&"stop") => given.stop = true,
                 Long("rf64") if known.contains(&"rf64") => given.rf64 = true,
@@ -322,6 +351,7 @@ impl Given {
                     ))
                 })?,
         };
+        given.one_input(None)?;
         let to = given.to.clone().unwrap_or_else(|| "show.wav".into());
         let (hall, meters) = (given.hall()?, given.meters(&to)?);
         Ok(Command::Demo(Demo {
@@ -330,6 +360,7 @@ impl Given {
             hall,
             sample: given.sample()?,
             meters,
+            cues: given.cues,
         }))
     }
 
@@ -340,11 +371,7 @@ impl Given {
             ));
         }
         let (from, to) = (self.only("IN")?, self.wave()?);
-        if from == "-" && self.table.as_ref().is_some_and(|table| table == "-") {
-            return Err(Trouble::Wrong(
-                "IN and --table: standard input cannot be both".into(),
-            ));
-        }
+        self.one_input(Some(&from))?;
         let policy = match self.stop {
             true => Policy::Stop,
             false => Policy::Conceal,
@@ -357,7 +384,22 @@ impl Given {
             hall: self.hall()?,
             rf64: self.rf64,
             sample: self.sample()?,
+            cues: self.cues,
         }))
+    }
+
+    /// Standard input is read once.
+    fn one_input(&self, from: Option<&OsString>) -> Result<(), Trouble> {
+        let (table, cues) = (self.table.as_ref(), self.cues.as_ref());
+        let all = [("IN", from), ("--table", table), ("--cues", cues)];
+        let named = |(_, file): &(&str, Option<&OsString>)| file.is_some_and(|file| file == "-");
+        let mut standard = all.into_iter().filter(named).map(|(name, _)| name);
+        match (standard.next(), standard.next()) {
+            (Some(a), Some(b)) => Err(Trouble::Wrong(format!(
+                "{a} and {b}: standard input cannot be both"
+            ))),
+            _ => Ok(()),
+        }
     }
 
     /// The WAVE file to write.
@@ -416,14 +458,45 @@ impl Given {
         Ok(Command::Table(Hall { layout, table }))
     }
 
+    fn place(self) -> Result<Command, Trouble> {
+        let named = |name: &OsString| {
+            let name = name.to_string_lossy();
+            Speaker::from_short_name(&name).ok_or_else(|| {
+                let all = Speaker::ALL.map(Speaker::short_name).join(" ");
+                Trouble::Wrong(format!("no channel is called {name}: they are {all}"))
+            })
+        };
+        let speakers: Vec<Speaker> = self.values.iter().map(named).collect::<Result<_, _>>()?;
+        if speakers.is_empty() {
+            let message = "the loudspeakers are missing, as in: voqlisna where FL FC";
+            return Err(Trouble::Wrong(message.into()));
+        }
+        Ok(Command::Where(Where {
+            speakers,
+            hall: self.hall()?,
+            picture: self.picture,
+        }))
+    }
+
+    fn places(self) -> Result<Command, Trouble> {
+        if self.picture.is_some() {
+            return Err(Trouble::Wrong(
+                "--all and --picture: only one of them".into(),
+            ));
+        }
+        let hall = self.none()?.hall()?;
+        Ok(Command::Places(hall))
+    }
+
     fn plot(self) -> Result<Command, Trouble> {
-        let name = self.only("what to plot (bass, decay, limiter or levels)")?;
+        let name = self.only("what to plot (bass, decay, limiter, levels or hold)")?;
         let name = name.to_string_lossy();
         let what = match name.as_ref() {
             "bass" => Picture::Bass,
             "decay" => Picture::Decay,
             "limiter" => Picture::Limiter,
             "levels" => Picture::Levels,
+            "hold" => Picture::Hold,
             _ => {
                 let meant = meant(&name, &PLOTS, "");
                 return Err(Trouble::Wrong(format!("no plot of {name}{meant}")));
@@ -510,7 +583,7 @@ mod tests {
         }
     }
 
-    const TAKEN: [&str; 44] = [
+    const TAKEN: [&str; 53] = [
         "demo",
         "demo -o x -s 0.5",
         "demo -s20",
@@ -549,6 +622,15 @@ mod tests {
         "plot decay -o b",
         "plot limiter -o -",
         "plot levels -o b",
+        "plot hold -o b",
+        "render a -o b --cues c",
+        "render a -o b --cues -",
+        "render - -o b --table c --cues=d",
+        "demo --cues c",
+        "where FL",
+        "where fl Fc TBR --layout 5.1.4 --table c --picture d",
+        "where --all",
+        "where --all --layout 5.1.0 --table -",
         "version",
         "--version",
         "-V",
@@ -558,7 +640,7 @@ mod tests {
     ];
 
     /// Lines, and what is said of them.
-    const NOT: [(&str, &str); 37] = [
+    const NOT: [(&str, &str); 49] = [
         ("rendr a", "unknown command rendr; did you mean render?"),
         ("sing", "unknown command sing"),
         (
@@ -637,8 +719,41 @@ mod tests {
         ("plot bas -o b", "no plot of bas; did you mean bass?"),
         (
             "plot -o b",
-            "what to plot (bass, decay, limiter or levels) is missing",
+            "what to plot (bass, decay, limiter, levels or hold) is missing",
         ),
+        (
+            "render - -o b --cues -",
+            "IN and --cues: standard input cannot be both",
+        ),
+        (
+            "demo --table - --cues -",
+            "--table and --cues: standard input cannot be both",
+        ),
+        ("check a --cues b", "unknown option --cues"),
+        ("demo --cues", "missing argument for option '--cues'"),
+        (
+            "render a -o b --cue c",
+            "unknown option --cue; did you mean --cues?",
+        ),
+        (
+            "where",
+            "the loudspeakers are missing, as in: voqlisna where FL FC",
+        ),
+        (
+            "where FL L",
+            "no channel is called L: they are FL FR FC LFE BL BR SL SR TFL TFR TBL TBR",
+        ),
+        ("where --all FL", "unexpected argument FL"),
+        (
+            "where --all --picture a",
+            "--all and --picture: only one of them",
+        ),
+        ("where FL -o a", "unknown option -o"),
+        (
+            "where FL --pictrue a",
+            "unknown option --pictrue; did you mean --picture?",
+        ),
+        ("wher FL", "unknown command wher; did you mean where?"),
         ("version 2", "unexpected argument 2"),
         ("demo -o", "missing argument for option '-o'"),
     ];

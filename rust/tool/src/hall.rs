@@ -1,6 +1,7 @@
 // SPDX-License-Identifier: Apache-2.0
 //! A programme through the renderer, ask after ask, as `render`, `check` and `demo` take it.
 use crate::arguments::Policy;
+use crate::cues::Cues;
 use crate::programme::{Ask, Broken, Packet, Programme};
 use crate::setup::Setup;
 use crate::trouble::Trouble;
@@ -32,6 +33,9 @@ pub struct Counts {
     pub frames: u64,
     /// Most samples of a frame.
     pub longest: usize,
+    /// The programme's time at the last frame's start, and at its end, in samples.
+    pub last: u64,
+    pub samples: u64,
     /// The programme's time, in seconds.
     pub seconds: f64,
     pub concealed: u64,
@@ -45,6 +49,8 @@ pub struct Counts {
 impl Counts {
     fn add(&mut self, frame: &Packet, refusal: Option<Refusal>, lost: bool) {
         self.frames += 1;
+        self.last = self.samples;
+        self.samples += frame.samples as u64;
         self.seconds += frame.seconds();
         self.longest = self.longest.max(frame.samples);
         if let Some(refusal) = refusal {
@@ -68,6 +74,7 @@ pub struct Hall {
     concealer: Concealer,
     /// The stream's: that of its first accepted frame.
     rate: Option<u32>,
+    cues: Cues,
 }
 
 impl Hall {
@@ -78,7 +85,18 @@ impl Hall {
             out: Output::new(stride),
             concealer: Concealer::new(stride),
             rate: None,
+            cues: Cues::default(),
         })
+    }
+
+    /// With cues for the run.
+    pub fn with(self, cues: Cues) -> Self {
+        Self { cues, ..self }
+    }
+
+    /// What came of the cues, in words where something did not.
+    pub fn cued(&self, counts: &Counts) -> Option<Trouble> {
+        self.cues.trouble(counts.last)
     }
 
     /// Runs a programme to its end, or to the first refused frame; also where the input breaks off, what waits is
@@ -101,6 +119,7 @@ impl Hall {
                     self.rate = None;
                 }
                 Ok(Some(Ask::Frame)) => {
+                    self.cues.call(counts.samples, &mut self.renderer);
                     self.frame(&frame, policy, &mut counts, listener)?;
                     if counts.stopped {
                         break None;

@@ -117,6 +117,7 @@ fn the_pictures_are_those_of_the_documents() {
         ("decay", vec!["plot", "decay"]),
         ("limiter", vec!["plot", "limiter"]),
         ("levels", vec!["plot", "levels"]),
+        ("hold", vec!["plot", "hold"]),
     ] {
         let draw = || run(&[args.clone(), vec!["-o", "-"]].concat());
         let said = draw();

@@ -99,6 +99,15 @@ static inline uint8_t *hall_put_object(uint8_t *to, const hall_object *object) {
   return end;
 }
 
+/* An object at a place that hall_find has found: there it sounds from the speakers that were asked for. */
+static inline void hall_set_place(hall_object *object, const hall_place *place) {
+  object->anchor = HALL_ROOM;
+  object->flags = (uint8_t)((object->flags | HALL_VALID | HALL_POSITION) & ~(HALL_DIFFERENTIAL | HALL_DISTANCE));
+  object->x = (place->x + 1.0f) / 2.0f;
+  object->y = (1.0f - place->z) / 2.0f;
+  object->z = place->y;
+}
+
 /* A sentence for a person. */
 static inline const char *hall_refusal_text(uint32_t number) {
   switch (number) {
@@ -124,6 +133,7 @@ static inline const char *hall_refusal_text(uint32_t number) {
     case 21: return "a sample to be written in 24 bits is NaN or outside -1 to 1";
     case 22: return "more than 1,536 samples to convert";
     case 23: return "the samples to convert have another length, or the destination is too short";
+    case 24: return "no such object: its number is not below the dynamic objects of the last update";
     default: return "an unknown refusal";
   }
 }

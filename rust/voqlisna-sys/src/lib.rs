@@ -18,11 +18,17 @@
 
 /// The version of the interface that these declarations are of; [`hall_version`] answers the
 /// library's.
-pub const VERSION: u32 = 5;
+pub const VERSION: u32 = 6;
 
 /// Bytes of a state block of this version, for blocks that are not on a heap; [`hall_state_size`]
 /// answers the library's.
 pub const STATE_SIZE: usize = 29_220;
+
+/// Where a block of this version has its dynamic objects, and the bytes of each: gain, size, the
+/// place's x, y and z, the marks (1 placed, 2 wanted held, 4 held), the send.
+pub const SOURCES_AT: usize = 240;
+/// See [`SOURCES_AT`].
+pub const SOURCE_SIZE: usize = 28;
 
 /// Bytes of a hall table: x, y and z of each of the twelve channels, little-endian f32.
 pub const TABLE_SIZE: usize = 144;
@@ -33,7 +39,7 @@ pub const TABLE_AT: usize = STATE_SIZE - TABLE_SIZE;
 /// Where it has its layout's code, a little-endian u32: before the table.
 pub const LAYOUT_AT: usize = TABLE_AT - 4;
 
-/// What every entry answers but [`hall_state_size`] and [`hall_version`].
+/// What every entry answers but [`hall_find`], [`hall_state_size`] and [`hall_version`].
 #[repr(C)]
 #[derive(Clone, Copy, Debug, PartialEq)]
 pub struct Answer {
@@ -55,7 +61,24 @@ pub struct Answer {
     pub gain: f32,
 }
 
+/// What [`hall_find`] answers.
+#[repr(C)]
+#[derive(Clone, Copy, Debug, PartialEq)]
+pub struct Place {
+    /// 0 found, 1 refused, 2 none.
+    pub kind: u32,
+    /// The refusal, 0 else.
+    pub number: u32,
+    /// The place as it is panned: to the right, from -1 to 1. All three are +0.0 where there is none.
+    pub x: f32,
+    /// Up from the ears, from 0 to 1.
+    pub y: f32,
+    /// To the front, from -1 to 1.
+    pub z: f32,
+}
+
 const _: () = assert!(size_of::<Answer>() == 32 && size_of::<usize>() == 8);
+const _: () = assert!(size_of::<Place>() == 20);
 
 unsafe extern "C" {
     /// Bytes of a state block.
@@ -113,6 +136,24 @@ unsafe extern "C" {
     /// (the block has another length, a layout's code above 3, or a table that 17 or 18 would
     /// refuse). It looks at no other field.
     pub fn hall_reset(state: *mut u8, state_length: usize) -> Answer;
+
+    /// Holds a dynamic object where it is, from the next slot on until it is released. `object` is
+    /// counted from 0, as in the PCM. Kind 3, also where it is asked for already and nothing
+    /// changes, or kind 1 by 1 or else by 24 (a number that is not below the dynamic objects of the
+    /// last applied update). An applied update with another number of dynamic objects, reset and
+    /// the making calls end all holds.
+    pub fn hall_hold(state: *mut u8, state_length: usize, object: u32) -> Answer;
+
+    /// Lets it go on, from the next slot on: a ramp that has not ended from where it is held, else
+    /// to its target at once. Answers as [`hall_hold`] does.
+    pub fn hall_release(state: *mut u8, state_length: usize, object: u32) -> Answer;
+
+    /// Where to put a sound: the first place, by y, then z, then x, each rising, at which an object
+    /// of gain 1 and size 0 sounds from exactly the speakers of the mask, bit c for channel c. x and
+    /// z go from -1 to 1 in steps of 1/32, y from 0 to 1 in steps of 1/16; layout and table are the
+    /// block's. Kind 0, 2 (there is no such place, as for no speaker, the bass feed, an absent one
+    /// and a mask above 4,095), or 1 by 1. Only reads.
+    pub fn hall_find(state: *const u8, state_length: usize, mask: u32) -> Place;
 
     /// Writes the first `count` samples of each channel of an output with this stride as 24-bit
     /// integers: three bytes, two's complement, least first, the twelve channels of a sample one

@@ -3,7 +3,7 @@
 
 use crate::memory::as_bytes_mut;
 use crate::{Bed, Frame, HallTable, Layout, Stride, with_default_floats};
-use voqlisna_sys::{self as sys, Answer};
+use voqlisna_sys::{self as sys, Answer, Place};
 
 pub(crate) fn push(state: &mut [u8], frame: &Frame<'_>, out: &mut [f32], stride: Stride) -> Answer {
     let out = as_bytes_mut(out);
@@ -69,4 +69,19 @@ pub(crate) fn make_with_table(state: &mut [u8], layout: Layout, table: &HallTabl
 pub(crate) fn reset(state: &mut [u8]) -> Answer {
     // SAFETY: one slice that lives through the call.
     with_default_floats(|| unsafe { sys::hall_reset(state.as_mut_ptr(), state.len()) })
+}
+
+pub(crate) fn hold(state: &mut [u8], object: u32) -> Answer {
+    // SAFETY: one slice that lives through the call.
+    with_default_floats(|| unsafe { sys::hall_hold(state.as_mut_ptr(), state.len(), object) })
+}
+
+pub(crate) fn release(state: &mut [u8], object: u32) -> Answer {
+    // SAFETY: one slice that lives through the call.
+    with_default_floats(|| unsafe { sys::hall_release(state.as_mut_ptr(), state.len(), object) })
+}
+
+pub(crate) fn find(state: &[u8], mask: u32) -> Place {
+    // SAFETY: one slice that lives through the call, and is only read.
+    with_default_floats(|| unsafe { sys::hall_find(state.as_ptr(), state.len(), mask) })
 }

@@ -27,8 +27,9 @@
 //! No function panics, locks, reads the clock or keeps a pointer. Memory is taken from the heap
 //! only by the functions named `new`, `with_table`, `fixed`, `up_to` and `restore`; each has a twin
 //! over lent memory, so that the crate works without `std` and, without the feature `alloc`, without
-//! a heap. An audio thread may call everything but those, [`explain`] and [`Renderer::save`]; a call
-//! takes less than 32 KiB of its stack. [`sys`] has the C entries themselves.
+//! a heap. An audio thread may call everything but those, [`explain`], [`Renderer::find`] and
+//! [`Renderer::save`]; a call takes less than 32 KiB of its stack. [`sys`] has the C entries
+//! themselves.
 #![no_std]
 #![deny(
     missing_docs,
@@ -47,8 +48,10 @@ mod bed;
 mod conceal;
 mod entry;
 mod explain;
+mod find;
 mod floats;
 mod frame;
+mod hold;
 mod layout;
 mod memory;
 mod metadata;

@@ -79,6 +79,9 @@ pub enum Refusal {
     ConvertedSamples,
     /// 23: the samples to convert have another length, or the destination is too short.
     ConvertedLength,
+    /// 24: the number of an object that is to be held or released is not below the dynamic objects of
+    /// the last applied update, of which there are none before the first.
+    ObjectNumber,
     /// A number that this version does not know.
     Other {
         /// The library's number.
@@ -146,6 +149,7 @@ impl Refusal {
             21 => Self::Pcm24Sample,
             22 => Self::ConvertedSamples,
             23 => Self::ConvertedLength,
+            24 => Self::ObjectNumber,
             number => Self::Other {
                 number,
                 first,
@@ -179,6 +183,7 @@ impl Refusal {
             Self::Pcm24Sample => 21,
             Self::ConvertedSamples => 22,
             Self::ConvertedLength => 23,
+            Self::ObjectNumber => 24,
             Self::Other { number, .. } => number,
         }
     }
@@ -231,6 +236,9 @@ impl fmt::Display for Refusal {
             Self::ConvertedSamples => "more than 1,536 samples to convert",
             Self::ConvertedLength => {
                 "the samples to convert have another length, or the destination is too short"
+            }
+            Self::ObjectNumber => {
+                "no such object: its number is not below the dynamic objects of the last update"
             }
             _ => return self.with_counts(f),
         })

@@ -133,6 +133,10 @@ impl<B: Bytes> Renderer<B> {
         Self { block, layout }
     }
 
+    pub(crate) fn lend(&mut self) -> &mut [u8] {
+        self.block.lend()
+    }
+
     /// Of its hall.
     pub const fn layout(&self) -> Layout {
         self.layout
@@ -180,7 +184,8 @@ impl<B: Bytes> Renderer<B> {
         read.ok().filter(|_| answer.kind == 0)
     }
 
-    /// A new stream in the same hall: layout and table stay. Samples that wait are lost: flush first.
+    /// A new stream in the same hall: layout and table stay, and no object is held. Samples that wait
+    /// are lost: flush first.
     pub fn reset(&mut self) {
         // Refuses a block of another length, or without a layout or a right table, which this is not.
         entry::reset(self.block.lend());

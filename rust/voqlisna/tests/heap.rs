@@ -110,6 +110,8 @@ fn nothing_is_taken_from_the_heap_after_new() {
             .unwrap();
         concealed += usize::from(way == Way::MetadataOnly);
     }
+    assert!(player.renderer.hold(0).is_ok() && player.renderer.release(0).is_ok());
+    assert!(player.renderer.find(&[Speaker::Center]).is_some());
     assert!(player.renderer.flush(&mut player.out).is_some());
     player.renderer.reset();
     let table = player.renderer.table().to_bytes();

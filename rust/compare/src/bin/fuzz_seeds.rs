@@ -40,6 +40,15 @@ fn make_with(layout: u32, table: &[u8]) -> Vec<u8> {
     [&head[..], &records].concat()
 }
 
+/// A hold or a release, by its code.
+fn mark(code: u8, object: u32) -> [u8; 32] {
+    let mut head = head(5, 0);
+    head[2..6].copy_from_slice(&object.to_le_bytes());
+    head[8] = u8::try_from(object).map_or(255, |object| object.min(240));
+    head[9] = code;
+    head
+}
+
 /// The PCM is told by its loudness alone, in the fuzzer's steps.
 fn loudness(call: &Call) -> u8 {
     let samples = floats(&call.pcm);
@@ -72,6 +81,9 @@ fn list(seed: u64) -> Vec<u8> {
     };
     let layout = seed as u32 % 4;
     let mut calls = calls.with_making(layout);
+    if inputs.chance(2) {
+        calls = calls.with_holds();
+    }
     let mut list = make(layout).to_vec();
     let mut records = 0;
     for _ in 0..4 + inputs.below(9) {
@@ -85,6 +97,8 @@ fn list(seed: u64) -> Vec<u8> {
             Step::Reset => list.extend(head(6, 0)),
             Step::Make(layout) => list.extend(make(layout)),
             Step::MakeWith(layout, table) => list.extend(make_with(layout, &table)),
+            Step::Hold(object) => list.extend(mark(1, object)),
+            Step::Release(object) => list.extend(mark(3, object)),
         }
         match inputs.below(64) {
             0 => {

@@ -18,7 +18,7 @@ const PAINTED: usize = 256 * 1_024;
 const RED_ZONE: usize = 128;
 
 #[inline(never)]
-fn depth(call: &mut dyn FnMut() -> Answer) -> (usize, Answer) {
+fn depth<T>(call: &mut dyn FnMut() -> T) -> (usize, T) {
     let top: usize;
     unsafe { asm!("mov {}, rsp", out(reg) top, options(nomem, nostack, preserves_flags)) };
     let painted = top - PAINTED..top - RED_ZONE;
@@ -123,6 +123,11 @@ fn calls(state: &mut [u8], out: &mut [u8]) {
         let mut push = || entry::push(state, &call, out, STRIDE as u32);
         tell(&format!("push of {samples} samples"), depth(&mut push));
     }
+    for (name, wanted) in [("hold", true), ("release", false)] {
+        tell(name, depth(&mut || entry::mark(state, 0, wanted)));
+    }
+    let (bytes, place) = depth(&mut || entry::find(state, 4_095));
+    println!("find: {bytes} bytes (kind {})", place.kind);
     let mut call = frame(1_536);
     call.rate = 44_100;
     let mut push = || entry::push(state, &call, out, STRIDE as u32);

@@ -11,7 +11,7 @@ use crate::Generator;
 use layout::{Layout, changed, layout, layout_up_to, lifted};
 use oracle::frame::{Frame, Update};
 use oracle::state::State;
-use parts::{input_beds, offset, pcm, samples, update};
+use parts::{input_beds, offset, pcm, samples, slow_down, update};
 use rates::rate;
 
 /// A seeded stream of frames that document 01's checks 1 to 6 and 8 let pass: mostly accepted,
@@ -27,6 +27,8 @@ pub struct Frames {
     /// Objects are sent to the bass feed; drawn anew at each reset unless it is fixed.
     sends: bool,
     sends_fixed: bool,
+    /// Few updates, in which objects move for many slots.
+    moving: bool,
     /// An update was sent.
     started: bool,
 }
@@ -52,6 +54,7 @@ impl Frames {
             lifting: false,
             sends,
             sends_fixed: false,
+            moving: false,
             started: false,
         }
     }
@@ -77,6 +80,19 @@ impl Frames {
         layout.objects = layout.objects.max(1);
         layout.bed_or_isf_objects = layout.bed_or_isf_objects.min(layout.objects - 1);
         layout.blocks = vec![1 + inputs.below(3)];
+        frames
+    }
+
+    /// Frames in which objects move for many slots, up to the first change of one to three of them.
+    pub fn moving(seed: u64, most_samples: u64) -> Self {
+        let mut frames = Frames::new(seed, most_samples);
+        frames.moving = true;
+        let Frames { inputs, layout, .. } = &mut frames;
+        let beds = layout.beds.len() as u8;
+        (layout.objects, layout.bed_or_isf_objects) = (beds + 1 + inputs.below(3) as u8, beds);
+        layout.blocks = (0..1 + inputs.below(2))
+            .map(|_| 1 + inputs.below(2))
+            .collect();
         frames
     }
 
@@ -133,6 +149,16 @@ impl Frames {
             self.sends = self.inputs.chance(2);
         }
         self.started = false;
+    }
+
+    /// An update was sent since the last reset.
+    pub fn has_started(&self) -> bool {
+        self.started
+    }
+
+    /// Dynamic objects of the frames.
+    pub fn dynamic(&self) -> u32 {
+        self.layout.dynamic() as u32
     }
 
     pub fn next_frame(&mut self) -> Frame {
@@ -193,7 +219,11 @@ impl Frames {
         let mut add = |inputs: &mut Generator, layout: &Layout, offset: u64| {
             records += layout.records();
             if records <= self.most_records {
-                updates.push(update(inputs, layout, offset as u16, self.sends));
+                let mut next = update(inputs, layout, offset as u16, self.sends);
+                if self.moving {
+                    slow_down(inputs, &mut next);
+                }
+                updates.push(next);
             }
         };
         if let Some(offset) = first {
@@ -202,7 +232,8 @@ impl Frames {
         // At the entries now and then as many as there can be.
         let many = self.most_records == ENTRY_RECORDS && inputs.chance(20);
         for _ in 0..15 {
-            if !many && inputs.chance(2) {
+            let one_in = if self.moving { 4 } else { 2 };
+            if !many && inputs.chance(one_in) == !self.moving {
                 break;
             }
             let offset = offset(inputs, samples);

@@ -95,6 +95,21 @@ fn block(inputs: &mut Generator) -> Block {
     }
 }
 
+/// Three blocks in four are due soon, with a ramp of up to ten slots; most objects have a position.
+pub fn slow_down(inputs: &mut Generator, update: &mut Update) {
+    for element in &mut update.elements {
+        for block in &mut element.blocks {
+            if !inputs.chance(4) {
+                let [offset, ramp] = [160, 640].map(|most| inputs.below(most) as i64);
+                *block = Block { offset, ramp };
+            }
+        }
+        for object in element.objects.iter_mut().flatten() {
+            object.position_valid |= !inputs.chance(3);
+        }
+    }
+}
+
 fn object(inputs: &mut Generator, sends: bool) -> Object {
     Object {
         anchor: inputs.pick(&ANCHORS),

@@ -3,16 +3,25 @@
 //! objects sound where and how loud is the Rust's metadata state, which knows no hall; the rest is
 //! document 01's items 3 to 6 read over the hall's speakers (`oracle::reading`).
 
+use super::holds::{self, Effects};
 use oracle::Hall;
 use oracle::amended::leaf::{self, Timed};
 use oracle::frame::{Frame, Update};
 use oracle::reading::{BASS, mix, silence};
 use oracle::state::{Metadata, Source, State};
 
-/// The channels of an accepted frame before the limiter; those that the hall lacks have no samples.
-/// None where a gain is not finite, as it may be in a handed-in block: times a share of 0 it is a NaN
+/// What an accepted frame comes to.
+pub struct Read {
+    /// Before the limiter; channels that the hall lacks have no samples.
+    pub channels: Vec<Vec<f32>>,
+    pub metadata: Metadata,
+    /// What holds did to it.
+    pub effects: Effects,
+}
+
+/// The frame's channels. Where an object is held, the places are those that `holds` reads. None where a gain is not finite, as it may be in a handed-in block: times a share of 0 it is a NaN
 /// in the Rust, which has terms of share 0, and the reading has none.
-pub fn mixed(hall: &Hall, state: &State, frame: &Frame) -> Option<Vec<Vec<f32>>> {
+pub fn mixed(hall: &Hall, state: &State, frame: &Frame) -> Option<Read> {
     let mut output = silence(hall, frame.samples);
     let mut time = Time::new(state);
     let updates = frame.applied();
@@ -41,7 +50,11 @@ pub fn mixed(hall: &Hall, state: &State, frame: &Frame) -> Option<Vec<Vec<f32>>>
         .lfe_lowpass
         .unwrap_or_else(|| leaf::lowpass_new(frame.rate));
     leaf::lowpass_process_in_place(&mut filter, &mut output[BASS]);
-    Some(output)
+    Some(Read {
+        channels: output,
+        metadata: time.timed.state(),
+        effects: time.effects,
+    })
 }
 
 /// Every gain is, and what its size leaves for the corners.
@@ -55,6 +68,9 @@ fn is_finite(metadata: &Metadata) -> bool {
 /// Document 01's item 5: slots of 64 samples, and where they start.
 struct Time {
     timed: Timed,
+    /// Some object is held, or is to be.
+    held: bool,
+    effects: Effects,
     begun: bool,
     /// The frame's start in the stream.
     frame: i64,
@@ -67,6 +83,8 @@ impl Time {
     fn new(state: &State) -> Self {
         Time {
             timed: Timed::in_state(&state.metadata),
+            held: holds::any(&state.metadata),
+            effects: Effects::default(),
             begun: state.metadata.initialized,
             frame: state.stream_sample_offset,
             slot: state.metadata_timeslot_stream_sample,
@@ -93,7 +111,14 @@ impl Time {
     }
 
     fn slot(&mut self) {
-        if self.phase == 0 {
+        if self.phase != 0 {
+            return;
+        }
+        if self.held {
+            let after = holds::slot(&self.timed.state(), self.slot, &mut self.effects);
+            self.timed = Timed::in_state(&after);
+            self.held = holds::any(&after);
+        } else {
             self.timed.update_timeslot(self.slot, 64);
         }
     }

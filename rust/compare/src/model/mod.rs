@@ -1,10 +1,12 @@
-//! What documents 01 and 02 have a call answer: refusals 1 to 8 and 15 to 18, read here apart from the
-//! Rattle code, and the oracle for everything else: the amended Rust. In layout 0 with the built-in
-//! table the unchanged one must agree with it but from a lifted bed channel (R-1), or an object that
-//! is sent to the bass feed (R-3), to the next reset; in other halls (R-5, R-6) what it mixes must be
-//! what `halls` reads.
+//! What documents 01 and 02 have a call answer: refusals 1 to 8, 15 to 18 and 24, read here apart from
+//! the Rattle code, and the oracle for everything else: the amended Rust. In layout 0 with the built-in
+//! table the unchanged one must agree with it but from a lifted bed channel (R-1), an object that is
+//! sent to the bass feed (R-3), or a hold (R-11) to the next reset; in other halls (R-5, R-6), and from
+//! a hold on, what it mixes must be what `halls` and `holds` read.
 
+pub mod find;
 mod halls;
+pub mod holds;
 mod judged;
 mod met;
 mod meters;
@@ -20,6 +22,7 @@ use oracle::frame::Frame;
 use oracle::state::State;
 use oracle::{Hall, Oracle, Pushed, amended};
 
+pub use holds::Effects;
 pub use judged::{judged, rightly_lent};
 pub use met::{Met, lifts, met};
 pub use meters::{Limited, Meters};
@@ -35,6 +38,8 @@ pub enum Outcome {
     Nothing,
     /// A new renderer, by making or reset, in that hall.
     New(Setup),
+    /// A hold or a release; the object and what is wanted of it where it was not known.
+    Marked(Option<(usize, bool)>),
 }
 
 impl Outcome {
@@ -44,7 +49,7 @@ impl Outcome {
             Outcome::Ready(..) => (0, [0; 3]),
             Outcome::Refused(refusal) => (1, *refusal),
             Outcome::Nothing => (2, [0; 3]),
-            Outcome::New(_) => (3, [0; 3]),
+            Outcome::New(_) | Outcome::Marked(_) => (3, [0; 3]),
         };
         let (ready, meters) = match self {
             Outcome::Ready(channels, meters) => (channels[0].len(), *meters),
@@ -70,17 +75,20 @@ pub struct Model {
     hall: Hall,
     /// The Rust with the rules of document 02.
     amended: amended::Oracle,
-    /// In the one hall that it has the unchanged Rust, which must agree, up to a lifted channel or a
-    /// send.
+    /// In the one hall that it has the unchanged Rust, which must agree, up to a lifted channel, a
+    /// send or a hold.
     rust: Option<Oracle>,
     lifted: bool,
     sent: bool,
+    held: bool,
     /// Samples of the stream before the oracle's first.
     pub before: u64,
     /// The last push that 1 to 8 let pass.
     judged: Option<Judged>,
-    /// It was accepted, and what it mixed was held against the reading of the hall.
+    /// It was accepted, and what it mixed was held against the reading of hall and holds.
     read: bool,
+    /// What holds did in it, as it was read.
+    effects: Effects,
 }
 
 /// A push that 1 to 8 let pass.
@@ -112,9 +120,11 @@ impl Model {
             hall,
             lifted: false,
             sent: false,
+            held: false,
             before: 0,
             judged: None,
             read: false,
+            effects: Effects::default(),
         }
     }
 
@@ -122,11 +132,13 @@ impl Model {
     pub fn of_block(bytes: &[u8]) -> Self {
         let (setup, state) = (Setup::of_block(bytes), block::state(bytes));
         let model = Model::in_hall(&setup);
-        let sent = sends::sounds(&state.metadata);
+        let (sent, held) = (sends::sounds(&state.metadata), holds::any(&state.metadata));
+        let alike = setup.is_the_rusts() && !sent && !held;
         Model {
             amended: amended::Oracle::in_hall_and_state(&model.hall, &state),
-            rust: (setup.is_the_rusts() && !sent).then(|| Oracle::in_state(&state)),
+            rust: alike.then(|| Oracle::in_state(&state)),
             sent,
+            held,
             ..model
         }
     }
@@ -145,7 +157,7 @@ impl Model {
         self.rust.is_some()
     }
 
-    /// What the last push mixed was held against the reading of its hall.
+    /// What the last push mixed was held against the reading of its hall and of holds.
     pub fn was_read(&self) -> bool {
         self.read
     }
@@ -188,6 +200,20 @@ impl Model {
         self.sent
     }
 
+    pub fn hall(&self) -> &Hall {
+        &self.hall
+    }
+
+    /// An object was held, or was to be, since the last reset.
+    pub fn held(&self) -> bool {
+        self.held
+    }
+
+    /// What holds did in the last push, as it was read.
+    pub fn effects(&self) -> Effects {
+        self.effects
+    }
+
     /// The last push, where 1 to 8 let it pass.
     pub fn take_judged(&mut self) -> Option<Judged> {
         self.judged.take()
@@ -195,6 +221,7 @@ impl Model {
 
     pub fn push(&mut self, call: &Call, stride: usize) -> Outcome {
         (self.judged, self.read) = (None, false);
+        self.effects = Effects::default();
         let before = self.state();
         match judged(&before, self.before, call, stride) {
             Ok(frame) => {
@@ -217,10 +244,10 @@ impl Model {
             Pushed::Ready(ready) => {
                 let renderer = amended::Oracle::in_hall_and_state(&self.hall, &before);
                 let (mixed, slots) = renderer.mixed(frame);
-                self.read = !self.setup.is_the_rusts() && self.reads(&before, frame, &mixed);
+                self.read = self.must_be_read() && self.reads(&before, frame, &mixed);
                 self.lifted |= lifts;
                 self.sent |= sends::any(&slots);
-                if self.lifted || self.sent {
+                if self.lifted || self.sent || self.held {
                     self.rust = None;
                 }
                 self.agrees(frame, &Pushed::Ready(ready.clone()));
@@ -237,12 +264,20 @@ impl Model {
         }
     }
 
-    /// What was mixed is what is read in the hall, where it can be read.
-    fn reads(&self, before: &State, frame: &Frame, mixed: &[Vec<f32>]) -> bool {
+    fn must_be_read(&self) -> bool {
+        self.held || !self.setup.is_the_rusts()
+    }
+
+    /// What was mixed is what is read in the hall, where it can be read, and the objects are left
+    /// where they are read to be.
+    fn reads(&mut self, before: &State, frame: &Frame, mixed: &[Vec<f32>]) -> bool {
         let Some(read) = halls::mixed(&self.hall, before, frame) else {
             return false;
         };
-        for (channel, (mixed, read)) in mixed.iter().zip(&read).enumerate() {
+        self.effects = read.effects;
+        let after = self.amended.state().metadata;
+        assert!(holds::same_sources(&read.metadata, &after), "{frame:?}");
+        for (channel, (mixed, read)) in mixed.iter().zip(&read.channels).enumerate() {
             assert!(all_same(mixed, read), "{:?}, channel {channel}", self.setup);
         }
         true
@@ -269,6 +304,8 @@ impl Model {
             Step::Flush => self.flush(),
             Step::Reset => self.reset(),
             Step::Make(_) | Step::MakeWith(..) => self.make(step),
+            Step::Hold(object) => self.mark(*object, true),
+            Step::Release(object) => self.mark(*object, false),
         }
     }
 
@@ -320,9 +357,25 @@ impl Model {
         } else if self.setup.is_the_rusts() {
             self.rust = Some(Oracle::new());
         }
-        (self.lifted, self.sent) = (false, false);
+        (self.lifted, self.sent, self.held) = (false, false, false);
         self.before = 0;
         Outcome::New(self.setup)
+    }
+
+    /// Document 02's R-11: 24, else a mark. "From a hold to the next reset these rules take the Rust's
+    /// place."
+    pub fn mark(&mut self, object: u32, wanted: bool) -> Outcome {
+        let metadata = self.amended.state().metadata;
+        let Some(source) = holds::object(&metadata, object) else {
+            return Outcome::Refused([24, 0, 0]);
+        };
+        self.held |= wanted;
+        if self.held {
+            self.rust = None;
+        }
+        let object = object as usize;
+        self.amended.want(object, wanted);
+        Outcome::Marked((source.wanted != wanted).then_some((object, wanted)))
     }
 
     /// Document 02's R-5 and R-6: 15 to 18, else a new renderer.

@@ -17,6 +17,9 @@ pub struct Source {
     pub size: f32,
     pub place: Vec3,
     pub placed: bool,
+    /// A hold is asked for, and in effect.
+    pub wanted: bool,
+    pub held: bool,
     pub send: f32,
 }
 

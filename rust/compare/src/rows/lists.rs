@@ -10,7 +10,7 @@ use oracle::frame::{Anchor, Element, Object};
 type Part = (&'static str, fn(&mut Rows));
 
 pub fn groups() -> Vec<Group> {
-    let parts: [Part; 9] = [
+    let parts: [Part; 11] = [
         ("refusals", refusals),
         ("outputs", outputs),
         ("block_rows", blocks),
@@ -20,6 +20,8 @@ pub fn groups() -> Vec<Group> {
         ("slots", slots),
         ("halls", halls),
         ("tables", tables),
+        ("hold_rows", holds),
+        ("searches", searches),
     ];
     let group = |(name, part): Part| {
         let mut rows = Rows(vec![]);
@@ -605,4 +607,96 @@ fn tables(rows: &mut Rows) {
         .each(&low_and_high())
         .make(1)
         .each(&low_and_high());
+}
+
+/// One sample of an object that moves to the front right, with a ramp from the second slot on.
+fn moved_right(ramp: i64) -> Push {
+    frame(&[], &[[0.5]]).with(set(ramp, &[at(1.0, 0.0, 0.0)]))
+}
+
+/// One of the front left.
+fn at_left() -> Push {
+    frame(&[], &[[0.5]]).with(set(0, &[gain(1.0, at(0.0, 0.0, 0.0))]))
+}
+
+/// A new slot of an element that is kept, with no block due.
+fn next_slot() -> Push {
+    let kept = element([(0, 0), (5, 0)], &[[SILENT, SILENT]]);
+    frame(&[], &[[0.5]]).with(update(0, &[], 1, &[kept]))
+}
+
+fn holds(rows: &mut Rows) {
+    rows.row("held_and_released")
+        .shows("held from the next slot on; a second hold says nothing new; released it goes on, half of the way left, with what remains of the ramp")
+        .push(at_left())
+        .hold(0)
+        .hold(0)
+        .push(moved_right(193))
+        .release(0)
+        .release(0)
+        .push(next_slot())
+        .flush();
+    rows.row("not_held")
+        .shows("the same without the hold: a third of the way, and half of the rest")
+        .push(at_left())
+        .push(moved_right(193))
+        .push(next_slot())
+        .flush();
+    rows.row("held_past_the_ramp")
+        .shows("held it stays where no ramp is left, and where there is none; released it is at its target")
+        .push(at_left())
+        .hold(0)
+        .push(moved_right(65))
+        .push(next_slot())
+        .push(moved_right(0))
+        .release(0)
+        .push(next_slot())
+        .flush();
+    rows.row("undone")
+        .shows("before one slot a release undoes a hold, and a hold a release")
+        .push(at_left())
+        .hold(0)
+        .release(0)
+        .push(moved_right(193))
+        .hold(0)
+        .push(next_slot())
+        .release(0)
+        .hold(0)
+        .push(next_slot())
+        .flush();
+    let with_bed = update(0, &[0], 1, &[]);
+    rows.row("no_object")
+        .shows("24: before the first update, from the number of dynamic objects on")
+        .hold(0)
+        .release(0)
+        .push(frame(&[0], &[[0.0], [0.5]]).with(with_bed))
+        .hold(1)
+        .hold(u32::MAX)
+        .hold(0)
+        .release(1);
+    rows.row("holds_end")
+        .shows("another number of objects, a reset and a making call end all holds")
+        .push(at_left())
+        .hold(0)
+        .push(frame(&[], &[[0.5], [0.0]]).with(update(0, &[], 2, &[])))
+        .release(0)
+        .hold(1)
+        .reset()
+        .release(1)
+        .push(at_left())
+        .release(0)
+        .hold(0)
+        .make(0)
+        .push(at_left())
+        .release(0);
+}
+
+fn searches(rows: &mut Rows) {
+    let row = rows.row("where_to_put");
+    row.shows("the first places: rear left, rear right, between them; where they are absent, left surround");
+    row.find(1 << 4)
+        .find(1 << 5)
+        .find(3 << 4)
+        .make(1)
+        .find(1 << 6);
 }

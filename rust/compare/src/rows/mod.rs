@@ -5,8 +5,10 @@ mod parts;
 mod text;
 
 use crate::calls::{Call, Step};
+use crate::model::find::Found;
 use crate::model::{Model, Outcome};
 use crate::records;
+use oracle::Vector;
 use oracle::frame::Update;
 
 pub use lists::groups;
@@ -35,8 +37,22 @@ pub enum Turn {
     /// By the layout's code, and with a table's bytes.
     Make(u32),
     MakeWith(u32, Vec<u8>),
+    /// Of a dynamic object: whether a hold is wanted.
+    Mark(u32, bool),
+    /// By the mask.
+    Find(u32),
     /// The same with an output that is a byte short.
     Short(Box<Turn>),
+}
+
+/// What the host sees of a call.
+#[derive(Debug)]
+pub enum Seen {
+    Said(Outcome),
+    /// A hold or a release: whether it changed anything.
+    Noted(bool),
+    /// Of a search.
+    Place(Option<Vector>),
 }
 
 pub struct Row {
@@ -82,6 +98,7 @@ impl Turn {
             Turn::Push(push) => push.stride,
             Turn::Flush(stride) => *stride,
             Turn::Reset | Turn::Make(_) | Turn::MakeWith(..) => 0,
+            Turn::Mark(..) | Turn::Find(_) => 0,
             Turn::Short(turn) => turn.stride(),
         }
     }
@@ -89,6 +106,17 @@ impl Turn {
     /// Bytes of the output that is lent.
     pub fn room(&self) -> usize {
         48 * self.stride() as usize - usize::from(matches!(self, Turn::Short(_)))
+    }
+
+    fn seen(&self, model: &mut Model) -> Seen {
+        match self {
+            Turn::Mark(object, wanted) => match model.mark(*object, *wanted) {
+                Outcome::Marked(mark) => Seen::Noted(mark.is_some()),
+                refused => Seen::Said(refused),
+            },
+            Turn::Find(mask) => Seen::Place(Found::new(model.hall()).place(*mask)),
+            _ => Seen::Said(self.outcome(model)),
+        }
     }
 
     fn outcome(&self, model: &mut Model) -> Outcome {
@@ -103,16 +131,17 @@ impl Turn {
             Turn::Push(push) => model.push(&push.into(), stride as usize),
             Turn::Flush(_) => model.flush(),
             Turn::Short(turn) => turn.outcome(model),
+            Turn::Mark(..) | Turn::Find(_) => unreachable!("`seen` has them"),
         }
     }
 }
 
 impl Row {
     /// What the host sees of each call.
-    pub fn outcomes(&self) -> Vec<Outcome> {
+    pub fn seen(&self) -> Vec<Seen> {
         let mut model = Model::new();
         model.before = self.start;
         let turns = self.turns.iter();
-        turns.map(|turn| turn.outcome(&mut model)).collect()
+        turns.map(|turn| turn.seen(&mut model)).collect()
     }
 }

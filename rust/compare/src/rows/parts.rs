@@ -109,6 +109,18 @@ impl Row {
         self.turn(Turn::MakeWith(layout, table.to_vec()))
     }
 
+    pub fn hold(&mut self, object: u32) -> &mut Self {
+        self.turn(Turn::Mark(object, true))
+    }
+
+    pub fn release(&mut self, object: u32) -> &mut Self {
+        self.turn(Turn::Mark(object, false))
+    }
+
+    pub fn find(&mut self, mask: u32) -> &mut Self {
+        self.turn(Turn::Find(mask))
+    }
+
     /// Objects that are set at once and heard one after another.
     pub fn each(&mut self, objects: &[Object]) -> &mut Self {
         let push = frame(&[], &diagonal(objects.len(), 0.5));

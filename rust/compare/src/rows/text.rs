@@ -1,15 +1,15 @@
 //! The text of crates/rows/specs/Lists.antt.
 
-use super::{Group, Push, Row, Turn};
+use super::{Group, Push, Row, Seen, Turn};
 use crate::model::Outcome;
 use oracle::frame::{Anchor, Block, Element, Object, Update};
 use std::array;
 
 const HEAD: &str = "\
 -- The rows. `cargo run --release --offline -p compare --bin rows` in rust/ writes this file: the calls are that program's, what is seen of them is the oracle's. Assumes nothing.
-use Rattle.std.specs.Prelude.{List, [], ◌∷◌, ◌++◌, replicate}
-use Rattle.rules.specs.Calls.{reset, make, make_with}
-use Rattle.rows.specs.Rows.{Row, ◌⇒◌, refusal, ready, none, renewed}
+use Rattle.std.specs.Prelude.{true, false, List, [], ◌∷◌, ◌++◌, replicate}
+use Rattle.rules.specs.Calls.{reset, make, make_with, hold, release, find}
+use Rattle.rows.specs.Rows.{Row, ◌⇒◌, refusal, ready, none, renewed, noted, found}
 use Rattle.rows.specs.Notation.{concat, as_row, row_at, sent, sent_by, of_bed, of_object, flush_at, short, quiet, diagonal_words, silence, only}
 use Rattle.rows.specs.Notation.{update, bed, spoilt, element, at_once, block_from, minus, object, at, valid_position, place, differential, gain, distance, with_size}
 use Rattle.rows.specs.Notation.{screen, depth, screen_anchor, on_speakers, words}
@@ -49,9 +49,9 @@ fn row_text(row: &Row) -> String {
         start => format!("row_at {start}"),
     };
     let mut text = format!("-- {shows}\nabbrev pub {name} : Row\n{name} =\n    {head}\n");
-    for (k, (turn, outcome)) in row.turns.iter().zip(row.outcomes()).enumerate() {
+    for (k, (turn, seen)) in row.turns.iter().zip(row.seen()).enumerate() {
         let before = if k == 0 { "(" } else { "∷ " };
-        let (turn, said) = (turn_text(turn), outcome_text(&outcome));
+        let (turn, said) = (turn_text(turn), seen_text(&seen));
         text += &lines(&format!("{before}{turn}{BREAK}⇒ {said}"));
     }
     text + "    ∷ [])\n"
@@ -86,6 +86,9 @@ fn turn_text(turn: &Turn) -> String {
         Turn::Reset => "reset".to_string(),
         Turn::Make(layout) => format!("make {layout}"),
         Turn::MakeWith(layout, table) => format!("make_with {layout} {}", table_text(table)),
+        Turn::Mark(object, true) => format!("hold {object}"),
+        Turn::Mark(object, false) => format!("release {object}"),
+        Turn::Find(mask) => format!("find {mask}"),
         Turn::Short(turn) => format!("short {}", within(turn_text(turn))),
     }
 }
@@ -192,6 +195,15 @@ fn object_text(object: &Object) -> String {
 
 // ---- what is seen
 
+fn seen_text(seen: &Seen) -> String {
+    match seen {
+        Seen::Said(outcome) => outcome_text(outcome),
+        Seen::Noted(changed) => format!("noted {changed}"),
+        Seen::Place(Some(place)) => format!("found {}", place.map(float).join(" ")),
+        Seen::Place(None) => "nowhere".to_string(),
+    }
+}
+
 fn outcome_text(outcome: &Outcome) -> String {
     match outcome {
         Outcome::Ready(channels, _) => {
@@ -208,6 +220,7 @@ fn outcome_text(outcome: &Outcome) -> String {
         Outcome::Refused([number, first, second]) => format!("refusal {number} {first} {second}"),
         Outcome::Nothing => "none".to_string(),
         Outcome::New(_) => "renewed".to_string(),
+        Outcome::Marked(_) => unreachable!("`Seen` has it"),
     }
 }
 

@@ -21,8 +21,9 @@ pub fn wrongly_lent(host: &mut Host, inputs: &mut Generator, call: &Call, name: 
     let stride = inputs.pick(&[0, 1, 63, 65, 96, 1_535, 1_537, 1_600, u32::MAX]);
     refused(host, &|s, o, _| entry::push(s, call, o, stride));
     refused(host, &|s, o, _| entry::flush(s, o, stride));
-    // 1 comes before 15 to 18.
+    // 1 comes before 15 to 18 and 24.
     let layout = inputs.pick(&[0, 3, 4, u32::MAX]);
+    let (object, wanted) = (inputs.pick(&[0, 16, u32::MAX]), inputs.chance(2));
     let room = 48 * host.stride;
     for short in [inputs.below(room as u64) as usize, room - 1] {
         refused(host, &|s, o, n| entry::push(s, call, &mut o[..short], n));
@@ -33,6 +34,9 @@ pub fn wrongly_lent(host: &mut Host, inputs: &mut Generator, call: &Call, name: 
         refused(host, &|s, o, n| entry::flush(&mut s[..short], o, n));
         refused(host, &|s, _, _| entry::reset(&mut s[..short]));
         refused(host, &|s, _, _| entry::make(&mut s[..short], layout));
+        refused(host, &|s, _, _| {
+            entry::mark(&mut s[..short], object, wanted)
+        });
         let table = tables::spoilt(inputs);
         refused(host, &|s, _, _| {
             entry::make_with(&mut s[..short], layout, &table)
@@ -43,6 +47,7 @@ pub fn wrongly_lent(host: &mut Host, inputs: &mut Generator, call: &Call, name: 
     refused(host, &entry::flush);
     refused(host, &|s, _, _| entry::reset(s));
     refused(host, &|s, _, _| entry::make(s, layout));
+    refused(host, &|s, _, _| entry::mark(s, object, wanted));
     let table = tables::accepted(inputs);
     refused(host, &|s, _, _| entry::make_with(s, layout, &table));
     host.state.pop();

@@ -11,7 +11,7 @@ mod table;
 use crate::calls::{Call, Calls, Step};
 use crate::case::Case;
 use crate::host::Host;
-use crate::model::{Judged, Model, Outcome};
+use crate::model::{Effects, Judged, Model, Outcome};
 use crate::setup::Setup;
 use crate::{Generator, ranges, streams, tables};
 use oracle::frame::Update;
@@ -84,8 +84,16 @@ impl<'a> Run<'a> {
                 reached.one(What::Stream);
                 Source::Read(streams::steps(&streams::damaged(calls)).0.into_iter())
             }
-            1 | 2 => Source::Drawn(Calls::lifting(calls, stride as u64).with_making(layout)),
-            _ => Source::Drawn(Calls::for_entries(calls, stride as u64).with_making(layout)),
+            k => {
+                let samples = stride as u64;
+                let calls = match k {
+                    1 => Calls::lifting(calls, samples),
+                    2 => Calls::lifting(calls, samples).with_holds(),
+                    3 | 4 => Calls::holding(calls, samples),
+                    _ => Calls::for_entries(calls, samples),
+                };
+                Source::Drawn(calls.with_making(layout))
+            }
         };
         let mut setup = Setup::built_in(layout);
         if inputs.chance(if layout == 0 { 4 } else { 2 }) {
@@ -212,6 +220,15 @@ impl<'a> Run<'a> {
         let (host, reached) = (&self.host, &mut self.reached);
         reached.add(What::Lifted, self.model.lifted().into());
         reached.add(What::Sent, self.model.sent().into());
+        reached.add(What::Held, self.model.held().into());
+        let Effects {
+            stopped,
+            goes_on,
+            jumps,
+        } = self.model.effects();
+        reached.add(What::Stopped, stopped);
+        reached.add(What::GoesOn, goes_on);
+        reached.add(What::Jumps, jumps);
         reached.add(What::Unchanged, self.model.beside_the_rust().into());
         reached.add(What::Read, self.model.was_read().into());
         let Setup { layout, table } = self.model.setup();
@@ -231,6 +248,9 @@ impl<'a> Run<'a> {
             Outcome::Ready(..) => seen::samples(self.reached, outcome),
             Outcome::Nothing => self.reached.one(What::Nothing),
             Outcome::New(_) => self.reached.one(What::Fresh),
+            Outcome::Marked(None) => self.reached.one(What::Known),
+            Outcome::Marked(Some((_, true))) => self.reached.one(What::Hold),
+            Outcome::Marked(Some((_, false))) => self.reached.one(What::Release),
         }
     }
 }

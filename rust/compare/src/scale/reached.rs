@@ -41,6 +41,17 @@ pub enum What {
     /// sent to the bass feed to the next new renderer.
     Send(u8),
     Sent,
+    /// Holds, releases, and those that were known; and an accepted push from a hold to the next new
+    /// renderer.
+    Hold,
+    Release,
+    Known,
+    Held,
+    /// Objects that an accepted push leaves held where they were, in another place than they would have
+    /// without the hold, those that it releases with a ramp left, and with none.
+    Stopped,
+    GoesOn,
+    Jumps,
     /// An accepted push that is held against the unchanged Rust.
     Unchanged,
     /// In another hall than the Rust's, one that is held against the reading of its hall.

@@ -8,7 +8,7 @@ use crate::tables::{KINDS, Kind};
 type Line = (&'static str, Vec<(String, What)>);
 
 /// What has a name.
-const NAMED: [(&str, &[(&str, What)]); 16] = [
+const NAMED: [(&str, &[(&str, What)]); 17] = [
     (
         "compared",
         &[
@@ -59,6 +59,18 @@ const NAMED: [(&str, &[(&str, What)]); 16] = [
             ("1", Send(1)),
             ("between", Send(2)),
             ("frames from one on", Sent),
+        ],
+    ),
+    (
+        "holds",
+        &[
+            ("holds", Hold),
+            ("releases", Release),
+            ("known", Known),
+            ("objects stopped", Stopped),
+            ("released on a ramp", GoesOn),
+            ("released behind it", Jumps),
+            ("frames from a hold on", Held),
         ],
     ),
     (
@@ -121,14 +133,18 @@ fn kinds() -> [Line; 2] {
     ]
 }
 
-/// What has a number: refusals but 7, bed codes, strides, layouts. Code 6 has no speaker and is never
+/// What has a number: refusals of a renderer's calls but 7, bed codes, strides, layouts. Code 6 has no speaker and is never
 /// mixed.
 fn numbered() -> [Line; 6] {
     let beds = (0..18).filter(|&code| code != 6);
     [
         line("frames by layout", 0..4, Layout),
         line("made, by layout", 0..4, Make),
-        line("refusals", (1..=18).filter(|&n| n != 7), Refusal),
+        line(
+            "refusals",
+            (1..=18).filter(|&n| n != 7).chain([24]),
+            Refusal,
+        ),
         line("bed channels of frames", 0..18, Input),
         line("beds mixed", beds, Bed),
         line("strides", (64..=1_536).step_by(64), Stride),

@@ -87,8 +87,18 @@ fn any_table(inputs: &mut Generator) -> Vec<u8> {
     }
 }
 
+fn any_object(inputs: &mut Generator) -> u32 {
+    match inputs.below(8) {
+        0 => inputs.bits() as u32,
+        1 => inputs.pick(&[15, 16, 17, 255, u32::MAX]),
+        _ => inputs.below(4) as u32,
+    }
+}
+
 fn any_step(inputs: &mut Generator, state: &[u8]) -> Step {
-    match inputs.below(16) {
+    match inputs.below(18) {
+        16 => Step::Hold(any_object(inputs)),
+        17 => Step::Release(any_object(inputs)),
         0 if inputs.chance(2) => Step::Reset,
         1 if inputs.chance(4) => Step::Make(inputs.pick(&[0, 1, 2, 3, 4, u32::MAX])),
         0 => {
@@ -143,8 +153,8 @@ fn kind(case: &Case, number: u32) -> u32 {
     match &case.step {
         _ if number != 0 => 1,
         Step::Flush if case.state[64] == 0 => 2,
-        Step::Reset | Step::Make(_) | Step::MakeWith(..) => 3,
-        _ => 0,
+        Step::Push(_) | Step::Flush => 0,
+        _ => 3,
     }
 }
 
@@ -174,7 +184,25 @@ fn check_meters(answer: Answer) {
     assert!(idle || answer.ready > 0, "{answer:?}");
 }
 
-/// Every call is answered: 1 to 8 and 15 to 18 where the documents say so, each other number only where none
+/// What a new renderer, a hold or a release leaves.
+fn check_done(case: &Case, state: &[u8]) {
+    let wanted = match case.step {
+        Step::Hold(object) => Some((object, true)),
+        Step::Release(object) => Some((object, false)),
+        _ => None,
+    };
+    let Some((object, wanted)) = wanted else {
+        let setup = case.step.setup(&case.state);
+        assert!(state == setup.fresh(), "a new renderer");
+        return;
+    };
+    let marked = block::marked(&case.state, object as usize, wanted);
+    let known = marked == case.state;
+    assert!(!known || state == case.state, "a known mark");
+    assert!(block::same_words(state, &marked), "a mark");
+}
+
+/// Every call is answered: 1 to 8, 15 to 18 and 24 where the documents say so, each other number only where none
 /// of these holds, 7 never; what is not to be written stays. Every other answer arises.
 #[test]
 fn any_bytes() {
@@ -191,8 +219,8 @@ fn any_bytes() {
         match answer.kind {
             0 => check_rendered(&case, answer.ready, &state, &out),
             3 => {
-                let setup = case.step.setup(&case.state);
-                assert!(state == setup.fresh() && out == case.out, "{answer:?}");
+                check_done(&case, &state);
+                assert!(out == case.out, "{answer:?}");
             }
             _ => assert!(state == case.state && out == case.out, "{answer:?}"),
         }
@@ -200,7 +228,7 @@ fn any_bytes() {
     }
     println!("{answers:?}");
     let kinds = [(0, 0), (2, 0), (3, 0)].into_iter();
-    for kind in kinds.chain((1..=18).map(|number| (1, number))) {
+    for kind in kinds.chain((1..=18).chain([24]).map(|number| (1, number))) {
         let arises = kind != (1, 7);
         let seen = answers.contains_key(&kind);
         assert!(seen == arises || !seeds::all() && !seen, "{kind:?}");

@@ -9,7 +9,7 @@ use compare::host::Host;
 use compare::model::{Model, Outcome};
 use compare::probe::{limiter, panning, roots};
 use oracle::frame::{Block, Element, Frame, Object, Update};
-use oracle::state::Source;
+use oracle::reading::source;
 use oracle::{exact, leaf};
 
 /// What a document says of a call.
@@ -133,13 +133,7 @@ fn the_ends_of_the_rates() {
 /// What a sample of 1 at the position adds to each channel, by the Rust.
 fn rust_coefficients(position: [f32; 3], gain: f32) -> Vec<f32> {
     let mut channels = vec![vec![0.0]; 12];
-    let source = Source {
-        gain,
-        size: 0.0,
-        cubical_position: position,
-        position_valid: true,
-        send: 0.0,
-    };
+    let source = source(position, gain, 0.0);
     leaf::render_object_timeslot_to_714(&[1.0], &mut channels, 0, &source);
     channels.concat()
 }

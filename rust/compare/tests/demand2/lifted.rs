@@ -117,13 +117,13 @@ impl Run {
                 self.host.step(&mut self.model, &Step::Flush, name);
                 self.rust.as_mut().map(Oracle::flush);
             }
-            Step::Make(_) | Step::MakeWith(..) => panic!("none is drawn"),
             Step::Reset => {
                 tally.resets += u64::from(self.model.lifted());
                 self.host.step(&mut self.model, &Step::Reset, name);
                 self.rust = Some(Oracle::new());
                 self.numbers.clear();
             }
+            step => panic!("none is drawn: {step:?}"),
         }
         // Before a lift, and after a reset, the entries are as the unchanged Rust.
         assert!(self.rust.is_some() || self.model.lifted(), "{name}");

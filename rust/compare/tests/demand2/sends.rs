@@ -154,12 +154,12 @@ impl Run {
                 self.host.step(&mut self.model, &Step::Flush, name);
                 self.rust.as_mut().map(Oracle::flush);
             }
-            Step::Make(_) | Step::MakeWith(..) => panic!("none is drawn"),
             Step::Reset => {
                 tally.resets += u64::from(self.model.sent());
                 self.host.step(&mut self.model, &Step::Reset, name);
                 self.rust = Some(Oracle::new());
             }
+            step => panic!("none is drawn: {step:?}"),
         }
         let model = &self.model;
         assert!(

@@ -37,11 +37,15 @@ fn first(seed: u64) -> Setup {
     setup
 }
 
-/// A list whose stride changes, with outputs that are longer than they must be, or too short.
+/// A list whose stride changes, with outputs that are longer than they must be, or too short; in every
+/// second objects are held.
 fn list(seed: u64) -> Vec<Turn> {
     let mut inputs = Generator::new(seed);
     let calls = Calls::for_entries(seed + 5_000_000, 64);
     let mut calls = calls.with_making(first(seed).layout);
+    if seed % 2 == 1 {
+        calls = calls.with_holds();
+    }
     let mut stride = 64;
     let mut turn = || {
         if inputs.chance(4) {
@@ -109,7 +113,7 @@ fn meters_hold(seen: &Seen, stride: usize) -> bool {
 
 #[test]
 fn refused_calls_count_as_never_sent() {
-    let (mut refused, mut given, mut limited) = (0, 0, 0);
+    let (mut refused, mut given, mut limited, mut marked) = (0, 0, 0, [0; 2]);
     for seed in seeds!(0..RUNS) {
         let turns = list(seed);
         let setup = first(seed);
@@ -128,7 +132,15 @@ fn refused_calls_count_as_never_sent() {
         given += all.iter().map(|seen| seen.answer.ready).sum::<usize>();
         let is_limited = |seen: &&Seen| seen.answer.ready <= 64 && seen.answer.gain < 1.0;
         limited += all.iter().filter(is_limited).count();
+        for (turn, seen) in both() {
+            let is_mark = matches!(turn.step, Step::Hold(_) | Step::Release(_));
+            let accepted = usize::from(seen.answer.kind == 3);
+            marked[accepted] += usize::from(is_mark);
+        }
     }
     println!("{refused} refused calls, {given} samples a channel, {limited} single blocks limited");
+    let [refused_marks, marks] = marked;
+    println!("{marks} holds and releases accepted, {refused_marks} refused");
     assert!(!seeds::all() || refused > 10_000 && given > 1_000_000 && limited > 1_000);
+    assert!(!seeds::all() || marks > 2_000 && refused_marks > 1_000);
 }

@@ -3,7 +3,7 @@
 use compare::entry::{self, Answer};
 use compare::host::fresh;
 use compare::model::{Meters, Outcome};
-use compare::rows::{self, Row, Turn};
+use compare::rows::{self, Row, Seen, Turn};
 use compare::setup::Setup;
 use compare::{block, floats};
 use std::fs;
@@ -30,6 +30,8 @@ fn lent(turn: &Turn, state: &mut [u8], out: &mut [u8]) -> Answer {
         Turn::Reset => entry::reset(state),
         Turn::Make(layout) => entry::make(state, *layout),
         Turn::MakeWith(layout, table) => entry::make_with(state, *layout, table),
+        Turn::Mark(object, wanted) => entry::mark(state, *object, *wanted),
+        Turn::Find(_) => unreachable!("it answers a place"),
         Turn::Short(turn) => lent(turn, state, out),
     }
 }
@@ -40,23 +42,31 @@ fn meters(answer: Answer) -> Meters {
 }
 
 /// What the entries have the host see of each call.
-fn outcomes(row: &Row) -> Vec<Outcome> {
+fn seen(row: &Row) -> Vec<Seen> {
     let mut state = fresh(0);
     state[8..16].copy_from_slice(&row.start.to_le_bytes());
     let seen = |turn: &Turn| {
-        let mut out = vec![0; turn.room()];
+        if let Turn::Find(mask) = turn {
+            let place = entry::find(&state, *mask);
+            let [x, y, z] = [place.x, place.y, place.z];
+            return Seen::Place((place.kind == 0).then_some([x, y, z]));
+        }
+        let (mut out, before) = (vec![0; turn.room()], state.clone());
         let answer = lent(turn, &mut state, &mut out);
         let layout = block::layout(&state);
         let channel = |c: usize| {
             let ready = 4 * answer.ready * usize::from(block::has(layout, c));
             floats(&out[4 * c * turn.stride() as usize..][..ready])
         };
-        match answer.kind {
+        Seen::Said(match answer.kind {
+            _ if matches!(turn, Turn::Mark(..)) && answer.kind == 3 => {
+                return Seen::Noted(state != before);
+            }
             0 => Outcome::Ready((0..12).map(channel).collect(), meters(answer)),
             1 => Outcome::Refused([answer.number, answer.first, answer.second]),
             2 => Outcome::Nothing,
             _ => Outcome::New(Setup::of_block(&state)),
-        }
+        })
     };
     row.turns.iter().map(seen).collect()
 }
@@ -66,7 +76,7 @@ fn outcomes(row: &Row) -> Vec<Outcome> {
 #[cfg_attr(no_sources, ignore = "Rust sources not at hand")]
 fn the_entries_say_the_same() {
     for row in rows::groups().iter().flat_map(|group| &group.rows) {
-        let (found, expected) = (outcomes(row), row.outcomes());
+        let (found, expected) = (seen(row), row.seen());
         assert_eq!(
             format!("{found:?}"),
             format!("{expected:?}"),

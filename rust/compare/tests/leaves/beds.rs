@@ -3,7 +3,7 @@
 
 use compare::probe::{beds, beds::Route, mixing};
 use compare::{all_same, drawn};
-use oracle::state::Source;
+use oracle::reading::source;
 use oracle::{Refusal, leaf};
 
 const CODES: std::ops::Range<u8> = 0..18;
@@ -111,13 +111,7 @@ fn mixed(
             }
             Route::Direct(channel) => mixing::mix_full_channel(samples, &mut output[channel], gain),
             Route::Folded => {
-                let source = Source {
-                    gain,
-                    size: 0.0,
-                    cubical_position: beds::bed_channel_position(code),
-                    position_valid: true,
-                    send: 0.0,
-                };
+                let source = source(beds::bed_channel_position(code), gain, 0.0);
                 leaf::render_object_timeslot_to_714(samples, output, 0, &source);
             }
             Route::Unsupported => {

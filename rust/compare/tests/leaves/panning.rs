@@ -8,7 +8,7 @@
 use compare::setup::{Setup, built_in};
 use compare::{EDGES, Generator, all_same, drawn, probe::panning, seeds, tables};
 use oracle::leaf::{render_object_timeslot_to_714, speakers};
-use oracle::state::Source;
+use oracle::reading::source;
 use oracle::{Hall, Vector, amended};
 
 /// The speakers' coordinates, above 0.
@@ -55,13 +55,7 @@ impl Mix {
         self.channels
             .iter_mut()
             .for_each(|channel| channel[0] = start);
-        let source = Source {
-            gain,
-            size,
-            cubical_position: position,
-            position_valid: true,
-            send: 0.0,
-        };
+        let source = source(position, gain, size);
         let (input, channels) = ([self.sample], &mut self.channels);
         if self.setup.is_the_rusts() {
             render_object_timeslot_to_714(&input, channels, 0, &source);

@@ -1,9 +1,10 @@
 //! Updates and slots: the whole timed state after each slot, 1,200,000 slots. Sends are held
-//! against the amended Rust, and so is all of a sequence that has lifted a channel.
+//! against the amended Rust, and so is all of a sequence that has lifted a channel or held an
+//! object; slots with holds also against the reading of R-11.
 
-use compare::model::{lifts, with_sends};
+use compare::model::{Effects, holds, lifts, with_sends};
 use compare::probe::timed::{self, MIDDLE, Timed, ZERO};
-use compare::{Drawn, Generator, drawn, records, same};
+use compare::{Drawn, Generator, all_same, drawn, records, same};
 use oracle::frame::{ANCHORS, Block, DEPTHS, Element, Object, Update};
 use oracle::state::Metadata;
 use oracle::{amended, leaf};
@@ -104,7 +105,7 @@ fn update(inputs: &mut Generator, layout: &Layout) -> Update {
     }
 }
 
-/// The timed state of the Rust: of the unchanged one too, up to the first lifted channel.
+/// The timed state of the Rust: of the unchanged one too, up to the first lifted channel or hold.
 struct Theirs {
     amended: amended::leaf::Timed,
     unchanged: Option<leaf::Timed>,
@@ -137,8 +138,26 @@ impl Theirs {
         }
     }
 
-    fn update_timeslot(&mut self, at: i64) {
+    fn want(&mut self, object: usize, wanted: bool) {
+        self.amended.want(object, wanted);
+        if wanted {
+            self.unchanged = None;
+        }
+    }
+
+    /// The amended Rust leaves a slot with holds as the reading does.
+    fn update_timeslot(&mut self, at: i64, effects: &mut Effects) {
+        let before = self.amended.state();
+        let read = holds::any(&before).then(|| holds::slot(&before, at, effects));
         self.amended.update_timeslot(at, 64);
+        if let Some(read) = read {
+            let after = self.amended.state();
+            assert!(holds::same_sources(&read, &after), "{before:?}");
+            for (read, after) in read.elements.iter().zip(&after.elements) {
+                let futures = read.future.as_flattened();
+                assert!(all_same(futures, after.future.as_flattened()));
+            }
+        }
         if let Some(timed) = &mut self.unchanged {
             timed.update_timeslot(at, 64);
         }
@@ -170,6 +189,7 @@ fn assert_same(ours: &Timed, theirs: &Metadata, step: usize) {
                 && same(ours.size, theirs.size)
                 && same_vector(ours.place, theirs.cubical_position)
                 && ours.placed == theirs.position_valid
+                && (ours.wanted, ours.held) == (theirs.wanted, theirs.held)
                 && same(ours.send, theirs.send),
             "step {step}: {ours:?} {theirs:?}"
         );
@@ -247,14 +267,26 @@ fn assert_same_info(ours: &Timed, k: usize, theirs: &oracle::state::Info, step: 
     assert!(same(float(11), theirs.send), "step {step}");
 }
 
-/// Sequences of updates and slots, up to `most` of everything. `lifted` slots at least are held
-/// against the amended Rust, and as many against the unchanged one.
+/// Of the objects that there are: a hold or a release is asked for.
+fn mark(inputs: &mut Generator, ours: &mut Timed, theirs: &mut Theirs) {
+    let count = ours.state.objects.saturating_sub(ours.state.isf);
+    if count > 0 {
+        let (object, wanted) = (inputs.below(count as u64) as usize, inputs.chance(2));
+        ours.state.sources[object].wanted = wanted;
+        theirs.want(object, wanted);
+    }
+}
+
+/// Sequences of updates and slots, up to `most` of everything; in every fourth objects are held.
+/// `lifted` slots at least are held against the amended Rust, and as many against the unchanged one.
 fn compare_slots(mut inputs: Drawn, most: u64, slots: usize, lifted: usize) {
-    let (mut done, mut amended) = (0, 0);
+    let (mut done, mut amended, mut held) = (0, 0, 0);
+    let mut effects = Effects::default();
     while done < slots {
         let (mut ours, mut theirs) = (Timed::new(), Theirs::new());
         let mut at = inputs.below(1 << 39);
         let mut kept = layout(&mut inputs, most);
+        let holding = inputs.chance(4);
         for _ in 0..1 + inputs.below(40) {
             if inputs.chance(6) {
                 let old = kept;
@@ -280,8 +312,12 @@ fn compare_slots(mut inputs: Drawn, most: u64, slots: usize, lifted: usize) {
                 at += inputs.below(64);
             }
             for _ in 0..inputs.below(24) {
+                if holding && inputs.chance(4) {
+                    mark(&mut inputs, &mut ours, &mut theirs);
+                }
+                held += usize::from(holds::any(&theirs.amended.state()));
                 ours.update_timeslot(at);
-                theirs.update_timeslot(at as i64);
+                theirs.update_timeslot(at as i64, &mut effects);
                 assert_same(&ours, &theirs.state(), done);
                 at += 64;
                 done += 1;
@@ -289,7 +325,19 @@ fn compare_slots(mut inputs: Drawn, most: u64, slots: usize, lifted: usize) {
             }
         }
     }
-    println!("{done} slots, {amended} of them after a lift");
+    println!(
+        "{done} slots, {amended} of them after a lift or a hold; {held} with a hold: {effects:?}"
+    );
+    let Effects {
+        stopped,
+        goes_on,
+        jumps,
+    } = effects;
+    assert!(held > done / 20, "{held} of {done}");
+    assert!(
+        [stopped, goes_on, jumps].iter().all(|&n| n > 200),
+        "{effects:?}"
+    );
     assert!(
         (lifted..done - lifted).contains(&amended),
         "{amended} of {done}"

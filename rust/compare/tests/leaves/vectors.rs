@@ -6,7 +6,8 @@ use compare::{Drawn, all_same, drawn, same};
 use oracle::Vector;
 use oracle::frame::{Anchor, Object};
 use oracle::leaf;
-use oracle::state::{Info, Source};
+use oracle::reading::source;
+use oracle::state::Info;
 
 const INPUTS: usize = 10_000_000;
 
@@ -242,13 +243,7 @@ fn target() {
         let (block, here) = (drawn_block(&mut inputs), inputs.vector());
         let ours = vectors::update_source_position(&block, here);
         let mut info = parsed(&block);
-        let mut source = Source {
-            gain: 0.0,
-            size: 0.0,
-            cubical_position: here,
-            position_valid: true,
-            send: 0.0,
-        };
+        let mut source = source(here, 0.0, 0.0);
         let target = leaf::update_source_state(&mut info, &mut source);
         assert!(same_placed(&ours, target, &info), "{block:?} {here:?}");
     }

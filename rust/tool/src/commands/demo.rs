@@ -1,10 +1,10 @@
 // SPDX-License-Identifier: Apache-2.0
 //! `demo`: the show into a WAVE file.
 use super::record::Recorder;
-use super::table;
 use super::told::cause;
+use super::{render, table};
 use crate::arguments::{Demo, Policy};
-use crate::hall::{Hall, Refused};
+use crate::hall::{Counts, Hall, Refused};
 use crate::numbers::{counted, grouped};
 use crate::show::Show;
 use crate::trouble::Trouble;
@@ -15,8 +15,14 @@ pub fn demo(given: &Demo) -> Result<(), Trouble> {
     let setup = table::setup(&given.hall, &written)?;
     let mut recorder = Recorder::new(to, false, given.sample, &given.meters, told)?;
     let mut show = Show::new(given.seconds);
-    let ran = Hall::new(&setup)?.run(&mut show, Policy::Conceal, &mut recorder);
+    let mut hall = Hall::new(&setup)?.with(render::cues(&given.cues, &written)?);
+    let ran = hall.run(&mut show, Policy::Conceal, &mut recorder);
     let ((counts, _), _) = recorder.close(ran)?;
+    say(given, &mut recorder, &counts)?;
+    hall.cued(&counts).map_or(Ok(()), Err)
+}
+
+fn say(given: &Demo, recorder: &mut Recorder<'_>, counts: &Counts) -> Result<(), Trouble> {
     let Some(first) = &recorder.first else {
         return Ok(());
     };
@@ -27,10 +33,10 @@ pub fn demo(given: &Demo) -> Result<(), Trouble> {
         counted(counts.frames, "frame")
     ))?;
     recorder.say_meters()?;
-    if to == "-" {
+    if given.to == "-" {
         return Ok(());
     }
-    let to = to.to_string_lossy();
+    let to = given.to.to_string_lossy();
     recorder.say(&format!(
         "listen: play {to}   see: voqlisna plot levels -o levels.svg"
     ))

@@ -6,6 +6,7 @@ mod demo;
 mod floats;
 mod hex;
 mod meters;
+mod place;
 mod record;
 mod render;
 mod table;
@@ -39,10 +40,13 @@ pub fn run(command: Command) -> Result<(), Trouble> {
                 Picture::Decay => pictures::decay()?,
                 Picture::Limiter => pictures::limiter()?,
                 Picture::Levels => pictures::levels()?,
+                Picture::Hold => pictures::hold()?,
             };
             files::write(&to, &picture)
         }
         Command::Table(hall) => say(&table::told(&hall)?),
+        Command::Where(given) => place::place(&given),
+        Command::Places(hall) => say(&place::places(&hall)?),
     }
 }
 

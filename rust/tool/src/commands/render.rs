@@ -3,11 +3,13 @@
 use super::record::Recorder;
 use super::{table, told};
 use crate::arguments::{Policy, Render};
+use crate::cues::Cues;
 use crate::files;
 use crate::hall::{Counts, Hall};
 use crate::numbers::{counted, grouped};
 use crate::programme::{Limits, Reader};
 use crate::trouble::Trouble;
+use std::ffi::OsString;
 
 pub fn render(given: &Render) -> Result<(), Trouble> {
     let written: Vec<_> = given.meters.file().into_iter().chain([&given.to]).collect();
@@ -15,11 +17,12 @@ pub fn render(given: &Render) -> Result<(), Trouble> {
         files::apart(&given.from, to)?;
     }
     let setup = table::setup(&given.hall, &written)?;
+    let mut hall = Hall::new(&setup)?.with(cues(&given.cues, &written)?);
     let (name, to) = (files::name_in(&given.from), &given.to);
     let (input, length) = files::open(&given.from)?;
     let mut programme = Reader::new(input, Limits::TOOL, length);
     let mut recorder = Recorder::new(to, given.rf64, given.sample, &given.meters, told::line)?;
-    let ran = Hall::new(&setup)?.run(&mut programme, given.policy, &mut recorder);
+    let ran = hall.run(&mut programme, given.policy, &mut recorder);
     let ((counts, broken), written) = recorder.close(ran)?;
     if written {
         recorder.say(&format!("{}; {}", recorder.summary(), refusals(&counts)))?;
@@ -33,9 +36,21 @@ pub fn render(given: &Render) -> Result<(), Trouble> {
         None if !written => Err(Trouble::Refused(Some(format!(
             "{name}: no frame was accepted, so there is nothing to write"
         )))),
-        None if counts.lost > 0 => Err(Trouble::Refused(None)),
-        None => Ok(()),
+        None => match hall.cued(&counts) {
+            Some(trouble) => Err(trouble),
+            None if counts.lost > 0 => Err(Trouble::Refused(None)),
+            None => Ok(()),
+        },
     }
+}
+
+/// The cues in a file, where these files are written.
+pub fn cues(from: &Option<OsString>, written: &[&OsString]) -> Result<Cues, Trouble> {
+    for to in written {
+        from.as_ref()
+            .map_or(Ok(()), |from| files::apart(from, to))?;
+    }
+    Cues::open(from.as_deref())
 }
 
 /// "3 of 3,750 frames refused (5: 2, 8: 1), 2 concealed, 1 lost"

@@ -1,7 +1,7 @@
 // SPDX-License-Identifier: Apache-2.0
 //! A hall: where its speakers hang, and how loud each one is for an object of gain 1.
 use super::heard::{Placed, Squares};
-use super::hung::views;
+use super::hung::{Look, views};
 use super::panels::{Levels, STEPS, corners, levels, panels, shade, told};
 use super::rise::rise;
 use crate::hall::renderer;
@@ -31,7 +31,7 @@ pub fn map(setup: &Setup) -> Result<String, Trouble> {
     let (corners, foot) = corners(&measured, PANELS);
     let mut svg = Svg::new(990.0, foot + FOOT);
     svg.title((LEFT, 30.0), &title(setup));
-    views(&mut svg, setup);
+    views(&mut svg, setup, &Look::PLAIN);
     match measured.as_slice() {
         [(only, levels)] => elsewhere(&mut svg, &mut placed, only.height, levels)?,
         [.., (highest, _)] => rise(&mut svg, &mut placed, setup, highest)?,

@@ -3,6 +3,7 @@
 mod bass;
 mod decay;
 mod heard;
+mod hold;
 mod hung;
 mod levels;
 mod limiter;
@@ -10,12 +11,16 @@ mod map;
 mod names;
 mod panels;
 mod rise;
+mod spot;
 
 pub use bass::bass;
 pub use decay::decay;
+pub use heard::Placed;
+pub use hold::hold;
 pub use levels::levels;
 pub use limiter::limiter;
 pub use map::map;
+pub use spot::spot;
 
 use crate::svg::Area;
 use voqlisna::{BuildError, Refusal, ShapeError};

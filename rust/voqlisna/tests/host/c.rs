@@ -13,7 +13,9 @@ use voqlisna::*;
 const SAMPLES: usize = 480;
 const FRAMES: usize = 8;
 const LOUD: usize = 3;
+const HELD: usize = 4;
 const BROKEN: usize = 5;
+const RELEASED: usize = 7;
 
 fn source() -> PathBuf {
     Path::new(env!("CARGO_MANIFEST_DIR")).join("../c/host.c")
@@ -184,6 +186,14 @@ fn show(text: &mut String, mut renderer: Renderer) {
         };
         let pcm = Pcm::packed(&pcm, 2).unwrap();
         let frame = Frame::new(Rate::HZ_48000, &[Bed::Bass], pcm, metadata).unwrap();
+        if k == HELD {
+            assert_eq!(renderer.hold(0), Ok(()));
+            print_answer(text, "hold", answer(3));
+        }
+        if k == RELEASED {
+            assert_eq!(renderer.release(0), Ok(()));
+            print_answer(text, "release", answer(3));
+        }
         match renderer.push(&frame, &mut out) {
             Ok(rendered) => {
                 // Limited in the loud frame, and on the way back after it.
@@ -199,7 +209,28 @@ fn show(text: &mut String, mut renderer: Renderer) {
     let rendered = renderer.flush(&mut out).unwrap();
     print(text, "flush", ready(&rendered), Some(rendered));
     print_answer(text, "flush", answer(2));
+    assert_eq!(renderer.hold(1), Err(Refusal::ObjectNumber));
+    print_answer(text, "hold", refused(24));
+    use Speaker::{Bass, Center, FrontLeft, RearLeft, SurroundLeft};
+    for speakers in [&[FrontLeft, Center][..], &[RearLeft, SurroundLeft], &[Bass]] {
+        print_place(text, renderer.find(speakers));
+    }
+    text.push_str("find 1 1 00000000 00000000 00000000\n");
     print_answer(text, "reset", answer(3));
+}
+
+/// A place that is found, and in an object's record with its flags for a valid position.
+fn print_place(text: &mut String, place: Option<Panned>) {
+    let Some(Panned { x, y, z }) = place else {
+        return text.push_str("find 2 0 00000000 00000000 00000000\n");
+    };
+    let mut line = |name: &str, floats: [f32; 3]| {
+        let [x, y, z] = floats.map(f32::to_bits);
+        writeln!(text, "{name} {x:08x} {y:08x} {z:08x}").unwrap();
+    };
+    line("find 0 0", [x, y, z]);
+    let Room { x, y, z } = Panned { x, y, z }.room();
+    line("record 0 9", [x, y, z]);
 }
 
 /// The bytes count up, so each is its own place.
@@ -231,7 +262,7 @@ fn amplifier(text: &mut String) {
 /// The refusals that host.c lists at its end are worded as the crate words them, where no count
 /// stands in the sentence.
 fn says_the_same(lines: &str) {
-    assert_eq!(lines.lines().count(), 24);
+    assert_eq!(lines.lines().count(), 25);
     for (number, line) in (0..).zip(lines.lines()) {
         let said = line.strip_prefix(&format!("{number}: ")).unwrap();
         let refusal = Refusal::from_answer(refused(number)).unwrap();
@@ -288,12 +319,15 @@ fn the_library_has_prefixed_names_and_needs_two() {
     assert_eq!(
         defined,
         [
+            "hall_find",
             "hall_flush",
             "hall_from_planes",
+            "hall_hold",
             "hall_make",
             "hall_make_with_table",
             "hall_push",
             "hall_read_24",
+            "hall_release",
             "hall_reset",
             "hall_state_size",
             "hall_to_planes",

@@ -40,6 +40,12 @@ pub fn hangs(block: &mut [u8], table: &[u8], places: &[Panned; 12]) -> Result<Ha
     Ok(renderer.map_or(table, |renderer| renderer.table()))
 }
 
+pub fn holds(block: &mut [u8], object: u32, speakers: &[Speaker]) -> Option<Panned> {
+    let mut renderer = Renderer::over(block, Layout::Hall714).ok()?;
+    renderer.hold(object).and(renderer.release(object)).ok()?;
+    renderer.find(speakers).filter(|_| renderer.is_held(object))
+}
+
 pub fn conceals(block: &mut [u8], frame: &Frame<'_>, out: &mut [f32], silence: &mut [f32]) -> Option<Way> {
     let mut out = Output::over(out, Stride::MAX).ok()?;
     let mut concealer = Concealer::over(silence, Stride::MAX).ok()?;

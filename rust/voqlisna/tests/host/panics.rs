@@ -78,11 +78,33 @@ fn calls(draw: &mut Draw, frame: &Frame<'_>, stride: Stride) {
         let _ = renderer
             .flush(&mut out)
             .map(|rendered| reads(draw, &rendered, &mut steady));
+        marks(draw, &mut renderer);
     }
     for _ in 0..16 {
         let cause = explain(frame, stride, draw.refusal());
         let _ = cause.map(|cause| cause.to_string());
     }
+}
+
+/// Objects of any number.
+fn marks(draw: &mut Draw, renderer: &mut Renderer) {
+    for _ in 0..3 {
+        let object = count(draw) as u32;
+        let _ = match draw.once_in(2) {
+            true => renderer.hold(object),
+            false => renderer.release(object),
+        };
+        let _ = renderer.is_held(count(draw) as u32);
+    }
+}
+
+/// Any speakers, at times named twice; once in a while, since a search may take long.
+fn finds(draw: &mut Draw) {
+    let renderer = Renderer::with_table(draw.pick(&Layout::ALL), &draw.table()).unwrap();
+    let speakers: Vec<Speaker> = (0..draw.below(5))
+        .map(|_| draw.pick(&Speaker::ALL))
+        .collect();
+    let _ = renderer.find(&speakers).map(|place| place.room().panned());
 }
 
 fn reads(draw: &mut Draw, rendered: &Rendered<'_>, steady: &mut Steady) {
@@ -181,6 +203,9 @@ fn nothing_panics() {
         any_records(&mut draw);
         planes(&mut draw);
         pcm_24(&mut draw);
+        if draw.once_in(40) {
+            finds(&mut draw);
+        }
         let samples = draw.below(200);
         let owned = Scene::draw(&mut draw).frame(&mut draw, samples);
         calls(&mut draw, &owned.frame(), Stride::MAX);

@@ -1,7 +1,10 @@
 // SPDX-License-Identifier: Apache-2.0
 //! The entries over slices of any length, with no guard around them.
 
-use voqlisna::sys::{Answer, hall_flush, hall_make, hall_make_with_table, hall_push, hall_reset};
+use voqlisna::sys::{
+    Answer, Place, hall_find, hall_flush, hall_hold, hall_make, hall_make_with_table, hall_push,
+    hall_release, hall_reset,
+};
 use voqlisna::*;
 
 pub fn push(state: &mut [u8], frame: &Frame<'_>, out: &mut [u8], stride: u32) -> Answer {
@@ -69,6 +72,21 @@ pub fn reset(state: &mut [u8]) -> Answer {
     unsafe { hall_reset(state.as_mut_ptr(), state.len()) }
 }
 
+pub fn hold(state: &mut [u8], object: u32) -> Answer {
+    // SAFETY: one slice that lives through the call.
+    unsafe { hall_hold(state.as_mut_ptr(), state.len(), object) }
+}
+
+pub fn release(state: &mut [u8], object: u32) -> Answer {
+    // SAFETY: one slice that lives through the call.
+    unsafe { hall_release(state.as_mut_ptr(), state.len(), object) }
+}
+
+pub fn find(state: &[u8], mask: u32) -> Place {
+    // SAFETY: one slice that lives through the call, and is only read.
+    unsafe { hall_find(state.as_ptr(), state.len(), mask) }
+}
+
 /// `layout` is a code.
 pub fn make(state: &mut [u8], layout: u32) -> Answer {
     // SAFETY: one slice that lives through the call.
@@ -89,7 +107,7 @@ pub fn make_with(state: &mut [u8], layout: u32, table: &[u8]) -> Answer {
     }
 }
 
-/// What making and reset answer.
+/// What making, reset, a hold and a release answer.
 pub const DONE: Answer = Answer {
     kind: 3,
     number: 0,

@@ -83,6 +83,27 @@ impl Pair {
         entry
     }
 
+    /// Holds or releases an object.
+    fn mark(&mut self, object: u32, held: bool) -> Answer {
+        let renderer = &mut self.renderer;
+        let (safe, entry) = match held {
+            true => (renderer.hold(object), raw::hold(&mut self.block, object)),
+            false => (
+                renderer.release(object),
+                raw::release(&mut self.block, object),
+            ),
+        };
+        assert_eq!(safe.err(), Refusal::from_answer(entry));
+        let kept = Answer {
+            kind: entry.kind,
+            number: entry.number,
+            ..raw::DONE
+        };
+        assert_eq!((entry, [1, 3].contains(&entry.kind)), (kept, true));
+        assert!(safe.is_err() || self.renderer.is_held(object) == held);
+        entry
+    }
+
     /// What the layout lacks is as it was.
     fn same(&self) -> bool {
         let layout = self.renderer.layout();
@@ -161,7 +182,7 @@ fn drawn(draw: &mut Draw, scene: &Scene, stride: Stride) -> Owned {
 
 #[test]
 fn the_crate_answers_as_the_entries_do() {
-    let (mut met, mut ready, mut limited) = ([0; 16], 0, 0);
+    let (mut met, mut ready, mut limited, mut marked) = ([0; 25], 0, 0, 0);
     for case in 0..RUNS {
         let mut draw = Draw::new(1, case);
         let (scene, stride) = (
@@ -171,9 +192,18 @@ fn the_crate_answers_as_the_entries_do() {
         let layout = draw.pick(&Layout::ALL);
         let mut pair = Pair::new(layout, &draw.table(), stride);
         for call in 0..CALLS {
-            let answer = match draw.below(12) {
+            let answer = match draw.below(16) {
                 0 => pair.reset(),
                 1 => pair.flush(),
+                2..=5 => {
+                    let object = match draw.below(8) {
+                        0 => draw.word() as u32,
+                        _ => draw.below(scene.objects + 1) as u32,
+                    };
+                    let answer = pair.mark(object, draw.once_in(2));
+                    marked += u32::from(answer.kind == 3);
+                    answer
+                }
                 _ => pair.push(&drawn(&mut draw, &scene, stride).frame()),
             };
             assert!(pair.same(), "run {case}, call {call}, {layout}: {answer:?}");
@@ -182,9 +212,11 @@ fn the_crate_answers_as_the_entries_do() {
             limited += u32::from(answer.peak > 1.0 && answer.gain < 1.0);
         }
     }
-    println!("answers by refusal {met:?}, {ready} samples ready, {limited} calls limited");
-    assert!(ready > 1_000_000 && limited > 100);
-    for number in [0, 2, 5, 6, 8, 9, 10, 11, 12, 13, 14] {
+    println!(
+        "answers by refusal {met:?}, {ready} samples ready, {limited} calls limited, {marked} holds and releases"
+    );
+    assert!(ready > 1_000_000 && limited > 100 && marked > 1_000);
+    for number in [0, 2, 5, 6, 8, 9, 10, 11, 12, 13, 14, 24] {
         assert!(met[number] > 0, "{number} was not met: {met:?}");
     }
     assert_eq!((met[1], met[3]), (0, 0), "what this crate cannot cause");

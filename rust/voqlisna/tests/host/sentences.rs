@@ -24,13 +24,13 @@ fn a_refusal_keeps_its_number_and_counts() {
         let expected = match number {
             9 | 11 => (7, 8),
             13 | 14 => (7, 0),
-            1..=6 | 8 | 10 | 12 | 15..=23 => (0, 0),
+            1..=6 | 8 | 10 | 12 | 15..=24 => (0, 0),
             _ => (7, 8),
         };
         assert_eq!(refusal.counts(), expected, "{number}");
         assert_eq!(
             matches!(refusal, Refusal::Other { .. }),
-            !matches!(number, 1..=6 | 8..=23),
+            !matches!(number, 1..=6 | 8..=24),
             "{number}"
         );
     }
@@ -53,7 +53,7 @@ fn blame_is_as_the_interface_has_it() {
         (5..=6, Blame::Programme),
         (8..=8, Blame::Decoder),
         (9..=14, Blame::Stream),
-        (15..=23, Blame::Host),
+        (15..=24, Blame::Host),
     ] {
         assert!(
             numbers

@@ -83,6 +83,10 @@ fn a_call_stays_within_what_is_promised() {
         assert!(Renderer::restore_over(saved, &mut block).is_ok())
     }));
     told.push(depth(&mut || assert!(renderer.flush(&mut out).is_none())));
+    told.push(depth(&mut || {
+        assert!(own.hold(14).is_ok() && own.release(14).is_ok())
+    }));
+    told.push(depth(&mut || assert!(own.find(&[Speaker::Bass]).is_none())));
     // Of a hall that lacks channels the samples are packed first.
     let (mut pcm, mut sound) = (vec![0; 36 * 1_536], vec![0.0; 12 * 1_536]);
     let mut small = Renderer::new(Layout::Hall510).unwrap();
@@ -98,7 +102,7 @@ fn a_call_stays_within_what_is_promised() {
         assert_eq!(write_24(&sound, 1_536, 1_536, &mut pcm), Ok(1_536))
     }));
     println!(
-        "bytes of stack: push, concealed push, with a table, made with it, restore, flush, 24 bits of a small hall, read, written: {told:?}"
+        "bytes of stack: push, concealed push, with a table, made with it, restore, flush, held and released, found, 24 bits of a small hall, read, written: {told:?}"
     );
     assert!(
         told.iter().all(|bytes| (1..PROMISED).contains(bytes)),

@@ -65,11 +65,11 @@ fn numbers_of_the_header_are_those_of_the_crates() {
     assert!(HEADER.contains(&names), "the order of channels");
 }
 
-/// The header asserts the same of C's struct, which host.c compiles.
+/// The header asserts the same of C's structs, which host.c compiles.
 #[test]
-fn an_answer_has_32_bytes() {
+fn an_answer_has_32_bytes_and_a_place_20() {
     use std::mem::{align_of, offset_of, size_of};
-    use sys::Answer;
+    use sys::{Answer, Place};
     let words = [
         offset_of!(Answer, kind),
         offset_of!(Answer, number),
@@ -81,6 +81,15 @@ fn an_answer_has_32_bytes() {
     ];
     assert_eq!(words, [0, 4, 8, 12, 16, 24, 28]);
     assert_eq!((size_of::<Answer>(), align_of::<Answer>()), (32, 8));
+    let words = [
+        offset_of!(Place, kind),
+        offset_of!(Place, number),
+        offset_of!(Place, x),
+        offset_of!(Place, y),
+        offset_of!(Place, z),
+    ];
+    assert_eq!(words, [0, 4, 8, 12, 16]);
+    assert_eq!((size_of::<Place>(), align_of::<Place>()), (20, 4));
 }
 
 #[test]

@@ -96,3 +96,25 @@ fn short(function: &str) -> String {
     let name = plain.into_iter().find(|name| function.contains(name));
     name.or(function.rsplit("::").next()).unwrap().into()
 }
+
+/// Instructions of a push by case, of each side, and the library's over the others'.
+pub fn print(cases: &[Case]) {
+    let Some(counts) = counts(cases) else {
+        println!("valgrind is not there");
+        return;
+    };
+    println!("| samples | objects | beds | {} |", NAMES.join(" | "));
+    println!("|---|---|---|{}", "---|".repeat(NAMES.len()));
+    for (case, counts) in cases.iter().zip(&counts) {
+        let sums: Vec<f64> = counts.iter().map(|count| count.values().sum()).collect();
+        let cell = |sum: &f64| format!("{sum:.0} ({:.3})", sums[0] / sum);
+        let cells: Vec<String> = sums.iter().map(cell).collect();
+        let Case {
+            samples,
+            objects,
+            beds,
+            ..
+        } = case;
+        println!("| {samples} | {objects} | {beds} | {} |", cells.join(" | "));
+    }
+}

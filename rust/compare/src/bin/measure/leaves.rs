@@ -129,13 +129,7 @@ fn panning() {
         },
         || {
             for &place in &places {
-                let source = oracle::state::Source {
-                    gain: 0.7,
-                    size: 0.0,
-                    cubical_position: place,
-                    position_valid: true,
-                    send: 0.0,
-                };
+                let source = oracle::reading::source(place, 0.7, 0.0);
                 oracle::leaf::render_object_timeslot_to_714(&samples, &mut output, 0, &source);
             }
         },

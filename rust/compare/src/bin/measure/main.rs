@@ -5,8 +5,10 @@
 
 mod case;
 mod counts;
+mod find;
 mod fit;
 mod halls;
+mod holds;
 mod leaves;
 mod million;
 mod pcm24;
@@ -26,14 +28,17 @@ use std::{env, fs, process, thread};
 use table::{Row, rows};
 
 const USAGE: &str = "\
-usage: measure [SECONDS] | million | sends | halls | leaves | planes | pcm24
+usage: measure [SECONDS] | million | sends | halls | leaves | planes | pcm24 | holds | find | counts
   SECONDS   for each case (0.8)
   million   only a million pushes of one sample
   sends     only what sends to the bass feed cost
   halls     only what a hall table of its own costs
   leaves    times of single functions
   planes    times of the archive's planes, both ways
-  pcm24     times of 24-bit samples, both ways";
+  pcm24     times of 24-bit samples, both ways
+  holds     times of holds and releases
+  find      times of searches for a place
+  counts    only instructions, by valgrind";
 
 /// Rounds of all cases, a line for each case and side: seconds a push.
 fn sweep(seconds: f64) {
@@ -168,6 +173,9 @@ fn main() {
         ["leaves"] => leaves::print(),
         ["planes"] => planes::print(),
         ["pcm24"] => pcm24::print(),
+        ["holds"] => holds::print(),
+        ["find"] => find::print(),
+        ["counts"] => counts::print(&warm()),
         ["million"] => million::print(),
         ["sends"] => sends::print(&sends(0.8)),
         ["halls"] => halls::print(&halls(0.8)),

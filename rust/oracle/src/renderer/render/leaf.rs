@@ -159,6 +159,17 @@ over_sources! {
     }
 }
 
+amended_only! {
+    impl Timed {
+        over_sources! {
+            /// A hold of that dynamic object is asked for, or none any more.
+            pub fn want(&mut self, object: usize, wanted: bool) {
+                self.state.dynamic_sources[object].wanted = wanted;
+            }
+        }
+    }
+}
+
 amended_only! { over_sources! {
     /// Over the hall's channels: of the twelve, absent ones have no samples.
     pub fn render_object_in_hall(

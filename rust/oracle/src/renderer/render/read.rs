@@ -146,12 +146,14 @@ pub fn source(state: &DynamicSourceState) -> Source {
         cubical_position: vector(state.cubical_position),
         position_valid: state.position_valid,
         send: send_of!(state),
+        wanted: marks_of!(state)[0],
+        held: marks_of!(state)[1],
     }
 }
 
 pub fn source_state(source: &Source) -> DynamicSourceState {
-    with_send!(
-        source.send,
+    with_send_and_marks!(
+        source,
         DynamicSourceState {
             gain: source.gain,
             size: source.size,

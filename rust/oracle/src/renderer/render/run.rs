@@ -125,6 +125,11 @@ amended_only! {
             pub fn hall(&self) -> crate::Hall {
                 self.renderer.hall.clone()
             }
+
+            /// A hold of that dynamic object is asked for, or none any more.
+            pub fn want(&mut self, object: usize, wanted: bool) {
+                self.renderer.metadata.dynamic_sources[object].wanted = wanted;
+            }
         }
     }
 }

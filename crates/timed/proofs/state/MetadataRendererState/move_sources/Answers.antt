@@ -1,7 +1,7 @@
--- `timed::state::MetadataRendererState::update_timeslot`: by whether there is an element, and whether it does anything. Assumes nothing.
+-- `timed::state::MetadataRendererState::move_sources`: by whether there is an element, and whether it does anything. Assumes nothing.
 use mathlib.Core.Path.{sym, ◌∙◌}
 use Rattle.timed.proofs.Slots.{slot_moves}
-use Rattle.timed.proofs.state.MetadataRendererState.update_timeslot.Goals as goal
+use Rattle.timed.proofs.state.MetadataRendererState.move_sources.Goals as goal
 
 pub returns-then-active : goal.returns-then-active
 returns-then-active c =

@@ -17,15 +17,14 @@ use Rattle.timed.specs.Infos.{with_vec}
 use Rattle.timed.specs.Objects.{object_moved, moved_at, moved_all}
 use Rattle.timed.specs.Objects as objects
 use Rattle.timed.specs.Rules.{no_block, due, left_after, ramp_over, active}
-use Rattle.timed.specs.Slot.{SlotWork, block_applied, block_turn, blocks_applied, updated_sources}
-use Rattle.timed.specs.State.{Timed, element_of, timing_of, reach_of, element_taken, slot_of, slot_at}
+use Rattle.timed.specs.Slot.{SlotWork, slot_begun, block_applied, block_turn, blocks_applied, updated_sources}
+use Rattle.timed.specs.State.{Timed, element_of, timing_of, reach_of, element_taken, slot_of, slot_moved, slot_at}
 use Rattle.timed.specs.declared.state.DynamicSourceState.{DynamicSourceState}
 use Rattle.timed.specs.declared.objects.Moving.{Moving}
 use Rattle.timed.specs.declared.slot.Timing.{Timing}
 use Rattle.timed.specs.declared.slot.Reach.{Reach}
-use Rattle.timed.proofs.Theorems.{times_keeps, cond_keeps}
+use Rattle.timed.proofs.Invariants.{times_keeps, cond_keeps}
 use Rattle.timed.specs.InfoSizes.{info_bytes, position_byte, last_byte, send_byte}
-use Rattle.theorem.proofs.SlotShape.{slot_on}
 
 -- js has is's words before each position, and its sends
 pub record Like (is js : List ℕ) : Type 0 where
@@ -147,13 +146,17 @@ slot_of_like : (w : Timing) (i : ℕ) (t : Timed) → Like t.infos (slot_of w i 
 unfolding slot_of updated_sources
 slot_of_like w i t =
     let e = element_of t.state i in
-    blocks_like w (reach_of t.state i) e.blocks (record { slot = slot_on t.state e; infos = t.infos })
+    blocks_like w (reach_of t.state i) e.blocks (slot_begun e t.state.gains t.state.sources t.infos)
 
-pub slot_like : (start : ℕ) (t : Timed) → Like t.infos (slot_at start t).infos
-unfolding slot_at
-slot_like start t =
+infos_moved : (start : ℕ) (t : Timed) → Like t.infos (slot_moved start t).infos
+unfolding slot_moved
+infos_moved start t =
     let w = timing_of start t.state in
     let i = element_taken w t.state.states t.state.elements in
     let P : Timed → Type 0 = λ x. Like t.infos x.infos in
     cond_keeps P (eqb t.state.elements 0) t _ (λ _. like_refl t.infos)
     (λ _. cond_keeps P (active (element_of t.state i)) (slot_of w i t) t (λ _. slot_of_like w i t) (λ _. like_refl t.infos))
+
+pub slot_like : (start : ℕ) (t : Timed) → Like t.infos (slot_at start t).infos
+unfolding slot_at
+slot_like start t = infos_moved start t
