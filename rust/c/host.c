@@ -1,6 +1,6 @@
 /* SPDX-License-Identifier: Apache-2.0 */
-/* A host in C: in a hall of each layout, and in one with a table of its own, one bed and one object that moves and is held
-   on its way, frames of 480 samples, one too loud, one broken, a flush. It prints what it hears: each answer, and peak, gain
+/* A host in C: in a hall of each layout, and in one with a table of its own, one bed and one object that moves, once by an
+   update that is sent a frame ahead, and is held on its way, frames of 480 samples, one too loud, one broken, a flush. It prints what it hears: each answer, and peak, gain
    and each ready sample of the layout's channels as the eight digits of their bits. Then it asks where to put a sound, makes
    planes of some bytes and 24-bit integers of some samples, and prints these too. */
 #include "voqlisna.h"
@@ -8,7 +8,7 @@
 #include <stdio.h>
 #include <stdlib.h>
 
-enum { SAMPLES = 480, STRIDE = 512, FRAMES = 8, LOUD = 3, HELD = 4, BROKEN = 5, RELEASED = 7, RATE = 48000, ARCHIVED = 2, HEARD = 64, PLAYED = 3 };
+enum { SAMPLES = 480, STRIDE = 512, FRAMES = 8, LOUD = 3, HELD = 4, BROKEN = 5, EARLY = 6, RELEASED = 7, RATE = 48000, ARCHIVED = 2, HEARD = 64, PLAYED = 3 };
 
 /* Float modes, without the flags of bits 0 to 5. This thread flushes to zero and rounds up. */
 enum { USUAL = 0x1f80, AUDIO = 0xdf80, CONTROL = 0xffc0 };
@@ -37,9 +37,9 @@ static void print(const char *call, hall_answer answer, uint32_t layout, const u
   }
 }
 
-/* One update: the bed stays, the object goes to (x, 0.25, 0.5) within the frame and shakes the floor. Gives the records'
-   length. */
-static size_t move(uint8_t *meta, float x) {
+/* One update: the bed stays, the object goes to (x, 0.25, 0.5) within the frame and shakes the floor; at the frame's start,
+   or so many samples ahead. Gives the records' length. */
+static size_t move(uint8_t *meta, float x, uint32_t ahead) {
   const uint8_t beds[] = {HALL_BED_BASS};
   uint8_t *end = meta;
   hall_object object = hall_keep;
@@ -50,7 +50,8 @@ static size_t move(uint8_t *meta, float x) {
   object.z = 0.5f;
   object.size = 0.125f;
   object.send = 0.75f;
-  end = hall_put_update(end, 0, 2, 1, beds, 1, 1);
+  if (ahead > 0) end = hall_put_update_ahead(end, ahead, 2, 1, beds, 1, 1);
+  else end = hall_put_update(end, 0, 2, 1, beds, 1, 1);
   end = hall_put_element(end, 1);
   end = hall_put_block(end, 0, SAMPLES);
   end = hall_put_object(end, &hall_keep);
@@ -155,7 +156,7 @@ static void show(uint8_t *state, size_t size, uint32_t layout, const uint8_t *ta
   if (table) print_answer("make_with_table", hall_make_with_table(state, size, layout, table, HALL_TABLE_SIZE));
   else print_answer("make", hall_make(state, size, layout));
   for (frame = 0; frame < FRAMES; frame++) {
-    const size_t length = frame % 2 == 0 ? move(meta, (float)frame / 8.0f) : 0;
+    const size_t length = frame % 2 == 0 ? move(meta, (float)frame / 8.0f, frame == EARLY ? SAMPLES + 20 : 0) : 0;
     hall_answer answer;
     sound(pcm, frame);
     mode = hall_enter_floats();
@@ -198,7 +199,7 @@ int main(int count, char **words) {
   }
   archive();
   amplifier();
-  for (number = 0; number < 25; number++) printf("%u: %s\n", number, hall_refusal_text(number));
+  for (number = 0; number < 26; number++) printf("%u: %s\n", number, hall_refusal_text(number));
   free(state);
   return kept ? 0 : 2;
 }

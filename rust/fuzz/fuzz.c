@@ -12,13 +12,13 @@
 #include <unistd.h>
 
 enum { CALLS = 24, HEAD = 32, STRIDE = 1536, CHANNELS = 34, RECORDS = 1024, STREAM = 40, BEHIND = 64 };
-/* Of the block: where sources, elements, infos, the layout's code and the hall table stand, and how long a source and an element are
+/* Of the block: where sources, elements, infos, the layout's code, the hall table and the area stand, and how long a source and an element are
    (docs/STATE-BLOCK.md). */
 enum { SOURCES = 240, SOURCE = 28, ELEMENTS = SOURCES + 16 * SOURCE, ELEMENT = 368, INFOS = ELEMENTS + 2 * ELEMENT, MARKS = 20 };
-enum { TABLE = HALL_STATE_SIZE - HALL_TABLE_SIZE, LAYOUT = TABLE - 4 };
+enum { AREA = 29220, TABLE = AREA - HALL_TABLE_SIZE, LAYOUT = TABLE - 4 };
 
 /* One renderer's memory, longer than what is lent of it. */
-static uint8_t state[1 << 16], before[1 << 16], out[48 * STRIDE], kept[48 * STRIDE], records[40 * RECORDS], codes[255];
+static uint8_t state[1 << 17], before[1 << 17], out[48 * STRIDE], kept[48 * STRIDE], records[40 * RECORDS], codes[255];
 static float pcm[CHANNELS * STRIDE];
 static int damaged; /* the block was written from outside since it was new: its floats may be any */
 static int printing; /* each answer, where one input is run again */
@@ -125,7 +125,7 @@ static void damage(const uint8_t *head, size_t size) {
 
 /* By a number above 1. */
 static int can_refuse(unsigned entry, uint32_t number) {
-  if (entry == PUSH) return number < 15;
+  if (entry == PUSH) return number < 15 || number == 25;
   if (entry == HOLD || entry == RELEASE) return number == 24;
   return entry == MAKE ? number == 15 : entry == MAKE_WITH && number >= 15;
 }
@@ -137,7 +137,7 @@ static void check_answer(const made *m) {
   if (!damaged && !(__builtin_isfinite(a.peak) && a.gain > 0.0f && a.gain <= 1.0f)) fail("a peak or gain out of range");
   if (a.kind > 3 || (a.kind != HALL_REFUSED && (a.number || a.first || a.second))) fail("an answer that cannot be");
   if (a.kind != HALL_REFUSED) return;
-  if (a.number < 1 || (a.number > 18 && a.number != 24) || a.number == 7 || a.ready) fail("a refusal that cannot be");
+  if (a.number < 1 || (a.number > 18 && a.number != 24 && a.number != 25) || a.number == 7 || a.ready) fail("a refusal that cannot be");
   if (a.number != 1 && !can_refuse(m->entry, a.number)) fail("a refusal that is not this entry's");
   int counts = a.number == 9 || a.number == 11 || a.number == 13 || a.number == 14;
   if (!counts && (a.first || a.second)) fail("counts that cannot be");
@@ -182,8 +182,8 @@ static unsigned heights(void) {
 
 /* What the fuzzer is told of the answer and of the block that it left. */
 static void tell(hall_answer a, size_t stride, uint32_t last) {
-  spot(a.kind == HALL_REFUSED ? a.number : 25 + a.kind);
-  spot(1024 + 25 * last + a.number);                            /* the refusal, and the one before */
+  spot(a.kind == HALL_REFUSED ? a.number : 26 + a.kind);
+  spot(1024 + 26 * last + a.number);                            /* the refusal, and the one before */
   spot(288 + word(state + 80) % 33);                            /* objects */
   spot(328 + word(state + 88) % 19 * 3 + word(state + 92) % 3); /* beds, elements */
   spot(392 + (unsigned)a.ready / 64);
@@ -205,7 +205,8 @@ static void tell(hall_answer a, size_t stride, uint32_t last) {
   for (size_t i = 0; i < 16; i++) sent += word(state + SOURCES + SOURCE * i + 24) << 1 != 0;
   for (size_t i = 0; i < 16; i++) marks |= 1u << (word(state + SOURCES + SOURCE * i + MARKS) & 7);
   spot(840 + sent);          /* objects with a send */
-  spot(1700 + (marks & 255)); /* which marks some object has */
+  spot(1760 + (marks & 255)); /* which marks some object has */
+  spot(900 + word(state + AREA) % 9); /* updates that wait */
   spot(860 + word(state + LAYOUT) % 5);
   spot(870 + heights());
 }

@@ -29,14 +29,16 @@ static void put_float(uint8_t *p, float most) { /* from 0 to `most`, where it is
 
 static void mend_update(uint8_t *r) {
   uint8_t least;
-  r[0] = 1, r[1] = 0;
+  int far = r[0] == 9;
+  r[0] = far ? 9 : 1, r[1] = 0;
   r[4] %= 33;
   least = r[4] > 16 ? (uint8_t)(r[4] - 16) : 0;
   if (r[5] < least) r[5] = least;
   r[6] %= (r[4] < 18 ? r[4] : 18) + 1;
   r[7] %= 3;
   for (int i = 0; i < r[6]; i++) r[8 + i] %= 18;
-  memset(r + 8 + r[6], 0, 32u - r[6]);
+  memset(r + 8 + r[6], 0, (far ? 20u : 32u) - r[6]);
+  if (far) memset(r + 2, 0, 2), memset(r + 32, 0, 8);
 }
 
 static void mend_block(uint8_t *r) {

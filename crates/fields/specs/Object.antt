@@ -87,6 +87,10 @@ abbrev pub absent_or : Float → Option Float → Bool
 absent_or most None = true
 absent_or most (Some x) = from_zero_to most x
 
+-- "a depth factor not one of the four"
+abbrev pub depth_fits : List ℕ → ℕ → Bool
+depth_fits m r = nat_lt (depth_code (float_at m (40 * r + 32))) 4
+
 -- "a present gain outside 0 to 8, a size outside 0 to 1 (NaN is outside) .. a depth factor not one of the four"; R-3: "a send outside its range, NaN included, is refusal 6"
 abbrev pub object_in_range : Object → Bool
 object_in_range o =

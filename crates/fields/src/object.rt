@@ -4,7 +4,7 @@ ghost use Rattle.std.specs.Float.{binary32};
 ghost use Rattle.std.specs.Option.{is_some, unwrap_or};
 ghost use Rattle.vectors.specs.Head.{head_word};
 ghost use Rattle.fields.specs.RecordBytes.{byte, has};
-ghost use Rattle.fields.specs.Object.{value_fits, values_fit, is_object, depth_code, object_of, from_zero_to, object_in_range};
+ghost use Rattle.fields.specs.Object.{value_fits, values_fit, is_object, depth_code, object_of, from_zero_to, depth_fits, object_in_range};
 ghost use Rattle.fields.specs.ObjectInfos.{stored_info};
 
 use crate::record::{OBJECT, Record};
@@ -125,6 +125,14 @@ impl Record<'_> {
         ensures { result ≡ is_object self.entry.meta.now self.entry.place }
     {
         is_object_head(self.meta, 40 * self.place) & self.values_fit()
+    }
+
+    // Whether the object's depth factor is one of the four.
+    #[tactic(auto, using(crate::proofs::RangesByBits::float_bits))]
+    pub fn depth_fits(self) -> bool
+        ensures { result ≡ depth_fits self.entry.meta.now self.entry.place }
+    {
+        depth_of(self.word(32)).is_some()
     }
 
     // Whether gain, size, depth factor and send of the object are within their ranges, with no branch.

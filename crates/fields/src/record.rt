@@ -14,6 +14,9 @@ pub const BLOCK: u8 = 3;
 
 pub const OBJECT: u8 = 4;
 
+// An update that may lie far ahead (R-12).
+pub const FAR_UPDATE: u8 = 9;
+
 // Record `place` of a list of records: it is there.
 #[derive(Clone, Copy)]
 pub struct Record<'a> {

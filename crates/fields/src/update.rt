@@ -1,8 +1,8 @@
-// Kind 1, update.
+// Kinds 1 and 9, update: the second has its offset in 32 bits (R-12).
 ghost use Rattle.std.specs.Prelude.{◌≡◌, ◌+◌, ◌-◌, ◌*◌, ◌<◌, ◌≤◌, length};
-ghost use Rattle.fields.specs.Update.{offset, header_of, counts_fit, most_at, codes_fit, is_update};
+ghost use Rattle.fields.specs.Update.{is_far, offset, header_of, counts_fit, most_at, codes_fit, rest_clear, is_update};
 
-use crate::record::{Record, UPDATE};
+use crate::record::{FAR_UPDATE, Record, UPDATE};
 use clock::FrameOffset;
 
 #[repr(C)]
@@ -56,11 +56,33 @@ fn codes_fit(meta: &[u8], at: usize, beds: usize) -> bool
 }
 
 impl Record<'_> {
+    // Whether it may lie far ahead.
+    pub fn is_far(self) -> bool
+        ensures { result ≡ is_far self.entry.meta.now self.entry.place }
+    {
+        self.kind() == FAR_UPDATE
+    }
+
     // The sample offset.
     pub fn offset(self) -> FrameOffset
         ensures { result.0 ≡ offset self.entry.meta.now self.entry.place }
     {
-        FrameOffset(u32::from(words::u16_at(self.meta, 40 * self.place + 2)))
+        if self.is_far() {
+            FrameOffset(self.word(28))
+        } else {
+            FrameOffset(u32::from(words::u16_at(self.meta, 40 * self.place + 2)))
+        }
+    }
+
+    // Whether all places beside the offset that are not in use are zero.
+    fn rest_clear(self) -> bool
+        ensures { result ≡ rest_clear self.entry.meta.now self.entry.place }
+    {
+        if self.is_far() {
+            self.is_zero(2, 2) & self.is_zero(26, 2) & self.is_zero(32, 8)
+        } else {
+            self.is_zero(26, 14)
+        }
     }
 
     // What the update says, but for the codes.
@@ -83,10 +105,10 @@ impl Record<'_> {
         ensures { result ≡ is_update self.entry.meta.now self.entry.place }
     {
         let header = self.header();
-        (self.kind() == UPDATE)
+        ((self.kind() == UPDATE) | self.is_far())
             & (self.byte(1) == 0)
             & header.counts_fit()
             & codes_fit(self.meta, 40 * self.place + 8, header.beds)
-            & self.is_zero(26, 14)
+            & self.rest_clear()
     }
 }

@@ -45,7 +45,7 @@ module _ (f : Frame Sent) (t k : ℕ) (s : Renderer714) (b : List ℕ) where
   abbrev at : ℕ → Moment
   at = moment_here f t k s b
 
-  abbrev settled : Renderer Timed
+  abbrev settled : Renderer Timed (List ℕ)
   settled = settled_at f t k s b
 
   abbrev rows : Places
@@ -93,6 +93,7 @@ module _ (f : Frame Sent) (t k : ℕ) (s : Renderer714) (b : List ℕ) where
           filter = settled.filter;
           meta = settled.meta;
           pending = record { count = 0; places = rows };
+          waits = settled.waits;
         })
         (sym rows_whole))
 
@@ -202,7 +203,7 @@ module _ (f : Frame Sent) {w v : Rendering} {b pcm out codes : List ℕ} {object
       let j = y.ready in
       record {
         pending = omega arith;
-        rate = rw (ap (λ (x : Renderer Timed). x.rate) is_settled) h.rate;
+        rate = rw (ap (λ (x : Renderer Timed (List ℕ)). x.rate) is_settled) h.rate;
         room = omega arith;
         short = h.short;
         output = h.output;
@@ -230,13 +231,13 @@ module _ (f : Frame Sent) {w v : Rendering} {b pcm out codes : List ℕ} {object
       let c : r.ready ≡ w.ready + 64 = g.ready ∙ (let i = j in let m = z in omega arith) in
       record {
         next = record {
-          holds = g.next ∙ ap (λ (x : Renderer Timed). (flushed hall x).next) is_settled ∙ sym (chunk_whole f t k s b o);
+          holds = g.next ∙ ap (λ (x : Renderer Timed (List ℕ)). (flushed hall x).next) is_settled ∙ sym (chunk_whole f t k s b o);
           small = l.small;
           hall = l.hall;
         };
         given = g.given
             ∙ (λ i. behind (j i) (flushed hall (is_settled i)).given stride out) ∙ ap (λ (g : Channels). behind w.ready g stride out) (sym (chunk_given f t k s b o));
-        ready = c ∙ adds_ready w.ready (ap (λ (x : Renderer Timed). x.pending.count) g.next);
+        ready = c ∙ adds_ready w.ready (ap (λ (x : Renderer Timed (List ℕ)). x.pending.count) g.next);
         meters = g.meters ∙ (λ i. meets_all (y.meters i) (flushed hall (is_settled i)).meters) ∙ ap (meets_all w.meters) (sym (chunk_meters f t k s b o));
       }
 

@@ -69,6 +69,7 @@ module _ (L : Leaves) where
         filter = next r.filter (fed (moment L f t r.setup r.meta));
         meta = r.meta;
         pending = appended 1 (sounding r.setup (row (moment L f t r.setup r.meta) r.filter)) r.pending;
+        waits = r.waits;
       }
 
   -- what its first sample leaves
@@ -103,6 +104,7 @@ module _ (L : Leaves) where
         filter = filter_after m r.filter t n;
         meta = r.meta;
         pending = record { count = pending; places = places };
+        waits = r.waits;
       })
       (moments m t n)
 

@@ -18,12 +18,12 @@ use Rattle.panning.specs.Setup.{Setup, present}
 use Rattle.panning.proofs.Theorems.{front_present}
 use Rattle.rules.specs.Parts.{Places}
 use Rattle.rules.specs.Leaves.{Leaves, Shape}
-use Rattle.rules.specs.Samples.{Pending, State, After, updated, slotted, framed, opened, pushed}
+use Rattle.rules.specs.Samples.{Frame, Pending, State, After, updated, slotted, framed, opened, pushed}
 use Rattle.rules.specs.Refusals.{Args, listed, shape_at}
-use Rattle.rules.specs.Calls.{announced, frame_of}
+use Rattle.rules.specs.Calls.{announced, frame_with}
 use Rattle.rules.specs.BlockCalls.{Layout, written}
 use Rattle.rules.specs.Promises.{count_on}
-use Rattle.rules.proofs.Theorems.{Facts, Passed, is_roomy, samples_fit, untouched, R, updated_ranged, slotted_ranged, framed_ranged, opened_ranged, Matches, matches_on, judged}
+use Rattle.rules.proofs.Theorems.{Facts, PassedWith, is_roomy, samples_fit, untouched, R, updated_ranged, slotted_ranged, framed_ranged, opened_ranged, Matches, matches_on, judged}
 use Rattle.rules.proofs.Theorems.{updated_shape, slotted_shape, count_most, here_count, all_or_none}
 use Rattle.frame.specs.Chunk.{chunk}
 use Rattle.rendering.specs.Out.{behind}
@@ -53,14 +53,14 @@ module _ (L : Leaves) (B : Layout L) (F : Facts L B) where
   pub record Shaped : Type 1 where
     pub Coded : L.Meta → Type 0
     pub within : (n : ℕ) (m : L.Meta) → F.Within n m → Coded m
-    pub keeps : (n : ℕ) (u : L.Update) (m : L.Meta) → F.Checked u → Coded m → Coded (L.apply n u m)
-    pub gives : (n : ℕ) (u : L.Update) (m : L.Meta) → F.Checked u → Coded m → L.shape (L.apply n u m) ≡ L.sent u
+    pub keeps : (n : ℕ) (u : L.Update) (m : L.Meta) → F.Shaped u → Coded m → Coded (L.apply n u m)
+    pub gives : (n : ℕ) (u : L.Update) (m : L.Meta) → F.Shaped u → Coded m → L.shape (L.apply n u m) ≡ L.sent u
     pub rests : (n : ℕ) (m : L.Meta) → L.shape (L.slot n m) ≡ L.shape m
 
   -- ---- a push on the renderer r₀
-  module _ (r₀ : State L) (a : Args) where
-    abbrev us : List L.Update
-    us = L.updates a.meta
+  module _ (r₀ : State L) (us : List L.Update) (a : Args) where
+    abbrev frame : Frame L.Update
+    frame = frame_with L us a
 
     abbrev Fit : Shape → Type 0
     Fit = Matches (announced L us) a.objects a.codes
@@ -70,15 +70,15 @@ module _ (L : Leaves) (B : Layout L) (F : Facts L B) where
 
     -- the samples from t on, from r
     abbrev rest : ℕ → State L → After L
-    rest t r = framed L (frame_of L a) (a.samples - t) t r
+    rest t r = framed L frame (a.samples - t) t r
 
     -- before sample t: with the renderer r, `ready` samples of each channel in the output and the meters `level` of their blocks, the rest of the frame is the rest of the push
     pub record Going (t : ℕ) (r : State L) (ready : ℕ) (level : Meters) (out : List ℕ) : Type 0 where
       pub here : t ≤ a.samples
-      pub next : (rest t r).next ≡ (pushed L (frame_of L a) r₀).next
-      pub given : behind ready (rest t r).given a.stride out ≡ written (pushed L (frame_of L a) r₀).given a.stride a.out
-      pub count : ready + length ((rest t r).given 0) ≡ length ((pushed L (frame_of L a) r₀).given 0)
-      pub meters : meets_all level (rest t r).meters ≡ meets_all unmet (pushed L (frame_of L a) r₀).meters
+      pub next : (rest t r).next ≡ (pushed L frame r₀).next
+      pub given : behind ready (rest t r).given a.stride out ≡ written (pushed L frame r₀).given a.stride a.out
+      pub count : ready + length ((rest t r).given 0) ≡ length ((pushed L frame r₀).given 0)
+      pub meters : meets_all level (rest t r).meters ≡ meets_all unmet (pushed L frame r₀).meters
       pub long : length out ≡ length a.out
       pub ranged : R L B F r
       pub listed : listed r.rate ≡ true
@@ -100,14 +100,14 @@ module _ (L : Leaves) (B : Layout L) (F : Facts L B) where
       pub pending : (met t r).pending.count ≡ r.pending.count
       pub fits : Fit (L.shape (met t r).meta)
 
-    module _ (S : Shaped) (p : Passed L r₀ a) (k : All F.Checked us) (t : ℕ) (r : State L) (ready : ℕ) (level : Meters) (out : List ℕ) (g : Going t r ready level out)
+    module _ (S : Shaped) (p : PassedWith L us r₀ a) (k : All F.Shaped us) (t : ℕ) (r : State L) (ready : ℕ) (level : Meters) (out : List ℕ) (g : Going t r ready level out)
         (more : t < a.samples) where
       pub begun : Begun t r
       begun =
           let u = updated_ranged L B F t us r k g.ranged in
           let w = untouched L t us r in
           let e = slotted_shape L B F (updated L t us r) (λ n. S.rests n (updated L t us r).meta)
-          ∙ updated_shape L B F S.Coded S.keeps S.gives (announced L us) a.objects a.codes t us r k (S.within r.clock.position r.meta g.ranged.meta) in
+          ∙ updated_shape L B F F.Shaped S.Coded S.keeps S.gives (announced L us) a.objects a.codes t us r k (S.within r.clock.position r.meta g.ranged.meta) in
           record {
             setup = w.setup;
             updates = u;
@@ -119,35 +119,35 @@ module _ (L : Leaves) (B : Layout L) (F : Facts L B) where
           }
 
       -- ---- a turn of n + 1 samples
-      module _ (few : r₀.pending.count < 64) (n : ℕ) (fit : t + suc n ≤ a.samples) (q : Turn L (frame_of L a) n t (met t r)) where
+      module _ (few : r₀.pending.count < 64) (n : ℕ) (fit : t + suc n ≤ a.samples) (q : Turn L frame n t (met t r)) where
         abbrev C : After L
-        C = chunk L (frame_of L a) (suc n) t (met t r)
+        C = chunk L frame (suc n) t (met t r)
 
         abbrev D : After L
         D = rest (t + suc n) C.next
 
         parts : rest t r ≡ both L C D
         parts =
-            ap (λ (i : ℕ). framed L (frame_of L a) i t r) (let e : a.samples - t ≡ suc n + (a.samples - (t + suc n)) = omega arith in e)
-            ∙ turn L (frame_of L a) n (a.samples - (t + suc n)) t r q
+            ap (λ (i : ℕ). framed L frame i t r) (let e : a.samples - t ≡ suc n + (a.samples - (t + suc n)) = omega arith in e)
+            ∙ turn L frame n (a.samples - (t + suc n)) t r q
 
-        at_once : framed L (frame_of L a) (suc n) t r ≡ C
-        at_once = chunk_whole L (frame_of L a) n t r q
+        at_once : framed L frame (suc n) t r ≡ C
+        at_once = chunk_whole L frame n t r q
 
         counted : Counted L r.setup r.pending.count (suc n) C
-        counted = subst (Counted L r.setup r.pending.count (suc n)) at_once (framed_counted L (frame_of L a) (suc n) t r g.ranged.long g.ranged.pending)
+        counted = subst (Counted L r.setup r.pending.count (suc n)) at_once (framed_counted L frame (suc n) t r g.ranged.long g.ranged.pending)
 
         chunk_ranged : R L B F C.next
         chunk_ranged =
             let at = g.position in
             let last = p.early.position in
-            subst (λ (x : After L). R L B F x.next) at_once (framed_ranged L B F (frame_of L a) k (suc n) t r g.listed (omega arith) g.ranged)
+            subst (λ (x : After L). R L B F x.next) at_once (framed_ranged L B F frame k (suc n) t r g.listed (omega arith) g.ranged)
 
         rest_counted : Counted L r.setup C.next.pending.count (a.samples - (t + suc n)) D
         rest_counted =
             subst (λ (h : Setup). Counted L h C.next.pending.count (a.samples - (t + suc n)) D)
-            ((chunk_passes L (frame_of L a) (suc n) t (met t r)).setup ∙ begun.setup)
-            (framed_counted L (frame_of L a) (a.samples - (t + suc n)) (t + suc n) C.next chunk_ranged.long chunk_ranged.pending)
+            ((chunk_passes L frame (suc n) t (met t r)).setup ∙ begun.setup)
+            (framed_counted L frame (a.samples - (t + suc n)) (t + suc n) C.next chunk_ranged.long chunk_ranged.pending)
 
         room : (c : ℕ) → c < 12 → ready + 64 * counted.blocks + length (D.given c) ≤ a.stride
         room c l =
@@ -178,11 +178,11 @@ module _ (L : Leaves) (B : Layout L) (F : Facts L B) where
         fits_more l =
             let j = judged (announced L us) a.objects a.codes a.samples a.rate r₀.rate (L.shape r₀.meta) p.later in
             matches_on (announced L us) a.objects a.codes (t + suc n) (announced L us) (L.shape C.next.meta) (j.then_all (t + suc n) l)
-            (subst (λ (x : L.Meta). Fit (L.shape x)) (sym (chunk_passes L (frame_of L a) (suc n) t (met t r)).meta) begun.fits)
+            (subst (λ (x : L.Meta). Fit (L.shape x)) (sym (chunk_passes L frame (suc n) t (met t r)).meta) begun.fits)
 
         gone : Going (t + suc n) C.next (ready + 64 * counted.blocks) (meets_all level C.meters) (behind ready C.given a.stride out)
         gone =
-            let c = chunk_passes L (frame_of L a) (suc n) t (met t r) in
+            let c = chunk_passes L frame (suc n) t (met t r) in
             let b = begun in
             record {
               here = fit;
@@ -251,10 +251,10 @@ module _ (L : Leaves) (B : Layout L) (F : Facts L B) where
             short_of c false e = rw (g.ranged.none c (ltb-false c 12 e)) (omega arith)
 
         same : rest t (replaced L q r) ≡ rest t r
-        same = framed_replaced L (frame_of L a) (a.samples - t) t r q agree (omega arith) (omega arith)
+        same = framed_replaced L frame (a.samples - t) t r q agree (omega arith) (omega arith)
 
     -- ---- before the first sample, and after the last
-    pub starts : R L B F r₀ → Passed L r₀ a → Going 0 (opened L a.rate r₀) 0 unmet a.out
+    pub starts : R L B F r₀ → PassedWith L us r₀ a → Going 0 (opened L a.rate r₀) 0 unmet a.out
     unfolding pushed
     starts g p =
         let o = opened_ranged L B F a.rate r₀ p.early.listed g in
@@ -274,12 +274,12 @@ module _ (L : Leaves) (B : Layout L) (F : Facts L B) where
           fits = λ l. j.first;
         }
       where
-        all : rest 0 (opened L a.rate r₀) ≡ framed L (frame_of L a) a.samples 0 (opened L a.rate r₀)
-        all = ap (λ (i : ℕ). framed L (frame_of L a) i 0 (opened L a.rate r₀)) (let e : a.samples - 0 ≡ a.samples = omega arith in e)
+        all : rest 0 (opened L a.rate r₀) ≡ framed L frame a.samples 0 (opened L a.rate r₀)
+        all = ap (λ (i : ℕ). framed L frame i 0 (opened L a.rate r₀)) (let e : a.samples - 0 ≡ a.samples = omega arith in e)
 
     pub ends : (t : ℕ) (r : State L) (ready : ℕ) (level : Meters) (out : List ℕ) → Going t r ready level out → a.samples ≤ t
-        → (r ≡ (pushed L (frame_of L a) r₀).next) × (out ≡ written (pushed L (frame_of L a) r₀).given a.stride a.out) × (ready ≡ length ((pushed L (frame_of L a) r₀).given 0))
-        × (level ≡ meets_all unmet (pushed L (frame_of L a) r₀).meters)
+        → (r ≡ (pushed L frame r₀).next) × (out ≡ written (pushed L frame r₀).given a.stride a.out) × (ready ≡ length ((pushed L frame r₀).given 0))
+        × (level ≡ meets_all unmet (pushed L frame r₀).meters)
     ends t r ready level out g h = (
       sym (ap (λ (x : After L). x.next) none_left) ∙ g.next,
       sym (behind_none ready a.stride out) ∙ ap (λ (x : After L). behind ready x.given a.stride out) (sym none_left) ∙ g.given,
@@ -287,5 +287,5 @@ module _ (L : Leaves) (B : Layout L) (F : Facts L B) where
       sym (ap (λ (x : After L). meets_all level x.meters) none_left) ∙ g.meters,
     )
       where
-        none_left : rest t r ≡ framed L (frame_of L a) 0 t r
-        none_left = ap (λ (i : ℕ). framed L (frame_of L a) i t r) (let e : a.samples - t ≡ 0 = omega arith in e)
+        none_left : rest t r ≡ framed L frame 0 t r
+        none_left = ap (λ (i : ℕ). framed L frame i t r) (let e : a.samples - t ≡ 0 = omega arith in e)

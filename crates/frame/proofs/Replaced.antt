@@ -76,6 +76,7 @@ module _ (L : Leaves) where
         filter = r.filter;
         meta = r.meta;
         pending = record { count = r.pending.count; places = q };
+        waits = r.waits;
       }
 
   one_replaced : (q : Places) (t : ℕ) (u : L.Update) (r : State L) (b : Bool)
@@ -105,6 +106,7 @@ module _ (L : Leaves) where
           filter = next s.filter (fed m);
           meta = s.meta;
           pending = record { count = s.pending.count + 1; places = p };
+          waits = s.waits;
         })
         (m ∷ [])
 

@@ -19,7 +19,7 @@ ready_after ready pending = cond (eqb pending 0) (ready + 64) ready
 
 module _ (f : Frame Sent) (t k : ℕ) (s : Renderer714) (b : List ℕ) where
   -- the renderer after the chunk, before a whole block is given out
-  abbrev pub settled_at : Renderer Timed
+  abbrev pub settled_at : Renderer Timed (List ℕ)
   settled_at = settled hall k (filter_after (moment_here f t k s b) s.filter t k) (sounding (setup_in b) (λ c. row_run (moment_here f t k s b) s.filter c t k)) (held s b)
 
 -- the rules' chunk: what is held after it, what is given out behind the samples that are ready, how many are ready then, and with which meters

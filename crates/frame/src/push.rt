@@ -3,13 +3,13 @@
 
 // A frame that no refusal turned away, in chunks: each turn takes the updates at its first sample and the slot that starts there, then the samples up to the next
 // update, the end of the slot, of the limiter's block or of the frame.
-ghost use Rattle.std.specs.Prelude.{◌≡◌, cond, ◌&&◌, ◌||◌, eqb, ltb, ◌-◌, ◌<◌, ◌≤◌};
+ghost use Rattle.std.specs.Prelude.{◌≡◌, ◌++◌, cond, ◌&&◌, ◌||◌, eqb, ltb, ◌-◌, ◌<◌, ◌≤◌};
 ghost use Rattle.rules.specs.Samples.{pushed};
-ghost use Rattle.rules.specs.Calls.{frame_of};
+ghost use Rattle.rules.specs.Calls.{frame_with};
 ghost use Rattle.render.specs.Run.{silent_rows};
 ghost use Rattle.store.specs.Layout.{decode, setup_in};
 ghost use Rattle.panning.specs.Hall.{setup_of};
-ghost use Rattle.theorem.specs.Instance.{hall};
+ghost use Rattle.theorem.specs.Instance.{hall, sent_from};
 ghost use Rattle.rendering.specs.Begin.{NoneSent};
 ghost use Rattle.refusals.specs.FirstFound.{args_in};
 ghost use Rattle.frame.specs.Loop.{run_length, Accepted, IsRendered};
@@ -18,6 +18,7 @@ use chunk::lay;
 use clock::{FrameOffset, START};
 use formats::areas;
 use panning::Hall;
+use records::metadata::Metadata;
 use records::sent::Layout;
 use refusals::Frame;
 use render::{Input, Span};
@@ -26,7 +27,7 @@ use store::Block;
 use store::renderer::Renderer714;
 
 // How many samples a turn takes, of those from t up to `end`, the next update or the frame's end. Here and in `slot_starts` of the renderer's parts: with the renderer
-// lent in their place, the library's code was a third larger.
+// lent in their place, the library's code is a third larger.
 fn run_length(started: bool, phase: u32, pending: u32, t: FrameOffset, end: FrameOffset) -> usize
     requires { (phase < 64) × (pending < 64) × (t.0 ≤ end.0) }
     ensures { result ≡ run_length started phase pending (end.0 - t.0) }
@@ -75,11 +76,12 @@ fn render_in(
     setup: &Hall,
     s: Renderer714,
     state: &mut Block,
+    kept: &Metadata<'_>,
     frame: Frame<'_>,
     out: &mut [u8],
 ) -> Rendering
-    requires { Accepted s state.old (args_in frame out.old) × (setup_of setup.now ≡ setup_in state.old) }
-    ensures { IsRendered (pushed hall (frame_of hall (args_in frame.entry out.old)) (decode state.old)) frame.entry.n.stride state.old out.old result state.new out.new }
+    requires { Accepted s state.old (sent_from kept.now ++ sent_from frame.metadata) (args_in frame out.old) × (setup_of setup.now ≡ setup_in state.old) }
+    ensures { IsRendered (pushed hall (frame_with hall (sent_from kept.now ++ sent_from frame.entry.metadata) (args_in frame.entry out.old)) (decode state.old)) frame.entry.n.stride state.old out.old result state.new out.new }
 {
     let Frame {
         pcm,
@@ -96,6 +98,9 @@ fn render_in(
     let mut t = START;
     // By `while`: how many samples a turn takes is found as it goes.
     while t < end {
+        if is_sent(kept.layout, t) {
+            work = work.apply_sent(state, *kept, t);
+        }
         if is_sent(metadata.layout, t) {
             work = work.apply_sent(state, metadata, t);
         }
@@ -104,7 +109,9 @@ fn render_in(
         {
             work = work.start_slot(state);
         }
-        let next = metadata.layout.next_offset(t, end);
+        let next = metadata
+            .layout
+            .next_offset(t, kept.layout.next_offset(t, end));
         let k = run_length(
             work.renderer.state.initialized,
             work.renderer.clock.phase,
@@ -141,21 +148,33 @@ fn render_in(
 
 // In a hall whose speakers are sorted. Not inlined, so that a push in the 7.1.4 hall with the built-in table does not set up this function's stack.
 #[inline(never)]
-fn render_sorted(s: Renderer714, state: &mut Block, frame: Frame<'_>, out: &mut [u8]) -> Rendering
-    requires { Accepted s state.old (args_in frame out.old) }
-    ensures { IsRendered (pushed hall (frame_of hall (args_in frame.entry out.old)) (decode state.old)) frame.entry.n.stride state.old out.old result state.new out.new }
+fn render_sorted(
+    s: Renderer714,
+    state: &mut Block,
+    kept: &Metadata<'_>,
+    frame: Frame<'_>,
+    out: &mut [u8],
+) -> Rendering
+    requires { Accepted s state.old (sent_from kept.now ++ sent_from frame.metadata) (args_in frame out.old) }
+    ensures { IsRendered (pushed hall (frame_with hall (sent_from kept.now ++ sent_from frame.entry.metadata) (args_in frame.entry out.old)) (decode state.old)) frame.entry.n.stride state.old out.old result state.new out.new }
 {
-    render_in(&store::hall(state), s, state, frame, out)
+    render_in(&store::hall(state), s, state, kept, frame, out)
 }
 
-// In the block's hall.
-pub fn render(s: Renderer714, state: &mut Block, frame: Frame<'_>, out: &mut [u8]) -> Rendering
-    requires { Accepted s state.old (args_in frame out.old) }
-    ensures { IsRendered (pushed hall (frame_of hall (args_in frame.entry out.old)) (decode state.old)) frame.entry.n.stride state.old out.old result state.new out.new }
+// In the block's hall; `kept` are the updates that wait, as they fall in the frame.
+pub fn render(
+    s: Renderer714,
+    state: &mut Block,
+    kept: &Metadata<'_>,
+    frame: Frame<'_>,
+    out: &mut [u8],
+) -> Rendering
+    requires { Accepted s state.old (sent_from kept.now ++ sent_from frame.metadata) (args_in frame out.old) }
+    ensures { IsRendered (pushed hall (frame_with hall (sent_from kept.now ++ sent_from frame.entry.metadata) (args_in frame.entry out.old)) (decode state.old)) frame.entry.n.stride state.old out.old result state.new out.new }
 {
     if store::is_714(state) {
-        render_in(&panning::HALL_714, s, state, frame, out)
+        render_in(&panning::HALL_714, s, state, kept, frame, out)
     } else {
-        render_sorted(s, state, frame, out)
+        render_sorted(s, state, kept, frame, out)
     }
 }

@@ -10,17 +10,17 @@ use Rattle.refusals.specs.RefusalNumbers.{numbers_of, stop_of}
 use Rattle.refusals.specs.declared.Refusal.{Refusal}
 use Rattle.refusals.specs.declared.Refusal.TheVariants.{Lent}
 use Rattle.std.specs.Prelude.{Ok, Err}
-use Rattle.rules.specs.Samples.{pushed, flushed}
+use Rattle.rules.specs.Samples.{fresh, pushed, flushed}
 use Rattle.rules.specs.Calls as rules
-use Rattle.rules.specs.Calls.{Call, push, flush, reset, make, make_with, find, refused, rendered, nothing, cleared, marked, place, Result, frame_of, found, answered, asked, drained, making, step}
+use Rattle.rules.specs.Calls.{Call, push, flush, reset, make, make_with, find, refused, rendered, nothing, cleared, marked, place, Result, frame_of, with_waits, ahead_after, found, answered, asked, drained, making, step}
 use Rattle.rules.specs.BlockCalls.{Outcome, out_of, stride_of, written, left, takes, made}
 use Rattle.rules.proofs.Theorems.{number_of, never_seven}
 use Rattle.finding.specs.Search.{search}
 use Rattle.rules.specs.Making.{layout_found, table_found, hall_of}
 use Rattle.panning.specs.Setup.{Setup, hall_with}
-use Rattle.store.specs.Layout.{size, setup_in, decode, encode, fresh_renderer}
-use Rattle.store.specs.ValidBlocks.{hall_valid, valid}
-use Rattle.theorem.specs.Instance.{hall, block}
+use Rattle.store.specs.Layout.{setup_in, decode}
+use Rattle.store.specs.ValidBlocks.{hall_valid}
+use Rattle.theorem.specs.Instance.{hall, block, block_size, block_valid, block_decode, block_encode, front}
 use Rattle.hall.specs.declared.answer.Answer.{Answer}
 use Rattle.hall.specs.declared.answer.Outcome.TheVariants.{Fresh}
 use Rattle.hall.specs.Answers.{code_of, coded, Left, MadeNew}
@@ -32,10 +32,10 @@ abbrev pub leaves : Call → List ℕ → Result hall → Outcome
 leaves c b x = left hall block x.answer x.next (out_of c) (stride_of c) b
 
 pub wrong : (c : Call) (b : List ℕ) → takes hall block c b ≡ false → made hall block c b ≡ record { answer = refused 1 0 0; state = b; out = out_of c }
-wrong c b e = ap (λ (t : Bool). cond t (leaves c b (step hall (decode b) c)) (record { answer = refused 1 0 0; state = b; out = out_of c })) e
+wrong c b e = ap (λ (t : Bool). cond t (leaves c b (step hall (block_decode b) c)) (record { answer = refused 1 0 0; state = b; out = out_of c })) e
 
-pub taken : (c : Call) (b : List ℕ) (x : Result hall) → takes hall block c b ≡ true → step hall (decode b) c ≡ x → made hall block c b ≡ leaves c b x
-taken c b x e s = ap (λ (t : Bool). cond t (leaves c b (step hall (decode b) c)) (record { answer = refused 1 0 0; state = b; out = out_of c })) e ∙ ap (leaves c b) s
+pub taken : (c : Call) (b : List ℕ) (x : Result hall) → takes hall block c b ≡ true → step hall (block_decode b) c ≡ x → made hall block c b ≡ leaves c b x
+taken c b x e s = ap (λ (t : Bool). cond t (leaves c b (step hall (block_decode b) c)) (record { answer = refused 1 0 0; state = b; out = out_of c })) e ∙ ap (leaves c b) s
 
 -- an entry left what o says, o being given by a law above
 pub leaves_as : {o p : Outcome} {r : Answer} {state out : List ℕ} → o ≡ p → Left p r state out → Left o r state out
@@ -46,51 +46,51 @@ made_as {r = r} {state = state} e h = subst (λ (x : Outcome). MadeNew x r state
 
 -- ---- push
 
-pub stopped : (a : Args) (b : List ℕ) (n x y : ℕ) → valid b ≡ true → found hall (decode b) a ≡ stop n x y
+pub stopped : (a : Args) (b : List ℕ) (n x y : ℕ) → block_valid b ≡ true → found hall (block_decode b) a ≡ stop n x y
     → made hall block (push a) b ≡ record { answer = refused n x y; state = b; out = a.out }
-stopped a b n x y v e = taken (push a) b _ v (ap (λ (f : Found). asked hall f a (decode b)) e)
+stopped a b n x y v e = taken (push a) b _ v (ap (λ (f : Found). asked hall f a (block_decode b)) e)
 
 -- whatever stopped it
-pub refused_push : (a : Args) (b : List ℕ) (r : Refusal) → valid b ≡ true → stop_of r ≡ found hall (decode b) a → Left (made hall block (push a) b) (coded (Err r)) b a.out
+pub refused_push : (a : Args) (b : List ℕ) (r : Refusal) → block_valid b ≡ true → stop_of r ≡ found hall (block_decode b) a → Left (made hall block (push a) b) (coded (Err r)) b a.out
 refused_push a b r v e =
     let n = numbers_of r in
     leaves_as (stopped a b n.number n.first n.second v (sym e)) (record { answer = refl; block = refl; output = refl })
 
-pub accepted : (a : Args) (b : List ℕ) → valid b ≡ true → found hall (decode b) a ≡ clear → made hall block (push a) b ≡
+pub accepted : (a : Args) (b : List ℕ) → block_valid b ≡ true → found hall (block_decode b) a ≡ clear → made hall block (push a) b ≡
     record {
-      answer = answered hall (pushed hall (frame_of hall a) (decode b));
-      state = encode (pushed hall (frame_of hall a) (decode b)).next;
-      out = written (pushed hall (frame_of hall a) (decode b)).given a.stride a.out;
+      answer = answered hall (pushed hall (frame_of hall (block_decode b) a) (block_decode b));
+      state = block_encode (with_waits hall (ahead_after hall (block_decode b) a) (pushed hall (frame_of hall (block_decode b) a) (block_decode b)).next);
+      out = written (pushed hall (frame_of hall (block_decode b) a) (block_decode b)).given a.stride a.out;
     }
-accepted a b v e = taken (push a) b _ v (ap (λ (f : Found). asked hall f a (decode b)) e)
+accepted a b v e = taken (push a) b _ v (ap (λ (f : Found). asked hall f a (block_decode b)) e)
 
 -- ---- flush
 
-module _ (out : List ℕ) (stride : ℕ) (b : List ℕ) (v : valid b ≡ true) where
+module _ (out : List ℕ) (stride : ℕ) (b : List ℕ) (v : block_valid b ≡ true) where
   abbrev by_tests : Bool → Bool → Result hall
-  by_tests t idle = drained hall t idle (decode b)
+  by_tests t idle = drained hall t idle (block_decode b)
 
   pub no_room : room stride (length out) ≡ false → made hall block (flush out stride) b ≡ record { answer = refused 1 0 0; state = b; out = out }
-  no_room e = taken (flush out stride) b _ v (ap (λ (t : Bool). by_tests t (eqb (decode b).pending.count 0)) e)
+  no_room e = taken (flush out stride) b _ v (ap (λ (t : Bool). by_tests t (eqb (block_decode b).pending.count 0)) e)
 
-  pub nothing_waits : room stride (length out) ≡ true → eqb (decode b).pending.count 0 ≡ true
+  pub nothing_waits : room stride (length out) ≡ true → eqb (block_decode b).pending.count 0 ≡ true
       → made hall block (flush out stride) b ≡ record { answer = nothing; state = b; out = out }
-  nothing_waits e p = taken (flush out stride) b _ v (ap (λ (t : Bool). by_tests t (eqb (decode b).pending.count 0)) e ∙ ap (by_tests true) p)
+  nothing_waits e p = taken (flush out stride) b _ v (ap (λ (t : Bool). by_tests t (eqb (block_decode b).pending.count 0)) e ∙ ap (by_tests true) p)
 
-  pub flushes : room stride (length out) ≡ true → eqb (decode b).pending.count 0 ≡ false → made hall block (flush out stride) b ≡
+  pub flushes : room stride (length out) ≡ true → eqb (block_decode b).pending.count 0 ≡ false → made hall block (flush out stride) b ≡
       record {
-        answer = answered hall (flushed hall (decode b));
-        state = encode (flushed hall (decode b)).next;
-        out = written (flushed hall (decode b)).given stride out;
+        answer = answered hall (flushed hall (block_decode b));
+        state = block_encode (flushed hall (block_decode b)).next;
+        out = written (flushed hall (block_decode b)).given stride out;
       }
-  flushes e p = taken (flush out stride) b _ v (ap (λ (t : Bool). by_tests t (eqb (decode b).pending.count 0)) e ∙ ap (by_tests true) p)
+  flushes e p = taken (flush out stride) b _ v (ap (λ (t : Bool). by_tests t (eqb (block_decode b).pending.count 0)) e ∙ ap (by_tests true) p)
 
 -- ---- making and reset
 
 -- c is a call that finds f and makes the hall h
 pub record IsMaking (c : Call) (f : Found) (h : Setup) : Type 0 where
-  pub taken : (b : List ℕ) → takes hall block c b ≡ eqb (length b) size
-  pub steps : (b : List ℕ) → step hall (decode b) c ≡ making hall f h (decode b)
+  pub taken : (b : List ℕ) → takes hall block c b ≡ eqb (length b) block_size
+  pub steps : (b : List ℕ) → step hall (block_decode b) c ≡ making hall f h (block_decode b)
 
 pub is_make : (n : ℕ) → IsMaking (make n) (layout_found n) (hall_with n)
 is_make n = record { taken = λ b. refl; steps = λ b. refl }
@@ -99,35 +99,35 @@ pub is_make_with : (n : ℕ) (t : List ℕ) → IsMaking (make_with n t) (table_
 is_make_with n t = record { taken = λ b. refl; steps = λ b. refl }
 
 module _ {c : Call} {f : Found} {h : Setup} (m : IsMaking c f h) (b : List ℕ) where
-  pub not_taken : eqb (length b) size ≡ false → MadeNew (made hall block c b) (coded (Err Lent)) b
+  pub not_taken : eqb (length b) block_size ≡ false → MadeNew (made hall block c b) (coded (Err Lent)) b
   not_taken e = made_as (wrong c b (m.taken b ∙ e)) (record { answer = refl; block = refl })
 
-  module _ (e : eqb (length b) size ≡ true) where
-    found_as : {g : Found} → g ≡ f → made hall block c b ≡ leaves c b (making hall g h (decode b))
-    found_as k = taken c b _ (m.taken b ∙ e) (m.steps b ∙ ap (λ (x : Found). making hall x h (decode b)) (sym k))
+  module _ (e : eqb (length b) block_size ≡ true) where
+    found_as : {g : Found} → g ≡ f → made hall block c b ≡ leaves c b (making hall g h (block_decode b))
+    found_as k = taken c b _ (m.taken b ∙ e) (m.steps b ∙ ap (λ (x : Found). making hall x h (block_decode b)) (sym k))
 
     -- whatever stopped it
     pub not_made : (r : Refusal) → stop_of r ≡ f → {state : List ℕ} → state ≡ b → MadeNew (made hall block c b) (coded (Err r)) state
     not_made r k same = made_as (found_as k) (record { answer = refl; block = same })
 
-    pub makes : clear ≡ f → {state : List ℕ} → state ≡ encode (fresh_renderer h) → MadeNew (made hall block c b) (coded (Ok Fresh)) state
+    pub makes : clear ≡ f → {state : List ℕ} → state ≡ block_encode (fresh hall h) → MadeNew (made hall block c b) (coded (Ok Fresh)) state
     makes k new = made_as (found_as k) (record { answer = refl; block = new })
 
 -- reset asks for the length before it looks at the hall
-pub too_short : (b : List ℕ) → eqb (length b) size ≡ false → takes hall block reset b ≡ false
+pub too_short : (b : List ℕ) → eqb (length b) block_size ≡ false → takes hall block reset b ≡ false
 too_short b e = rw e refl
 
-module _ (b : List ℕ) (e : eqb (length b) size ≡ true) where
-  pub no_hall : hall_valid b ≡ false → made hall block reset b ≡ record { answer = refused 1 0 0; state = b; out = [] }
+module _ (b : List ℕ) (e : eqb (length b) block_size ≡ true) where
+  pub no_hall : hall_valid (front b) ≡ false → made hall block reset b ≡ record { answer = refused 1 0 0; state = b; out = [] }
   no_hall h = wrong reset b (rw (e, h) refl)
 
-  pub resets : hall_valid b ≡ true → made hall block reset b ≡ record { answer = cleared; state = encode (fresh_renderer (setup_in b)); out = [] }
+  pub resets : hall_valid (front b) ≡ true → made hall block reset b ≡ record { answer = cleared; state = block_encode (fresh hall (setup_in (front b))); out = [] }
   unfolding decode
   resets h = taken reset b _ (rw (e, h) refl) refl
 
 -- ---- a search
 
-pub searched : (m : ℕ) (b : List ℕ) → valid b ≡ true → (made hall block (find m) b).answer ≡ place (search (setup_in b) m)
+pub searched : (m : ℕ) (b : List ℕ) → block_valid b ≡ true → (made hall block (find m) b).answer ≡ place (search (setup_in (front b)) m)
 unfolding decode
 searched m b v = ap (λ (o : Outcome). o.answer) (taken (find m) b _ v refl)
 

@@ -4,14 +4,17 @@ use Rattle.limiter.specs.Limiter.{0·0, 1·0}
 use Rattle.limiter.specs.declared.meters.Meters.{Meters}
 use Rattle.rules.specs.Refusals.{room}
 use Rattle.rules.specs.Calls as rules
-use Rattle.rules.specs.Calls.{refused, rendered, nothing, cleared, marked, place}
+use Rattle.rules.specs.Samples.{After}
+use Rattle.rules.specs.Calls.{refused, rendered, nothing, cleared, marked, place, answered}
+use Rattle.theorem.specs.Instance.{hall}
 use Rattle.rules.specs.BlockCalls as block
+use Rattle.rules.specs.BlockCalls.{written}
 use Rattle.refusals.specs.RefusalNumbers.{numbers_of}
 use Rattle.refusals.specs.declared.Refusal.{Refusal}
 use Rattle.words.specs.Words.{words_at}
 use Rattle.store.specs.declared.renderer.Renderer714.{Renderer714}
 use Rattle.store.specs.Fields.{small_of}
-use Rattle.store.specs.Layout.{small_width}
+use Rattle.store.specs.Layout.{small_width, encode}
 use Rattle.store.specs.ValidBlocks.{valid}
 use Rattle.hall.specs.declared.answer.Answer.{Answer}
 use Rattle.hall.specs.declared.answer.Given.{Given}
@@ -38,7 +41,7 @@ code_of (place p) = bare 3 0 0 0
 
 -- the interface's number: it steps with every change of the block's layout or of a signature
 abbrev pub version : ℕ
-version = 6
+version = 7
 
 abbrev pub given_as : Given → Answer
 given_as g = ready_of g.samples g.meters
@@ -61,6 +64,12 @@ pub record Left (o : block.Outcome) (r : Answer) (state out : List ℕ) : Type 0
 pub record MadeNew (o : block.Outcome) (r : Answer) (state : List ℕ) : Type 0 where
   pub answer : r ≡ code_of o.answer
   pub block : state ≡ o.state
+
+-- The renderer's part of the block, and the output, after what the rules say that a push or a flush leaves and gives out: d; what waits stands behind that part, and stays.
+pub record Worked (d : After hall) (stride : ℕ) (r : Answer) (state out out' : List ℕ) : Type 0 where
+  pub answer : r ≡ code_of (answered hall d)
+  pub block : state ≡ encode d.next
+  pub output : out' ≡ written d.given stride out
 
 -- ---- what is known when the work begins
 

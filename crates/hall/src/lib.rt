@@ -5,30 +5,33 @@
 ghost use Rattle.std.specs.Prelude.{◌≡◌, ◌-◌, cond, OnOk};
 ghost use Rattle.rules.specs.Calls.{push, flush, reset, make, make_with, hold, release, mark, find};
 ghost use Rattle.rules.specs.BlockCalls.{made};
-ghost use Rattle.theorem.specs.Instance.{hall, block};
+ghost use Rattle.theorem.specs.Instance.{hall, block, block_size};
 ghost use Rattle.theorem.specs.Appends.{AppendsIfOpen};
-ghost use Rattle.store.specs.Layout.{size};
 ghost use Rattle.hall.specs.Answers.{Left, MadeNew, coded, version};
 ghost use Rattle.hall.specs.Places.{place_of, placed_as};
 ghost use Rattle.rules.specs.Refusals.{args_of};
 
 use answer::Outcome;
+use clock::FrameOffset;
 use panning::LAST_LAYOUT;
 use refusals::{Numbers, Push, Refusal};
 use store::{Block, hall_table};
 use timed::state::MetadataRendererState;
 use vectors::Vec3;
+use waits::Area;
 
+mod ahead;
 pub mod answer;
 mod archive;
+mod block;
 mod pcm;
 pub mod place;
 mod work;
 
-const VERSION: u32 = 6;
+const VERSION: u32 = 7;
 
 // The bytes of a state block.
-pub const STATE_BYTES: usize = store::SIZE;
+pub const STATE_BYTES: usize = store::SIZE + waits::BYTES;
 
 // The bytes of a hall table.
 const TABLE_BYTES: usize = 4 * hall_table::TABLE_WORDS;
@@ -54,10 +57,11 @@ pub fn push(
     ensures appends { OnOk result (AppendsIfOpen
         (args_of pcm.now meta.now out.old codes.now rate samples objects stride) state.old state.new) }
 {
-    if !store::ranges::is_valid(state) {
+    if !block::is_valid(state) {
         return Err(Refusal::Lent);
     }
-    let block: &mut Block = state.as_mut_array().unwrap();
+    let (block, area): (&mut Block, _) = state.split_first_chunk_mut().unwrap();
+    let area: &mut Area = area.as_mut_array().unwrap();
     let s = store::load(block);
     let push = Push {
         pcm,
@@ -70,8 +74,14 @@ pub fn push(
             stride,
         },
     };
-    let frame = refusals::check_push(s, push, out.len())?;
-    Ok(Outcome::Ready(work::render(s, block, frame, out)))
+    let frame = refusals::early::check(s.clock.position, push, out.len())?;
+    let start = s.clock.position;
+    let end = FrameOffset(samples);
+    let kept = ahead::kept(area, start, end, &frame.metadata)?;
+    refusals::check_later(s, &kept, frame)?;
+    let given = work::render(s, block, &kept, frame, out);
+    ahead::settle(area, start, end, &frame.metadata);
+    Ok(Outcome::Ready(given))
 }
 
 // Gives out the samples that wait.
@@ -79,13 +89,13 @@ pub fn push(
 pub fn flush(state: &mut [u8], out: &mut [u8], stride: u32) -> Result<Outcome, Refusal>
     ensures { Left (made hall block (flush out.old stride) state.old) (coded result) state.new out.new }
 {
-    if !store::ranges::is_valid(state) {
+    if !block::is_valid(state) {
         return Err(Refusal::Lent);
     }
     if !refusals::early::room(stride, out.len()) {
         return Err(Refusal::Lent);
     }
-    let block: &mut Block = state.as_mut_array().unwrap();
+    let block: &mut Block = state.first_chunk_mut().unwrap();
     let s = store::load(block);
     if s.pending == 0 {
         return Ok(Outcome::Nothing);
@@ -97,13 +107,13 @@ pub fn flush(state: &mut [u8], out: &mut [u8], stride: u32) -> Result<Outcome, R
 pub fn make(state: &mut [u8], layout: u32) -> Result<Outcome, Refusal>
     ensures { MadeNew (made hall block (make layout) state.old) (coded result) state.new }
 {
-    let Some(block) = state.as_mut_array() else {
+    if state.len() != STATE_BYTES {
         return Err(Refusal::Lent);
-    };
+    }
     if layout > LAST_LAYOUT {
         return Err(Refusal::Layout);
     }
-    store::make(block, layout, &hall_table::BUILT_IN);
+    block::make(state, layout, &hall_table::BUILT_IN);
     Ok(Outcome::Fresh)
 }
 
@@ -111,9 +121,9 @@ pub fn make(state: &mut [u8], layout: u32) -> Result<Outcome, Refusal>
 pub fn make_with_table(state: &mut [u8], layout: u32, table: &[u8]) -> Result<Outcome, Refusal>
     ensures { MadeNew (made hall block (make_with layout table.now) state.old) (coded result) state.new }
 {
-    let Some(block) = state.as_mut_array() else {
+    if state.len() != STATE_BYTES {
         return Err(Refusal::Lent);
-    };
+    }
     if layout > LAST_LAYOUT {
         return Err(Refusal::Layout);
     }
@@ -124,7 +134,7 @@ pub fn make_with_table(state: &mut [u8], layout: u32, table: &[u8]) -> Result<Ou
     if let Some(fault) = hall_table::table_fault(&table) {
         return Err(Refusal::from(fault));
     }
-    store::make(block, layout, &table);
+    block::make(state, layout, &table);
     Ok(Outcome::Fresh)
 }
 
@@ -132,15 +142,16 @@ pub fn make_with_table(state: &mut [u8], layout: u32, table: &[u8]) -> Result<Ou
 pub fn reset(state: &mut [u8]) -> Result<Outcome, Refusal>
     ensures { MadeNew (made hall block reset state.old) (coded result) state.new }
 {
-    let Some(block) = state.as_mut_array() else {
+    if state.len() != STATE_BYTES {
         return Err(Refusal::Lent);
-    };
+    }
+    let block: &Block = state.first_chunk().unwrap();
     if !store::ranges::hall_valid(block) {
         return Err(Refusal::Lent);
     }
     let layout = store::layout(block);
     let table = store::table(block);
-    store::make(block, layout, &table);
+    block::make(state, layout, &table);
     Ok(Outcome::Fresh)
 }
 
@@ -156,10 +167,10 @@ fn held_most(s: &MetadataRendererState) -> usize
 fn mark(state: &mut [u8], object: u32, wanted: bool) -> Result<Outcome, Refusal>
     ensures { MadeNew (made hall block (mark wanted object) state.old) (coded result) state.new }
 {
-    if !store::ranges::is_valid(state) {
+    if !block::is_valid(state) {
         return Err(Refusal::Lent);
     }
-    let block: &mut Block = state.as_mut_array().unwrap();
+    let block: &mut Block = state.first_chunk_mut().unwrap();
     let s = store::load(block);
     let d = object as usize;
     if d >= held_most(&s.state) {
@@ -188,16 +199,16 @@ pub fn release(state: &mut [u8], object: u32) -> Result<Outcome, Refusal>
 pub fn find(state: &[u8], mask: u32) -> Result<Option<Vec3>, Refusal>
     ensures { placed_as result ≡ place_of (made hall block (find mask) state.now).answer }
 {
-    if !store::ranges::is_valid(state) {
+    if !block::is_valid(state) {
         return Err(Refusal::Lent);
     }
-    let block: &Block = state.as_array().unwrap();
+    let block: &Block = state.first_chunk().unwrap();
     Ok(work::find(block, mask))
 }
 
 // The bytes of a state block.
 pub fn state_size() -> usize
-    ensures { result ≡ size }
+    ensures { result ≡ block_size }
 {
     STATE_BYTES
 }

@@ -1,28 +1,36 @@
 // An accepted push and a flush with samples waiting, on the state block in place.
-ghost use Rattle.std.specs.Prelude.{◌≡◌, true};
-ghost use Rattle.rules.specs.Calls.{push, flush};
+ghost use Rattle.std.specs.Prelude.{◌≡◌, ◌++◌, true};
+ghost use Rattle.rules.specs.Samples.{pushed, flushed};
+ghost use Rattle.rules.specs.Calls.{frame_with};
 ghost use Rattle.finding.specs.Search.{search};
-ghost use Rattle.store.specs.Layout.{setup_in};
+ghost use Rattle.store.specs.Layout.{setup_in, decode};
 ghost use Rattle.store.specs.ValidBlocks.{valid};
-ghost use Rattle.rules.specs.BlockCalls.{made};
-ghost use Rattle.theorem.specs.Instance.{hall, block};
-ghost use Rattle.hall.specs.Answers.{Waiting, Left, given_as};
+ghost use Rattle.theorem.specs.Instance.{hall, sent_from};
+ghost use Rattle.hall.specs.Answers.{Waiting, Worked, given_as};
 ghost use Rattle.frame.specs.Loop.{Accepted};
 ghost use Rattle.refusals.specs.FirstFound.{args_in};
 
 use crate::answer::Given;
+use records::metadata::Metadata;
 use refusals::Frame;
 use rendering::Rendering;
 use store::Block;
 use store::renderer::Renderer714;
 use vectors::Vec3;
 
-// A push that no refusal turned away.
-pub fn render(s: Renderer714, state: &mut Block, frame: Frame<'_>, out: &mut [u8]) -> Given
-    requires { Accepted s state.old (args_in frame out.old) }
-    ensures { Left (made hall block (push (args_in frame.entry out.old)) state.old) (given_as result) state.new out.new }
+// A push that no refusal turned away; `kept` are the updates that wait, as they fall in it.
+pub fn render(
+    s: Renderer714,
+    state: &mut Block,
+    kept: &Metadata<'_>,
+    frame: Frame<'_>,
+    out: &mut [u8],
+) -> Given
+    requires { Accepted s state.old (sent_from kept.now ++ sent_from frame.metadata) (args_in frame out.old) }
+    ensures { Worked (pushed hall (frame_with hall (sent_from kept.now ++ sent_from frame.entry.metadata) (args_in frame.entry out.old)) (decode state.old))
+        frame.entry.n.stride (given_as result) state.new out.old out.new }
 {
-    let done = frame::push::render(s, state, frame, out);
+    let done = frame::push::render(s, state, kept, frame, out);
     store::write::save(state, done.renderer);
     Given {
         samples: done.ready,
@@ -33,7 +41,7 @@ pub fn render(s: Renderer714, state: &mut Block, frame: Frame<'_>, out: &mut [u8
 // A flush with samples waiting. It ends as `render` does: a function of these lines would have a contract longer than they are.
 pub fn drain(s: Renderer714, state: &mut Block, out: &mut [u8], stride: u32) -> Given
     requires { Waiting s state.old out.old stride }
-    ensures { Left (made hall block (flush out.old stride) state.old) (given_as result) state.new out.new }
+    ensures { Worked (flushed hall (decode state.old)) stride (given_as result) state.new out.old out.new }
 {
     let last = Rendering::drain(s, state, out, stride as usize);
     store::write::save(state, last.renderer);

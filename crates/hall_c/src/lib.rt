@@ -5,9 +5,8 @@
 ghost use Rattle.std.specs.Prelude.{◌≡◌, ◌*◌, ◌/◌, length};
 ghost use Rattle.rules.specs.Calls.{push, flush, reset, make, make_with, hold, release, find};
 ghost use Rattle.rules.specs.BlockCalls.{made};
-ghost use Rattle.theorem.specs.Instance.{hall, block};
+ghost use Rattle.theorem.specs.Instance.{hall, block, block_size};
 ghost use Rattle.theorem.specs.Appends.{AppendsIfOpen};
-ghost use Rattle.store.specs.Layout.{size};
 ghost use Rattle.hall.specs.Answers.{Left, MadeNew, version};
 ghost use Rattle.hall.specs.Places.{place_of};
 ghost use Rattle.hall.specs.Conversions.{converted_as};
@@ -97,7 +96,7 @@ pub extern "C" fn hall_find(state: &[u8], mask: u32) -> Place
 
 #[unsafe(no_mangle)]
 pub extern "C" fn hall_state_size() -> usize
-    ensures { result ≡ size }
+    ensures { result ≡ block_size }
 {
     hall::state_size()
 }

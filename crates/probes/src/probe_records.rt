@@ -1,9 +1,10 @@
 // A record, update or place that is not there is answered by zeros.
 ghost use Rattle.std.specs.Prelude.{◌≡◌, cond, ◌&&◌, ◌+◌, ◌*◌, leb, ltb, IfSome};
 ghost use Rattle.std.specs.Option.{is_some};
-ghost use Rattle.fields.specs.Update.{offset, header_of};
+ghost use Rattle.fields.specs.Update.{header_of};
 ghost use Rattle.fields.specs.Block.{blocks};
 ghost use Rattle.fields.specs.ObjectInfos.{stored_info};
+ghost use Rattle.records.specs.Falls.{offset_in, no_sample};
 ghost use Rattle.records.specs.Laid.{update_at, count, element_end, object_at};
 ghost use Rattle.records.specs.ValuesInRange.{refusal};
 ghost use Rattle.records.specs.UpdateWalk.{next_offset, FirstAt};
@@ -16,12 +17,13 @@ use fields::record::Record;
 use fields::update::Header;
 use records::layout::{element_after, layout_of, object_place};
 use records::metadata::{Fault, Metadata};
+use records::sent::NO_SAMPLE;
 
 #[unsafe(no_mangle)]
 pub extern "C" fn probe_refusal(meta: &[u8]) -> u32
     ensures { result ≡ refusal meta.now }
 {
-    match Metadata::of(meta) {
+    match Metadata::of(meta, NO_SAMPLE) {
         Ok(_) => 0,
         Err(Fault::NotLaidOut) => 5,
         Err(Fault::OutOfRange) => 6,
@@ -32,7 +34,7 @@ pub extern "C" fn probe_refusal(meta: &[u8]) -> u32
 pub extern "C" fn probe_updates(meta: &[u8]) -> usize
     ensures { result ≡ count meta.now }
 {
-    match layout_of(meta) {
+    match layout_of(meta, NO_SAMPLE) {
         Some(l) => l.count,
         None => 0,
     }
@@ -43,7 +45,7 @@ pub extern "C" fn probe_updates(meta: &[u8]) -> usize
 pub extern "C" fn probe_update_place(meta: &[u8], i: usize) -> usize
     ensures { result ≡ cond (ltb i (count meta.now)) (update_at meta.now i) 0 }
 {
-    match layout_of(meta) {
+    match layout_of(meta, NO_SAMPLE) {
         Some(l) if i < l.count => l.sent[i].place,
         _ => 0,
     }
@@ -158,9 +160,9 @@ pub extern "C" fn probe_info(meta: &[u8], r: usize) -> Info
 
 #[unsafe(no_mangle)]
 pub extern "C" fn probe_next_offset(meta: &[u8], t: FrameOffset, end: FrameOffset) -> FrameOffset
-    ensures { result.0 ≡ next_offset (λ i. offset meta.now (update_at meta.now i)) (count meta.now) t.0 end.0 }
+    ensures { result.0 ≡ next_offset (λ i. offset_in end.0 meta.now (update_at meta.now i)) (count meta.now) t.0 end.0 }
 {
-    match layout_of(meta) {
+    match layout_of(meta, end) {
         Some(l) => l.next_offset(t, end),
         None => end,
     }
@@ -169,9 +171,9 @@ pub extern "C" fn probe_next_offset(meta: &[u8], t: FrameOffset, end: FrameOffse
 #[unsafe(no_mangle)]
 pub extern "C" fn probe_sent_at(meta: &[u8], t: FrameOffset, from: usize) -> usize
     ensures { cond (leb from (count meta.now))
-        (FirstAt (λ i. offset meta.now (update_at meta.now i)) (count meta.now) t.0 from result) (result ≡ 0) }
+        (FirstAt (λ i. offset_in no_sample meta.now (update_at meta.now i)) (count meta.now) t.0 from result) (result ≡ 0) }
 {
-    match layout_of(meta) {
+    match layout_of(meta, NO_SAMPLE) {
         Some(l) if from <= l.count => l.sent_at(t, from),
         _ => 0,
     }

@@ -6,6 +6,7 @@ ghost use Rattle.probes.specs.Timed.{schedule_fits, element_fits, counts_suit, s
 use clock::StreamSample;
 use formats::areas::INFOS_BYTES;
 use records::metadata::Metadata;
+use records::sent::NO_SAMPLE;
 use timed::state::{BlockState, ElementRendererState, MetadataRendererState};
 
 fn schedule_fits(schedule: [BlockState; 8]) -> bool
@@ -75,7 +76,7 @@ pub extern "C" fn probe_apply_update(
 ) -> MetadataRendererState
     ensures { IsTimed (update_if meta.now i at (record { state = s; infos = infos.old })) result infos.new }
 {
-    match Metadata::of(meta) {
+    match Metadata::of(meta, NO_SAMPLE) {
         Ok(metadata) if infos.len() == INFOS_BYTES && i < metadata.layout.count => {
             updates::update::TimedState(s)
                 .apply_update(infos, metadata.update(i), StreamSample(at))

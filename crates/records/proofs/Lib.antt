@@ -8,6 +8,7 @@ pub mod Times
 pub mod Reached
 pub mod Placed
 pub mod RefusalSix
+pub mod Fits
 pub mod Each
 pub mod SmallLists
 pub mod Passed

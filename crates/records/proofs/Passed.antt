@@ -1,4 +1,4 @@
--- Metadata that refusals 5 and 6 let pass: each of its updates is as an applied update asks. Assumes nothing.
+-- Metadata that refusal 5 lets pass, of blocks as refusal 6 lets them pass: each of its updates is as an applied update asks. Assumes nothing.
 use Prim.Native.Nat.{ℕ, ◌+◌, ◌*◌, ◌<◌}
 use mathlib.Core.Path.{◌≡◌, ◌∙◌}
 use mathlib.Core.Bool.{Bool, true, ◌&&◌}
@@ -13,15 +13,15 @@ use Rattle.fields.specs.Raised.{raised_of}
 use Rattle.fields.proofs.All.{and_left, and_right}
 use Rattle.fields.proofs.Raised.{raised_within}
 use Rattle.records.specs.Laid.{block_at, element_at, update_at, laid_out, count}
-use Rattle.records.specs.ValuesInRange.{in_range}
+use Rattle.records.specs.ValuesInRange.{all_fit}
 use Rattle.records.specs.LayoutAnswers.{IsLayout}
 use Rattle.records.specs.declared.sent.Layout.{Layout}
 use Rattle.records.proofs.Within.{element_within}
 use Rattle.records.proofs.Reached.{whole_records, update_whole, update_is, update_place, update_counts, element_whole, blocks_few}
-use Rattle.records.proofs.RefusalSix.{all_within}
+use Rattle.records.proofs.Fits.{blocks_fit}
 use Rattle.records.specs.WholeRecords.{WholeElement, WholeUpdate, WholeUpdates}
 
-module _ (m : List ℕ) (laid : laid_out m ≡ true) (fit : in_range m ≡ true) (bytes : Bytes m) (i : ℕ) (one : i < count m) where
+module _ (m : List ℕ) (laid : laid_out m ≡ true) (fit : all_fit m ≡ true) (bytes : Bytes m) (i : ℕ) (one : i < count m) where
   element_passes : (e : ℕ) → e < elements m (update_at m i) → WholeElement m (objects m (update_at m i)) (element_at m (update_at m i) e)
   element_passes e h =
       let u = update_at m i in
@@ -31,7 +31,7 @@ module _ (m : List ℕ) (laid : laid_out m ≡ true) (fit : in_range m ≡ true)
       let end = element_within m whole (objects m u) p w in
       let offset : ℕ → Bool = λ b. leb (raised_of m (block_at p b)).offset 2097152 in
       let ramp : ℕ → Bool = λ b. leb (raised_of m (block_at p b)).ramp 2097152 in
-      let range : (b : ℕ) → b < blocks m p → (offset b && ramp b) ≡ true = λ b l. raised_within m bytes (block_at p b) ∙ (all_within m laid fit).block i e b one h l in
+      let range : (b : ℕ) → b < blocks m p → (offset b && ramp b) ≡ true = λ b l. raised_within m bytes (block_at p b) ∙ blocks_fit m laid fit i e b one h l in
       record {
         given = record {
           few = blocks_few m whole (objects m u) p w;
@@ -60,7 +60,7 @@ module _ (m : List ℕ) (laid : laid_out m ≡ true) (fit : in_range m ≡ true)
       }
 
 -- all updates, where the code's layout has them
-pub passes_all : (m : List ℕ) → laid_out m ≡ true → in_range m ≡ true → Bytes m → (l : Layout) → IsLayout m l → WholeUpdates m l
+pub passes_all : (m : List ℕ) → laid_out m ≡ true → all_fit m ≡ true → Bytes m → (l : Layout) → IsLayout m l → WholeUpdates m l
 passes_all m laid fit bytes l g =
     record {
       few = rw g.counted g.few;

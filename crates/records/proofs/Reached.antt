@@ -1,7 +1,7 @@
 -- What a caller may rely on where a list is laid out: each update, element, block and object is there, with counts within their limits. Assumes nothing.
 use Prim.Native.Nat.{ℕ, suc, ◌+◌, ◌-◌, ◌*◌, ◌%◌, ◌<◌, ◌≤◌}
 use mathlib.Core.Path.{◌≡◌, ap}
-use mathlib.Core.Bool.{true, ◌&&◌}
+use mathlib.Core.Bool.{true, ◌||◌, ◌&&◌}
 use mathlib.Core.List.{List}
 use native.Mathlib.Nat.{mul-le-mul_right, suc-mul}
 use native.Mathlib.Omega.{arith}
@@ -40,7 +40,7 @@ module _ (m : List ℕ) (whole : length m % 40 ≡ 0) where
   pub update_counts : (u : ℕ) → is_update m u ≡ true → Counts m u
   unfolding is_update codes_fit
   update_counts u e =
-      let head = eqb (kind m u) 1 && eqb (byte m u 1) 0 in
+      let head = (eqb (kind m u) 1 || eqb (kind m u) 9) && eqb (byte m u 1) 0 in
       let four = leb (objects m u) 32 && leb (objects m u - bed_or_isf_of m u) 16 && leb (beds m u) 18 && leb (beds m u) (objects m u) in
       let fit : counts_fit (objects m u) (bed_or_isf_of m u) (beds m u) (elements m u) ≡ true = and_right head _ (and_left _ _ (and_left _ _ e)) in
       let some = and_left four _ fit in

@@ -1,7 +1,8 @@
 -- Laws of a record's kind: nothing stands past the end, and a record that is laid out has its own. Assumes nothing.
 use Prim.Native.Nat.{ℕ, ◌*◌, ◌/◌, ◌%◌, ◌<◌, ◌≤◌}
-use mathlib.Core.Path.{◌≡◌, ap, ◌∙◌}
-use mathlib.Core.Bool.{Bool, true, false, ◌&&◌}
+use mathlib.Core.Path.{◌≡◌, refl, ap, ◌∙◌}
+use mathlib.Core.Bool.{Bool, true, false, ◌||◌, ◌&&◌}
+use mathlib.Core.Logic.{◌⊎◌, inl, inr}
 use mathlib.Core.List.{List}
 use native.Mathlib.Nat.{lt_of_not-le}
 use native.Mathlib.Omega.{arith}
@@ -23,7 +24,7 @@ module _ (m : List ℕ) (whole : length m % 40 ≡ 0) (r : ℕ) where
 
   pub past_update : length m / 40 ≤ r → is_update m r ≡ false
   unfolding is_update
-  past_update h = simp (no_kind 1 (omega arith) h)
+  past_update h = simp (no_kind 1 (omega arith) h, no_kind 9 (omega arith) h)
 
   pub past_element : length m / 40 ≤ r → is_element m r ≡ false
   unfolding is_element
@@ -57,9 +58,13 @@ module _ (m : List ℕ) (whole : length m % 40 ≡ 0) (r : ℕ) where
   few_blocks e = leb-true _ _ (and_right (eqb (kind m r) 2) _ (and_left (eqb (kind m r) 2 && leb (blocks m r) 8) _ e))
 
   -- ---- the kind of a record that is laid out
-  pub update_kind : is_update m r ≡ true → kind m r ≡ 1
+  pub update_kind : is_update m r ≡ true → (kind m r ≡ 1) ⊎ (kind m r ≡ 9)
   unfolding is_update
-  update_kind e = eqb-true (kind m r) 1 (and_left _ _ (and_left _ _ (and_left _ _ (and_left _ _ e))))
+  update_kind e = one_of (eqb (kind m r) 1) (eqb (kind m r) 9) (and_left (eqb (kind m r) 1 || eqb (kind m r) 9) _ (and_left _ _ (and_left _ _ (and_left _ _ e)))) refl refl
+    where
+      one_of : (a b : Bool) → (a || b) ≡ true → eqb (kind m r) 1 ≡ a → eqb (kind m r) 9 ≡ b → (kind m r ≡ 1) ⊎ (kind m r ≡ 9)
+      one_of true b e p q = inl (eqb-true (kind m r) 1 p)
+      one_of false b e p q = inr (eqb-true (kind m r) 9 (q ∙ e))
 
   pub element_kind : is_element m r ≡ true → kind m r ≡ 2
   unfolding is_element

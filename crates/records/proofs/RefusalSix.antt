@@ -4,6 +4,7 @@ use Prim.Native.Nat.{ℕ, ◌+◌, ◌*◌, ◌/◌, ◌<◌}
 use mathlib.Core.Path.{◌≡◌, sym, ◌∙◌}
 use mathlib.Core.Bool.{true}
 use mathlib.Core.List.{List}
+use mathlib.Core.Logic.{◌⊎◌, ⊎_elim}
 use native.Mathlib.Omega.{arith}
 use lib.ListN.{length}
 use borrow.Author.Tests.{eq-eqb, ne_eqb}
@@ -35,19 +36,22 @@ module _ (m : List ℕ) (r : ℕ) where
   unfolding record_in_range
   of_object k = simp (ne_eqb (kind m r) 3 (λ t. omega arith), eq-eqb (kind m r) 4 k)
 
-  of_other : kind m r < 3 → record_in_range m r ≡ true
+  of_other : (kind m r ≡ 3 → ⊥) → (kind m r ≡ 4 → ⊥) → record_in_range m r ≡ true
   unfolding record_in_range
-  of_other h = simp (ne_eqb (kind m r) 3 (λ t. omega arith), ne_eqb (kind m r) 4 (λ t. omega arith))
+  of_other f g = simp (ne_eqb (kind m r) 3 f, ne_eqb (kind m r) 4 g)
+
+  of_update : (kind m r ≡ 1) ⊎ (kind m r ≡ 9) → record_in_range m r ≡ true
+  of_update = ⊎_elim (λ q. of_other (λ t. omega arith) (λ t. omega arith)) (λ q. of_other (λ t. omega arith) (λ t. omega arith))
 
 module _ (m : List ℕ) (laid : laid_out m ≡ true) where
   -- element e of update i
   the_element : (i e : ℕ) → i < count m → e < elements m (update_at m i) → is_whole_element m (objects m (update_at m i)) (element_at m (update_at m i) e) ≡ true
   the_element i e h k = element_whole m (whole_records m laid) (update_at m i) e (update_whole m laid i h) k
 
-  the_block : (i e b : ℕ) → i < count m → e < elements m (update_at m i) → b < blocks m (element_at m (update_at m i) e) → is_block m (block_at (element_at m (update_at m i) e) b) ≡ true
+  pub the_block : (i e b : ℕ) → i < count m → e < elements m (update_at m i) → b < blocks m (element_at m (update_at m i) e) → is_block m (block_at (element_at m (update_at m i) e) b) ≡ true
   the_block i e b h k l = block_is m (whole_records m laid) (objects m (update_at m i)) (element_at m (update_at m i) e) (the_element i e h k) b l
 
-  the_object : (i e o b : ℕ) → i < count m → e < elements m (update_at m i) → o < objects m (update_at m i) → b < blocks m (element_at m (update_at m i) e)
+  pub the_object : (i e o b : ℕ) → i < count m → e < elements m (update_at m i) → o < objects m (update_at m i) → b < blocks m (element_at m (update_at m i) e)
       → is_object m (object_at m (element_at m (update_at m i) e) (o * blocks m (element_at m (update_at m i) e) + b)) ≡ true
   the_object i e o b h k j l = object_is m (whole_records m laid) (objects m (update_at m i)) (element_at m (update_at m i) e) (the_element i e h k) o b j l
 
@@ -73,10 +77,10 @@ module _ (m : List ℕ) (laid : laid_out m ≡ true) where
       all_true (record_in_range m) (length m / 40)
       (every_record_placed (λ r. record_in_range m r ≡ true) m laid
       (record {
-        update = λ i h. let q = update_kind m whole (update_at m i) (update_is m laid i h) in of_other m _ (omega arith);
+        update = λ i h. of_update m _ (update_kind m whole (update_at m i) (update_is m laid i h));
         element = λ i e h k.
             let q = element_kind m whole _ (element_is m whole (objects m (update_at m i)) (element_at m (update_at m i) e) (the_element i e h k)) in
-            of_other m _ (omega arith);
+            of_other m _ (λ t. omega arith) (λ t. omega arith);
         block = λ i e b h k l. of_block m _ (block_kind m whole _ (the_block i e b h k l)) ∙ w.block i e b h k l;
         object = λ i e o b h k j l. of_object m _ (object_kind m whole _ (the_object i e o b h k j l)) ∙ w.object i e o b h k j l;
       }))

@@ -1,10 +1,11 @@
 -- Laws of `some` and `last`. Assumes nothing.
-use Prim.Native.Nat.{ℕ, zero, suc, ◌<◌, ◌≤◌}
+use Prim.Native.Nat.{ℕ, zero, suc, ◌+◌, ◌<◌, ◌≤◌}
 use mathlib.Core.Path.{◌≡◌, refl, sym, ap, subst, ◌∙◌}
 use lib.Dec.{T}
 use mathlib.Core.Bool.{Bool, true, false, ◌||◌, cond}
 use mathlib.Core.Logic.{⊎_elim}
 use native.Mathlib.Nat.{eq-or-lt_of_le}
+use native.Mathlib.Numerals.{add-one}
 use native.Mathlib.Omega.{arith}
 use Rattle.fields.proofs.All.{not_true}
 use Rattle.records.specs.Runs.{some, last}
@@ -27,6 +28,14 @@ module _ (p : ℕ → Bool) where
   unfolding some
   some_none zero f = refl
   some_none (suc n) f = rw (f n (omega arith)) (some_none n (λ i h. f i (omega arith)))
+
+  pub some_nothing : some p 0 ≡ false
+  unfolding some
+  some_nothing = refl
+
+  pub some_past : (n : ℕ) → some p n ≡ false → p n ≡ false → some p (n + 1) ≡ false
+  unfolding some
+  some_past n e f = rw (add-one n, f) e
 
   -- the only number below n of which p holds is the last one
   pub last_only : (n i : ℕ) → i < n → p i ≡ true → ((k : ℕ) → k < n → p k ≡ true → k ≡ i) → last p n ≡ i

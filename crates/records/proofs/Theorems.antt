@@ -3,6 +3,9 @@
 -- where a list is laid out it is whole records, so many updates and no more
 pub use Rattle.records.proofs.Reached.{whole_records, found}
 pub use Rattle.records.proofs.Updates.{whole_list}
+-- a list of n updates is laid out, and n is its count; its updates are whole and rise
+pub use Rattle.records.proofs.Updates.{n_updates, each_whole}
+pub use Rattle.records.proofs.Within.{updates_rise, update_within}
 -- else it has no updates
 pub use Rattle.records.proofs.Updates.{unlaid_counts}
 -- there, each update, element, block and object is one as laid out
@@ -24,5 +27,6 @@ pub use Rattle.records.proofs.Times.{next_same}
 pub use Rattle.records.proofs.Each.{each_length, each_at}
 -- what the first fault of a list, or none, says of it
 pub use Rattle.records.proofs.Faults.{not_laid, not_in_range, faultless}
--- metadata that refusals 5 and 6 let pass is as an applied update asks
+-- records within their ranges are as those that wait are asked to be; metadata laid out that is so is as an applied update asks
+pub use Rattle.records.proofs.Fits.{in_range_fits, blocks_fit, objects_fit}
 pub use Rattle.records.proofs.Passed.{passes, passes_all}

@@ -51,6 +51,13 @@ module _ (m : List ℕ) where
     unfolding count
     counted = last_only (is_updates m) 17 n (omega arith) found (λ k h e. same_count n k found e)
 
+  -- a list of n updates is laid out, and n is its count
+  pub n_updates : (n : ℕ) → n ≤ 16 → is_updates m n ≡ true → (laid_out m ≡ true) × (count m ≡ n)
+  unfolding is_updates
+  n_updates n few e =
+      let passed = and_left (all (λ i. is_whole_update m (update_at m i)) n) _ e in
+      (laid_out_is n few passed (whole_list n e), counted n few passed (whole_list n e))
+
   -- no number of updates makes up the list
   module _ (none : (k : ℕ) → k < 17 → is_updates m k ≡ true → ⊥) where
     pub not_laid_out : laid_out m ≡ false

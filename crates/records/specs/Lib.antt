@@ -1,6 +1,7 @@
 pub mod Runs
 pub mod Laid
 pub mod ValuesInRange
+pub mod Falls
 pub mod UpdateWalk
 pub mod LayoutAnswers
 pub mod WholeRecords

@@ -3,7 +3,7 @@
 use Rattle.std.specs.Prelude.{ℕ, ◌/◌, Bool, true, cond, List, eqb, length}
 use Rattle.fields.specs.RecordBytes.{all, kind}
 use Rattle.fields.specs.Block.{block_of, block_in_range}
-use Rattle.fields.specs.Object.{object_of, object_in_range}
+use Rattle.fields.specs.Object.{object_of, depth_fits, object_in_range}
 use Rattle.records.specs.Laid.{laid_out}
 
 -- the values of record r, by its kind
@@ -13,6 +13,13 @@ record_in_range m r = cond (eqb (kind m r) 3) (block_in_range (block_of m r)) (c
 -- each record of a list that is laid out
 unfoldable pub in_range : List ℕ → Bool
 in_range m = all (record_in_range m) (length m / 40)
+
+-- R-12: what is asked of records that wait in a state block, "its floats of any bits": blocks and depth factors as above, gains, sizes and sends as they come
+unfoldable pub record_fits : List ℕ → ℕ → Bool
+record_fits m r = cond (eqb (kind m r) 3) (block_in_range (block_of m r)) (cond (eqb (kind m r) 4) (depth_fits m r) true)
+
+unfoldable pub all_fit : List ℕ → Bool
+all_fit m = all (record_fits m) (length m / 40)
 
 -- 5, 6, or 0 for neither
 unfoldable pub refusal : List ℕ → ℕ

@@ -4,9 +4,11 @@ ghost use Rattle.fields.specs.Update.{objects};
 ghost use Rattle.fields.specs.Block.{blocks};
 ghost use Rattle.records.specs.Laid.{block_at, object_at, is_whole_element, is_whole_update, element_end, element_at, update_end};
 ghost use Rattle.records.specs.LayoutAnswers.{end_if, HasLayout};
+ghost use Rattle.records.specs.Falls.{offset_in};
 
 use crate::run::all_pass;
-use crate::sent::{Layout, NOT_SENT, Sent};
+use crate::sent::{Layout, NO_SAMPLE, NOT_SENT, Sent};
+use clock::FrameOffset;
 use fields::record::Record;
 use fields::update::Header;
 
@@ -72,10 +74,10 @@ fn update_end(meta: &[u8], u: usize) -> Option<usize>
     Some(next)
 }
 
-// The layout of a list of records; none where they are not laid out, which is refusal 5. No range counts the records: `place` rises by what an update takes.
+// The layout of a list of records in a frame that ends at `end`; none where they are not laid out, which is refusal 5. No range counts the records: `place` rises by what an update takes.
 #[tactic(auto, using(crate::proofs::Ends::ends, crate::proofs::Updates::refused))]
-pub fn layout_of(meta: &[u8]) -> Option<Layout>
-    ensures { HasLayout meta.now result }
+pub fn layout_of(meta: &[u8], end: FrameOffset) -> Option<Layout>
+    ensures { HasLayout end.0 meta.now result }
 {
     if meta.len() % 40 != 0 {
         return None;
@@ -89,12 +91,25 @@ pub fn layout_of(meta: &[u8]) -> Option<Layout>
             return None;
         }
         let next = update_end(meta, place)?;
-        let offset = Record { meta, place }.offset();
+        let offset = offset_in(Record { meta, place }, end);
         sent[count] = Sent { place, offset };
         place = next;
         count += 1;
     }
     Some(Layout { count, sent })
+}
+
+// Where an update falls in a frame that ends at `end`: one that may lie far ahead, and does, at no sample.
+#[tactic(auto, unfolding(crate::specs::Falls::offset_in))]
+fn offset_in(update: Record<'_>, end: FrameOffset) -> FrameOffset
+    ensures { result.0 ≡ offset_in end.0 update.entry.meta.now update.entry.place }
+{
+    let offset = update.offset();
+    if update.is_far() && end <= offset {
+        NO_SAMPLE
+    } else {
+        offset
+    }
 }
 
 // ---- where a record stands, of a list that is laid out

@@ -10,6 +10,9 @@ pub struct Sent {
     pub offset: FrameOffset,
 }
 
+// Past every frame: the offset of an update that only waits.
+pub const NO_SAMPLE: FrameOffset = FrameOffset(u32::MAX);
+
 pub(crate) const NOT_SENT: Sent = Sent {
     place: 0,
     offset: START,

@@ -2,7 +2,7 @@
 use Prim.Native.Nat.{ℕ, zero, suc, ◌+◌, ◌-◌, ◌<◌, ◌≤◌}
 use mathlib.Core.Path.{◌≡◌, refl, sym, ap, ◌∙◌}
 use mathlib.Core.Bool.{true, cond}
-use mathlib.Core.List.{List, [], ◌∷◌, map}
+use mathlib.Core.List.{List, [], ◌∷◌, ◌++◌, map}
 use lib.Dec.{eqb}
 use lib.ListN.{length, get_or, take, drop, drop_of_length-le}
 use lib.Seq.{drop-cons}
@@ -10,11 +10,14 @@ use native.Mathlib.Nat.{le_of_suc-le-suc}
 use native.Mathlib.Numerals.{add-one}
 use native.Mathlib.Omega.{arith}
 use Rattle.std.specs.Prelude.{Ok, Err}
-use Rattle.fields.specs.Update.{offset, objects, bed_or_isf_of, beds, code}
+use Rattle.fields.specs.Update.{objects, bed_or_isf_of, beds, code}
 use Rattle.records.specs.Runs.{each}
-use Rattle.records.specs.Laid.{count, update_at}
+use Rattle.records.specs.Laid.{update_at}
+use Rattle.records.specs.LayoutAnswers.{offset_at}
+use Rattle.records.specs.declared.metadata.Metadata.{Metadata}
 use Rattle.records.proofs.Theorems.{each_length, each_at}
-use Rattle.rules.specs.Refusals.{Found, clear, ◌then◌, Announced, counts_at, shape_at}
+use Rattle.rules.specs.Leaves.{Shape}
+use Rattle.rules.specs.Refusals.{Found, clear, stop, ◌then◌, Announced, counts_at, shape_at}
 use Rattle.updates.specs.Said.{update_of}
 use Rattle.updates.specs.Applied.{codes_given}
 use Rattle.theorem.specs.Instance as theorem
@@ -22,7 +25,7 @@ use Rattle.theorem.proofs.TimedShapes.{each_same, codes_are}
 use Rattle.refusals.specs.RefusalNumbers.{stop_of}
 use Rattle.refusals.specs.declared.Refusal.{Refusal}
 use Rattle.refusals.specs.declared.present.Present.{Present}
-use Rattle.refusals.specs.PresentShape.{told_of, said_shape, present_shape}
+use Rattle.refusals.specs.PresentShape.{told_by, said_shape, present_shape}
 use Rattle.refusals.specs.FirstFound.{IsAfter, IsEleven, matched}
 use Rattle.refusals.proofs.First.{chain_stops, chain_passes}
 
@@ -40,66 +43,90 @@ unfolding each
 map_each g f zero = refl
 map_each g f (suc n) = ap (λ l. g (f 0) ∷ l) (map_each g (λ k. f (suc k)) n)
 
--- update i
-abbrev pub told : List ℕ → ℕ → Announced
-told m i = record { offset = offset m (update_at m i); shape = said_shape m (update_at m i) }
+-- update i, as it is placed
+abbrev pub told : Metadata → ℕ → Announced
+told m i = record { offset = offset_at m.layout i; shape = said_shape m.records.now (update_at m.records.now i) }
 
-pub told_each : (m : List ℕ) → told_of m ≡ each (told m) (count m)
-told_each m = map_each (λ (u : theorem.Sent). record { offset = (theorem.hall).offset u; shape = (theorem.hall).sent u }) (theorem.sent_at m) (count m)
+pub told_each : (m : Metadata) → told_by m ≡ each (told m) m.layout.count
+told_each m =
+    map_each (λ (u : theorem.Sent). record { offset = (theorem.hall).offset u; shape = (theorem.hall).sent u })
+    (λ i. record { offset = offset_at m.layout i; said = update_of m.records.now (update_at m.records.now i) }) m.layout.count
 
-told_length : (m : List ℕ) → length (told_of m) ≡ count m
-told_length m = ap (length {A = Announced}) (told_each m) ∙ each_length (told m) (count m)
+told_length : (m : Metadata) → length (told_by m) ≡ m.layout.count
+told_length m = ap (length {A = Announced}) (told_each m) ∙ each_length (told m) m.layout.count
 
-told_from : (m : List ℕ) (i : ℕ) → i < count m → drop i (told_of m) ≡ told m i ∷ drop (i + 1) (told_of m)
+told_from : (m : Metadata) (i : ℕ) → i < m.layout.count → drop i (told_by m) ≡ told m i ∷ drop (i + 1) (told_by m)
 told_from m i l =
     let long = told_length m in
-    let at : get_or (told_of m) i (told m 0) ≡ told m i = ap (λ (us : List Announced). get_or us i (told m 0)) (told_each m) ∙ each_at (told m) (count m) i (told m 0) l in
-    drop-cons (told_of m) i (told m 0) (omega arith) ∙ rw (at, add-one)
+    let at : get_or (told_by m) i (told m 0) ≡ told m i =
+    ap (λ (us : List Announced). get_or us i (told m 0)) (told_each m) ∙ each_at (told m) m.layout.count i (told m 0) l in
+    drop-cons (told_by m) i (told m 0) (omega arith) ∙ rw (at, add-one)
 
-told_end : (m : List ℕ) (i : ℕ) → count m ≤ i → drop i (told_of m) ≡ []
-told_end m i l = let long = told_length m in drop_of_length-le (told_of m) {i = i} (omega arith)
+told_end : (m : Metadata) (i : ℕ) → m.layout.count ≤ i → drop i (told_by m) ≡ []
+told_end m i l = let long = told_length m in drop_of_length-le (told_by m) {i = i} (omega arith)
+
+-- ---- those of two lists are those of one, then of the other
+
+then_more : (f x y z : Found) → (x then y) ≡ z → ((f then x) then y) ≡ (f then z)
+then_more clear x y z e = e
+then_more (stop k a b) x y z e = refl
+
+module _ (us : List Announced) (n : ℕ) (codes : List ℕ) (t : ℕ) where
+  pub counts_both : (xs ys : List Announced) → (counts_at us n codes t xs then counts_at us n codes t ys) ≡ counts_at us n codes t (xs ++ ys)
+  counts_both [] ys = refl
+  counts_both (x ∷ xs) ys = then_more (cond (eqb x.offset t) (matched x.shape.objects n) clear) _ _ _ (counts_both xs ys)
+
+  pub shape_both : (xs ys : List Announced) (s : Shape) → shape_at us n codes t ys (shape_at us n codes t xs s) ≡ shape_at us n codes t (xs ++ ys) s
+  shape_both [] ys s = refl
+  shape_both (x ∷ xs) ys s = shape_both xs ys (cond (eqb x.offset t) x.shape s)
 
 -- ---- 11 for those at t
 
-module _ (m : List ℕ) (n t : ℕ) where
+module _ (m : Metadata) (n t : ℕ) where
   -- 11 for update i
   abbrev pub refused_at : ℕ → Found
   refused_at i = cond (eqb (told m i).offset t) (matched (told m i).shape.objects n) clear
 
   -- nothing was found before update i
   abbrev pub CountsFrom : ℕ → Type 0
-  CountsFrom i = (codes : List ℕ) → counts_at (told_of m) n codes t (drop i (told_of m)) ≡ counts_at (told_of m) n codes t (told_of m)
+  CountsFrom i = (us : List Announced) (codes : List ℕ) → counts_at us n codes t (drop i (told_by m)) ≡ counts_at us n codes t (told_by m)
 
-  counts_step : (i : ℕ) → i < count m → CountsFrom i → (codes : List ℕ) →
-      (refused_at i then counts_at (told_of m) n codes t (drop (i + 1) (told_of m))) ≡ counts_at (told_of m) n codes t (told_of m)
-  counts_step i l h codes = ap (counts_at (told_of m) n codes t) (sym (told_from m i l)) ∙ h codes
+  counts_step : (i : ℕ) → i < m.layout.count → CountsFrom i → (us : List Announced) (codes : List ℕ) →
+      (refused_at i then counts_at us n codes t (drop (i + 1) (told_by m))) ≡ counts_at us n codes t (told_by m)
+  counts_step i l h us codes = ap (counts_at us n codes t) (sym (told_from m i l)) ∙ h us codes
 
-  module _ (i : ℕ) (l : i < count m) (h : CountsFrom i) where
+  module _ (i : ℕ) (l : i < m.layout.count) (h : CountsFrom i) where
     pub counts_stop : (r : Refusal) → stop_of r ≡ refused_at i → IsEleven m n t (Err r)
-    counts_stop r is = record { is = λ codes. chain_stops (refused_at i) _ _ (counts_step i l h codes) r is }
+    counts_stop r is = record { is = λ us codes. chain_stops (refused_at i) _ _ (counts_step i l h us codes) r is }
 
     pub counts_go : clear ≡ refused_at i → CountsFrom (i + 1)
-    counts_go is codes = chain_passes (refused_at i) _ _ (counts_step i l h codes) is
+    counts_go is us codes = chain_passes (refused_at i) _ _ (counts_step i l h us codes) is
 
-  pub counts_end : (i : ℕ) → count m ≤ i → CountsFrom i → IsEleven m n t (Ok tt)
-  counts_end i l h = record { is = λ codes. ap (counts_at (told_of m) n codes t) (sym (told_end m i l)) ∙ h codes }
+  pub counts_end : (i : ℕ) → m.layout.count ≤ i → CountsFrom i → IsEleven m n t (Ok tt)
+  counts_end i l h = record { is = λ us codes. ap (counts_at us n codes t) (sym (told_end m i l)) ∙ h us codes }
 
 -- ---- the shape after those at t
 
-module _ (m : List ℕ) (t : ℕ) (p : Present) where
+module _ (m : Metadata) (t : ℕ) (p : Present) where
   -- q is the shape before update i
   abbrev pub ShapeFrom : ℕ → Present → Type 0
-  ShapeFrom i q = (n : ℕ) (codes : List ℕ) →
-      shape_at (told_of m) n codes t (drop i (told_of m)) (present_shape q) ≡ shape_at (told_of m) n codes t (told_of m) (present_shape p)
+  ShapeFrom i q = (us : List Announced) (n : ℕ) (codes : List ℕ) →
+      shape_at us n codes t (drop i (told_by m)) (present_shape q) ≡ shape_at us n codes t (told_by m) (present_shape p)
 
-  pub shape_go : (i : ℕ) (q r : Present) → i < count m → ShapeFrom i q →
+  pub shape_go : (i : ℕ) (q r : Present) → i < m.layout.count → ShapeFrom i q →
       present_shape r ≡ cond (eqb (told m i).offset t) (told m i).shape (present_shape q) → ShapeFrom (i + 1) r
-  shape_go i q r l h e n codes =
-      ap (shape_at (told_of m) n codes t (drop (i + 1) (told_of m))) e
-      ∙ ap (λ (us : List Announced). shape_at (told_of m) n codes t us (present_shape q)) (sym (told_from m i l)) ∙ h n codes
+  shape_go i q r l h e us n codes =
+      ap (shape_at us n codes t (drop (i + 1) (told_by m))) e
+      ∙ ap (λ (vs : List Announced). shape_at us n codes t vs (present_shape q)) (sym (told_from m i l)) ∙ h us n codes
 
-  pub shape_end : (i : ℕ) (q : Present) → count m ≤ i → ShapeFrom i q → IsAfter m t p q
-  shape_end i q l h = record { is = λ n codes. ap (λ (us : List Announced). shape_at (told_of m) n codes t us (present_shape q)) (sym (told_end m i l)) ∙ h n codes }
+  pub shape_end : (i : ℕ) (q : Present) → m.layout.count ≤ i → ShapeFrom i q → IsAfter m t p q
+  shape_end i q l h = record { is = λ us n codes. ap (λ (vs : List Announced). shape_at us n codes t vs (present_shape q)) (sym (told_end m i l)) ∙ h us n codes }
+
+-- the shape after the updates at t of two lists
+pub after_both : (k m : Metadata) (t : ℕ) (p q r : Present) → IsAfter k t p q → IsAfter m t q r → (us : List Announced) (n : ℕ) (codes : List ℕ)
+    → present_shape r ≡ shape_at us n codes t (told_by k ++ told_by m) (present_shape p)
+after_both k m t p q r a b us n codes =
+    b.is us n codes ∙ ap (shape_at us n codes t (told_by m)) (a.is us n codes) ∙ shape_both us n codes t (told_by k) (told_by m) (present_shape p)
 
 -- ---- what is read of an update's record
 

@@ -1,15 +1,12 @@
 -- A reader may skip this file: that what a function answers is the first refusal that the rules find (`found`, `early`, `later` of rules/specs). Assumes nothing.
 use Rattle.std.specs.Prelude.{ℕ, ◌≡◌, Bool, true, false, List, eqb, length, Result}
-use Rattle.words.specs.Words.{words_at}
 use Rattle.rules.specs.Samples.{State}
-use Rattle.rules.specs.Refusals.{Args, Found, clear, stop, unless, args_of, early, counts_at, shape_at}
-use Rattle.rules.specs.Calls.{found}
-use Rattle.store.specs.declared.renderer.Renderer714.{Renderer714}
-use Rattle.store.specs.Fields.{small_of}
-use Rattle.store.specs.Layout.{small_width, decode}
+use Rattle.rules.specs.Refusals.{Args, Found, clear, stop, unless, args_of, early, Announced, counts_at, shape_at}
+use Rattle.records.specs.LayoutAnswers.{Placed}
+use Rattle.records.specs.declared.metadata.Metadata.{Metadata}
 use Rattle.theorem.specs.Instance.{hall}
 use Rattle.refusals.specs.RefusalNumbers.{found_of}
-use Rattle.refusals.specs.PresentShape.{told_of, present_shape}
+use Rattle.refusals.specs.PresentShape.{told_by, present_shape}
 use Rattle.refusals.specs.declared.Frame.{Frame}
 use Rattle.refusals.specs.declared.Push.{Push}
 use Rattle.refusals.specs.declared.Refusal.{Refusal}
@@ -31,17 +28,18 @@ args_in f out = args_of f.pcm.now f.metadata.records.now out f.codes.list.now f.
 abbrev pub IsEarly : {A : Type 0} → ℕ → ℕ → (List ℕ → Args) → Result A Refusal → Type 0
 IsEarly position bytes args r = (out : List ℕ) → length out ≡ bytes → (t : State hall) → t.clock.position ≡ position → found_of r ≡ early hall t (args out)
 
--- r is the first of 1 to 14 on each block whose small part s is
-abbrev pub IsFound : {A : Type 0} → Renderer714 → ℕ → (List ℕ → Args) → Result A Refusal → Type 0
-IsFound s bytes args r = (b out : List ℕ) → s ≡ small_of (words_at b 0 small_width) → length out ≡ bytes → found_of r ≡ found hall (decode b) (args out)
+-- where a frame was made: its arguments, and where its own updates fall in it
+pub record IsFrame (args : List ℕ → Args) (f : Frame) : Type 0 where
+  pub same : (out : List ℕ) → args_in f out ≡ args out
+  pub placed : Placed f.n.samples f.metadata.records.now f.metadata.layout
 
 -- r is p after the updates at t, whatever objects and inputs the push has
-pub record IsAfter (m : List ℕ) (t : ℕ) (p r : Present) : Type 0 where
-  pub is : (n : ℕ) (codes : List ℕ) → present_shape r ≡ shape_at (told_of m) n codes t (told_of m) (present_shape p)
+pub record IsAfter (m : Metadata) (t : ℕ) (p r : Present) : Type 0 where
+  pub is : (us : List Announced) (n : ℕ) (codes : List ℕ) → present_shape r ≡ shape_at us n codes t (told_by m) (present_shape p)
 
 -- r is 11 for the updates at t, whatever inputs the push has
-pub record IsEleven (m : List ℕ) (n t : ℕ) (r : Result (Unit {0}) Refusal) : Type 0 where
-  pub is : (codes : List ℕ) → found_of r ≡ counts_at (told_of m) n codes t (told_of m)
+pub record IsEleven (m : Metadata) (n t : ℕ) (r : Result (Unit {0}) Refusal) : Type 0 where
+  pub is : (us : List Announced) (codes : List ℕ) → found_of r ≡ counts_at us n codes t (told_by m)
 
 -- 11: so many dynamic objects expected, and so many provided
 abbrev pub matched : ℕ → ℕ → Found

@@ -3,6 +3,7 @@
 use Rattle.std.specs.Prelude.{ℕ, ◌-◌, ◌≡◌, true, List, get_or}
 use Rattle.fields.specs.Update.{objects, bed_or_isf_of, beds, code}
 use Rattle.records.specs.Runs.{each}
+use Rattle.records.specs.declared.metadata.Metadata.{Metadata}
 use Rattle.timed.specs.declared.state.MetadataRendererState.{MetadataRendererState}
 use Rattle.rules.specs.Leaves.{Shape}
 use Rattle.rules.specs.Refusals.{Announced}
@@ -10,9 +11,9 @@ use Rattle.rules.specs.Calls.{announced}
 use Rattle.theorem.specs.Instance as theorem
 use Rattle.refusals.specs.declared.present.Present.{Present}
 
--- the updates in the order sent, each with its offset and its shape
-abbrev pub told_of : List ℕ → List Announced
-told_of m = announced theorem.hall (theorem.sent_of m)
+-- the updates in the order sent, each with its offset in the frame and its shape
+abbrev pub told_by : Metadata → List Announced
+told_by m = announced theorem.hall (theorem.sent_from m)
 
 -- the shape of the update at record u
 abbrev pub said_shape : List ℕ → ℕ → Shape

@@ -11,7 +11,7 @@ use Rattle.refusals.specs.declared.Refusal.{Refusal}
 use Rattle.refusals.specs.declared.Refusal.TheVariants.{Lent, Sizes, Rate, StreamEnd, Records, Ranges, Samples}
 use Rattle.refusals.specs.declared.Refusal.TheVariants.{SampleRateChanged, MissingOamd, ObjectCountMismatch}
 use Rattle.refusals.specs.declared.Refusal.TheVariants.{UnsupportedSampleCount, BedChannelCountMismatch, UnsupportedBedChannel}
-use Rattle.refusals.specs.declared.Refusal.TheVariants.{Layout, TableLength, TableCoordinate, TablePlaces, ObjectNumber}
+use Rattle.refusals.specs.declared.Refusal.TheVariants.{Layout, TableLength, TableCoordinate, TablePlaces, ObjectNumber, TooManyAhead}
 
 -- "A refusal gives its number and two counts, zero where unnamed."
 abbrev pub numbers : ℕ → ℕ → ℕ → Stop
@@ -36,6 +36,7 @@ numbers_of TableLength = numbers 16 0 0
 numbers_of TableCoordinate = numbers 17 0 0
 numbers_of TablePlaces = numbers 18 0 0
 numbers_of ObjectNumber = numbers 24 0 0
+numbers_of TooManyAhead = numbers 25 0 0
 
 abbrev pub stop_of : Refusal → Found
 stop_of r = let n = numbers_of r in stop n.number n.first n.second

@@ -26,7 +26,7 @@ fn check_match(expected: u32, provided: u32) -> Result<(), Refusal>
 
 // 11 for each update at sample offset t, in the order sent.
 pub fn check_counts(metadata: Metadata<'_>, t: FrameOffset, objects: u32) -> Result<(), Refusal>
-    ensures { IsEleven metadata.entry.records.now objects t.0 result }
+    ensures { IsEleven metadata.entry objects t.0 result }
 {
     for i in 0..metadata.layout.count {
         let sent = metadata.layout.sent[i];

@@ -1,11 +1,11 @@
 // Refusals 1 to 8 of a push: "Lowest number first among 1 to 8". Each is decided before the next is worked out.
 ghost use Rattle.std.specs.Prelude.{◌≡◌, [], ◌*◌, ◌≤◌, leb, IfOk};
 ghost use Rattle.rules.specs.Refusals as rules;
-ghost use Rattle.refusals.specs.FirstFound.{args_with, args_in, IsEarly};
+ghost use Rattle.refusals.specs.FirstFound.{args_with, IsFrame, IsEarly};
 
 use crate::{Frame, Push, Refusal};
 use beds::Codes;
-use clock::StreamSample;
+use clock::{FrameOffset, StreamSample};
 use records::metadata::Metadata;
 
 // Whether the stride is one of those allowed and an output of so many bytes has room for it: refusal 1.
@@ -45,7 +45,7 @@ fn sized(push: Push<'_>) -> bool
 // The frame of a push at a stream position, or the first of its refusals 1 to 8; the output has so many bytes.
 pub fn check<'a>(position: StreamSample, push: Push<'a>, bytes: usize) -> Result<Frame<'a>, Refusal>
     ensures found { IsEarly position.0 bytes (args_with push.entry) result }
-    ensures frame { IfOk result (λ f. args_in f ≡ args_with push.entry) }
+    ensures frame { IfOk result (λ f. IsFrame (args_with push.entry) f) }
 {
     let Push {
         pcm,
@@ -65,7 +65,7 @@ pub fn check<'a>(position: StreamSample, push: Push<'a>, bytes: usize) -> Result
     if !position.has_room(n.samples) {
         return Err(Refusal::StreamEnd);
     }
-    let metadata = Metadata::of(meta)?;
+    let metadata = Metadata::of(meta, FrameOffset(n.samples))?;
     if !mixing::samples_pass(pcm, 0, pcm.len() / 4) {
         return Err(Refusal::Samples);
     }

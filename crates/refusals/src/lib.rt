@@ -10,9 +10,11 @@ mod later;
 mod present;
 mod shapes;
 
-ghost use Rattle.std.specs.Prelude.{◌≡◌, ◌≤◌, IfOk};
-ghost use Rattle.refusals.specs.RefusalNumbers.{numbers, numbers_of, fault_refusal, table_refusal};
-ghost use Rattle.refusals.specs.FirstFound.{args_with, args_in, IsFound};
+ghost use Rattle.std.specs.Prelude.{◌≡◌, ◌++◌, ◌≤◌};
+ghost use Rattle.refusals.specs.RefusalNumbers.{numbers, numbers_of, found_of, fault_refusal, table_refusal};
+ghost use Rattle.refusals.specs.PresentShape.{told_by};
+ghost use Rattle.rules.specs.Refusals.{later};
+ghost use Rattle.theorem.specs.Instance.{shape_of};
 
 use beds::Codes;
 use panning::TableFault;
@@ -45,6 +47,8 @@ pub enum Refusal {
     TablePlaces,
     // 24, of a hold or a release
     ObjectNumber,
+    // 25, of a push
+    TooManyAhead,
 }
 
 // What is told of a refusal: document 01's number and two counts, zero where unnamed. Numbers, since they cross to C and are printed.
@@ -91,6 +95,7 @@ impl Refusal {
             Refusal::TableCoordinate => Stop::new(17, 0, 0),
             Refusal::TablePlaces => Stop::new(18, 0, 0),
             Refusal::ObjectNumber => Stop::new(24, 0, 0),
+            Refusal::TooManyAhead => Stop::new(25, 0, 0),
         }
     }
 }
@@ -144,13 +149,11 @@ pub struct Frame<'a> {
     pub n: Numbers,
 }
 
-// The frame of a push, or its first refusal. `s` is the small part of a valid block; the output has `bytes` bytes.
-pub fn check_push<'a>(s: Renderer714, push: Push<'a>, bytes: usize) -> Result<Frame<'a>, Refusal>
+// 9 to 14 of a frame: `kept` are the updates that wait, as they fall in it. `s` is the small part of a valid block.
+pub fn check_later(s: Renderer714, kept: &Metadata<'_>, frame: Frame<'_>) -> Result<(), Refusal>
     requires { (s.state.beds ≤ 18) × (s.state.objects ≤ 32) }
-    ensures found { IsFound s bytes (args_with push.entry) result }
-    ensures frame { IfOk result (λ f. args_in f ≡ args_with push.entry) }
+    ensures { found_of result ≡ later (told_by kept.now ++ told_by frame.entry.metadata) frame.entry.n.objects frame.entry.codes.list.now frame.entry.n.samples
+        frame.entry.n.rate s.rate (shape_of s.state) }
 {
-    let frame = early::check(s.clock.position, push, bytes)?;
-    later::check(s.rate, present_of(s.state), frame)?;
-    Ok(frame)
+    later::check(s.rate, present_of(s.state), kept, frame)
 }

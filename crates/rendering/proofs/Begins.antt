@@ -14,17 +14,17 @@ use Rattle.timed.specs.TimedResults.{IsTimed}
 use Rattle.timed.specs.declared.state.MetadataRendererState.{MetadataRendererState}
 use Rattle.timed.proofs.Theorems as timed
 use Rattle.records.specs.Runs.{each}
-use Rattle.records.specs.Laid.{update_at, count}
+use Rattle.records.specs.Laid.{update_at}
 use Rattle.records.specs.UpdateWalk.{FirstAt}
-use Rattle.records.specs.LayoutAnswers.{IsLayout, offset_at}
-use Rattle.records.specs.declared.sent.Layout as records
+use Rattle.records.specs.LayoutAnswers.{offset_at}
+use Rattle.records.specs.declared.metadata.Metadata.{Metadata}
 use Rattle.updates.specs.Said.{Update, update_of}
 use Rattle.updates.specs.Applied as updates
 use Rattle.rules.specs.Samples.{Renderer, applied_at, updated, slotted}
 use Rattle.rules.specs.Ranges.{Ranged}
 use Rattle.store.specs.declared.renderer.Renderer714.{Renderer714}
 use Rattle.store.specs.Layout.{size, assembled, infos_of, places_of, setup_in}
-use Rattle.theorem.specs.Instance.{Sent, hall, sent_at, sent_of}
+use Rattle.theorem.specs.Instance.{Sent, hall, sent_from}
 use Rattle.theorem.proofs.Theorems.{Within}
 use Rattle.formats.specs.Areas.{infos_bytes}
 use Rattle.store.specs.Steps.{with_state}
@@ -101,25 +101,25 @@ each_later f g (suc n) i h =
 
 module _ (t : ℕ) (g : ℕ → Sent) (n : ℕ) where
   -- what is left to apply from i on
-  pub rest : ℕ → Renderer Timed → Renderer Timed
+  pub rest : ℕ → Renderer Timed (List ℕ) → Renderer Timed (List ℕ)
   rest i r = updated hall t (later g (n - i) i) r
 
-  rest_more : (i : ℕ) (r : Renderer Timed) → i < n → rest i r ≡ rest (suc i) (cond (eqb (g i).offset t) (applied_at hall t (g i) r) r)
+  rest_more : (i : ℕ) (r : Renderer Timed (List ℕ)) → i < n → rest i r ≡ rest (suc i) (cond (eqb (g i).offset t) (applied_at hall t (g i) r) r)
   unfolding rest later
   rest_more i r l = let e : n - i ≡ suc (n - suc i) = omega arith in rw e
 
-  rest_here : (i : ℕ) (r : Renderer Timed) → i < n → (g i).offset ≡ t → rest i r ≡ rest (suc i) (applied_at hall t (g i) r)
+  rest_here : (i : ℕ) (r : Renderer Timed (List ℕ)) → i < n → (g i).offset ≡ t → rest i r ≡ rest (suc i) (applied_at hall t (g i) r)
   rest_here i r l e = rest_more i r l ∙ rw (eq-eqb (g i).offset t e)
 
-  rest_past : (i : ℕ) (r : Renderer Timed) → i < n → ((g i).offset ≡ t → ⊥) → rest i r ≡ rest (suc i) r
+  rest_past : (i : ℕ) (r : Renderer Timed (List ℕ)) → i < n → ((g i).offset ≡ t → ⊥) → rest i r ≡ rest (suc i) r
   rest_past i r l e = rest_more i r l ∙ rw (ne_eqb (g i).offset t e)
 
-  rest_none : (i : ℕ) (r : Renderer Timed) → n ≤ i → rest i r ≡ r
+  rest_none : (i : ℕ) (r : Renderer Timed (List ℕ)) → n ≤ i → rest i r ≡ r
   unfolding rest later
   rest_none i r l = let e : n - i ≡ 0 = omega arith in rw e
 
   -- those before the first are passed over
-  skip : (d from : ℕ) (r : Renderer Timed) → from + d ≤ n → ((k : ℕ) → from ≤ k → k < from + d → (g k).offset ≡ t → ⊥) → rest from r ≡ rest (from + d) r
+  skip : (d from : ℕ) (r : Renderer Timed (List ℕ)) → from + d ≤ n → ((k : ℕ) → from ≤ k → k < from + d → (g k).offset ≡ t → ⊥) → rest from r ≡ rest (from + d) r
   skip zero from r l h = let e : from + 0 ≡ from = omega arith in rw e
   skip (suc d) from r l h =
       let e : from + suc d ≡ suc from + d = omega arith in
@@ -128,55 +128,59 @@ module _ (t : ℕ) (g : ℕ → Sent) (n : ℕ) where
 
 -- ---- along the layout
 
-module _ (m : List ℕ) (l : records.Layout) (t : ℕ) (all : Renderer Timed) (b₀ : List ℕ) where
+-- update i of metadata that has been placed in its frame
+abbrev pub placed_at : Metadata → ℕ → Sent
+placed_at m i = record { offset = offset_at m.layout i; said = update_of m.records.now (update_at m.records.now i) }
+
+module _ (m : Metadata) (t : ℕ) (all : Renderer Timed (List ℕ)) (b₀ : List ℕ) where
+  abbrev n : ℕ
+  n = m.layout.count
+
   -- where the walk stands, from the block b₀: the updates from i on lead to `all`
   pub record Standing (i : ℕ) (s : Renderer714) (b : List ℕ) : Type 0 where
     pub small : small_bytes b ≡ small_bytes b₀
     pub hall : hall_bytes_of b ≡ hall_bytes_of b₀
-    pub left : rest t (sent_at m) l.count i (held s b) ≡ all
+    pub left : rest t (placed_at m) n i (held s b) ≡ all
 
-  module _ (g : IsLayout m l) where
-    -- an update more
-    pub goes_on :
-        (i : ℕ) (s r : Renderer714) (b c m' : List ℕ) (u : ℕ) → i < l.count → offset_at l i ≡ t → Standing i s b → (m' ≡ m) × (u ≡ update_at m i) →
-        IsNext (applied_at hall t (sent t (update_of m' u)) (held s b)) b r c → Standing (i + 1) r c
-    goes_on i s r b c m' u low time h same next =
-        let k : i < count m = omega (arith, g.counted) in
-        let o : (sent_at m i).offset ≡ t = sym (g.offsets i k) ∙ time in
-        let one : held r c ≡ applied_at hall t (sent_at m i) (held s b) = next.holds ∙ rw (same.0, same.1) in
-        record {
-          small = next.small ∙ h.small;
-          hall = next.hall ∙ h.hall;
-          left = rw (add-one, one) (sym (rest_here t (sent_at m) l.count i (held s b) low o) ∙ h.left);
-        }
+  -- an update more
+  pub goes_on :
+      (i : ℕ) (s r : Renderer714) (b c m' : List ℕ) (u : ℕ) → i < n → offset_at m.layout i ≡ t → Standing i s b
+      → (m' ≡ m.records.now) × (u ≡ update_at m.records.now i) →
+      IsNext (applied_at hall t (sent t (update_of m' u)) (held s b)) b r c → Standing (i + 1) r c
+  goes_on i s r b c m' u low time h same next =
+      let one : held r c ≡ applied_at hall t (placed_at m i) (held s b) = next.holds ∙ rw (same.0, same.1) in
+      record {
+        small = next.small ∙ h.small;
+        hall = next.hall ∙ h.hall;
+        left = rw (add-one, one) (sym (rest_here t (placed_at m) n i (held s b) low time) ∙ h.left);
+      }
 
-    -- one for another time
-    pub passes : (i : ℕ) (s : Renderer714) (b : List ℕ) → i < l.count → (offset_at l i ≡ t → ⊥) → Standing i s b → Standing (i + 1) s b
-    passes i s b low off h =
-        let k : i < count m = omega (arith, g.counted) in
-        record {
-          small = h.small;
-          hall = h.hall;
-          left = rw add-one (sym (rest_past t (sent_at m) l.count i (held s b) low (λ o. off (g.offsets i k ∙ o))) ∙ h.left);
-        }
+  -- one for another time
+  pub passes : (i : ℕ) (s : Renderer714) (b : List ℕ) → i < n → (offset_at m.layout i ≡ t → ⊥) → Standing i s b → Standing (i + 1) s b
+  passes i s b low off h =
+      record {
+        small = h.small;
+        hall = h.hall;
+        left = rw add-one (sym (rest_past t (placed_at m) n i (held s b) low off) ∙ h.left);
+      }
 
-    pub ends : (i : ℕ) (s : Renderer714) (b : List ℕ) → l.count ≤ i → Standing i s b → IsNext all b₀ s b
-    ends i s b low h = record { holds = sym (rest_none t (sent_at m) l.count i (held s b) low) ∙ h.left; small = h.small; hall = h.hall }
+  pub ends : (i : ℕ) (s : Renderer714) (b : List ℕ) → n ≤ i → Standing i s b → IsNext all b₀ s b
+  ends i s b low h = record { holds = sym (rest_none t (placed_at m) n i (held s b) low) ∙ h.left; small = h.small; hall = h.hall }
 
 -- all of them
-pub from_first : (m : List ℕ) (l : records.Layout) → IsLayout m l → (t : ℕ) (r : Renderer Timed) → rest t (sent_at m) l.count 0 r ≡ updated hall t (sent_of m) r
+pub from_first : (m : Metadata) (t : ℕ) (r : Renderer Timed (List ℕ)) → rest t (placed_at m) m.layout.count 0 r ≡ updated hall t (sent_from m) r
 unfolding rest
-from_first m l g t r =
-    let z : l.count - 0 ≡ count m = omega (arith, g.counted) in
-    rw (z, ← each_later (sent_at m) (sent_at m) (count m) 0 (λ k. ap (sent_at m) (omega arith)))
+from_first m t r =
+    let z : m.layout.count - 0 ≡ m.layout.count = omega arith in
+    rw (z, ← each_later (placed_at m) (placed_at m) m.layout.count 0 (λ k. ap (placed_at m) (omega arith)))
 
 -- ---- the slot after them
 
-pub slotted_after : {x : Renderer Timed} {s r : Renderer714} {b₀ b c : List ℕ} → IsNext x b₀ s b → IsNext (slotted hall (held s b)) b r c → IsNext (slotted hall x) b₀ r c
+pub slotted_after : {x : Renderer Timed (List ℕ)} {s r : Renderer714} {b₀ b c : List ℕ} → IsNext x b₀ s b → IsNext (slotted hall (held s b)) b r c → IsNext (slotted hall x) b₀ r c
 slotted_after h g = record { holds = g.holds ∙ ap (slotted hall) h.holds; small = g.small ∙ h.small; hall = g.hall ∙ h.hall }
 
 -- a renderer within document 01's ranges
-pub ranged_starts : (r : Renderer Timed) → Ranged hall Within r → CanStart r
+pub ranged_starts : (r : Renderer Timed (List ℕ)) → Ranged hall Within r → CanStart r
 ranged_starts r g = record {
   within = timed.within_later r.clock.position 1099511627776 r.meta.state g.position g.meta.state.within;
   start = omega (arith, g.start, g.position);
@@ -190,11 +194,15 @@ past {f} {n} {t} {from} {i} h l =
     subst (λ (j : ℕ). FirstAt f n t from j) e h
 
 -- nothing is applied
-pub none_applied : (m : List ℕ) (l : records.Layout) → IsLayout m l → (t : ℕ) (s : Renderer714) (b : List ℕ) → NoneSent l t
-    → IsNext (updated hall t (sent_of m) (held s b)) b s b
-none_applied m l g t s b h =
-    let all = updated hall t (sent_of m) (held s b) in
-    let e : 0 + l.count ≡ l.count = omega arith in
-    let z = skip t (sent_at m) l.count l.count 0 (held s b) (omega arith) (λ k p q o. h.none k p (omega arith) (g.offsets k (omega (arith, g.counted)) ∙ o)) in
-    ends m l t all b g l.count s b (omega arith)
-    (record { small = refl; hall = refl; left = sym (rw e at z) ∙ from_first m l g t (held s b) })
+pub none_applied : (m : Metadata) (t : ℕ) (s : Renderer714) (b : List ℕ) → NoneSent m.layout t → IsNext (updated hall t (sent_from m) (held s b)) b s b
+none_applied m t s b h =
+    let all = updated hall t (sent_from m) (held s b) in
+    let n = m.layout.count in
+    let e : 0 + n ≡ n = omega arith in
+    let z = skip t (placed_at m) n n 0 (held s b) (omega arith) (λ k p q o. h.none k p (omega arith) o) in
+    ends m t all b n s b (omega arith) (record { small = refl; hall = refl; left = sym (rw e at z) ∙ from_first m t (held s b) })
+
+-- one list after the other
+pub both_applied : {x : Renderer Timed (List ℕ)} {s r : Renderer714} {b₀ b c : List ℕ} (m : Metadata) (t : ℕ) → IsNext x b₀ s b
+    → IsNext (updated hall t (sent_from m) (held s b)) b r c → IsNext (updated hall t (sent_from m) x) b₀ r c
+both_applied m t h g = record { holds = g.holds ∙ ap (updated hall t (sent_from m)) h.holds; small = g.small ∙ h.small; hall = g.hall ∙ h.hall }

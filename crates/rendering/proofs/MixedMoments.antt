@@ -23,7 +23,7 @@ use Rattle.render.proofs.Theorems.{beds_each, sources_each, filter_as, run_as}
 use Rattle.chunk.specs.ChunkRows.{chunk_moment}
 use Rattle.rendering.specs.declared.Rendering.{Rendering}
 use Rattle.rendering.specs.Pass as pass
-use Rattle.rendering.specs.Pass.{frame_with, Waits}
+use Rattle.rendering.specs.Pass.{frame_here, Waits}
 
 -- tables with at least as many entries as are in use
 pub record Full (m : MetadataRendererState) (objects : ℕ) : Type 0 where
@@ -63,7 +63,7 @@ module _ (h : Setup) (codes pcm : List ℕ) (objects n t c : ℕ) where
 pub same_heard : (rate : ℕ) (us : List Sent) (codes pcm : List ℕ) (objects n : ℕ) (s : Renderer714) (b : List ℕ) → Full s.state objects
     → (s.state.initialized ≡ true → s.state.objects - s.state.isf ≡ objects)
     → (t c : ℕ) → heard (chunk_moment (setup_in b) s.state objects codes pcm n t) c
-    ≡ heard (moment hall (frame_with rate us codes objects pcm n) t (setup_in b) (record { state = s.state; infos = infos_of b })) c
+    ≡ heard (moment hall (frame_here rate us codes objects pcm n) t (setup_in b) (record { state = s.state; infos = infos_of b })) c
 same_heard rate us codes pcm objects n s b h d t c = mixed_heard (setup_in b) codes pcm objects n t c s.state.initialized s.state h d
 
 -- what `mix` leaves, by the rules' moments

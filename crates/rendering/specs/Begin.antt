@@ -1,5 +1,5 @@
 -- A reader may skip this file: before a chunk: what is asked there, and the small part that updates and slots leave. Assumes nothing.
-use Rattle.std.specs.Prelude.{ℕ, ◌≤◌, ◌≡◌, Bool, true, cond, ◌&&◌, eqb}
+use Rattle.std.specs.Prelude.{ℕ, ◌≤◌, ◌≡◌, Bool, true, cond, ◌&&◌, List, eqb}
 use Rattle.timed.specs.State.{Timed, Within}
 use Rattle.timed.specs.declared.state.MetadataRendererState.{MetadataRendererState}
 use Rattle.records.specs.UpdateWalk.{FirstAt}
@@ -14,7 +14,7 @@ abbrev pub restated : Bool → Renderer714 → MetadataRendererState → Rendere
 restated new s m = cond new (in_new_slot (with_state s m)) (with_state s m)
 
 -- a slot may start: "Stream positions lie from 0 to 2^40", and the timed state is within its ranges there
-pub record CanStart (r : Renderer Timed) : Type 0 where
+pub record CanStart (r : Renderer Timed (List ℕ)) : Type 0 where
   pub within : Within 1099511627776 r.meta.state
   pub start : r.clock.start ≤ 1099511627776
 

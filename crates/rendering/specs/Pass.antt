@@ -22,8 +22,8 @@ pub record CanPass (s : Renderer714) (objects k : ℕ) : Type 0 where
   pub start : s.clock.start.0 ≤ 1099511627776
 
 -- a frame of a push: its rate and its updates, bed codes, objects, PCM and samples a channel
-abbrev pub frame_with : ℕ → List Sent → List ℕ → ℕ → List ℕ → ℕ → Frame Sent
-frame_with rate us codes objects pcm n = record { rate = rate; samples = n; codes = codes; objects = objects; pcm = pcm; updates = us }
+abbrev pub frame_here : ℕ → List Sent → List ℕ → ℕ → List ℕ → ℕ → Frame Sent
+frame_here rate us codes objects pcm n = record { rate = rate; samples = n; codes = codes; objects = objects; pcm = pcm; updates = us }
 
 module _ (f : Frame Sent) (t k : ℕ) (s : Renderer714) (b : List ℕ) where
   abbrev pub moment_here : ℕ → Moment

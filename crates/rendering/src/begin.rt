@@ -5,7 +5,7 @@
 ghost use Rattle.std.specs.Prelude.{◌≡◌, not, ◌||◌, eqb};
 ghost use Rattle.updates.specs.Said.{update_of};
 ghost use Rattle.rules.specs.Samples.{applied_at, updated, slotted};
-ghost use Rattle.theorem.specs.Instance.{hall, sent_of};
+ghost use Rattle.theorem.specs.Instance.{hall, sent_from};
 ghost use Rattle.rendering.specs.Held.{held, Leads};
 ghost use Rattle.rendering.specs.Begin.{restated, CanStart, Starts};
 
@@ -48,14 +48,16 @@ impl Rendering {
         }
     }
 
-    // The updates at the present sample, which is sample t of the frame, in the order sent.
+    // The updates of one list at the present sample, which is sample t of the frame, in the order sent. Inlined, though a frame calls it for two lists: a call copies the
+    // rendering in and out.
+    #[inline(always)]
     pub fn apply_sent(
         mut self,
         state: &mut Block,
         metadata: Metadata<'_>,
         t: FrameOffset,
     ) -> Rendering
-        ensures { Leads (updated hall t.0 (sent_of metadata.entry.records.now) (held self.renderer state.old)) self state.old result state.new }
+        ensures { Leads (updated hall t.0 (sent_from metadata.entry) (held self.renderer state.old)) self state.old result state.new }
     {
         for i in 0..metadata.layout.count {
             let sent = metadata.layout.sent[i];

@@ -7,7 +7,7 @@ ghost use Rattle.panning.specs.Hall.{setup_of};
 ghost use Rattle.store.specs.Layout.{setup_in};
 ghost use Rattle.theorem.specs.Instance.{Sent};
 ghost use Rattle.render.specs.Run.{silent_rows};
-ghost use Rattle.rendering.specs.Pass.{CanPass, frame_with, moment_here, Waits};
+ghost use Rattle.rendering.specs.Pass.{CanPass, frame_here, moment_here, Waits};
 
 use crate::Rendering;
 use chunk::mix;
@@ -19,7 +19,7 @@ impl Rendering {
     pub fn pass(self, hall: &Hall, rows: &mut Rows, input: Input) -> Rendering
         requires { CanPass self.renderer input.objects input.span.count × (rows.old ≡ silent_rows) }
         ensures { (rate : ℕ) (us : List Sent) (b : List ℕ) → setup_of hall.now ≡ setup_in b
-            → Waits (moment_here (frame_with rate us input.entry.codes.list.now input.entry.objects input.entry.pcm.now input.entry.span.frame)
+            → Waits (moment_here (frame_here rate us input.entry.codes.list.now input.entry.objects input.entry.pcm.now input.entry.span.frame)
             input.entry.span.first input.entry.span.count self.renderer b) self input.entry.span.first input.entry.span.count rows.new result }
     {
         let mut filter = self.renderer.filter;

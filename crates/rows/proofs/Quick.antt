@@ -23,7 +23,7 @@ use Rattle.rules.specs.Mix.{send_of, sample_at, Moment}
 use Rattle.rules.specs.Samples as rules
 use Rattle.rules.specs.Samples.{Setup, Frame, State, After, sounding, opened, updated, slotted, sampled, moment, closing}
 use Rattle.rules.specs.Refusals.{Args, Found, clear, stop}
-use Rattle.rules.specs.Calls.{Call, push, flush, reset, make, make_with, mark, find, Answer, refused, rendered, nothing, cleared, marked, place, Result, frame_of, found, answered, step}
+use Rattle.rules.specs.Calls.{Call, push, flush, reset, make, make_with, mark, find, Answer, refused, rendered, nothing, cleared, marked, place, Result, frame_of, found, answered, with_waits, ahead_after, step}
 use Rattle.rules.specs.BlockCalls.{written, out_of, stride_of}
 use Rattle.theorem.specs.Instance.{hall, Sent}
 use Rattle.rows.specs.Rows.{Said, refusal, ready, none, renewed, noted, said_place, samples_on, Row, starting_at, calls}
@@ -51,6 +51,7 @@ with_places p r =
       filter = r.filter;
       meta = r.meta;
       pending = record { count = r.pending.count; places = p };
+      waits = r.waits;
     }
 
 unfoldable pub settled : State hall → State hall
@@ -210,7 +211,9 @@ read g stride out = let h = memo 12 [] g in reading h (memo 12 [] (words_of h)) 
 
 unfoldable pub asked : Run → Found → Args → State hall → Result hall
 asked run (stop n a b) args r = record { answer = refused n a b; next = r; moments = [] }
-asked run clear args r = let d = run (frame_of hall args) r in record { answer = answered hall d; next = d.next; moments = d.moments }
+asked run clear args r =
+    let d = run (frame_of hall r args) r in
+    record { answer = answered hall d; next = with_waits hall (ahead_after hall r args) d.next; moments = d.moments }
 
 unfoldable pub stepped : Run → State hall → Call → Result hall
 unfolding asked

@@ -302,7 +302,9 @@ module _ (run : Run) (is : (f : Frame Sent) (r : State hall) → run f r ≡ pus
   asked_is : (x : Found) (a : Args) (r : State hall) → asked run x a r ≡ rules.asked hall x a r
   unfolding asked
   asked_is (stop n x y) a r = refl
-  asked_is clear a r = ap (λ (d : After hall). record { answer = rules.answered hall d; next = d.next; moments = d.moments }) (is (frame_of hall a) r)
+  asked_is clear a r =
+      ap (λ (d : After hall). record { answer = rules.answered hall d; next = rules.with_waits hall (rules.ahead_after hall r a) d.next; moments = d.moments })
+      (is (frame_of hall r a) r)
 
   stepped_is : (r : State hall) (c : Call) → stepped run r c ≡ step hall r c
   unfolding stepped

@@ -7,7 +7,7 @@ use Rattle.finding.specs.Grid as grid
 use Rattle.finding.specs.Search as search
 use Rattle.rows.specs.Rows.{Said, Row, Holds, says, seen}
 use Rattle.rows.specs.Notation.{concat}
-use Rattle.rows.specs.Lists.{refusals, outputs, block_rows, bed_rows, object_rows, updates, slots, halls, tables, hold_rows, searches, groups, rows}
+use Rattle.rows.specs.Lists.{refusals, outputs, block_rows, bed_rows, object_rows, updates, slots, halls, tables, hold_rows, searches, ahead_rows, groups, rows}
 use Rattle.theorem.proofs.Opened.{everything, judging}
 use Rattle.rows.proofs.Quick.{plainly, quickly}
 use Rattle.rows.proofs.QuickIsRules.{plainly_is, quickly_is}
@@ -74,6 +74,10 @@ searches_hold : All Holds searches
 unfolding everything grid.across_at grid.up_at search.search
 searches_hold = after hold_rows_hold (held seen (λ r. refl) searches refl)
 
+ahead_rows_hold : All Holds ahead_rows
+unfolding quickly
+ahead_rows_hold = after searches_hold (held quickly quickly_is ahead_rows refl)
+
 -- ---- all rows
 
 all_joined : (gs : List (List Row)) → All (All Holds) gs → All Holds (concat gs)
@@ -81,4 +85,4 @@ all_joined [] h = tt
 all_joined (g ∷ gs) h = all_append Holds g (concat gs) h.0 (all_joined gs h.1)
 
 pub table : All Holds rows
-table = all_joined groups (refusals_hold, (outputs_hold, (blocks_hold, (beds_hold, (objects_hold, (updates_hold, (slots_hold, (halls_hold, (tables_hold, (hold_rows_hold, (searches_hold, tt)))))))))))
+table = all_joined groups (refusals_hold, (outputs_hold, (blocks_hold, (beds_hold, (objects_hold, (updates_hold, (slots_hold, (halls_hold, (tables_hold, (hold_rows_hold, (searches_hold, (ahead_rows_hold, tt))))))))))))

@@ -3,7 +3,7 @@ use Rattle.std.specs.Prelude.{true, false, List, [], ◌∷◌, ◌++◌, replic
 use Rattle.rules.specs.Calls.{reset, make, make_with, hold, release, find}
 use Rattle.rows.specs.Rows.{Row, ◌⇒◌, refusal, ready, none, renewed, noted, found}
 use Rattle.rows.specs.Notation.{concat, as_row, row_at, sent, sent_by, of_bed, of_object, flush_at, short, quiet, diagonal_words, silence, only}
-use Rattle.rows.specs.Notation.{update, bed, spoilt, element, at_once, block_from, minus, object, at, valid_position, place, differential, gain, distance, with_size}
+use Rattle.rows.specs.Notation.{update, far, bed, spoilt, element, at_once, block_from, minus, object, at, valid_position, place, differential, gain, distance, with_size}
 use Rattle.rows.specs.Notation.{screen, depth, screen_anchor, on_speakers, words}
 
 -- ---- refusals
@@ -948,11 +948,57 @@ abbrev pub searches : List Row
 searches =
     where_to_put ∷ []
 
+-- ---- ahead_rows
+
+-- an update of kind 9 is applied in the frame where its sample falls, though that brings none
+abbrev pub falls_ahead : Row
+falls_ahead =
+    as_row
+    (of_object (far 2 (update 0 [] 1 (at_once 0 (at 0 0 0 ∷ []) ∷ [])) ∷ update 0 [] 1 [] ∷ []) ⇒ ready []
+    ∷ of_object [] ⇒ ready []
+    ∷ of_object [] ⇒ ready []
+    ∷ flush_at 64 ⇒ ready ((0 ∷ 0 ∷ 0x3e75ce32 ∷ 0 ∷ 0 ∷ 0 ∷ 0x3e79ea5d ∷ 0x3e79ea5d ∷ 0 ∷ 0 ∷ 0 ∷ 0 ∷ []) ∷
+    (0 ∷ 0 ∷ 0x3e75ce32 ∷ 0 ∷ 0 ∷ 0 ∷ 0x3e79ea5d ∷ 0x3e79ea5d ∷ 0 ∷ 0 ∷ 0 ∷ 0 ∷ []) ∷ only 0 0x3ed740d4 ∷ [])
+    ∷ [])
+
+-- one that waited comes before the frame's own of the same offset, one of kind 1 past the end never
+abbrev pub own_behind : Row
+own_behind =
+    as_row
+    (of_object (far 1 (update 0 [] 1 (at_once 0 (at 0 0 0 ∷ []) ∷ [])) ∷ update 0 [] 1 [] ∷ update 1 [] 1 [] ∷ []) ⇒ ready []
+    ∷ of_object (update 0 [] 1 (at_once 0 (at 0x3f800000 0 0 ∷ []) ∷ []) ∷ []) ⇒ ready []
+    ∷ flush_at 64 ⇒ ready ((0 ∷ 0 ∷ 0x3e75ce32 ∷ 0 ∷ 0 ∷ 0 ∷ 0x3e79ea5d ∷ 0x3e79ea5d ∷ 0 ∷ 0 ∷ 0 ∷ 0 ∷ []) ∷ only 1 0x3ed740d4 ∷ [])
+    ∷ [])
+
+-- 25: nine would wait, and one more than eight; a reset leaves none
+abbrev pub too_many_ahead : Row
+too_many_ahead =
+    as_row
+    (of_object (replicate 9 (far 5 (update 0 [] 1 [])) ++ update 0 [] 1 [] ∷ []) ⇒ refusal 25 0 0
+    ∷ of_object (replicate 8 (far 5 (update 0 [] 1 [])) ++ update 0 [] 1 [] ∷ []) ⇒ ready []
+    ∷ of_object (far 1 (update 0 [] 1 []) ∷ []) ⇒ refusal 25 0 0
+    ∷ of_object (far 0 (update 0 [] 1 []) ∷ []) ⇒ ready []
+    ∷ reset ⇒ renewed
+    ∷ of_object (far 1 (update 0 [] 1 []) ∷ update 0 [] 1 [] ∷ []) ⇒ ready []
+    ∷ [])
+
+-- 10: a first frame whose one update only waits
+abbrev pub none_falls : Row
+none_falls =
+    as_row
+    (of_object (far 1 (update 0 [] 1 []) ∷ []) ⇒ refusal 10 0 0
+    ∷ of_object (far 0 (update 0 [] 1 []) ∷ []) ⇒ ready []
+    ∷ [])
+
+abbrev pub ahead_rows : List Row
+ahead_rows =
+    falls_ahead ∷ own_behind ∷ too_many_ahead ∷ none_falls ∷ []
+
 -- ---- all
 
 abbrev pub groups : List (List Row)
 groups =
-    refusals ∷ outputs ∷ block_rows ∷ bed_rows ∷ object_rows ∷ updates ∷ slots ∷ halls ∷ tables ∷ hold_rows ∷ searches ∷ []
+    refusals ∷ outputs ∷ block_rows ∷ bed_rows ∷ object_rows ∷ updates ∷ slots ∷ halls ∷ tables ∷ hold_rows ∷ searches ∷ ahead_rows ∷ []
 
 abbrev pub rows : List Row
 rows = concat groups

@@ -40,6 +40,10 @@ update offset codes dynamic elements =
     let beds = length codes in
     padded (1 ∷ 0 ∷ bytes 2 offset ++ (beds + dynamic) ∷ beds ∷ beds ∷ length elements ∷ codes) ++ concat elements
 
+-- an update of kind 9, which may lie far ahead: one at offset 0, with the offset in bytes 28 to 31
+abbrev pub far : ℕ → List ℕ → List ℕ
+far offset m = put 28 (bytes 4 offset) (put 0 (9 ∷ []) m)
+
 -- beds alone, at offset 0
 abbrev pub bed : List ℕ → List ℕ
 bed codes = update 0 codes 0 []

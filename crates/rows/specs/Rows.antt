@@ -83,6 +83,7 @@ starting_at n =
       filter = r.filter;
       meta = r.meta;
       pending = r.pending;
+      waits = r.waits;
     }
 
 abbrev pub calls : Row → List Call

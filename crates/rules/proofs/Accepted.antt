@@ -1,19 +1,21 @@
 -- A push that no reason speaks against is accepted. Assumes nothing.
-use Prim.Native.Nat.{ℕ, zero, suc, ◌+◌}
+use Prim.Native.Nat.{ℕ, zero, suc, ◌+◌, ◌≤◌, ◌<◌}
 use mathlib.Core.Path.{◌≡◌, refl, ap, ap₂, ◌∙◌}
 use mathlib.Core.Logic.{⊎_elim}
 use mathlib.Core.Bool.{Bool, true, false, cond, not, ◌||◌, or-true}
 use mathlib.Core.List.{List, [], ◌∷◌}
 use native.Mathlib.Omega.{arith}
-use borrow.Author.Tests.{le-leb, eq-eqb, ne_eqb}
-use lib.Dec.{eqb}
+use borrow.Author.Tests.{le-leb, eq-eqb, ne_eqb, eqb-true}
+use lib.Dec.{eqb, lit<}
+use lib.ListN.{length}
 use Rattle.ieee.specs.Bounds.{All}
 use Rattle.beds.specs.Matching.{counted}
 use Rattle.rules.specs.Leaves.{Leaves, Shape, started}
 use Rattle.rules.specs.Samples.{State}
-use Rattle.rules.specs.Refusals.{Args, Found, clear, ◌then◌, unless, early, beds_found, Announced, objects_match, counts_at, shape_at, mixes, walk, none_sent, later}
-use Rattle.rules.specs.Calls.{announced, found}
+use Rattle.rules.specs.Refusals.{Args, Found, clear, ◌then◌, unless, early, beds_found, never, Announced, objects_match, counts_at, shape_at, mixes, walk, none_sent, later}
+use Rattle.rules.specs.Calls.{updates_in, announced, found}
 use Rattle.rules.specs.Accepted.{Suits, Acceptable}
+use Rattle.rules.proofs.Judged.{is_roomy, samples_fit}
 
 -- ---- tests that find nothing
 pub both_clear : {x y : Found} → x ≡ clear → y ≡ clear → (x then y) ≡ clear
@@ -56,44 +58,56 @@ module _ (us : List Announced) (objects : ℕ) (codes : List ℕ) where
       go true e = matched s (f e)
       go false e = refl
 
-  counts_clear : (t : ℕ) (vs : List Announced) → All (λ (u : Announced). Fits u.shape) vs → counts_at us objects codes t vs ≡ clear
-  counts_clear t [] h = refl
-  counts_clear t (u ∷ vs) h = both_clear (go (eqb u.offset t)) (counts_clear t vs h.1)
+  -- each update that does not only wait
+  abbrev AllFit : List Announced → Type 0
+  AllFit vs = All (λ (u : Announced). (u.offset ≡ never → ⊥) → Fits u.shape) vs
+
+  -- one at a sample does not
+  falls : (o t : ℕ) → t < never → eqb o t ≡ true → o ≡ never → ⊥
+  falls o t l e q = let h = eqb-true o t e in omega arith
+
+  counts_clear : (t : ℕ) (vs : List Announced) → t < never → AllFit vs → counts_at us objects codes t vs ≡ clear
+  counts_clear t [] l h = refl
+  counts_clear t (u ∷ vs) l h = both_clear (go (eqb u.offset t) refl) (counts_clear t vs l h.1)
     where
-      go : (b : Bool) → cond b (objects_match us objects codes u.shape) clear ≡ clear
-      go true = matched u.shape h.0
-      go false = refl
+      go : (b : Bool) → eqb u.offset t ≡ b → cond b (objects_match us objects codes u.shape) clear ≡ clear
+      go true e = matched u.shape (h.0 (falls u.offset t l e))
+      go false e = refl
 
-  shape_ready : (t : ℕ) (vs : List Announced) (s : Shape) → All (λ (u : Announced). Fits u.shape) vs → Ready s → Ready (shape_at us objects codes t vs s)
-  shape_ready t [] s h f = f
-  shape_ready t (u ∷ vs) s h f = shape_ready t vs (cond (eqb u.offset t) u.shape s) h.1 (go (eqb u.offset t))
+  shape_ready : (t : ℕ) (vs : List Announced) (s : Shape) → t < never → AllFit vs → Ready s → Ready (shape_at us objects codes t vs s)
+  shape_ready t [] s l h f = f
+  shape_ready t (u ∷ vs) s l h f = shape_ready t vs (cond (eqb u.offset t) u.shape s) l h.1 (go (eqb u.offset t) refl)
     where
-      go : (b : Bool) → Ready (cond b u.shape s)
-      go true e = h.0
-      go false e = f e
+      go : (b : Bool) → eqb u.offset t ≡ b → Ready (cond b u.shape s)
+      go true q e = h.0 (falls u.offset t l q)
+      go false q e = f e
 
-  module _ (all : All (λ (u : Announced). Fits u.shape) us) where
-    walk_clear : (n t : ℕ) (s : Shape) → Ready s → walk us objects codes n t s ≡ clear
-    walk_clear zero t s f = refl
-    walk_clear (suc n) t s f =
-        let next = shape_ready t us s all f in
-        both_clear (counts_clear t us all) (both_clear (mixes_clear (shape_at us objects codes t us s) next) (walk_clear n (suc t) (shape_at us objects codes t us s) next))
+  module _ (all : AllFit us) where
+    walk_clear : (n t : ℕ) (s : Shape) → t + n ≤ never → Ready s → walk us objects codes n t s ≡ clear
+    walk_clear zero t s l f = refl
+    walk_clear (suc n) t s l f =
+        let here : t < never = omega arith in
+        let next = shape_ready t us s here all f in
+        both_clear (counts_clear t us here all)
+        (both_clear (mixes_clear (shape_at us objects codes t us s) next) (walk_clear n (suc t) (shape_at us objects codes t us s) (omega arith) next))
 
-    later_clear : (n rate old : ℕ) (s : Shape) → (eqb old 0 || eqb old rate) ≡ true → (s.started || not (none_sent us objects codes us)) ≡ true → not (eqb n 0) ≡ true → Ready s
-        → later us objects codes n rate old s ≡ clear
-    later_clear n rate old s p q z f =
+    later_clear : (n rate old : ℕ) (s : Shape) → (eqb old 0 || eqb old rate) ≡ true → (s.started || not (none_sent us objects codes us)) ≡ true → not (eqb n 0) ≡ true → n ≤ never
+        → Ready s → later us objects codes n rate old s ≡ clear
+    later_clear n rate old s p q z l f =
+        let here : 0 < never = lit< tt in
+        let whole : 0 + n ≤ never = omega arith in
         both_clear (passed 9 old rate p)
         (both_clear (passed 10 0 0 q)
-        (both_clear (counts_clear 0 us all)
-        (both_clear (passed 12 0 0 z) (both_clear (first_clear (shape_at us objects codes 0 us s) (shape_ready 0 us s all f)) (walk_clear n 0 s f)))))
+        (both_clear (counts_clear 0 us here all)
+        (both_clear (passed 12 0 0 z) (both_clear (first_clear (shape_at us objects codes 0 us s) (shape_ready 0 us s here all f)) (walk_clear n 0 s whole f)))))
 
 -- ---- a push
 module _ (L : Leaves) (r : State L) (a : Args) (k : Acceptable L r a) where
   abbrev sent : List Announced
-  sent = announced L (L.updates a.meta)
+  sent = announced L (updates_in L r a)
 
-  all_sent : (us : List L.Update) → All (λ (u : L.Update). Suits a.objects a.codes (L.sent u)) us
-      → All (λ (u : Announced). Suits a.objects a.codes u.shape) (announced L us)
+  all_sent : (us : List L.Update) → All (λ (u : L.Update). (L.offset u ≡ never → ⊥) → Suits a.objects a.codes (L.sent u)) us
+      → All (λ (u : Announced). (u.offset ≡ never → ⊥) → Suits a.objects a.codes u.shape) (announced L us)
   all_sent [] h = tt
   all_sent (u ∷ us) h = (h.0, all_sent us h.1)
 
@@ -114,15 +128,15 @@ module _ (L : Leaves) (r : State L) (a : Args) (k : Acceptable L r a) where
   told : (started L r.meta || not (none_sent sent a.objects a.codes sent)) ≡ true
   told = ⊎_elim
       (λ (e : started L r.meta ≡ true). ap (λ (b : Bool). b || not (none_sent sent a.objects a.codes sent)) e)
-      (λ (h : L.updates a.meta ≡ [] → ⊥). ap (λ (b : Bool). started L r.meta || b) (some_sent (L.updates a.meta) h) ∙ or-true (started L r.meta))
+      (λ (e : none_sent sent a.objects a.codes sent ≡ false). ap (λ (b : Bool). started L r.meta || not b) e ∙ or-true (started L r.meta))
       k.told
-    where
-      some_sent : (us : List L.Update) → (us ≡ [] → ⊥) → not (none_sent sent a.objects a.codes (announced L us)) ≡ true
-      some_sent [] h = absurd (h refl)
-      some_sent (u ∷ us) h = refl
+
+  few : a.samples ≤ never
+  few = let w = is_roomy a.stride (length a.out) k.room in let h = w.most in let q = samples_fit a k.sized in omega arith
 
   pub accepts : found L r a ≡ clear
   accepts =
       both_clear early_clear
-      (later_clear sent a.objects a.codes (all_sent (L.updates a.meta) k.updates) a.samples a.rate r.rate (L.shape r.meta) same_rate told
-      (not_equal a.samples 0 (λ e. let h = k.some in omega arith)) k.present)
+      (both_clear (passed 25 0 0 k.fits)
+      (later_clear sent a.objects a.codes (all_sent (updates_in L r a) k.updates) a.samples a.rate r.rate (L.shape r.meta) same_rate told
+      (not_equal a.samples 0 (λ e. let h = k.some in omega arith)) few k.present))

@@ -27,7 +27,7 @@ use Rattle.rules.specs.Leaves.{Leaves, Source, Bed}
 use Rattle.rules.specs.Mix.{Moment, send_of, adds_of, sample_at, samples_at, scaled_by, fed_by, beds_on, objects_on, heard, fed, fed_by_beds}
 use Rattle.rules.specs.Samples.{State}
 use Rattle.rules.specs.Refusals.{Args, Found, clear, unless, ◌then◌, every, room, sized, listed, later}
-use Rattle.rules.specs.Calls.{announced, found}
+use Rattle.rules.specs.Calls.{updates_in, announced, found}
 use Rattle.rules.specs.Promises.{nobody, unsent, Replaced, with_pcm}
 use Rattle.rules.proofs.Owed.{InHall}
 use Rattle.rules.proofs.Sends.{sent_alone, not_added}
@@ -156,7 +156,8 @@ module _ (L : Leaves) (r : State L) (a : Args) where
       then unless (L.laid_out a.meta) 5 0 0
       then unless (L.in_range a.meta) 6 0 0
       then unless pass 8 0 0)
-      then later (announced L (L.updates a.meta)) a.objects a.codes a.samples a.rate r.rate (L.shape r.meta)
+      then unless (L.fits r.clock.position a.samples r.waits a.meta) 25 0 0
+      then later (announced L (updates_in L r a)) a.objects a.codes a.samples a.rate r.rate (L.shape r.meta)
 
   same_size : (qcm : List ℕ) → length qcm ≡ length a.pcm → sized (with_pcm qcm a) ≡ sized a
   same_size qcm e =

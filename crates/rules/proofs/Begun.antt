@@ -10,6 +10,7 @@ use Rattle.ieee.specs.Bounds.{All}
 use Rattle.rules.specs.Leaves.{Leaves, Shape, started}
 use Rattle.rules.specs.Samples.{State, applied_at, updated}
 use Rattle.rules.specs.Refusals.{Args}
+use Rattle.rules.specs.Calls.{updates_in}
 use Rattle.rules.specs.BlockCalls.{Layout}
 use Rattle.rules.specs.Promises.{up_to, begun}
 use Rattle.rules.proofs.EachOf.{either}
@@ -58,11 +59,11 @@ module _ (L : Leaves) where
     before zero = started L r.meta
     before (suc t) = begun L r a t
 
-    pub begins : (t : ℕ) → (before t || at t (L.updates a.meta)) ≡ begun L r a t
-    begins zero = ap (λ (b : Bool). started L r.meta || b) (sym (first_at (L.updates a.meta)))
+    pub begins : (t : ℕ) → (before t || at t (updates_in L r a)) ≡ begun L r a t
+    begins zero = ap (λ (b : Bool). started L r.meta || b) (sym (first_at (updates_in L r a)))
     begins (suc t) =
-        or_assoc (started L r.meta) (up_to L t (L.updates a.meta)) (at (suc t) (L.updates a.meta))
-        ∙ ap (λ (b : Bool). started L r.meta || b) (sym (next_at t (L.updates a.meta)))
+        or_assoc (started L r.meta) (up_to L t (updates_in L r a)) (at (suc t) (updates_in L r a))
+        ∙ ap (λ (b : Bool). started L r.meta || b) (sym (next_at t (updates_in L r a)))
 
   module _ (B : Layout L) (F : Facts L B) where
     pub updated_started : (t : ℕ) (us : List L.Update) (r : State L) → All F.Checked us → F.Sound r.meta

@@ -9,6 +9,7 @@ use native.Mathlib.Omega.{arith}
 use borrow.Author.Tests.{eqb-false}
 use lib.Dec.{T, eqb, ltb, lit<}
 use lib.ListN.{length, get_or}
+use Rattle.words.specs.Words.{Bytes}
 use Rattle.ieee.specs.Units.{Unitary}
 use Rattle.ieee.specs.Bounds.{All}
 use Rattle.limiter.specs.Meters.{idle_meters, call_meters}
@@ -22,17 +23,17 @@ use Rattle.rules.specs.Leaves.{Leaves}
 use Rattle.rules.specs.Samples.{State, fresh, pushed, flushed}
 use Rattle.rules.specs.Refusals.{Args, Found, clear, stop, room}
 use Rattle.rules.specs.Making.{hall_of, layout_found, table_found}
-use Rattle.rules.specs.Calls.{Call, push, flush, reset, make, make_with, mark, find, refused, rendered, nothing, cleared, marked, given, meters_of, frame_of, found, numbered, alike_marks, with_meta, Result, asked, drained, making, marking, step}
+use Rattle.rules.specs.Calls.{Call, push, flush, reset, make, make_with, mark, find, refused, rendered, nothing, cleared, marked, given, meters_of, frame_of, found, numbered, alike_marks, with_meta, ahead_after, with_waits, Result, asked, drained, making, marking, step}
 use Rattle.rules.specs.Ranges.{HallRanged}
 use Rattle.rules.specs.BlockCalls.{Layout, Outcome, left, out_of, stride_of}
 use Rattle.rules.specs.Promises.{count_on}
 use Rattle.rules.specs.Demand3.{ready, GivenOut, Lent}
 use Rattle.rules.proofs.EachOf.{count_most, none_count, here_count}
 use Rattle.rules.proofs.Owed.{Facts}
-use Rattle.rules.proofs.Judged.{is_passed, is_roomy, samples_fit}
+use Rattle.rules.proofs.Judged.{Passed, is_passed, is_roomy, samples_fit}
 use Rattle.rules.proofs.Making.{ranged_fits, layout_makes, table_makes}
-use Rattle.rules.proofs.Invariant.{Steady, Good, Rest, fresh_rest, marked_rest}
-use Rattle.rules.proofs.Frames.{pushed_fine, flushed_fine}
+use Rattle.rules.proofs.Invariant.{Steady, Good, Rest, fresh_rest, marked_rest, settled_good}
+use Rattle.rules.proofs.Frames.{rest_kept, pushed_fine, flushed_fine}
 use Rattle.rules.proofs.Written.{bits_words, written_reads, written_beside, written_past, written_tame, length_written}
 
 -- whole blocks of what was pending, below a block, and of at most a stride of samples
@@ -84,18 +85,23 @@ module _ (L : Leaves) (B : Layout L) (F : Facts L B) where
   steady (inr g) = g.steady
 
   module _ (r : State L) (rest : Rest L B F r) where
+    -- what waits after it
+    kept_on : (a : Args) → Bytes a.meta → Passed L r a → F.Kept (ahead_after L r a)
+    kept_on a b p =
+        F.kept_settle r.clock.position a.samples r.waits a.meta (rest_kept L B F r rest) b p.early.laid_out p.early.in_range p.fits
+
     asked_called : (a : Args) → Lent (push a) → (v : Found) → found L r a ≡ v → Called r.setup (push a) (asked L v a r)
     asked_called a h (stop n x y) e = record { rest = rest; range = λ b. quiet r.setup a.stride a.out (left L B (refused n x y) r a.out a.stride b) refl refl refl refl }
     asked_called a h clear e =
         let p = is_passed L r a e in
         let q = is_roomy a.stride (length a.out) p.early.room in
         let d = pushed_fine L B F r a h.0 h.1 p rest in
-        let y = pushed L (frame_of L a) r in
+        let y = pushed L (frame_of L r a) r in
         let fit = blocks_fit d.blocks y.next.pending.count r.pending.count a.samples a.stride d.all (steady rest).few (samples_fit a p.early.sized)
         q.whole in
         record {
-          rest = inr d.next;
-          range = λ b. given_out r.setup (steady rest).hall.layout y.given (call_meters y.meters) (64 * d.blocks) a.stride y.next a.out b fit q.long d.given d.length
+          rest = inr (settled_good L B F (ahead_after L r a) y.next (kept_on a h.1 p) d.next);
+          range = λ b. given_out r.setup (steady rest).hall.layout y.given (call_meters y.meters) (64 * d.blocks) a.stride (with_waits L (ahead_after L r a) y.next) a.out b fit q.long d.given d.length
               (call_in_range y.meters d.meters);
         }
 

@@ -1,9 +1,10 @@
 -- What updates leave as it was; no sample changes the hall; and hall, clock and timed state do not depend on the samples: two renderers that agree on them do so after a sample
 -- of two frames with the same updates. Assumes nothing.
-use mathlib.Core.Path.{◌≡◌, refl, ◌∙◌}
+use mathlib.Core.Path.{◌≡◌, refl, ap, ◌∙◌}
 use mathlib.Core.Bool.{cond, not, ◌&&◌, ◌||◌}
 use mathlib.Core.List.{List, [], ◌∷◌}
-use Prim.Native.Nat.{ℕ, zero, suc}
+use Prim.Native.Nat.{ℕ, zero, suc, ◌+◌}
+use native.Mathlib.Omega.{arith}
 use lib.Dec.{eqb}
 use Rattle.rules.specs.Leaves.{Leaves, started}
 use Rattle.rules.specs.Mix.{Moment}
@@ -19,12 +20,13 @@ module _ (L : Leaves) where
     pub limiter : s.limiter ≡ r.limiter
     pub filter : s.filter ≡ r.filter
     pub pending : s.pending ≡ r.pending
+    pub waits : s.waits ≡ r.waits
 
   untouched_self : (r : State L) → Untouched r r
-  untouched_self r = record { setup = refl; rate = refl; position = refl; limiter = refl; filter = refl; pending = refl }
+  untouched_self r = record { setup = refl; rate = refl; position = refl; limiter = refl; filter = refl; pending = refl; waits = refl }
 
   untouched_one : (t : ℕ) (u : L.Update) (r : State L) → Untouched r (applied_at L t u r)
-  untouched_one t u r = record { setup = refl; rate = refl; position = refl; limiter = refl; filter = refl; pending = refl }
+  untouched_one t u r = record { setup = refl; rate = refl; position = refl; limiter = refl; filter = refl; pending = refl; waits = refl }
 
   pub untouched : (t : ℕ) (us : List L.Update) (r : State L) → Untouched r (updated L t us r)
   untouched t [] r = untouched_self r
@@ -39,12 +41,24 @@ module _ (L : Leaves) where
         limiter = h.limiter ∙ k.limiter;
         filter = h.filter ∙ k.filter;
         pending = h.pending ∙ k.pending;
+        waits = h.waits ∙ k.waits;
       }
 
   -- no sample changes the hall
   pub setup_kept : (f : Frame L.Update) (n t : ℕ) (r : State L) → (framed L f n t r).next.setup ≡ r.setup
   setup_kept f zero t r = refl
   setup_kept f (suc n) t r = setup_kept f n (suc t) (sampled L f t r).next ∙ (untouched t f.updates r).setup
+
+  -- the stream moves by the samples
+  pub position_moves : (f : Frame L.Update) (n t : ℕ) (r : State L) → (framed L f n t r).next.clock.position ≡ r.clock.position + n
+  position_moves f zero t r = omega arith
+  position_moves f (suc n) t r =
+      let e = (untouched t f.updates r).position in position_moves f n (suc t) (sampled L f t r).next ∙ ap (λ (k : ℕ). k + 1 + n) e ∙ (omega arith)
+
+  -- and none touches what waits
+  pub waits_kept : (f : Frame L.Update) (n t : ℕ) (r : State L) → (framed L f n t r).next.waits ≡ r.waits
+  waits_kept f zero t r = refl
+  waits_kept f (suc n) t r = waits_kept f n (suc t) (sampled L f t r).next ∙ (untouched t f.updates r).waits
 
   pub record Alike (r s : State L) : Type 0 where
     pub setup : r.setup ≡ s.setup

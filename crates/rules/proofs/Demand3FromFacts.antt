@@ -23,10 +23,10 @@ use Rattle.rules.specs.Demand3.{GivenOut, AllClean, Lent, AllLent, Makes, AllGiv
 use Rattle.rules.proofs.Owed.{Facts, InRanges}
 use Rattle.rules.proofs.Invariant.{Rest, fresh_rest}
 use Rattle.rules.proofs.Making.{ranged_fits, layout_good, table_good, as_layout, layout_makes, table_makes}
-use Rattle.rules.proofs.Ranged.{fresh_ranged}
 use Rattle.rules.proofs.Called.{called, steady}
 use Rattle.rules.proofs.Marks.{mark_holds}
-use Rattle.rules.proofs.Keeps.{step_ranged}
+use Rattle.rules.proofs.AheadRefused.{ahead_refused}
+use Rattle.rules.proofs.Keeps.{fresh_all, step_ranged}
 use Rattle.rules.proofs.Quiet.{Hush}
 use Rattle.rules.proofs.Pushes.{push_holds, hush_pushed}
 use Rattle.rules.proofs.Ringing.{Fed, fresh_fed, call_rings, step_fed}
@@ -44,7 +44,7 @@ module _ (L : Leaves) (B : Layout L) (F : Facts L B) where
     pub fed : Fed L xs r
 
   pub between_fresh : (h : Setup) → HallRanged h → Between [] (fresh L h)
-  between_fresh h r = record { rest = fresh_rest L B F h (ranged_fits r); ranges = fresh_ranged L B F h r; hush = λ e. inl refl; fed = fresh_fed L h }
+  between_fresh h r = record { rest = fresh_rest L B F h (ranged_fits r); ranges = fresh_all L B F h r; hush = λ e. inl refl; fed = fresh_fed L h }
 
   -- a making call, stopped or not
   made_stopped : (v : Found) (h : Setup) (r : State L) (n x y : ℕ) → v ≡ stop n x y → Refuses L r n x y (making L v h r)
@@ -56,12 +56,14 @@ module _ (L : Leaves) (B : Layout L) (F : Facts L B) where
         answer = ap (λ (w : Found). (making L w h r).answer) e;
         next = ap (λ (w : Found). (making L w h r).next) e;
         freed = λ d. ap (λ (w : Found). L.wants d (making L w h r).next.meta) e ∙ F.wants_blank d;
+        empty = ap (λ (w : Found). (making L w h r).next.waits) e;
       }
 
   pub call_holds : {xs : List Float} (r : State L) (c : Call) → Between xs r → Lent c → CallHolds L r c
   call_holds r (push a) g h = (
     λ n x y e. record { answer = ap (λ (v : Found). (asked L v a r).answer) e; next = ap (λ (v : Found). (asked L v a r).next) e },
     λ e. push_holds L B F r a h.0 h.1 g.rest e g.hush,
+    ahead_refused L r a,
   )
   call_holds r (flush out stride) g h = (
     λ e. record {
@@ -70,7 +72,7 @@ module _ (L : Leaves) (B : Layout L) (F : Facts L B) where
     },
     flush_holds L B F r g.rest out stride,
   )
-  call_holds r reset g h = record { answer = refl; next = refl; freed = F.wants_blank }
+  call_holds r reset g h = record { answer = refl; next = refl; freed = F.wants_blank; empty = refl }
   call_holds r (make n) g h = (
     λ l. made_stopped (layout_found n) (hall_with n) r 15 0 0 (ap (λ (t : Bool). unless t 15 0 0) (lt-leb n 3 l)),
     λ l. made_holds (layout_found n) (hall_with n) r (layout_good n l),

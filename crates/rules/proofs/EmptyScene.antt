@@ -23,7 +23,7 @@ use Rattle.rules.specs.Leaves.{Leaves, Shape, Bed, started}
 use Rattle.rules.specs.Mix.{Moment, beds_on, objects_on, heard}
 use Rattle.rules.specs.Samples.{Frame, State, sounding, metered, updated, slotted, moment, opened, pushed, waiting}
 use Rattle.rules.specs.Refusals.{Args, clear}
-use Rattle.rules.specs.Calls.{frame_of, found}
+use Rattle.rules.specs.Calls.{updates_in, frame_of, found}
 use Rattle.rules.specs.Sounds.{nth_block, gain_before, blocks_metered, before, met, moment_at, sound_at, sounds, unlimited, whole}
 use Rattle.rules.specs.BlockCalls.{Layout}
 use Rattle.rules.specs.Returning.{peaks}
@@ -101,10 +101,10 @@ module _ (L : Leaves) (B : Layout L) (F : Facts L B) where
     pub scene : L.shape y.meta ≡ empty
     pub still : Still y.filter
 
-  module _ (r : State L) (a : Args) (b : Bytes a.pcm) (m : Bytes a.meta) (rest : Rest L B F r) (e : found L r a ≡ clear) (none : L.updates a.meta ≡ [])
+  module _ (r : State L) (a : Args) (b : Bytes a.pcm) (m : Bytes a.meta) (rest : Rest L B F r) (e : found L r a ≡ clear) (none : updates_in L r a ≡ [])
       (bare : L.shape r.meta ≡ empty) (calm : Still (opened L a.rate r).filter) where
     abbrev f : Frame L.Update
-    f = frame_of L a
+    f = frame_of L r a
 
     abbrev s : ℕ → State L
     s t = before L r a t

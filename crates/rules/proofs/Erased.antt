@@ -1,16 +1,21 @@
 -- Refused calls count as never sent, for the rules' own results with their moments. Assumes nothing.
 use mathlib.Core.Path.{◌≡◌, refl, sym, ap, subst}
-use mathlib.Core.Bool.{Bool, true, false, cond}
+use mathlib.Core.Bool.{Bool, true, false, cond, ◌||◌}
 use mathlib.Core.List.{List, [], ◌∷◌}
 use Prim.Native.Nat.{ℕ}
 use lib.Dec.{T, eqb, ltb}
 use lib.ListN.{length}
 use Rattle.panning.specs.Setup.{Setup, hall_with}
 use Rattle.rules.specs.Leaves.{Leaves}
-use Rattle.rules.specs.Samples.{State}
+use Rattle.rules.specs.Samples.{State, flushed}
 use Rattle.rules.specs.Refusals.{Args, Found, clear, stop, room}
 use Rattle.rules.specs.Making.{hall_of, layout_found, table_found}
 use Rattle.rules.specs.Calls.{Call, push, flush, reset, make, make_with, mark, find, found, numbered, alike_marks, Result, is_refused, asked, drained, making, marking, step, run, final, kept, accepted}
+use Rattle.rules.specs.Ahead.{WaitsStay}
+
+only_refused : (b : Bool) → T (b || false) → T b
+only_refused true t = tt
+only_refused false t = absurd t
 
 module _ (L : Leaves) where
   asked_stays : (v : Found) (a : Args) (r : State L) → T (is_refused (asked L v a r).answer) → (asked L v a r).next ≡ r
@@ -40,6 +45,27 @@ module _ (L : Leaves) where
   stays r (make_with n t) h = made_stays (table_found n t) (hall_of n t) r h
   stays r (mark w d) h = marking_stays (ltb d (numbered L r)) (alike_marks w (L.wants d r.meta)) w d r h
   stays r (find m) h = absurd h
+
+  -- what waits is touched by pushes, resets and making calls alone
+  pub waits_stay : WaitsStay L
+  unfolding flushed
+  waits_stay r (push a) t = ap (λ (s : State L). s.waits) (stays r (push a) (only_refused _ t))
+  waits_stay r (flush out stride) t = drained_waits (room stride (length out)) (eqb r.pending.count 0)
+    where
+      drained_waits : (b e : Bool) → (drained L b e r).next.waits ≡ r.waits
+      drained_waits false e = refl
+      drained_waits true true = refl
+      drained_waits true false = refl
+  waits_stay r reset t = absurd t
+  waits_stay r (make n) t = ap (λ (s : State L). s.waits) (stays r (make n) (only_refused _ t))
+  waits_stay r (make_with n b) t = ap (λ (s : State L). s.waits) (stays r (make_with n b) (only_refused _ t))
+  waits_stay r (mark w d) t = marking_waits (ltb d (numbered L r)) (alike_marks w (L.wants d r.meta))
+    where
+      marking_waits : (v known : Bool) → (marking L v known w d r).next.waits ≡ r.waits
+      marking_waits false known = refl
+      marking_waits true true = refl
+      marking_waits true false = refl
+  waits_stay r (find m) t = refl
 
   pub forgotten : (r : State L) (cs : List Call) → run L r (kept L r cs) ≡ accepted L (run L r cs)
   forgotten r [] = refl

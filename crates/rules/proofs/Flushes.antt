@@ -38,7 +38,7 @@ module _ (L : Leaves) (B : Layout L) (F : Facts L B) (r : State L) (rest : Rest 
         within = λ h. unfold flushed in (flushed_fine L B F r (waiting_good L B F r rest e)).within;
         ready = λ h. (flushed_fine L B F r (waiting_good L B F r rest e)).length;
         gain = λ h. unfold flushed in refl;
-        untouched = λ h. unfold flushed in record { pending = refl; setup = refl; rate = refl; clock = refl; filter = refl; meta = refl; places = refl };
+        untouched = λ h. unfold flushed in record { pending = refl; setup = refl; rate = refl; clock = refl; filter = refl; meta = refl; places = refl; waits = refl };
       }
 
   pub flush_holds : (out : List ℕ) (stride : ℕ) → room stride (length out) ≡ true → FlushHolds L r (step L r (flush out stride))

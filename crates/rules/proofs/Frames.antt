@@ -32,13 +32,17 @@ use Rattle.rules.proofs.Clock.{untouched, setup_kept}
 use Rattle.rules.proofs.Invariant.{Admitted, Good, Rest, Fine, before_good, opened_good, moment_hearable, passed_fine}
 
 module _ (L : Leaves) (B : Layout L) (F : Facts L B) where
+  pub rest_kept : (r : State L) → Rest L B F r → F.Kept r.waits
+  rest_kept r (inl g) = g.steady.kept
+  rest_kept r (inr g) = g.steady.kept
+
   -- an accepted push's frame
-  pub admitted : (r : State L) (a : Args) → Bytes a.pcm → Bytes a.meta → Passed L r a → Admitted L B F (frame_of L a)
-  admitted r a b m p =
+  pub admitted : (r : State L) (a : Args) → Bytes a.pcm → Bytes a.meta → Passed L r a → F.Kept r.waits → Admitted L B F (frame_of L r a)
+  admitted r a b m p w =
       let channels = length a.codes + a.objects in
       record {
         rate = is_listed a.rate p.early.listed;
-        updates = F.checked a.meta m p.early.laid_out p.early.in_range;
+        updates = F.checked r.clock.position a.samples r.waits a.meta w m p.early.laid_out p.early.in_range;
         input = λ i t h l. sample_in a.pcm channels a.samples b p.early.pass i t (omega arith) l;
         own = λ t l. samples_in a.pcm channels a.samples b p.early.pass a.objects (length a.codes) t (le_refl channels) l;
       }
@@ -94,11 +98,11 @@ module _ (L : Leaves) (B : Layout L) (F : Facts L B) where
         total i j u v w p q = omega arith
 
   pub pushed_fine : (r : State L) (a : Args) → Bytes a.pcm → Bytes a.meta → Passed L r a → Rest L B F r
-      → Fine L B F r.setup r.pending.count a.samples (pushed L (frame_of L a) r)
+      → Fine L B F r.setup r.pending.count a.samples (pushed L (frame_of L r a) r)
   unfolding pushed
   pushed_fine r a b m p g =
-      let k = admitted r a b m p in
-      framed_fine (frame_of L a) k a.samples 0 (omega arith) (opened L a.rate r) (opened_good L B F a.rate r k.rate g)
+      let k = admitted r a b m p (rest_kept r g) in
+      framed_fine (frame_of L r a) k a.samples 0 (omega arith) (opened L a.rate r) (opened_good L B F a.rate r k.rate g)
 
   -- ---- flush
 
@@ -141,6 +145,7 @@ module _ (L : Leaves) (B : Layout L) (F : Facts L B) where
             places = s.places;
             long = s.long;
             few = lit< tt;
+            kept = s.kept;
           };
         };
         given = limited_tame waits w r.pending.count r.rate g.rate few r.limiter.gain s.gain;

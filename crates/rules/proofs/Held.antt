@@ -10,11 +10,11 @@ use lib.ListN.{length, get_or}
 use lib.Ieee.{Float}
 use Rattle.vectors.specs.declared.Vec3.{Vec3}
 use Rattle.panning.specs.Setup.{Setup, hall_with}
-use Rattle.rules.specs.Leaves.{Leaves, Source, Shape, started}
+use Rattle.rules.specs.Leaves.{Leaves, Source, Shape}
 use Rattle.rules.specs.Samples.{State, fresh, flushed}
 use Rattle.rules.specs.Refusals.{Args, Found, clear, stop, room}
 use Rattle.rules.specs.Making.{hall_of, layout_found, table_found}
-use Rattle.rules.specs.Calls.{Call, push, flush, reset, make, make_with, mark, find, is_refused, found, numbered, alike_marks, Result, asked, drained, making, marking, step, final}
+use Rattle.rules.specs.Calls.{updates_in, Call, push, flush, reset, make, make_with, mark, find, is_refused, found, numbered, alike_marks, Result, asked, drained, making, marking, step, final}
 use Rattle.rules.specs.Promises.{nobody, up_to, object_in, Numbered, Holding, PushHolds}
 use Rattle.rules.specs.Ringing.{fed_since}
 use Rattle.rules.specs.BlockCalls.{Layout}
@@ -39,7 +39,7 @@ module _ (L : Leaves) (B : Layout L) (F : Facts L B) (d : ℕ) (p : Vec3) where
     pushed_then : (a : Args) → PushHolds L r a → a.objects ≡ (L.shape r.meta).objects → Then r (asked L clear a r)
     pushed_then a q e =
         let h : Holding L r a d = q.holds d (le_trans i.numbered.1 (le_of_eq (sym e))) in (
-          λ t l. h.heard (sym e) i.wants t (le_trans l (le_of_eq q.moments)) (ap (λ (b : Bool). b || up_to L t (L.updates a.meta)) i.numbered.0) ∙ i.place,
+          λ t l. h.heard (sym e) i.wants t (le_trans l (le_of_eq q.moments)) (ap (λ (b : Bool). b || up_to L t (updates_in L r a)) i.numbered.0) ∙ i.place,
           record { numbered = h.numbered (sym e) i.numbered; wants = h.lasts (sym e) ∙ i.wants; place = h.stays (sym e) i.wants ∙ i.place },
         )
 

@@ -14,7 +14,7 @@ use Rattle.rules.specs.Leaves.{Leaves, Source, Shape, started}
 use Rattle.rules.specs.Mix.{Moment}
 use Rattle.rules.specs.Samples.{State, applied_at, updated, slotted, sampled, opened, pushed}
 use Rattle.rules.specs.Refusals.{Args, Announced, clear, objects_match, counts_at}
-use Rattle.rules.specs.Calls.{announced, frame_of}
+use Rattle.rules.specs.Calls.{updates_in, announced, frame_of}
 use Rattle.rules.specs.Sounds.{before, met}
 use Rattle.rules.specs.Promises.{nobody, object_in, object_heard, up_to, begun, Holding}
 use Rattle.rules.specs.BlockCalls.{Layout}
@@ -28,9 +28,9 @@ use Rattle.rules.proofs.PushShapes.{match_clear, judged, started_at}
 use Rattle.rules.proofs.Moments.{along}
 use Rattle.rules.proofs.OneMore.{moment_is}
 
-module _ (L : Leaves) (B : Layout L) (F : Facts L B) (r : State L) (a : Args) (p : Passed L r a) (k : Admitted L B F (frame_of L a)) (d : ℕ) (l : d < a.objects) where
+module _ (L : Leaves) (B : Layout L) (F : Facts L B) (r : State L) (a : Args) (p : Passed L r a) (k : Admitted L B F (frame_of L r a)) (d : ℕ) (l : d < a.objects) where
   abbrev us : List L.Update
-  us = L.updates a.meta
+  us = updates_in L r a
 
   abbrev sent : List Announced
   sent = announced L us
@@ -139,8 +139,8 @@ module _ (L : Leaves) (B : Layout L) (F : Facts L B) (r : State L) (a : Args) (p
       (subst (λ (b : Bool). On b (updated L t us s).meta) (seen_next t)
       (updated_on (seen t) t us s k.updates i.good.steady.meta ((judged sent a.objects a.codes a.samples a.rate r.rate (L.shape r.meta) p.later).then_all t h) i.on))
 
-  keep : (t : ℕ) (s : State L) → t < a.samples → At t s → At (suc t) (sampled L (frame_of L a) t s).next
-  keep t s h i = record { good = (sampled_fine L B F (frame_of L a) k t h s i.good).next; on = met_on t s h i }
+  keep : (t : ℕ) (s : State L) → t < a.samples → At t s → At (suc t) (sampled L (frame_of L r a) t s).next
+  keep t s h i = record { good = (sampled_fine L B F (frame_of L r a) k t h s i.good).next; on = met_on t s h i }
 
   begin : On false r.meta
   begin = record { kept = λ e. record { begins = λ q. q; shape = e; wants = refl; place = λ w. refl }; ended = λ z. refl }
@@ -160,7 +160,7 @@ module _ (L : Leaves) (B : Layout L) (F : Facts L B) (r : State L) (a : Args) (p
 
   module _ (good : Good L B F (opened L a.rate r)) where
     at_time : (t : ℕ) → t ≤ a.samples → At t (before L r a t)
-    at_time t h = along L (frame_of L a) (opened L a.rate r) a.samples At keep (record { good = good; on = begin }) t h
+    at_time t h = along L (frame_of L r a) (opened L a.rate r) a.samples At keep (record { good = good; on = begin }) t h
 
     abbrev next_meta : L.Meta
     next_meta = (before L r a a.samples).meta

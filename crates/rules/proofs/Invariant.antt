@@ -26,7 +26,7 @@ use Rattle.rules.specs.Parts.{Channels, none, Places, floats, laid, zeros}
 use Rattle.rules.specs.Leaves.{Leaves, started}
 use Rattle.rules.specs.Mix.{sample_at, Moment, heard, fed}
 use Rattle.rules.specs.Samples.{Frame, State, fresh, sounding, limited, metered, row, applied_at, updated, slotted, moment, After, passed, opened}
-use Rattle.rules.specs.Calls.{with_meta}
+use Rattle.rules.specs.Calls.{with_meta, with_waits}
 use Rattle.rules.specs.Sounds.{AllMetered}
 use Rattle.rules.specs.Promises.{count_on}
 use Rattle.rules.specs.BlockCalls.{Layout}
@@ -66,6 +66,7 @@ module _ (L : Leaves) (B : Layout L) (F : Facts L B) where
     pub places : (c : ℕ) → All Finite (r.pending.places c)
     pub long : (c : ℕ) → c < 12 → length (r.pending.places c) ≡ 64
     pub few : r.pending.count < 64
+    pub kept : F.Kept r.waits
 
   -- one that has a rate
   pub record Good (r : State L) : Type 0 where
@@ -85,15 +86,22 @@ module _ (L : Leaves) (B : Layout L) (F : Facts L B) where
 
   pub fresh_rest : (h : Setup) → HallFits h → Rest (fresh L h)
   fresh_rest h f =
-      inl (record { rate = refl; none = refl; steady = record { hall = f; meta = F.sound_blank; gain = one_gain; places = zeros_finite; long = zeros_long; few = lit< tt } })
+      inl (record { rate = refl; none = refl; steady = record { hall = f; meta = F.sound_blank; gain = one_gain; places = zeros_finite; long = zeros_long; few = lit< tt; kept = F.kept_none } })
 
   -- ---- a hold, a release
   wanted_steady : (w : Bool) (d : ℕ) (r : State L) → Steady r → Steady (with_meta L (L.want w d r.meta) r)
-  wanted_steady w d r s = record { hall = s.hall; meta = F.sound_want w d r.meta s.meta; gain = s.gain; places = s.places; long = s.long; few = s.few }
+  wanted_steady w d r s = record { hall = s.hall; meta = F.sound_want w d r.meta s.meta; gain = s.gain; places = s.places; long = s.long; few = s.few; kept = s.kept }
 
   pub marked_rest : (w : Bool) (d : ℕ) (r : State L) → Rest r → Rest (with_meta L (L.want w d r.meta) r)
   marked_rest w d r (inl g) = inl (record { rate = g.rate; none = g.none; steady = wanted_steady w d r g.steady })
   marked_rest w d r (inr g) = inr (record { rate = g.rate; calm = g.calm; steady = wanted_steady w d r g.steady })
+
+  -- ---- what waits after an accepted push
+  settled_steady : (ws : L.Waits) (r : State L) → F.Kept ws → Steady r → Steady (with_waits L ws r)
+  settled_steady ws r k s = record { hall = s.hall; meta = s.meta; gain = s.gain; places = s.places; long = s.long; few = s.few; kept = k }
+
+  pub settled_good : (ws : L.Waits) (r : State L) → F.Kept ws → Good r → Good (with_waits L ws r)
+  settled_good ws r k g = record { rate = g.rate; calm = g.calm; steady = settled_steady ws r k g.steady }
 
   -- ---- updates, slots, a rate
   applied_good : (t : ℕ) (u : L.Update) (r : State L) → F.Checked u → Good r → Good (applied_at L t u r)
@@ -102,7 +110,7 @@ module _ (L : Leaves) (B : Layout L) (F : Facts L B) where
       record {
         rate = g.rate;
         calm = g.calm;
-        steady = record { hall = s.hall; meta = F.sound_apply r.clock.position u r.meta k s.meta; gain = s.gain; places = s.places; long = s.long; few = s.few };
+        steady = record { hall = s.hall; meta = F.sound_apply r.clock.position u r.meta k s.meta; gain = s.gain; places = s.places; long = s.long; few = s.few; kept = s.kept };
       }
 
   pub updated_good : (t : ℕ) (us : List L.Update) (r : State L) → All F.Checked us → Good r → Good (updated L t us r)
@@ -122,6 +130,7 @@ module _ (L : Leaves) (B : Layout L) (F : Facts L B) where
           places = s.places;
           long = s.long;
           few = s.few;
+          kept = s.kept;
         };
       }
 
@@ -130,7 +139,7 @@ module _ (L : Leaves) (B : Layout L) (F : Facts L B) where
   before_good t us r k g = slotted_good (updated L t us r) (updated_good t us r k g)
 
   opened_steady : (rate : ℕ) (r : State L) → Steady r → Steady (opened L rate r)
-  opened_steady rate r s = record { hall = s.hall; meta = s.meta; gain = s.gain; places = s.places; long = s.long; few = s.few }
+  opened_steady rate r s = record { hall = s.hall; meta = s.meta; gain = s.gain; places = s.places; long = s.long; few = s.few; kept = s.kept }
 
   pub opened_good : (rate : ℕ) (r : State L) → Listed rate → Rest r → Good (opened L rate r)
   opened_good rate r k (inl g) =
@@ -216,6 +225,7 @@ module _ (L : Leaves) (B : Layout L) (F : Facts L B) where
             places = places_finite;
             long = places_long;
             few = few_left r.pending.count (leb 64 (r.pending.count + 1)) refl;
+            kept = g.steady.kept;
           };
         }
 

@@ -17,7 +17,7 @@ use Rattle.rules.specs.Leaves.{Leaves}
 use Rattle.rules.specs.Mix.{sample_at, samples_at}
 use Rattle.rules.specs.Samples.{State}
 use Rattle.rules.specs.Refusals.{Args, Found, clear, stop, ◌then◌, unless, every, room, sized, listed, early, later}
-use Rattle.rules.specs.Calls.{announced, found}
+use Rattle.rules.specs.Calls.{updates_in, announced, found_with, found}
 use Rattle.mixing.proofs.RefusalEight.{sample_bounded}
 
 -- ---- tests
@@ -105,7 +105,8 @@ module _ (L : Leaves) where
 
   pub record Passed (r : State L) (a : Args) : Type 0 where
     pub early : Early r a
-    pub later : later (announced L (L.updates a.meta)) a.objects a.codes a.samples a.rate r.rate (L.shape r.meta) ≡ clear
+    pub fits : L.fits r.clock.position a.samples r.waits a.meta ≡ true
+    pub later : later (announced L (updates_in L r a)) a.objects a.codes a.samples a.rate r.rate (L.shape r.meta) ≡ clear
 
   pub is_early : (r : State L) (a : Args) → early L r a ≡ clear → Early r a
   is_early r a e =
@@ -126,7 +127,18 @@ module _ (L : Leaves) where
       }
 
   pub is_passed : (r : State L) (a : Args) → found L r a ≡ clear → Passed r a
-  is_passed r a e = let s = then_clear (early L r a) _ e in record { early = is_early r a s.0; later = s.1 }
+  is_passed r a e =
+      let s = then_clear (early L r a) _ e in
+      let t = then_clear (unless (L.fits r.clock.position a.samples r.waits a.meta) 25 0 0) _ s.1 in
+      record { early = is_early r a s.0; fits = unless_clear (L.fits r.clock.position a.samples r.waits a.meta) 25 0 0 t.0; later = t.1 }
+
+  -- 1 to 8, and 9 to 14 with these updates
+  pub record PassedWith (us : List L.Update) (r : State L) (a : Args) : Type 0 where
+    pub early : Early r a
+    pub later : later (announced L us) a.objects a.codes a.samples a.rate r.rate (L.shape r.meta) ≡ clear
+
+  pub is_passed_with : (us : List L.Update) (r : State L) (a : Args) → found_with L us r a ≡ clear → PassedWith us r a
+  is_passed_with us r a e = let s = then_clear (early L r a) _ e in record { early = is_early r a s.0; later = s.1 }
 
 -- ---- samples
 -- channel i at sample t

@@ -17,6 +17,8 @@ pub mod Erased
 pub mod StateBlocks
 pub mod Moments
 pub mod OneMore
+pub mod Ahead
+pub mod AheadRefused
 pub mod Sounding
 pub mod OpenBlock
 pub mod Order

@@ -61,6 +61,7 @@ module _ (L : Leaves) (B : Layout L) (F : Facts L B) (w : Bool) (d : ℕ) (r : S
         limiter = refl;
         filter = refl;
         pending = refl;
+        waits = refl;
         meta = refl;
         asked = F.wants_want w d r.meta sound n.1;
         others = λ k z. F.wants_other w d k r.meta z;

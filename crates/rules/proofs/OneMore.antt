@@ -42,6 +42,7 @@ module _ (L : Leaves) where
         filter = s.filter;
         meta = v.meta;
         pending = s.pending;
+        waits = s.waits;
       }
 
   met_is : (t : ℕ) (us : List L.Update) (s : State L) → slotted L (updated L t us s) ≡ over s (slotted L (updated L t us s))
@@ -56,11 +57,12 @@ module _ (L : Leaves) where
         filter = u.filter i;
         meta = v.meta;
         pending = u.pending i;
+        waits = u.waits i;
       }
 
   module _ (r : State L) (a : Args) where
     abbrev f : Frame L.Update
-    f = frame_of L a
+    f = frame_of L r a
 
     abbrev start : State L
     start = opened L a.rate r

@@ -38,7 +38,7 @@ module _ (L : Leaves) (r : State L) (a : Args) (open_block : r.pending.count + a
     pub absent : (c : ℕ) → present r.setup.layout c ≡ false → (s t).pending.places c ≡ r.pending.places c
 
   stay : (t c : ℕ) → present r.setup.layout c ≡ false → (s t).pending.places c ≡ r.pending.places c
-  stay t = framed_kept L (frame_of L a) t 0 (opened L a.rate r)
+  stay t = framed_kept L (frame_of L r a) t 0 (opened L a.rate r)
 
   start : Behind 0
   start = record { count = sym (add-zero p); size = long; new = λ c i l n h. absurd (not-suc-le-zero h); others = λ c i h. refl; absent = stay 0 }

@@ -29,7 +29,7 @@ module _ {A : Type 0} (offset : A → ℕ) where
       go true e r = (h u (eqb-true (offset u) t e), r)
       go false e r = r
 
-  at_both : (t : ℕ) (us vs : List A) → at_offset offset t (us ++ vs) ≡ at_offset offset t us ++ at_offset offset t vs
+  pub at_both : (t : ℕ) (us vs : List A) → at_offset offset t (us ++ vs) ≡ at_offset offset t us ++ at_offset offset t vs
   at_both t [] vs = refl
   at_both t (u ∷ us) vs = go (eqb (offset u) t) (at_both t us vs)
     where
@@ -140,6 +140,10 @@ updated_in_order L t (u ∷ us) r = updated_in_order L t us (cond (eqb (L.offset
         ≡ applied_all L t (cond b (u ∷ at_offset L.offset t us) (at_offset L.offset t us)) r
     go true = refl
     go false = refl
+
+pub updated_both : (L : Leaves) (t : ℕ) (us vs : List L.Update) (r : State L) → updated L t (us ++ vs) r ≡ updated L t vs (updated L t us r)
+updated_both L t [] vs r = refl
+updated_both L t (u ∷ us) vs r = updated_both L t us vs (cond (eqb (L.offset u) t) (applied_at L t u r) r)
 
 -- ---- what 9 to 14 see of them
 module _ (all : List Announced) (objects : ℕ) (codes : List ℕ) where

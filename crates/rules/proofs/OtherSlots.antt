@@ -8,13 +8,13 @@ use lib.ListN.{length}
 use Rattle.limiter.specs.declared.meters.Meters.{Meters}
 use Rattle.limiter.specs.Meters.{call_meters}
 use Rattle.panning.specs.Setup.{Setup, hall_with}
-use Rattle.rules.specs.Parts.{Channels, none, joined}
+use Rattle.rules.specs.Parts.{Channels, joined}
 use Rattle.rules.specs.Leaves.{Leaves, started}
 use Rattle.rules.specs.Mix.{Moment}
-use Rattle.rules.specs.Samples.{Frame, State, fresh, applied_at, updated, slotted, moment, After, passed, sampled, framed, opened, pushed, flushed}
+use Rattle.rules.specs.Samples.{Frame, State, applied_at, updated, slotted, moment, After, passed, sampled, framed, opened, pushed, flushed}
 use Rattle.rules.specs.Refusals.{Args, Found, clear, stop, room}
 use Rattle.rules.specs.Making.{hall_of, layout_found, table_found}
-use Rattle.rules.specs.Calls.{Call, push, flush, reset, make, make_with, mark, find, is_refused, rendered, frame_of, found, numbered, alike_marks, asked, drained, making, marking, step, run}
+use Rattle.rules.specs.Calls.{Call, push, flush, reset, make, make_with, mark, find, is_refused, rendered, with_waits, ahead_after, frame_of, found, numbered, alike_marks, asked, drained, making, marking, step, run}
 use Rattle.rules.specs.OtherSlots.{with_slot, asks_hold, NoHold, SameResult, SameResults}
 
 module _ (L : Leaves) (s : ℕ → L.Meta → L.Meta) (Free : L.Meta → Type 0)
@@ -50,6 +50,7 @@ module _ (L : Leaves) (s : ℕ → L.Meta → L.Meta) (Free : L.Meta → Type 0)
         filter = r.filter;
         meta = cond (started L r.meta && eqb r.clock.phase 0) (same r.clock.start r.meta f j) r.meta;
         pending = r.pending;
+        waits = r.waits;
       }
 
   slotted_free : (r : State L) → Free r.meta → Free (slotted L r).meta
@@ -101,13 +102,13 @@ module _ (L : Leaves) (s : ℕ → L.Meta → L.Meta) (Free : L.Meta → Type 0)
   unfolding pushed
   asked_same (stop n x y) a r g = record { answer = refl; next = refl; moments = refl }
   asked_same clear a r g =
-      let d = framed_same (frame_of L a) a.samples 0 (opened L a.rate r) g in
-      record { answer = ap₂ (λ (x : Channels) (m : List Meters). rendered x (call_meters m)) d.given d.meters; next = d.next; moments = d.moments }
+      let d = framed_same (frame_of L r a) a.samples 0 (opened L a.rate r) g in
+      record { answer = ap₂ (λ (x : Channels) (m : List Meters). rendered x (call_meters m)) d.given d.meters; next = ap (with_waits L (ahead_after L r a)) d.next; moments = d.moments }
 
   asked_free : (v : Found) (a : Args) (r : State L) → Free r.meta → Free (asked L v a r).next.meta
   unfolding pushed
   asked_free (stop n x y) a r g = g
-  asked_free clear a r g = framed_free (frame_of L a) a.samples 0 (opened L a.rate r) g
+  asked_free clear a r g = framed_free (frame_of L r a) a.samples 0 (opened L a.rate r) g
 
   drained_same : (t e : Bool) (r : State L) → SameResult L s (drained L t e r) (drained K t e r)
   unfolding flushed

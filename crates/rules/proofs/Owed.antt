@@ -1,5 +1,5 @@
 -- What the theorem over every list of calls takes from the crates `timed`, `records` and `store`. All else is taken from the proofs of the crates below. Assumes nothing.
-use Prim.Native.Nat.{ℕ, ◌≤◌, ◌<◌}
+use Prim.Native.Nat.{ℕ, ◌+◌, ◌≤◌, ◌<◌}
 use mathlib.Core.Path.{◌≡◌}
 use mathlib.Core.Bool.{Bool, true, false, not}
 use mathlib.Core.List.{List, map}
@@ -13,7 +13,7 @@ use Rattle.rules.specs.Parts.{0·0}
 use Rattle.rules.specs.Leaves.{Leaves, Source, Bed, started}
 use Rattle.rules.specs.Samples.{State}
 use Rattle.rules.specs.Promises.{object_in}
-use Rattle.rules.specs.Ranges.{HallRanged, Ranged}
+use Rattle.rules.specs.Ranges.{HallRanged, AllRanged}
 use Rattle.rules.specs.BlockCalls.{Layout}
 
 -- a gain from 0 to 8, a size from 0 to 1, a place of f32 values, a send from 0 to 1
@@ -31,9 +31,21 @@ pub record Mixable (bs : List Bed) (ss : List Source) : Type 0 where
   pub objects : All InHall ss
 
 pub record Facts (L : Leaves) (B : Layout L) : Type 1 where
-  -- what refusals 5 and 6 leave of each update
+  -- R-12: what waits lies in its ranges at a stream position, its floats of any bits; and with gains, sizes and sends as refusal 6 has them
+  pub Ahead : ℕ → L.Waits → Type 0
+  pub Kept : L.Waits → Type 0
+  pub ahead_none : Ahead 0 L.no_waits
+  pub kept_none : Kept L.no_waits
+  pub ahead_settle : (n k : ℕ) (ws : L.Waits) (meta : List ℕ) → n + k ≤ 1099511627776 → Ahead n ws → Bytes meta → L.laid_out meta ≡ true → L.in_range meta ≡ true
+      → L.fits n k ws meta ≡ true → Ahead (n + k) (L.settle n k ws meta)
+  pub kept_settle : (n k : ℕ) (ws : L.Waits) (meta : List ℕ) → Kept ws → Bytes meta → L.laid_out meta ≡ true → L.in_range meta ≡ true → L.fits n k ws meta ≡ true
+      → Kept (L.settle n k ws meta)
+  -- what refusals 5 and 6 leave of each update of a push, and of those that wait
   pub Checked : L.Update → Type 0
-  pub checked : (meta : List ℕ) → Bytes meta → L.laid_out meta ≡ true → L.in_range meta ≡ true → All Checked (L.updates meta)
+  pub checked : (n k : ℕ) (ws : L.Waits) (meta : List ℕ) → Kept ws → Bytes meta → L.laid_out meta ≡ true → L.in_range meta ≡ true → All Checked (L.updates n k ws meta)
+  -- what the ranges ask of an update: its layout, its blocks and depth factors
+  pub Shaped : L.Update → Type 0
+  pub shaped : (n k : ℕ) (ws : L.Waits) (meta : List ℕ) → Ahead n ws → Bytes meta → L.laid_out meta ≡ true → L.in_range meta ≡ true → All Shaped (L.updates n k ws meta)
   -- a timed state that such updates made from the blank one: gains from 0 to 8, sizes and sends from 0 to 1
   pub Sound : L.Meta → Type 0
   pub sound_blank : Sound L.blank
@@ -68,18 +80,18 @@ pub record Facts (L : Leaves) (B : Layout L) : Type 1 where
   pub Within : ℕ → L.Meta → Type 0
   pub within_blank : Within 0 L.blank
   pub within_later : (n k : ℕ) (m : L.Meta) → n ≤ k → Within n m → Within k m
-  pub within_apply : (n : ℕ) (u : L.Update) (m : L.Meta) → n ≤ 1099511627776 → Checked u → Within n m → Within n (L.apply n u m)
+  pub within_apply : (n : ℕ) (u : L.Update) (m : L.Meta) → n ≤ 1099511627776 → Shaped u → Within n m → Within n (L.apply n u m)
   pub within_want : (n : ℕ) (w : Bool) (d : ℕ) (m : L.Meta) → Within n m → Within n (L.want w d m)
   pub within_slot : (n start : ℕ) (m : L.Meta) → start ≤ n → n ≤ 1099511627776 → Within n m → Within n (L.slot start m)
   -- a block whose hall is in its range holds a renderer for such a hall
   pub setup : (b : List ℕ) → Bytes b → B.hall_valid b ≡ true → HallRanged (B.decode b).setup
   -- the block of a renderer in its ranges is as long as it should be, valid, and gives the renderer back; a valid block holds a renderer in its ranges
-  pub size : (r : State L) → Ranged L Within r → length (B.encode r) ≡ B.size
-  pub valid : (r : State L) → Ranged L Within r → B.valid (B.encode r) ≡ true
-  pub hall_valid : (r : State L) → Ranged L Within r → B.hall_valid (B.encode r) ≡ true
-  pub back : (r : State L) → Ranged L Within r → B.decode (B.encode r) ≡ r
-  pub decoded : (b : List ℕ) → Bytes b → B.valid b ≡ true → Ranged L Within (B.decode b)
+  pub size : (r : State L) → AllRanged L Within Ahead r → length (B.encode r) ≡ B.size
+  pub valid : (r : State L) → AllRanged L Within Ahead r → B.valid (B.encode r) ≡ true
+  pub hall_valid : (r : State L) → AllRanged L Within Ahead r → B.hall_valid (B.encode r) ≡ true
+  pub back : (r : State L) → AllRanged L Within Ahead r → B.decode (B.encode r) ≡ r
+  pub decoded : (b : List ℕ) → Bytes b → B.valid b ≡ true → AllRanged L Within Ahead (B.decode b)
 
--- a renderer within document 01's ranges
+-- a renderer within its ranges between calls
 abbrev pub InRanges : {L : Leaves} {B : Layout L} → Facts L B → State L → Type 0
-InRanges {L} F r = Ranged L F.Within r
+InRanges {L} F r = AllRanged L F.Within F.Ahead r

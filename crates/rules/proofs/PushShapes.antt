@@ -114,11 +114,11 @@ pub unmatched : (ks : List Float) (inputs : ℕ → Float) → fed_by ks None in
 unmatched ks inputs = refl
 
 module _ (L : Leaves) (B : Layout L) (F : Facts L B) where
-  -- of timed states of which updates keep P, and to which they give their shape
-  module _ (P : L.Meta → Type 0) (keeps : (n : ℕ) (u : L.Update) (m : L.Meta) → F.Checked u → P m → P (L.apply n u m))
-      (gives : (n : ℕ) (u : L.Update) (m : L.Meta) → F.Checked u → P m → L.shape (L.apply n u m) ≡ L.sent u) where
+  -- of timed states of which updates with Q keep P, and to which they give their shape
+  module _ (Q : L.Update → Type 0) (P : L.Meta → Type 0) (keeps : (n : ℕ) (u : L.Update) (m : L.Meta) → Q u → P m → P (L.apply n u m))
+      (gives : (n : ℕ) (u : L.Update) (m : L.Meta) → Q u → P m → L.shape (L.apply n u m) ≡ L.sent u) where
     -- the shape that sample t is heard with
-    pub updated_shape : (all : List Announced) (objects : ℕ) (codes : List ℕ) (t : ℕ) (us : List L.Update) (r : State L) → All F.Checked us → P r.meta
+    pub updated_shape : (all : List Announced) (objects : ℕ) (codes : List ℕ) (t : ℕ) (us : List L.Update) (r : State L) → All Q us → P r.meta
         → L.shape (updated L t us r).meta ≡ shape_at all objects codes t (announced L us) (L.shape r.meta)
     updated_shape all objects codes t [] r k s = refl
     updated_shape all objects codes t (u ∷ us) r k s =
@@ -137,9 +137,9 @@ module _ (L : Leaves) (B : Layout L) (F : Facts L B) where
       go true = rests r.clock.start
       go false = refl
 
-  module _ (r : State L) (a : Args) (p : Passed L r a) (k : Admitted L B F (frame_of L a)) where
+  module _ (r : State L) (a : Args) (p : Passed L r a) (k : Admitted L B F (frame_of L r a)) where
     abbrev f : Frame L.Update
-    f = frame_of L a
+    f = frame_of L r a
 
     abbrev sent : List Announced
     sent = announced L f.updates
@@ -161,7 +161,7 @@ module _ (L : Leaves) (B : Layout L) (F : Facts L B) where
 
     met_shape : (t : ℕ) (s : State L) → Good L B F s → L.shape (met t s).meta ≡ shaped t (L.shape s.meta)
     met_shape t s g =
-        slot_rests t s g ∙ updated_shape F.Sound F.sound_apply F.shape_apply sent a.objects a.codes t f.updates s k.updates g.steady.meta
+        slot_rests t s g ∙ updated_shape F.Checked F.Sound F.sound_apply F.shape_apply sent a.objects a.codes t f.updates s k.updates g.steady.meta
 
     met_started : (t : ℕ) (s : State L) → Good L B F s → started L s.meta ≡ before L r a t → started L (met t s).meta ≡ begun L r a t
     met_started t s g e =

@@ -19,7 +19,7 @@ use Rattle.rules.specs.Leaves.{Leaves, Source, Bed, started}
 use Rattle.rules.specs.Mix.{Moment, fed}
 use Rattle.rules.specs.Samples.{Frame, State, slotted, updated, sampled, framed, opened, pushed}
 use Rattle.rules.specs.Refusals.{Args, Found, clear, unless}
-use Rattle.rules.specs.Calls.{frame_of, found, asked}
+use Rattle.rules.specs.Calls.{updates_in, frame_of, found, asked}
 use Rattle.rules.specs.Sounds.{silent, before, met, moment_at, whole}
 use Rattle.rules.specs.Promises.{count_on, nobody, unsent, Replaced, with_pcm, object_heard, begun, Matched, AtSample, PushHolds}
 use Rattle.rules.specs.BlockCalls.{Layout}
@@ -27,8 +27,8 @@ use Rattle.rules.proofs.EachOf.{all_at}
 use Rattle.rules.proofs.Owed.{InHall, Facts}
 use Rattle.rules.proofs.Judged.{Passed, is_passed, then_clear, unless_clear}
 use Rattle.rules.proofs.Invariant.{Good, Rest, Admitted, Fine, opened_good}
-use Rattle.rules.proofs.Frames.{admitted, pushed_fine}
-use Rattle.rules.proofs.Clock.{untouched, setup_kept, Alike, alike_self, met_alike, passed_alike}
+use Rattle.rules.proofs.Frames.{admitted, rest_kept, pushed_fine}
+use Rattle.rules.proofs.Clock.{untouched, setup_kept, waits_kept, Alike, alike_self, met_alike, passed_alike}
 use Rattle.rules.proofs.Moments.{moment_of, moments_count, next_at, moment_at_is}
 use Rattle.rules.proofs.Order.{updated_in_order}
 use Rattle.rules.proofs.OneMore.{moment_is}
@@ -50,7 +50,7 @@ halves blocks left all e h = omega arith
 
 module _ (L : Leaves) (B : Layout L) (F : Facts L B) (r : State L) (a : Args) (b : Bytes a.pcm) (m : Bytes a.meta) (rest : Rest L B F r) (e : found L r a ≡ clear) where
   abbrev f : Frame L.Update
-  f = frame_of L a
+  f = frame_of L r a
 
   abbrev start : State L
   start = opened L a.rate r
@@ -59,7 +59,7 @@ module _ (L : Leaves) (B : Layout L) (F : Facts L B) (r : State L) (a : Args) (b
   passes = is_passed L r a e
 
   pub k : Admitted L B F f
-  k = admitted L B F r a b m passes
+  k = admitted L B F r a b m passes (rest_kept L B F r rest)
 
   pub good : Good L B F start
   good = opened_good L B F a.rate r k.rate rest
@@ -102,7 +102,7 @@ module _ (L : Leaves) (B : Layout L) (F : Facts L B) (r : State L) (a : Args) (b
     at_sample =
         record {
           hall = ap (λ (x : Moment). x.hall) heard_at ∙ (untouched L t f.updates (before L r a t)).setup ∙ setup_kept L f t 0 start;
-          finds = ap (slotted L) (updated_in_order L t (L.updates a.meta) (before L r a t));
+          finds = ap (slotted L) (updated_in_order L t (updates_in L r a) (before L r a t));
           beds = beds_are;
           objects = objects_are;
           codes = ap (λ (x : Moment). x.codes) heard_at;
@@ -143,7 +143,7 @@ module _ (L : Leaves) (B : Layout L) (F : Facts L B) (r : State L) (a : Args) (b
   -- ---- the bass feed
   module _ (j : ℕ) (qcm : List ℕ) (p : Replaced a.samples (length a.codes + j) a.pcm qcm) where
     abbrev g : Frame L.Update
-    g = frame_of L (with_pcm qcm a)
+    g = frame_of L r (with_pcm qcm a)
 
     alike : (t : ℕ) → Alike L (framed L f t 0 start).next (framed L g t 0 start).next
     alike zero = alike_self L start
@@ -192,6 +192,7 @@ module _ (L : Leaves) (B : Layout L) (F : Facts L B) (r : State L) (a : Args) (b
       record {
         answer = ap (λ (v : Found). (asked L v a r).answer) e;
         next = ap (λ (v : Found). (asked L v a r).next) e;
+        ahead = waits_kept L f a.samples 0 start;
         setup = setup_kept L f a.samples 0 start;
         ready = λ c l. fine.length c l ∙ ap (λ (n : ℕ). count_on r.setup (64 * n) c) counts.0;
         waits = counts.1;

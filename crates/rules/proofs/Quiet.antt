@@ -15,7 +15,7 @@ use Rattle.rules.specs.Leaves.{Leaves, started}
 use Rattle.rules.specs.Mix.{Moment, heard}
 use Rattle.rules.specs.Samples.{State, moment, opened, pushed}
 use Rattle.rules.specs.Refusals.{Args}
-use Rattle.rules.specs.Calls.{frame_of}
+use Rattle.rules.specs.Calls.{updates_in, frame_of}
 use Rattle.rules.specs.Sounds.{before, met, moment_at, sound_at}
 use Rattle.rules.specs.Promises.{begun}
 use Rattle.rules.specs.BlockCalls.{Layout}
@@ -37,7 +37,7 @@ module _ (L : Leaves) where
   abbrev pub Hush : State L → Type 0
   Hush r = started L r.meta ≡ false → (r.rate ≡ 0) ⊎ Still r.filter
 
-  module _ (B : Layout L) (F : Facts L B) (r : State L) (a : Args) (p : Passed L r a) (k : Admitted L B F (frame_of L a)) (good : Good L B F (opened L a.rate r))
+  module _ (B : Layout L) (F : Facts L B) (r : State L) (a : Args) (p : Passed L r a) (k : Admitted L B F (frame_of L r a)) (good : Good L B F (opened L a.rate r))
       (at_rate : (opened L a.rate r).rate ≡ a.rate) (hush : Hush r) where
     opened_still : started L r.meta ≡ false → Still (opened L a.rate r).filter
     opened_still e = go (hush e) (eqb r.rate 0) refl
@@ -58,8 +58,8 @@ module _ (L : Leaves) where
             beds = cond b (L.beds m) [];
             objects = cond b (L.objects m) [];
             codes = a.codes;
-            inputs = (moment L (frame_of L a) t (met L r a t).setup m).inputs;
-            own = (moment L (frame_of L a) t (met L r a t).setup m).own;
+            inputs = (moment L (frame_of L r a) t (met L r a t).setup m).inputs;
+            own = (moment L (frame_of L r a) t (met L r a t).setup m).own;
           }) c) (started_at L B F r a p k good t h ∙ e)
 
       quiet_at : Still (before L r a t).filter → (c : ℕ) → sound_at L r a c t ≡ 0·0
@@ -75,12 +75,12 @@ module _ (L : Leaves) where
     still_before : (t : ℕ) → t ≤ a.samples → begins.before L r a t ≡ false → Still (before L r a t).filter
     still_before zero h e = opened_still e
     still_before (suc t) h e =
-        stays_still t h e (still_before t (le_of_lt h) (neither (begins.before L r a t) (begins.at L t (L.updates a.meta)) (begins.begins L r a t ∙ e)).0)
+        stays_still t h e (still_before t (le_of_lt h) (neither (begins.before L r a t) (begins.at L t (updates_in L r a)) (begins.begins L r a t ∙ e)).0)
 
     pub quiet : (t : ℕ) → t < a.samples → begun L r a t ≡ false → (c : ℕ) → sound_at L r a c t ≡ 0·0
     quiet t h e c =
-        quiet_at t h e (still_before t (le_of_lt h) (neither (begins.before L r a t) (begins.at L t (L.updates a.meta)) (begins.begins L r a t ∙ e)).0) c
+        quiet_at t h e (still_before t (le_of_lt h) (neither (begins.before L r a t) (begins.at L t (updates_in L r a)) (begins.begins L r a t ∙ e)).0) c
 
-    pub hush_pushed : Hush (pushed L (frame_of L a) r).next
+    pub hush_pushed : Hush (pushed L (frame_of L r a) r).next
     unfolding pushed
     hush_pushed e = inr (still_before a.samples (le_refl a.samples) (sym (inv L B F r a p k good a.samples (le_refl a.samples)).begins ∙ e))

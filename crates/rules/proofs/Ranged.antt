@@ -19,7 +19,7 @@ use Rattle.rules.specs.Samples.{Frame, State, fresh, row, sounding, applied_at, 
 use Rattle.rules.specs.Refusals.{Args, listed}
 use Rattle.panning.specs.Setup.{Setup}
 use Rattle.rules.specs.Ranges.{Fits, FilterFits, HallRanged, Ranged}
-use Rattle.rules.specs.Calls.{frame_of, with_meta}
+use Rattle.rules.specs.Calls.{frame_of, with_meta, with_waits}
 use Rattle.rules.specs.BlockCalls.{Layout}
 use Rattle.rules.proofs.EachOf.{either, length_laid, all_sounding, zeros_long, few_left}
 use Rattle.rules.proofs.Owed.{Facts}
@@ -50,7 +50,7 @@ module _ (L : Leaves) (B : Layout L) (F : Facts L B) where
   }
 
   -- ---- updates and slots
-  pub applied_ranged : (t : ℕ) (u : L.Update) (r : State L) → F.Checked u → R r → R (applied_at L t u r)
+  pub applied_ranged : (t : ℕ) (u : L.Update) (r : State L) → F.Shaped u → R r → R (applied_at L t u r)
   applied_ranged t u r k g =
       let s = slot_kept (not (started L r.meta) || eqb t 0) in
       record {
@@ -134,12 +134,12 @@ module _ (L : Leaves) (B : Layout L) (F : Facts L B) where
       slot_kept false last e = let s = g.start in (g.phase, omega arith)
 
   -- ---- a frame
-  pub updated_ranged : (t : ℕ) (us : List L.Update) (r : State L) → All F.Checked us → R r → R (updated L t us r)
+  pub updated_ranged : (t : ℕ) (us : List L.Update) (r : State L) → All F.Shaped us → R r → R (updated L t us r)
   updated_ranged t [] r c g = g
   updated_ranged t (u ∷ us) r c g =
       updated_ranged t us (cond (eqb (L.offset u) t) (applied_at L t u r) r) c.1 (either R (eqb (L.offset u) t) (applied_ranged t u r c.0 g) g)
 
-  pub framed_ranged : (f : Frame L.Update) → All F.Checked f.updates → (n t : ℕ) (r : State L) → listed r.rate ≡ true → r.clock.position + n ≤ 1099511627776 → R r →
+  pub framed_ranged : (f : Frame L.Update) → All F.Shaped f.updates → (n t : ℕ) (r : State L) → listed r.rate ≡ true → r.clock.position + n ≤ 1099511627776 → R r →
       R (framed L f n t r).next
   framed_ranged f k zero t r l h g = g
   framed_ranged f k (suc n) t r l h g =
@@ -178,12 +178,12 @@ module _ (L : Leaves) (B : Layout L) (F : Facts L B) where
       now : listed (cond (eqb r.rate 0) rate r.rate) ≡ true
       now = at (eqb r.rate 0) refl g.rate
 
-  pub pushed_ranged : (r : State L) (a : Args) → Bytes a.meta → Passed L r a → R r → R (pushed L (frame_of L a) r).next
+  pub pushed_ranged : (r : State L) (a : Args) → Bytes a.meta → Passed L r a → R r → F.Ahead r.clock.position r.waits → R (pushed L (frame_of L r a) r).next
   unfolding pushed
-  pushed_ranged r a b p g =
+  pushed_ranged r a b p g w =
       let e = p.early in
       let o = opened_ranged a.rate r e.listed g in
-      framed_ranged (frame_of L a) (F.checked a.meta b e.laid_out e.in_range) a.samples 0 (opened L a.rate r) o.1 e.position o.0
+      framed_ranged (frame_of L r a) (F.shaped r.clock.position a.samples r.waits a.meta w b e.laid_out e.in_range) a.samples 0 (opened L a.rate r) o.1 e.position o.0
 
   pub flushed_ranged : (r : State L) → R r → R (flushed L r).next
   unfolding flushed
@@ -213,6 +213,23 @@ module _ (L : Leaves) (B : Layout L) (F : Facts L B) where
     gain = g.gain;
     filter = g.filter;
     meta = F.within_want r.clock.position w d r.meta g.meta;
+    pending = g.pending;
+    idle = g.idle;
+    long = g.long;
+    words = g.words;
+    none = g.none;
+  }
+
+  pub settled_ranged : (ws : L.Waits) (r : State L) → R r → R (with_waits L ws r)
+  settled_ranged ws r g = record {
+    setup = g.setup;
+    rate = g.rate;
+    position = g.position;
+    phase = g.phase;
+    start = g.start;
+    gain = g.gain;
+    filter = g.filter;
+    meta = g.meta;
     pending = g.pending;
     idle = g.idle;
     long = g.long;

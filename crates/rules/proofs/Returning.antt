@@ -108,7 +108,7 @@ module _ (L : Leaves) where
   -- ---- a push that is accepted
   module _ (r : State L) (a : Args) (e : found L r a ≡ clear) where
     abbrev after : State L
-    after = (pushed L (frame_of L a) r).next
+    after = (pushed L (frame_of L r a) r).next
 
     passes : Passed L r a
     passes = is_passed L r a e
@@ -125,17 +125,17 @@ module _ (L : Leaves) where
 
     after_rate : after.rate ≡ a.rate
     unfolding pushed
-    after_rate = framed_rate (frame_of L a) a.samples 0 (opened L a.rate r) ∙ opened_rate
+    after_rate = framed_rate (frame_of L r a) a.samples 0 (opened L a.rate r) ∙ opened_rate
 
-    after_gain : after.limiter.gain ≡ after_blocks a.rate r.limiter.gain (peaks (pushed L (frame_of L a) r).meters)
+    after_gain : after.limiter.gain ≡ after_blocks a.rate r.limiter.gain (peaks (pushed L (frame_of L r a) r).meters)
     unfolding pushed
     after_gain =
-        framed_gain (frame_of L a) a.samples 0 (opened L a.rate r)
-        ∙ ap (λ (k : ℕ). after_blocks k r.limiter.gain (peaks (pushed L (frame_of L a) r).meters)) opened_rate
+        framed_gain (frame_of L r a) a.samples 0 (opened L a.rate r)
+        ∙ ap (λ (k : ℕ). after_blocks k r.limiter.gain (peaks (pushed L (frame_of L r a) r).meters)) opened_rate
 
-    after_levels : All Level (peaks (pushed L (frame_of L a) r).meters)
+    after_levels : All Level (peaks (pushed L (frame_of L r a) r).meters)
     unfolding pushed
-    after_levels = framed_levels (frame_of L a) a.samples 0 (opened L a.rate r)
+    after_levels = framed_levels (frame_of L r a) a.samples 0 (opened L a.rate r)
 
     after_listed : listed after.rate ≡ true
     after_listed = ap listed after_rate ∙ passes.early.listed
@@ -162,17 +162,19 @@ module _ (L : Leaves) where
       × ((final L s cs).limiter.gain ≡ after_blocks (final L s cs).rate r.limiter.gain (ps ++ all_completed L s cs))
       × All Level (ps ++ all_completed L s cs)
 
-  pushed_then : (r : State L) (a : Args) (e : found L r a ≡ clear) (cs : List Call) → let d = pushed L (frame_of L a) r in Row d.next cs → Then r d.next (peaks d.meters) cs
+  pushed_then : (r : State L) (a : Args) (e : found L r a ≡ clear) (cs : List Call) → let n = (asked L clear a r).next in Row n cs
+      → Then r n (peaks (pushed L (frame_of L r a) r).meters) cs
   pushed_then r a e cs i =
-      let d = pushed L (frame_of L a) r in
-      let k = (final L d.next cs).rate in
+      let d = pushed L (frame_of L r a) r in
+      let n = (asked L clear a r).next in
+      let k = (final L n cs).rate in
       let same : a.rate ≡ k = sym (i.kept (after_listed r a e) ∙ after_rate r a e) in (
         inl (ap listed (sym same) ∙ (passes r a e).early.listed),
         λ l. i.kept (after_listed r a e) ∙ same_rate r a e l,
         i.gain
-            ∙ ap (λ (g : Float). after_blocks k g (all_completed L d.next cs)) (after_gain r a e ∙ ap (λ (n : ℕ). after_blocks n r.limiter.gain (peaks d.meters)) same)
-            ∙ sym (after_more k r.limiter.gain (peaks d.meters) (all_completed L d.next cs)),
-        all_append Level (peaks d.meters) (all_completed L d.next cs) (after_levels r a e) i.levels,
+            ∙ ap (λ (g : Float). after_blocks k g (all_completed L n cs)) (after_gain r a e ∙ ap (λ (n : ℕ). after_blocks n r.limiter.gain (peaks d.meters)) same)
+            ∙ sym (after_more k r.limiter.gain (peaks d.meters) (all_completed L n cs)),
+        all_append Level (peaks d.meters) (all_completed L n cs) (after_levels r a e) i.levels,
       )
 
   -- the rate and the gain stay

@@ -53,23 +53,23 @@ module _ (L : Leaves) where
     -- ---- a push that is accepted
     module _ (a : Args) (b : Bytes a.pcm) (m : Bytes a.meta) (rest : Rest L B F r) (e : found L r a ≡ clear) (was : Fed xs r) where
       abbrev fs : List Float
-      fs = map fed (pushed L (frame_of L a) r).moments
+      fs = map fed (pushed L (frame_of L r a) r).moments
 
       abbrev up_to : ℕ → List Float
       up_to t = xs ++ take t fs
 
-      k : Admitted L B F (frame_of L a)
+      k : Admitted L B F (frame_of L r a)
       k = pushes.k L B F r a b m rest e
 
       long : length fs ≡ a.samples
       unfolding pushed
-      long = length_map fed (pushed L (frame_of L a) r).moments ∙ moments_count L (frame_of L a) a.samples 0 (opened L a.rate r)
+      long = length_map fed (pushed L (frame_of L r a) r).moments ∙ moments_count L (frame_of L r a) a.samples 0 (opened L a.rate r)
 
       one_more : (t : ℕ) → t < a.samples → up_to (suc t) ≡ up_to t ++ (fed (moment_at L r a t) ∷ [])
       one_more t h =
           ap (λ (ys : List Float). xs ++ ys)
           (take-suc fs t (fed (silent r.setup)) (le_trans h (le_of_eq (sym long)))
-          ∙ ap (λ (x : Float). take t fs ++ (x ∷ [])) (get_or-map fed (pushed L (frame_of L a) r).moments t (silent r.setup)))
+          ∙ ap (λ (x : Float). take t fs ++ (x ∷ [])) (get_or-map fed (pushed L (frame_of L r a) r).moments t (silent r.setup)))
           ∙ sym (append_assoc xs (take t fs) (fed (moment_at L r a t) ∷ []))
 
       opened_filter : Since xs r → (opened L a.rate r).filter ≡ after_all (new a.rate) xs
@@ -115,7 +115,7 @@ module _ (L : Leaves) where
       all_fed : up_to a.samples ≡ xs ++ fs
       all_fed = ap (λ (ys : List Float). xs ++ ys) (take_all a.samples fs (le_of_eq long))
 
-      pushed_fed : Fed (xs ++ fs) (pushed L (frame_of L a) r).next
+      pushed_fed : Fed (xs ++ fs) (pushed L (frame_of L r a) r).next
       unfolding pushed
       pushed_fed =
           let n = le_refl a.samples in
@@ -139,7 +139,7 @@ module _ (L : Leaves) where
 
     asked_fed : (a : Args) → Lent (push a) → Rest L B F r → Fed xs r → (v : Found) → found L r a ≡ v → Fed (xs ++ map fed (asked L v a r).moments) (asked L v a r).next
     asked_fed a h rest was (stop n x y) e = none_more was
-    asked_fed a h rest was clear e = pushed_fed a h.0 h.1 rest e was
+    asked_fed a h rest was clear e = let x = pushed_fed a h.0 h.1 rest e was in record { modest = x.modest; since = x.since }
 
     drained_fed : (t e : Bool) → Fed xs r → Fed xs (drained L t e r).next
     unfolding flushed

@@ -33,10 +33,10 @@ use Rattle.rules.proofs.OneMore.{moment_is, more, next_is, given_is, meters_are,
 use Rattle.rules.proofs.Blockwise.{Enough, drop_behind, Same, same_limited, same_gain, same_metered, behind, gain_behind, blocks_behind, metered_behind, laid_behind}
 
 module _ (L : Leaves) where
-  module _ (B : Layout L) (F : Facts L B) (r : State L) (a : Args) (k : Admitted L B F (frame_of L a)) (good : Good L B F (opened L a.rate r))
+  module _ (B : Layout L) (F : Facts L B) (r : State L) (a : Args) (k : Admitted L B F (frame_of L r a)) (good : Good L B F (opened L a.rate r))
       (at_rate : (opened L a.rate r).rate ≡ a.rate) where
     abbrev f : Frame L.Update
-    f = frame_of L a
+    f = frame_of L r a
 
     abbrev start : State L
     start = opened L a.rate r

@@ -5,6 +5,13 @@
 pub use Rattle.rules.proofs.Owed.{Mixable, Facts}
 pub use Rattle.rules.proofs.Demand3FromFacts.{made_in, from_fresh, every_list, every_layout, every_table, built_in_alike}
 pub use Rattle.rules.proofs.Keeps.{keeps}
+-- R-12: what waits rides along: a push and a flush do the same whatever waits, and touch none of it
+pub use Rattle.rules.proofs.Ahead.{after_with, updated_waits, sampled_waits, framed_waits, pushed_waits, flushed_waits}
+pub use Rattle.rules.proofs.Clock.{waits_kept}
+-- pushes, resets and making calls alone change it
+pub use Rattle.rules.proofs.Erased.{waits_stay}
+-- two lists of updates are applied one after the other
+pub use Rattle.rules.proofs.Order.{at_both, updated_both}
 -- R-11: an object with a hold asked for stays where it is over calls in a row, until something ends the hold
 pub use Rattle.rules.proofs.Held.{held_still}
 -- what changes nothing leaves every byte of the block; a search answers by the hall alone
@@ -14,7 +21,7 @@ pub use Rattle.rules.proofs.Marks.{find_alike}
 pub use Rattle.rules.proofs.Making.{ranged_fits, right_hall, hall_good, TableGood}
 -- a push that no reason speaks against is accepted, and what an accepted one passed
 pub use Rattle.rules.proofs.Accepted.{accepts}
-pub use Rattle.rules.proofs.Judged.{Passed, is_passed, is_early, is_listed, is_roomy, is_sized, samples_fit, rate_high, and_true}
+pub use Rattle.rules.proofs.Judged.{Passed, is_passed, PassedWith, is_passed_with, is_early, is_listed, is_roomy, is_sized, samples_fit, rate_high, and_true}
 -- which tables are refused, case by case
 pub use Rattle.rules.proofs.TableCases.{tables_judged}
 -- in 7.1.4 each bed is routed as document 01 says; the beds that each layout pans

@@ -16,7 +16,7 @@ use Rattle.rules.specs.Samples.{Frame, State, After, sounding, limited, metered,
 use Rattle.rules.specs.Samples.{moment, passed, sampled, framed, opened, fresh, pushed, waiting, flushed}
 use Rattle.rules.specs.Refusals.{Args, Found, clear, stop, is_clear, room}
 use Rattle.rules.specs.Making.{hall_of, layout_found, table_found}
-use Rattle.rules.specs.Calls.{Call, push, flush, reset, make, make_with, mark, find, rendered, place, frame_of, found, numbered, alike_marks, asked, drained, making, marking, step}
+use Rattle.rules.specs.Calls.{Call, push, flush, reset, make, make_with, mark, find, rendered, place, Result, updates_in, frame_with, frame_of, ahead_after, with_waits, answered, found, numbered, alike_marks, asked, drained, making, marking, step}
 use Rattle.rules.specs.Absent.{starts_anew, AlikeButAbsent, SameButAbsent, SameAlong}
 use Rattle.finding.specs.Search.{search}
 use Rattle.rules.proofs.Clock.{untouched, met_alike}
@@ -44,7 +44,7 @@ module _ (L : Leaves) where
     pub moments : x.moments ≡ y.moments
 
   pub alike_to_itself : (r : State L) → AlikeButAbsent L r r
-  alike_to_itself r = record { setup = refl; rate = refl; clock = refl; limiter = refl; filter = refl; meta = refl; count = refl; places = λ c h. refl }
+  alike_to_itself r = record { setup = refl; rate = refl; clock = refl; limiter = refl; filter = refl; meta = refl; count = refl; waits = refl; places = λ c h. refl }
 
   -- ---- a sample
   met_unread : (t : ℕ) (us : List L.Update) (r s : State L) → AlikeButAbsent L r s → AlikeButAbsent L (slotted L (updated L t us r)) (slotted L (updated L t us s))
@@ -60,6 +60,7 @@ module _ (L : Leaves) where
         filter = u.filter ∙ a.filter ∙ sym v.filter;
         meta = m.meta;
         count = (λ i. (u.pending i).count) ∙ a.count ∙ (λ i. (sym v.pending i).count);
+        waits = u.waits ∙ a.waits ∙ sym v.waits;
         places = λ c h. (λ i. (u.pending i).places c) ∙ a.places c (subst (λ (e : Setup). T (present e.layout c)) u.setup h) ∙ (λ i. (sym v.pending i).places c);
       }
 
@@ -84,6 +85,7 @@ module _ (L : Leaves) where
             filter = λ i. next (a.filter i) (fed (e i));
             meta = a.meta;
             count = λ i. cond (leb 64 (a.count i + 1)) 0 (a.count i + 1);
+            waits = a.waits;
             places = laid_alike;
           };
           given = λ i. cond (leb 64 (a.count i + 1)) (limited (a.limiter i).gain (block i)) none;
@@ -133,6 +135,7 @@ module _ (L : Leaves) where
         filter = λ i. cond (eqb (a.rate i) 0) (new rate) (a.filter i);
         meta = a.meta;
         count = a.count;
+        waits = a.waits;
         places = a.places;
       }
 
@@ -154,14 +157,39 @@ module _ (L : Leaves) where
       filter = a.filter i;
       meta = a.meta i;
       pending = r.pending;
+      waits = a.waits i;
     }) p
 
     asked_unread : (p : Args) (v : Found) → SameButAbsent L (asked L v p r) (asked L v p s)
     unfolding pushed
     asked_unread p (stop n x y) = record { answer = refl; moments = refl; next = a }
     asked_unread p clear =
-        let d = framed_unread (frame_of L p) p.samples 0 (opened L p.rate r) (opened L p.rate s) (opened_unread p.rate r s a) in
-        record { answer = λ i. rendered (d.given i) (call_meters (d.meters i)); moments = d.moments; next = d.next }
+        let d = framed_unread (frame_of L r p) p.samples 0 (opened L p.rate r) (opened L p.rate s) (opened_unread p.rate r s a) in
+        subst (λ (us : List L.Update). SameButAbsent L (asked L clear p r) (pushed_with us)) updates_unread
+        (record { answer = λ i. rendered (d.given i) (call_meters (d.meters i)); moments = d.moments; next = settled_unread d.next })
+      where
+        updates_unread : updates_in L r p ≡ updates_in L s p
+        updates_unread i = L.updates (a.clock i).position p.samples (a.waits i) p.meta
+
+        -- the push on s, with these updates
+        pushed_with : List L.Update → Result L
+        pushed_with us =
+            let d = pushed L (frame_with L us p) s in
+            record { answer = answered L d; next = with_waits L (ahead_after L s p) d.next; moments = d.moments }
+
+        settled_unread : {x y : State L} → AlikeButAbsent L x y → AlikeButAbsent L (with_waits L (ahead_after L r p) x) (with_waits L (ahead_after L s p) y)
+        settled_unread d =
+            record {
+              setup = d.setup;
+              rate = d.rate;
+              clock = d.clock;
+              limiter = d.limiter;
+              filter = d.filter;
+              meta = d.meta;
+              count = d.count;
+              waits = λ i. L.settle (a.clock i).position p.samples (a.waits i) p.meta;
+              places = d.places;
+            }
 
     drained_unread : (b e : Bool) → SameButAbsent L (drained L b e r) (drained L b e s)
     unfolding flushed
@@ -179,6 +207,7 @@ module _ (L : Leaves) where
             filter = a.filter;
             meta = a.meta;
             count = refl;
+            waits = a.waits;
             places = a.places;
           };
         }
@@ -202,12 +231,13 @@ module _ (L : Leaves) where
             filter = a.filter;
             meta = λ i. L.want w d (a.meta i);
             count = a.count;
+            waits = a.waits;
             places = a.places;
           };
         }
 
     reset_unread : AlikeButAbsent L (fresh L r.setup) (fresh L s.setup)
-    reset_unread = record { setup = a.setup; rate = refl; clock = refl; limiter = refl; filter = refl; meta = refl; count = refl; places = λ c h. refl }
+    reset_unread = record { setup = a.setup; rate = refl; clock = refl; limiter = refl; filter = refl; meta = refl; count = refl; waits = refl; places = λ c h. refl }
 
   -- bits in the places of a channel that the hall lacks turn nothing down: with any others there each call does the same
   pub absent_unread : (r s : State L) → AlikeButAbsent L r s → (c : Call) → SameButAbsent L (step L r c) (step L s c)
@@ -239,7 +269,7 @@ module _ (L : Leaves) where
     asked_kept : (p : Args) (v : Found) → (asked L v p r).next.pending.places c ≡ r.pending.places c
     unfolding pushed
     asked_kept p (stop n x y) = refl
-    asked_kept p clear = framed_kept (frame_of L p) p.samples 0 (opened L p.rate r) c away
+    asked_kept p clear = framed_kept (frame_of L r p) p.samples 0 (opened L p.rate r) c away
 
     drained_kept : (b e : Bool) → (drained L b e r).next.pending.places c ≡ r.pending.places c
     unfolding flushed

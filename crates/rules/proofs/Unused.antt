@@ -14,7 +14,7 @@ use Rattle.rules.specs.Samples.{State}
 use Rattle.rules.specs.Refusals.{Args, Found, clear, stop, ◌then◌, unless, room, sized, listed, early, beds_found, Announced, objects_match, counts_at, shape_at, walk, none_sent}
 use Rattle.rules.specs.Refusals.{later}
 use Rattle.rules.specs.Making.{table_words, hall_of, layout_found, table_found}
-use Rattle.rules.specs.Calls.{Call, push, flush, reset, make, make_with, mark, find, Answer, refused, rendered, nothing, cleared, marked, place, announced, found, numbered, alike_marks, asked, drained, making, marking, step}
+use Rattle.rules.specs.Calls.{Call, push, flush, reset, make, make_with, mark, find, Answer, refused, rendered, nothing, cleared, marked, place, updates_in, announced, found, numbered, alike_marks, asked, drained, making, marking, step}
 use Rattle.rules.specs.BlockCalls.{Layout, out_of, stride_of, left, takes, made}
 
 -- ---- what stops, if anything, is not 7
@@ -98,7 +98,10 @@ module _ (L : Leaves) where
       and_then other (all_pass a.pcm 0 ((length a.codes + a.objects) * a.samples)) 8 0 0 (λ e. omega arith)
 
   free_found : (r : State L) (a : Args) → Free (found L r a)
-  free_found r a = free_early r a and_then free_later (announced L (L.updates a.meta)) a.objects a.codes a.samples a.rate r.rate (L.shape r.meta)
+  free_found r a =
+      free_early r a
+      and_then other (L.fits r.clock.position a.samples r.waits a.meta) 25 0 0 (λ e. omega arith)
+      and_then free_later (announced L (updates_in L r a)) a.objects a.codes a.samples a.rate r.rate (L.shape r.meta)
 
   pub no_seven : (r : State L) (a : Args) (x y : ℕ) → found L r a ≡ stop 7 x y → ⊥
   no_seven r a x y e = (free_found r a).never (ap number e)

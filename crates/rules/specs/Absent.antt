@@ -27,6 +27,7 @@ module _ (L : Leaves) where
     pub filter : r.filter ≡ s.filter
     pub meta : r.meta ≡ s.meta
     pub count : r.pending.count ≡ s.pending.count
+    pub waits : r.waits ≡ s.waits
     pub places : (c : ℕ) → T (present r.setup.layout c) → r.pending.places c ≡ s.pending.places c
 
   -- the same answer, with its samples and meters, the same moments, and next renderers that are alike so too

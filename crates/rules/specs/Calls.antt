@@ -8,7 +8,7 @@ use Rattle.rules.specs.Parts.{Channels, none}
 use Rattle.rules.specs.Leaves.{Leaves}
 use Rattle.rules.specs.Mix.{Moment}
 use Rattle.rules.specs.Samples.{Frame, State, fresh, After, pushed, flushed}
-use Rattle.rules.specs.Refusals.{Args, Found, clear, stop, ◌then◌, room, early, Announced, later}
+use Rattle.rules.specs.Refusals.{Args, Found, clear, stop, ◌then◌, unless, room, early, Announced, later}
 use Rattle.rules.specs.Making.{layout_found, table_found, hall_of}
 use Rattle.finding.specs.Search.{search}
 
@@ -79,18 +79,32 @@ alike_marks true b = b
 alike_marks false b = not b
 
 module _ (L : Leaves) where
-  abbrev pub frame_of : Args → Frame L.Update
-  frame_of a = record { rate = a.rate; samples = a.samples; codes = a.codes; objects = a.objects; pcm = a.pcm; updates = L.updates a.meta }
+  -- the updates of a push: those that wait, then its own
+  abbrev pub updates_in : State L → Args → List L.Update
+  updates_in r a = L.updates r.clock.position a.samples r.waits a.meta
+
+  abbrev pub frame_with : List L.Update → Args → Frame L.Update
+  frame_with us a = record { rate = a.rate; samples = a.samples; codes = a.codes; objects = a.objects; pcm = a.pcm; updates = us }
+
+  abbrev pub frame_of : State L → Args → Frame L.Update
+  frame_of r a = frame_with (updates_in r a) a
 
   -- the updates as 9 to 14 see them
   abbrev pub announced : List L.Update → List Announced
   announced us = map (λ (u : L.Update). record { offset = L.offset u; shape = L.sent u }) us
 
-  -- refusals 1 to 14 of a push
+  -- 1 to 8, and 9 to 14 with these updates
+  abbrev pub found_with : List L.Update → State L → Args → Found
+  found_with us r a =
+      early L r a
+      then later (announced us) a.objects a.codes a.samples a.rate r.rate (L.shape r.meta)
+
+  -- refusals 1 to 14 of a push, and R-12's: "25 when more would wait, after 8"
   abbrev pub found : State L → Args → Found
   found r a =
       early L r a
-      then later (announced (L.updates a.meta)) a.objects a.codes a.samples a.rate r.rate (L.shape r.meta)
+      then unless (L.fits r.clock.position a.samples r.waits a.meta) 25 0 0
+      then later (announced (updates_in r a)) a.objects a.codes a.samples a.rate r.rate (L.shape r.meta)
 
   pub record Result : Type 0 where
     pub answer : Answer
@@ -101,9 +115,17 @@ module _ (L : Leaves) where
   abbrev pub answered : After L → Answer
   answered d = rendered d.given (call_meters d.meters)
 
+  abbrev pub with_waits : L.Waits → State L → State L
+  with_waits ws r =
+      record { setup = r.setup; rate = r.rate; clock = r.clock; limiter = r.limiter; filter = r.filter; meta = r.meta; pending = r.pending; waits = ws }
+
+  -- R-12: what waits after an accepted push
+  abbrev pub ahead_after : State L → Args → L.Waits
+  ahead_after r a = L.settle r.clock.position a.samples r.waits a.meta
+
   abbrev pub asked : Found → Args → State L → Result
   asked (stop n a b) args r = record { answer = refused n a b; next = r; moments = [] }
-  asked clear args r = let d = pushed L (frame_of args) r in record { answer = answered d; next = d.next; moments = d.moments }
+  asked clear args r = let d = pushed L (frame_of r args) r in record { answer = answered d; next = with_waits (ahead_after r args) d.next; moments = d.moments }
 
   -- "Flush checks 1 first, and with nothing pending says none"
   abbrev pub drained : Bool → Bool → State L → Result
@@ -122,7 +144,7 @@ module _ (L : Leaves) where
 
   -- the renderer with another timed state
   abbrev pub with_meta : L.Meta → State L → State L
-  with_meta m r = record { setup = r.setup; rate = r.rate; clock = r.clock; limiter = r.limiter; filter = r.filter; meta = m; pending = r.pending }
+  with_meta m r = record { setup = r.setup; rate = r.rate; clock = r.clock; limiter = r.limiter; filter = r.filter; meta = m; pending = r.pending; waits = r.waits }
 
   -- "A second hold, or a release without one, changes nothing": where `known`, what is asked for has been asked for
   abbrev pub marking : Bool → Bool → Bool → ℕ → State L → Result

@@ -36,11 +36,17 @@ pub record Leaves : Type 1 where
   pub beds : Meta → List Bed
   pub objects : Meta → List Source
   pub shape : Meta → Shape
-  -- the sample offset of an update, and its shape
+  -- the sample offset of an update in its frame, `never` where it only waits; its shape
   pub offset : Update → ℕ
   pub sent : Update → Shape
-  -- the updates of metadata bytes, in the order sent
-  pub updates : List ℕ → List Update
+  -- R-12: the updates that wait, and none
+  pub Waits : Type 0
+  pub no_waits : Waits
+  -- the updates of a frame that begins at a stream position and has so many samples: those that wait, in their order, then those of metadata bytes, in the order sent
+  pub updates : ℕ → ℕ → Waits → List ℕ → List Update
+  -- whether as few wait after such a frame as may, and what waits then
+  pub fits : ℕ → ℕ → Waits → List ℕ → Bool
+  pub settle : ℕ → ℕ → Waits → List ℕ → Waits
   -- no refusal 5, and no refusal 6, for metadata bytes
   pub laid_out : List ℕ → Bool
   pub in_range : List ℕ → Bool

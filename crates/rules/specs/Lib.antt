@@ -16,6 +16,7 @@ pub mod Ringing
 pub mod BlockCalls
 pub mod Demand3
 pub mod Held
+pub mod Ahead
 pub mod Absent
 pub mod Returning
 pub mod OtherSlots

@@ -20,7 +20,11 @@ with_slot L s =
       shape = L.shape;
       offset = L.offset;
       sent = L.sent;
+      Waits = L.Waits;
+      no_waits = L.no_waits;
       updates = L.updates;
+      fits = L.fits;
+      settle = L.settle;
       laid_out = L.laid_out;
       in_range = L.in_range;
     }

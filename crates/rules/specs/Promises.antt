@@ -1,5 +1,5 @@
 -- What each call promises on the renderer that it finds: a push that was accepted, a flush, a reset, a making call, a hold or a release, a search. Assumes nothing.
-use Rattle.std.specs.Prelude.{ℕ, suc, ◌+◌, ◌*◌, ◌%◌, ◌≤◌, ◌<◌, ◌≡◌, Bool, true, false, cond, not, ◌||◌, List, [], ◌∷◌, T, leb, length, get_or, drop, Some}
+use Rattle.std.specs.Prelude.{ℕ, suc, ◌+◌, ◌*◌, ◌%◌, ◌≤◌, ◌<◌, ◌≡◌, ◌⊎◌, Bool, true, false, cond, not, ◌||◌, List, [], ◌∷◌, T, leb, length, get_or, drop, Some}
 use Rattle.std.specs.Float.{binary32}
 use Rattle.std.specs.Float.Ieee.{eq, to_bits}
 use Rattle.words.specs.Words.{Bytes}
@@ -18,9 +18,9 @@ use Rattle.rules.specs.Parts.{0·0}
 use Rattle.rules.specs.Leaves.{Leaves, Source, Bed, started}
 use Rattle.rules.specs.Mix.{object_terms, send_of, object_adds, adds_of, sample_at, samples_at, fed, fed_by_beds}
 use Rattle.rules.specs.Samples.{State, fresh, limited, metered, gain_after, slotted, pushed, waiting}
-use Rattle.rules.specs.Refusals.{Args, clear, stop, room}
+use Rattle.rules.specs.Refusals.{Args, clear, stop, room, early, never}
 use Rattle.rules.specs.Making.{table_found, hall_of}
-use Rattle.rules.specs.Calls.{Call, push, flush, reset, make, make_with, mark, find, refused, rendered, nothing, cleared, marked, place, given, frame_of, found, answered, Result, step}
+use Rattle.rules.specs.Calls.{Call, push, flush, reset, make, make_with, mark, find, refused, rendered, nothing, cleared, marked, place, given, updates_in, frame_of, found, answered, with_waits, ahead_after, Result, step}
 use Rattle.finding.specs.Search.{search}
 use Rattle.rules.specs.Order.{at_offset}
 use Rattle.rules.specs.Sounds.{gain_before, limited_blocks, blocks_metered, AllMetered, applied_all, before, met, moment_at, sound_at, unlimited, whole}
@@ -98,12 +98,12 @@ module _ (L : Leaves) where
   up_to t (u ∷ us) = leb (L.offset u) t || up_to t us
 
   abbrev pub begun : State L → Args → ℕ → Bool
-  begun r a t = started L r.meta || up_to t (L.updates a.meta)
+  begun r a t = started L r.meta || up_to t (updates_in L r a)
 
   -- ---- sample t
   pub record AtSample (r : State L) (a : Args) (t : ℕ) : Type 0 where
-    -- it finds the updates at t applied in the order sent, and a slot begun where one begins
-    pub finds : met L r a t ≡ slotted L (applied_all L t (at_offset L.offset t (L.updates a.meta)) (before L r a t))
+    -- it finds the updates at t applied, those that waited and then the push's own (R-12), in the order sent, and a slot begun where one begins
+    pub finds : met L r a t ≡ slotted L (applied_all L t (at_offset L.offset t (updates_in L r a)) (before L r a t))
     -- it is heard in the renderer's hall
     pub hall : (moment_at L r a t).hall ≡ r.setup
     -- it is heard with the beds and objects of the timed state, "silent samples pan no object", and with its own samples of the PCM
@@ -132,45 +132,56 @@ module _ (L : Leaves) where
   pub record Holding (r : State L) (a : Args) (d : ℕ) : Type 0 where
     -- where there were as many before: what is asked for lasts, and an object with a hold asked for is heard where it stood and stays there; whether the hold was in effect before
     -- plays no part, since before the next slot no object moves
-    pub numbered : (L.shape r.meta).objects ≡ a.objects → Numbered r d → Numbered (pushed L (frame_of L a) r).next d
-    pub lasts : (L.shape r.meta).objects ≡ a.objects → L.wants d (pushed L (frame_of L a) r).next.meta ≡ L.wants d r.meta
+    pub numbered : (L.shape r.meta).objects ≡ a.objects → Numbered r d → Numbered (pushed L (frame_of L r a) r).next d
+    pub lasts : (L.shape r.meta).objects ≡ a.objects → L.wants d (pushed L (frame_of L r a) r).next.meta ≡ L.wants d r.meta
     pub heard : (L.shape r.meta).objects ≡ a.objects → L.wants d r.meta ≡ true → (t : ℕ) → t < a.samples → begun r a t ≡ true
         → (object_heard r a t d).place ≡ (object_in r.meta d).place
     pub stays : (L.shape r.meta).objects ≡ a.objects → L.wants d r.meta ≡ true
-        → (object_in (pushed L (frame_of L a) r).next.meta d).place ≡ (object_in r.meta d).place
+        → (object_in (pushed L (frame_of L r a) r).next.meta d).place ≡ (object_in r.meta d).place
     -- "A change in the number of objects .. end[s] all holds": the first update of another number does
-    pub ended : ((L.shape r.meta).objects ≡ a.objects → ⊥) → (t : ℕ) → t < a.samples → T (up_to t (L.updates a.meta))
-        → L.wants d (pushed L (frame_of L a) r).next.meta ≡ false
+    pub ended : ((L.shape r.meta).objects ≡ a.objects → ⊥) → (t : ℕ) → t < a.samples → T (up_to t (updates_in L r a))
+        → L.wants d (pushed L (frame_of L r a) r).next.meta ≡ false
 
   -- ---- a call that is refused: "State and lent memory stay as before the call"
   pub record Refuses (r : State L) (n x y : ℕ) (s : Result L) : Type 0 where
     pub answer : s.answer ≡ refused n x y
     pub next : s.next ≡ r
 
+  -- R-12: what a push is refused for where updates wait
+  pub record AheadRefused (r : State L) (a : Args) (x : Result L) : Type 0 where
+    -- "25 when more would wait, after 8": whatever 9 to 14 say
+    pub earlier : (n y z : ℕ) → early L r a ≡ stop n y z → Refuses r n y z x
+    pub many : early L r a ≡ clear → L.fits r.clock.position a.samples r.waits a.meta ≡ false → Refuses r 25 0 0 x
+    -- "For 10, an update that only waits doesn't count"
+    pub silent : early L r a ≡ clear → L.fits r.clock.position a.samples r.waits a.meta ≡ true → (r.rate ≡ 0) ⊎ (r.rate ≡ a.rate) → started L r.meta ≡ false
+        → All (λ (u : L.Update). L.offset u ≡ never) (updates_in L r a) → Refuses r 10 0 0 x
+
   -- ---- a push that is not
   pub record PushHolds (r : State L) (a : Args) : Type 0 where
     -- it answers with what it gives out
-    pub answer : (step L r (push a)).answer ≡ answered L (pushed L (frame_of L a) r)
-    pub next : (step L r (push a)).next ≡ (pushed L (frame_of L a) r).next
+    pub answer : (step L r (push a)).answer ≡ answered L (pushed L (frame_of L r a) r)
+    pub next : (step L r (push a)).next ≡ with_waits L (ahead_after L r a) (pushed L (frame_of L r a) r).next
+    -- R-12: what waits is settled at its end, once; no sample of it touches what waits
+    pub ahead : (pushed L (frame_of L r a) r).next.waits ≡ r.waits
     -- in the same hall
-    pub setup : (pushed L (frame_of L a) r).next.setup ≡ r.setup
+    pub setup : (pushed L (frame_of L r a) r).next.setup ≡ r.setup
     -- whole blocks are ready on each channel that is there and the remainder waits; the stream has moved by the push's samples, at the push's rate
-    pub ready : (c : ℕ) → c < 12 → length ((pushed L (frame_of L a) r).given c) ≡ count_on r.setup (64 * whole L r a) c
-    pub waits : (pushed L (frame_of L a) r).next.pending.count ≡ (r.pending.count + a.samples) % 64
-    pub position : (pushed L (frame_of L a) r).next.clock.position ≡ r.clock.position + a.samples
-    pub rate : (pushed L (frame_of L a) r).next.rate ≡ a.rate
+    pub ready : (c : ℕ) → c < 12 → length ((pushed L (frame_of L r a) r).given c) ≡ count_on r.setup (64 * whole L r a) c
+    pub waits : (pushed L (frame_of L r a) r).next.pending.count ≡ (r.pending.count + a.samples) % 64
+    pub position : (pushed L (frame_of L r a) r).next.clock.position ≡ r.clock.position + a.samples
+    pub rate : (pushed L (frame_of L r a) r).next.rate ≡ a.rate
     -- every block is limited by the gain that it meets, and what waits is what no whole block took
-    pub gives : (c : ℕ) → c < 12 → (pushed L (frame_of L a) r).given c ≡ limited_blocks a.rate r.limiter.gain (unlimited L r a) (whole L r a) c
-    pub gain : (pushed L (frame_of L a) r).next.limiter.gain ≡ gain_before a.rate r.limiter.gain (unlimited L r a) (whole L r a)
+    pub gives : (c : ℕ) → c < 12 → (pushed L (frame_of L r a) r).given c ≡ limited_blocks a.rate r.limiter.gain (unlimited L r a) (whole L r a) c
+    pub gain : (pushed L (frame_of L r a) r).next.limiter.gain ≡ gain_before a.rate r.limiter.gain (unlimited L r a) (whole L r a)
     -- R-2: a block's meters are its peak and the gain that it was scaled by; no sample is larger than those of its own block say
-    pub meters : (pushed L (frame_of L a) r).meters ≡ blocks_metered a.rate r.limiter.gain (unlimited L r a) (whole L r a)
-    pub within : AllMetered (pushed L (frame_of L a) r).meters (pushed L (frame_of L a) r).given
-    pub rest : (c : ℕ) → c < 12 → waiting L (pushed L (frame_of L a) r).next c ≡ drop (64 * whole L r a) (unlimited L r a c)
+    pub meters : (pushed L (frame_of L r a) r).meters ≡ blocks_metered a.rate r.limiter.gain (unlimited L r a) (whole L r a)
+    pub within : AllMetered (pushed L (frame_of L r a) r).meters (pushed L (frame_of L r a) r).given
+    pub rest : (c : ℕ) → c < 12 → waiting L (pushed L (frame_of L r a) r).next c ≡ drop (64 * whole L r a) (unlimited L r a c)
     -- a moment for each sample
-    pub moments : length (pushed L (frame_of L a) r).moments ≡ a.samples
+    pub moments : length (pushed L (frame_of L r a) r).moments ≡ a.samples
     pub samples : (t : ℕ) → t < a.samples → AtSample r a t
     -- R-11: "the last applied update's count" is the push's, and what is held stays where it is
-    pub numbers : 0 < a.samples → started L (pushed L (frame_of L a) r).next.meta ≡ true → (L.shape (pushed L (frame_of L a) r).next.meta).objects ≡ a.objects
+    pub numbers : 0 < a.samples → started L (pushed L (frame_of L r a) r).next.meta ≡ true → (L.shape (pushed L (frame_of L r a) r).next.meta).objects ≡ a.objects
     pub holds : (d : ℕ) → d < a.objects → Holding r a d
     -- R-3, the bass feed: "it gets nothing from an object whose gain or send is zero, whatever its size": with its row of the PCM replaced by any that refusal 8 lets pass, the
     -- push is accepted and the same number is fed
@@ -198,6 +209,7 @@ module _ (L : Leaves) where
     pub filter : s.filter ≡ r.filter
     pub meta : s.meta ≡ r.meta
     pub places : s.pending.places ≡ r.pending.places
+    pub waits : s.waits ≡ r.waits
 
   -- "with nothing pending says none"; "Flush treats the remainder as one shorter block": as many samples as were pending on each channel that is there, and nothing is pending
   -- after
@@ -209,17 +221,19 @@ module _ (L : Leaves) where
     pub gain : 0 < r.pending.count → x.next.limiter.gain ≡ gain_after r.pending.count r.rate r.limiter.gain (waiting L r)
     pub untouched : 0 < r.pending.count → Drained r x.next
 
-  -- R-11: reset ends all holds
+  -- R-11: reset ends all holds; R-12: "reset empties" what waits
   pub record ResetHolds (r : State L) (x : Result L) : Type 0 where
     pub answer : x.answer ≡ cleared
     pub next : x.next ≡ fresh L r.setup
     pub freed : (d : ℕ) → L.wants d x.next.meta ≡ false
+    pub empty : x.next.waits ≡ L.no_waits
 
   -- R-5: a new renderer in that hall, whatever renderer it was
   pub record MakeHolds (h : Setup) (x : Result L) : Type 0 where
     pub answer : x.answer ≡ cleared
     pub next : x.next ≡ fresh L h
     pub freed : (d : ℕ) → L.wants d x.next.meta ≡ false
+    pub empty : x.next.waits ≡ L.no_waits
 
   -- s is r but for what is asked for of object d: w
   pub record Asks (w : Bool) (d : ℕ) (r s : State L) : Type 0 where
@@ -229,6 +243,7 @@ module _ (L : Leaves) where
     pub limiter : s.limiter ≡ r.limiter
     pub filter : s.filter ≡ r.filter
     pub pending : s.pending ≡ r.pending
+    pub waits : s.waits ≡ r.waits
     pub meta : s.meta ≡ L.want w d r.meta
     pub asked : L.wants d s.meta ≡ w
     pub others : (k : ℕ) → (k ≡ d → ⊥) → L.wants k s.meta ≡ L.wants k r.meta
@@ -254,7 +269,7 @@ module _ (L : Leaves) where
     pub silent : x.moments ≡ []
 
   abbrev pub CallHolds : State L → Call → Type 0
-  CallHolds r (push a) = ((n x y : ℕ) → found L r a ≡ stop n x y → Refuses r n x y (step L r (push a))) × (found L r a ≡ clear → PushHolds r a)
+  CallHolds r (push a) = ((n x y : ℕ) → found L r a ≡ stop n x y → Refuses r n x y (step L r (push a))) × (found L r a ≡ clear → PushHolds r a) × AheadRefused r a (step L r (push a))
   CallHolds r (flush out stride) =
       (room stride (length out) ≡ false → Refuses r 1 0 0 (step L r (flush out stride))) × (room stride (length out) ≡ true → FlushHolds r (step L r (flush out stride)))
   CallHolds r reset = ResetHolds r (step L r reset)

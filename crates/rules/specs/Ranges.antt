@@ -32,7 +32,7 @@ pub record HallRanged (h : Setup) : Type 0 where
   pub words : Words h.table
   pub right : table_right h.table ≡ true
 
--- `Within n m`: the timed state m lies in its ranges at the stream position n
+-- `Within n m`: the timed state m lies in its ranges at the stream position n. Each sample of a push keeps these.
 pub record Ranged (L : Leaves) (Within : ℕ → L.Meta → Type 0) (r : State L) : Type 0 where
   pub setup : HallRanged r.setup
   pub rate : (r.rate ≡ 0) ⊎ (listed r.rate ≡ true)
@@ -48,3 +48,8 @@ pub record Ranged (L : Leaves) (Within : ℕ → L.Meta → Type 0) (r : State L
   pub long : (c : ℕ) → c < 12 → length (r.pending.places c) ≡ 64
   pub words : (c : ℕ) → Words (r.pending.places c)
   pub none : (c : ℕ) → 12 ≤ c → r.pending.places c ≡ []
+
+-- between calls, what waits (R-12) too lies in its ranges there: `Ahead n ws`, at the stream position n
+pub record AllRanged (L : Leaves) (Within : ℕ → L.Meta → Type 0) (Ahead : ℕ → L.Waits → Type 0) (r : State L) : Type 0 where
+  pub renderer : Ranged L Within r
+  pub ahead : Ahead r.clock.position r.waits

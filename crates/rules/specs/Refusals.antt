@@ -78,6 +78,10 @@ abbrev pub beds_found : List ℕ → List ℕ → List ℕ → Found
 beds_found beds codes [] = clear
 beds_found beds codes (c ∷ cs) = bed_found beds codes c then beds_found beds codes cs
 
+-- past every frame: the offset of an update that only waits
+abbrev pub never : ℕ
+never = 4294967295
+
 -- an update as the walk over time sees it
 pub record Announced : Type 0 where
   pub offset : ℕ
@@ -105,9 +109,10 @@ module _ (us : List Announced) (objects : ℕ) (codes : List ℕ) where
   walk zero t s = clear
   walk (suc n) t s = counts_at t us then (mixes (shape_at t us s) then walk n (suc t) (shape_at t us s))
 
+  -- R-12: "For 10, an update that only waits doesn't count; one that falls in the frame does"
   abbrev pub none_sent : List Announced → Bool
   none_sent [] = true
-  none_sent (u ∷ vs) = false
+  none_sent (u ∷ vs) = eqb u.offset never && none_sent vs
 
   -- "After 8: 9, 10, 11 for updates at offset 0, 12, 11 for the present state, then 11, 13, 14 as they arise in time": n samples at a rate, the state's rate and shape
   abbrev pub later : ℕ → ℕ → ℕ → Shape → Found

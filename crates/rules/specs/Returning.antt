@@ -38,7 +38,7 @@ module _ (L : Leaves) where
   -- the peaks of the blocks of 64 that a push completes; none where it is refused
   abbrev pub pushes_blocks : Found → State L → Args → List Float
   pushes_blocks (stop n x y) r a = []
-  pushes_blocks clear r a = peaks (pushed L (frame_of L a) r).meters
+  pushes_blocks clear r a = peaks (pushed L (frame_of L r a) r).meters
 
   abbrev pub completed : State L → Call → List Float
   completed r (push a) = pushes_blocks (found L r a) r a

@@ -54,7 +54,7 @@ emptied whole p = record { count = cond whole 0 p.count; places = p.places }
 
 -- ---- the renderer
 
-pub record Renderer (M : Type 0) : Type 0 where
+pub record Renderer (M W : Type 0) : Type 0 where
   -- the hall that it renders for: every call but an accepted making call keeps it
   pub setup : Setup
   -- 0: none yet
@@ -64,6 +64,8 @@ pub record Renderer (M : Type 0) : Type 0 where
   pub filter : BiquadLowpassState
   pub meta : M
   pub pending : Pending
+  -- updates that lie ahead: an accepted push alone changes them, at its end
+  pub waits : W
 
 -- no rate yet: no coefficients and nothing fed
 abbrev pub idle : BiquadLowpassState
@@ -91,7 +93,7 @@ row m low c = cond (eqb c 3) (output low (fed m) ∷ []) (heard m c ∷ [])
 
 module _ (L : Leaves) where
   abbrev pub State : Type 0
-  State = Renderer L.Meta
+  State = Renderer L.Meta L.Waits
 
   -- a new renderer for the hall h
   abbrev pub fresh : Setup → State
@@ -104,6 +106,7 @@ module _ (L : Leaves) where
         filter = idle;
         meta = L.blank;
         pending = record { count = 0; places = zeros };
+        waits = L.no_waits;
       }
 
   -- ---- updates and slots
@@ -119,6 +122,7 @@ module _ (L : Leaves) where
         filter = r.filter;
         meta = L.apply r.clock.position u r.meta;
         pending = r.pending;
+        waits = r.waits;
       }
 
   -- "Updates are taken in stable order of sample offset": those whose offset is t, in the order sent. One at or past the frame's end is never reached.
@@ -137,6 +141,7 @@ module _ (L : Leaves) where
         filter = r.filter;
         meta = cond (started L r.meta && eqb r.clock.phase 0) (L.slot r.clock.start r.meta) r.meta;
         pending = r.pending;
+        waits = r.waits;
       }
 
   -- ---- one sample
@@ -171,6 +176,7 @@ module _ (L : Leaves) where
         filter = low;
         meta = r.meta;
         pending = appended n xs r.pending;
+        waits = r.waits;
       }
 
   -- "A block of 64 .. scale; then g grows by length / rate, at most 1": a whole block is given out
@@ -187,6 +193,7 @@ module _ (L : Leaves) where
           filter = r.filter;
           meta = r.meta;
           pending = emptied whole r.pending;
+          waits = r.waits;
         };
         given = cond whole (limited r.limiter.gain block) none;
         meters = cond whole (metered r.limiter.gain block) [];
@@ -222,6 +229,7 @@ module _ (L : Leaves) where
         filter = cond first (new rate) r.filter;
         meta = r.meta;
         pending = r.pending;
+        waits = r.waits;
       }
 
   unfoldable pub pushed : Frame L.Update → State → After
@@ -243,6 +251,7 @@ module _ (L : Leaves) where
           filter = r.filter;
           meta = r.meta;
           pending = emptied true r.pending;
+          waits = r.waits;
         };
         given = limited r.limiter.gain (waiting r);
         meters = metered r.limiter.gain (waiting r);

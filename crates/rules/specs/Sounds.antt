@@ -10,7 +10,7 @@ use Rattle.rules.specs.Leaves.{Leaves}
 use Rattle.rules.specs.Mix.{Moment, heard, fed}
 use Rattle.rules.specs.Samples.{State, sounding, limited, metered, gain_after, applied_at, updated, slotted, framed, opened, pushed, waiting}
 use Rattle.rules.specs.Refusals.{Args}
-use Rattle.rules.specs.Calls.{frame_of}
+use Rattle.rules.specs.Calls.{updates_in, frame_of}
 
 -- ---- blocks of 64 samples, one behind the other
 
@@ -52,14 +52,14 @@ silent h = record { hall = h; beds = []; objects = []; codes = []; inputs = λ i
 module _ (L : Leaves) (r : State L) (a : Args) where
   -- before sample t; and what sample t finds: the updates at t applied, a slot begun where one begins
   abbrev pub before : ℕ → State L
-  before t = (framed L (frame_of L a) t 0 (opened L a.rate r)).next
+  before t = (framed L (frame_of L r a) t 0 (opened L a.rate r)).next
 
   abbrev pub met : ℕ → State L
-  met t = slotted L (updated L t (L.updates a.meta) (before t))
+  met t = slotted L (updated L t (updates_in L r a) (before t))
 
   -- what is heard at sample t
   abbrev pub moment_at : ℕ → Moment
-  moment_at t = get_or (pushed L (frame_of L a) r).moments t (silent r.setup)
+  moment_at t = get_or (pushed L (frame_of L r a) r).moments t (silent r.setup)
 
   -- channel c at sample t, before the limiter: the sum, on channel 3 the low-pass's output
   abbrev pub sound_at : ℕ → ℕ → Float

@@ -18,6 +18,7 @@ use Rattle.formats.specs.Format.{all_at, gets, u8_to}
 use Rattle.formats.specs.Lawful.{Same}
 use Rattle.formats.proofs.Theorems.{word_of_run, word_of_bytes}
 use Rattle.formats.proofs.Theorems.{most, all_same, all_both, all_any, and_true, and_false}
+use Rattle.store.specs.declared.renderer.Renderer714.{Renderer714}
 use Rattle.store.specs.Fields.{longest, source_format, block_format, track_format, element_format, tables_format, small_format, small_of}
 use Rattle.store.specs.FieldPlaces.{phase_at, position_at, start_at, pending_at, objects_at, isf_at, beds_at, in_use_at}
 use Rattle.store.specs.FieldPlaces.{tables_at, gains_at, sources_at, marks_in, flags_in, remaining_in, first_at, second_at}
@@ -102,6 +103,10 @@ module _ (b : List ℕ) (h : length b ≡ size) where
   pub small_in_block : small_of (in_words b) ≡ small_of (words_at b 0 small_width)
   unfolding small_of
   small_in_block = lawful_small.beside (in_words b) 0 (words_at b 0 small_width) 0 words_same
+
+  pub position_in_block : long_of (in_words b) position_at ≡ (small_of (words_at b 0 small_width)).clock.position.0
+  unfolding small_of
+  position_in_block = ap (λ (s : Renderer714). s.clock.position.0) small_in_block
 
   valid_in_block : small_valid (in_words b) ≡ small_valid (words_at b 0 small_width)
   unfolding small_valid

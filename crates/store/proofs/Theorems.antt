@@ -1,7 +1,7 @@
 -- What others may cite of this crate, a line each. Assumes nothing.
 
 -- a renderer in range is read back from its block, which is of the block's size, bytes, and valid
-pub use Rattle.store.proofs.Whole.{decode_encode, encode_long, encode_bytes}
+pub use Rattle.store.proofs.Whole.{decode_encode, encode_long, encode_bytes, bytes_append}
 pub use Rattle.store.proofs.Valid.{valid_encode, hall_encode}
 -- a block of bytes is valid exactly if it has the right length and its parts pass the tests of their formats
 pub use Rattle.store.proofs.ValidByFormats.{valid_by_formats}

@@ -18,7 +18,7 @@ use Rattle.store.specs.Ranged.{BlockRanged}
 use Rattle.store.proofs.SmallPartBack.{lawful_small_part}
 use Rattle.store.proofs.Whole.{small_full, words_back, infos_back, setup_back, encode_long}
 
-module _ (r : Renderer Timed) (h : BlockRanged r) where
+module _ (r : Renderer Timed (List ℕ)) (h : BlockRanged r) where
   small_valid_is : T (small_valid (small_words (small r)))
   unfolding small_valid small_words
   small_valid_is = passes small_part lawful_small_part (small r) (small_full r h) (small_words (small r)) 0 (stands_all (small_words (small r)))

@@ -79,7 +79,7 @@ idle_test rate pending h = by (eqb rate 0) refl
     by true e = rw (h (eqb→eq rate 0 (subst T (sym e) tt))) (eqb_refl 0)
     by false e = tt
 
-related_full : (r : Renderer Timed) → BlockRanged r → T (related (small r))
+related_full : (r : Renderer Timed (List ℕ)) → BlockRanged r → T (related (small r))
 related_full r h =
     let w = h.state.within in
     let m = r.meta.state in
@@ -96,7 +96,7 @@ related_full r h =
     (and_in (counts_in m.objects m.isf m.beds) (element_related (small r) 0 && element_related (small r) 1) n
     (and_in (element_related (small r) 0) (element_related (small r) 1) (e 0 (lit< tt)) (e 1 (lit< tt))))
 
-pub small_full : (r : Renderer Timed) → BlockRanged r → SmallFull (small r)
+pub small_full : (r : Renderer Timed (List ℕ)) → BlockRanged r → SmallFull (small r)
 small_full r h =
     let p = h.position in
     let s = h.start in (
@@ -138,7 +138,7 @@ module _ (p : Places) (h : PlacesRanged p) where
 
 -- ---- the block
 
-module _ (r : Renderer Timed) (h : BlockRanged r) where
+module _ (r : Renderer Timed (List ℕ)) (h : BlockRanged r) where
   abbrev W : List ℕ
   W = small_words (small r)
 
@@ -209,7 +209,8 @@ module _ (r : Renderer Timed) (h : BlockRanged r) where
           ∙ rows_back r.pending.places h.places row_count 0 c L (lit≤ tt) l ∙ ap r.pending.places (zero-add c)
       by false e = let l = ltb-false c row_count e in no_places (encode r) c l ∙ sym (h.places.none c l)
 
-  pub decode_encode : decode (encode r) ≡ r
+  -- but for what waits, which stands behind this block
+  pub decode_encode : decode (encode r) ≡ assembled (small r) r.meta.infos r.pending.places r.setup
   unfolding decode
   decode_encode =
       λ i. assembled ((ap small_of words_back ∙ small_back (small r) (small_full r h)) i) (infos_back i) (λ c. place_back c i) (setup_back i)
@@ -224,12 +225,12 @@ module _ (r : Renderer Timed) (h : BlockRanged r) where
 
 -- ---- bytes
 
-bytes_append : (a b : List ℕ) → Bytes a → Bytes b → Bytes (a ++ b)
+pub bytes_append : (a b : List ℕ) → Bytes a → Bytes b → Bytes (a ++ b)
 bytes_append [] b p q i = q i
 bytes_append (x ∷ a) b p q zero = p 0
 bytes_append (x ∷ a) b p q (suc i) = bytes_append a b (λ j. p (suc j)) q i
 
-pub encode_bytes : (r : Renderer Timed) → Bytes r.meta.infos → Bytes (encode r)
+pub encode_bytes : (r : Renderer Timed (List ℕ)) → Bytes r.meta.infos → Bytes (encode r)
 unfolding encode place_bytes setup_bytes
 encode_bytes r h =
     let p = place_bytes r.pending.places in
@@ -241,7 +242,7 @@ encode_bytes r h =
 -- ---- a block that was saved
 
 -- the small part of r stored into a block that has r's infos, places and hall
-pub saved_encode : (b : List ℕ) (r : Renderer Timed) → length b ≡ size → length (small_words (small r)) ≡ small_width → infos_of b ≡ r.meta.infos
+pub saved_encode : (b : List ℕ) (r : Renderer Timed (List ℕ)) → length b ≡ size → length (small_words (small r)) ≡ small_width → infos_of b ≡ r.meta.infos
     → drop places_at b ≡ place_bytes r.pending.places ++ setup_bytes r.setup
     → with_words b 0 (small_words (small r)) ≡ encode r
 unfolding encode

@@ -17,11 +17,11 @@ pub use Rattle.store.specs.FieldPlaces.{small_width, infos_at, places_at, hall_a
 
 -- ---- a renderer's parts
 
-abbrev pub small : Renderer Timed → Renderer714
+abbrev pub small : Renderer Timed (List ℕ) → Renderer714
 small r = record { rate = r.rate; clock = clock_from r.clock; limiter = r.limiter; filter = r.filter; pending = r.pending.count; state = r.meta.state }
 
--- the small part, with infos, places and the hall
-abbrev pub assembled : Renderer714 → List ℕ → Places → Setup → Renderer Timed
+-- the small part, with infos, places and the hall; what waits stands behind this block, in the area of `waits`
+abbrev pub assembled : Renderer714 → List ℕ → Places → Setup → Renderer Timed (List ℕ)
 assembled s is ps h =
     record {
       setup = h;
@@ -31,6 +31,7 @@ assembled s is ps h =
       filter = s.filter;
       meta = record { state = s.state; infos = is };
       pending = record { count = s.pending; places = ps };
+      waits = [];
     }
 
 -- ---- from a block and to a block
@@ -52,7 +53,7 @@ table_in b = words_at b table_at table_count
 abbrev pub setup_in : List ℕ → Setup
 setup_in b = record { layout = layout_of b; table = table_in b }
 
-unfoldable pub decode : List ℕ → Renderer Timed
+unfoldable pub decode : List ℕ → Renderer Timed (List ℕ)
 unfolding small_of
 decode b = assembled (small_of (words_at b 0 small_width)) (infos_of b) (places_of b) (setup_in b)
 
@@ -72,7 +73,7 @@ unfoldable pub setup_bytes : Setup → List ℕ
 unfolding bytes_of
 setup_bytes h = bytes_of (setup_words h)
 
-unfoldable pub encode : Renderer Timed → List ℕ
+unfoldable pub encode : Renderer Timed (List ℕ) → List ℕ
 unfolding small_words bytes_of place_bytes setup_bytes
 encode r = bytes_of (small_words (small r)) ++ (r.meta.infos ++ (place_bytes r.pending.places ++ setup_bytes r.setup))
 
@@ -111,7 +112,7 @@ blank =
     }
 
 -- `fresh` of the rules, with `blank`; `encode_fresh` of proofs/Fresh: its block is what making and reset fill
-abbrev pub fresh_renderer : Setup → Renderer Timed
+abbrev pub fresh_renderer : Setup → Renderer Timed (List ℕ)
 fresh_renderer h =
     record {
       setup = h;
@@ -121,4 +122,5 @@ fresh_renderer h =
       filter = idle;
       meta = blank;
       pending = record { count = 0; places = zeros };
+      waits = [];
     }

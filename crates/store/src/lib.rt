@@ -11,6 +11,7 @@ ghost use Rattle.store.specs.ValidBlocks.{hall_valid};
 ghost use Rattle.store.specs.HallTables.{equal_below};
 ghost use Rattle.store.specs.FieldPlaces.{table_count};
 
+use clock::StreamSample;
 use formats::areas;
 use hall_table::{HallTable, TABLE_WORDS};
 use panning::Hall;
@@ -53,6 +54,13 @@ pub fn load(state: &Block) -> Renderer714
     ensures { result ≡ small_of (words_at state.now 0 small_width) }
 {
     read::small(state)
+}
+
+// The stream's sample that comes next.
+pub fn position(state: &Block) -> StreamSample
+    ensures { result.0 ≡ (small_of (words_at state.now 0 small_width)).clock.position.0 }
+{
+    StreamSample(formats::long(state, places::POSITION))
 }
 
 // The code of the hall's layout.

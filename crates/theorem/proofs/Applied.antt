@@ -1,4 +1,4 @@
--- An update that refusals 5 and 6 let pass keeps what `Sound` and `Within` say. Assumes nothing.
+-- An update that refusals 5 and 6 let pass keeps what `Sound` says, one in the block's ranges (R-12) what `Within` says. Assumes nothing.
 use Prim.Native.Nat.{ℕ, zero, suc, ◌+◌, ◌-◌, ◌*◌, ◌≤◌, ◌<◌}
 use mathlib.Core.Path.{◌≡◌, refl, sym, ◌∙◌, subst}
 use mathlib.Core.Bool.{Bool, true, not, cond}
@@ -16,7 +16,8 @@ use Rattle.vectors.specs.Vectors as vectors
 use Rattle.panning.specs.Choice.{0·0, 1·0}
 use Rattle.panning.specs.Table.{between, 8·0, Position}
 use Rattle.records.specs.Laid.{laid_out, count, update_at}
-use Rattle.records.specs.ValuesInRange.{in_range}
+use Rattle.records.specs.ValuesInRange.{in_range, all_fit}
+use Rattle.records.proofs.Theorems.{in_range_fits}
 use Rattle.timed.specs.Infos.{maybe_at}
 use Rattle.timed.specs.Objects.{no_source, no_track}
 use Rattle.timed.specs.State.{Timed, no_element, element_of}
@@ -39,7 +40,7 @@ use Rattle.timed.specs.InfoSizes.{info_bytes}
 use Rattle.theorem.specs.Instance.{Sent}
 use Rattle.theorem.proofs.Sound.{SourceSound, InfosSound, Sound, Within}
 use Rattle.theorem.proofs.InfosWritten.{Said, Table, Fit, objects_kept}
-use Rattle.theorem.proofs.Checked.{Checked, SoundSaid, RangedSaid, whole, codes, info_ranged, info_sound}
+use Rattle.theorem.proofs.Checked.{Checked, Shaped, SoundSaid, RangedSaid, whole, codes, info_ranged, info_sound}
 
 -- ---- the infos, in the forms of `Sound` and of `Within`
 
@@ -216,16 +217,16 @@ new_singles = record { gain = start_fits; size = zero_fits; place = origin_singl
 
 -- ---- the update
 
-module _ (m : List ℕ) (bytes : Bytes m) (laid : laid_out m ≡ true) (fit : in_range m ≡ true) (i : ℕ) (one : i < count m) where
+module _ (m : List ℕ) (bytes : Bytes m) (laid : laid_out m ≡ true) (fit : all_fit m ≡ true) (i : ℕ) (one : i < count m) where
   abbrev u : Update
   u = update_of m (update_at m i)
 
   w : WholeUpdate m (update_at m i)
   w = whole m bytes laid fit i one
 
-  sound_given : (n : ℕ) (t : Timed) → Sound t → Sound (applied n u t)
+  sound_given : in_range m ≡ true → (n : ℕ) (t : Timed) → Sound t → Sound (applied n u t)
   unfolding applied
-  sound_given n t h =
+  sound_given range n t h =
       let s = t.state in
       let es = states_kept (is_same s u) u Targets (λ e l kept x q. targets_next kept (u.objects - u.isf) (u.element e) x q) s.states t.infos
       (λ k l. record { tracks = h.tracks k l; targets = λ d q. h.targets k d l q }) in
@@ -243,7 +244,7 @@ module _ (m : List ℕ) (bytes : Bytes m) (laid : laid_out m ≡ true) (fit : in
         targets = λ e d l q. (es e l).targets d q;
         infos = table_sound _
             (infos_kept (is_same s u) u SoundSaid w.few_elements w.few_objects (λ e l. (w.each e l).given.few)
-            (λ bed e o b p q r. info_sound m bytes laid fit i one e o b p q r bed) s.states t.infos (sound_table t.infos h.infos));
+            (λ bed e o b p q r. info_sound m bytes laid fit i one e o b p q r range bed) s.states t.infos (sound_table t.infos h.infos));
       }
 
   within_given : (n : ℕ) (t : Timed) → n ≤ 1099511627776 → Within n t → Within n (applied n u t)
@@ -281,9 +282,8 @@ module _ (m : List ℕ) (bytes : Bytes m) (laid : laid_out m ≡ true) (fit : in
       }
 
 pub sound_apply : (n : ℕ) (u : Sent) (t : Timed) → Checked u → Sound t → Sound (applied n u.said t)
-sound_apply n u t c h = subst (λ (v : Sent). Sound (applied n v.said t)) (sym c.is) (sound_given c.meta c.bytes c.laid c.fit c.index c.there n t h)
+sound_apply n u t c h =
+    subst (λ (v : Update). Sound (applied n v t)) (sym c.is) (sound_given c.meta c.bytes c.laid (in_range_fits c.meta c.range) c.index c.there c.range n t h)
 
-pub within_apply : (n : ℕ) (u : Sent) (t : Timed) → n ≤ 1099511627776 → Checked u → Within n t → Within n (applied n u.said t)
-within_apply n u t l c h =
-    subst (λ (v : Sent). Within n (applied n v.said t)) (sym c.is)
-    (within_given c.meta c.bytes c.laid c.fit c.index c.there n t l h)
+pub within_apply : (n : ℕ) (u : Sent) (t : Timed) → n ≤ 1099511627776 → Shaped u → Within n t → Within n (applied n u.said t)
+within_apply n u t l c h = subst (λ (v : Update). Within n (applied n v t)) (sym c.is) (within_given c.meta c.bytes c.laid c.fit c.index c.there n t l h)

@@ -1,12 +1,11 @@
 -- The timed state before any update is sound and within its ranges. Assumes nothing.
-use Prim.Native.Nat.{ℕ, zero, suc, ◌+◌, ◌*◌, ◌^◌, ◌≤◌, ◌<◌}
-use mathlib.Core.Path.{◌≡◌, refl, sym, ap₂, ◌∙◌, subst}
+use Prim.Native.Nat.{ℕ, zero, ◌+◌, ◌*◌, ◌≤◌, ◌<◌}
+use mathlib.Core.Path.{◌≡◌, refl, sym, ◌∙◌, subst}
 use mathlib.Core.Bool.{false}
-use lib.Dec.{T, lit≤, lit<}
+use lib.Dec.{T, lit≤}
 use lib.ListN.{length, get_or, replicate, length-replicate, get_or-replicate}
 use lib.Ieee.{Float, nan, fits, binary32, le, of_bits}
-use native.Mathlib.Omega.{arith}
-use Rattle.words.specs.Words.{Bytes, number}
+use Rattle.words.specs.Words.{number}
 use Rattle.panning.specs.Choice.{0·0, 1·0}
 use Rattle.panning.specs.Table.{between, 8·0, Position}
 use Rattle.timed.specs.Objects.{no_source, no_track}
@@ -19,22 +18,10 @@ use Rattle.rules.proofs.Theorems.{right_hall}
 use Rattle.store.specs.Layout.{still, no_blocks, blank}
 use Rattle.store.proofs.Fresh.{fresh_ranged}
 use Rattle.timed.specs.InfoSizes.{info_bytes, all_bytes, send_byte}
+use Rattle.theorem.proofs.ZeroBytes.{zero_bytes, zero_number}
 use Rattle.theorem.proofs.Sound.{SourceSound, InfosSound, Sound, Within}
 use Rattle.theorem.proofs.Checked.{SoundSaid}
 use Rattle.theorem.proofs.Applied.{table_sound}
-
-same_at : (n i : ℕ) → ◌≡◌ {A = ℕ} (get_or (replicate n 0) i 0) 0
-same_at zero i = refl
-same_at (suc n) zero = refl
-same_at (suc n) (suc i) = same_at n i
-
-pub zero_bytes : (n : ℕ) → Bytes (replicate n 0)
-zero_bytes n i = subst (λ (x : ℕ). x < 256) (sym (same_at n i)) (lit< tt)
-
-zero_number : (n at k : ℕ) → number (replicate n 0) at k ≡ 0
-unfolding number
-zero_number n at zero = refl
-zero_number n at (suc k) = ap₂ (λ (x b : ℕ). x + b * 256 ^ k) (zero_number n at k) (same_at n (at + k)) ∙ omega arith
 
 nothing_said : (h g z d : ℕ) → h ≡ 0 → d ≡ 0 → SoundSaid h g z d
 unfolding between fits le of_bits

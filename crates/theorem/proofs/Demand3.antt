@@ -7,34 +7,44 @@ use lib.ListN.{length, replicate, length-replicate}
 use Rattle.words.specs.Words.{Bytes}
 use Rattle.panning.specs.Setup.{Setup, hall_with, table_right}
 use Rattle.rules.specs.Demand3.{Lent, AllLent, Demand3, EveryList, EveryLayout, EveryTable, BuiltInAlike, LeftAlone, FindAlike, Keeps}
-use Rattle.rules.proofs.Theorems.{Facts, Passed, fresh_ranged, pushed_ranged, flushed_ranged}
-use Rattle.rules.specs.Refusals.{Args}
+use Rattle.rules.proofs.Theorems.{Facts, Passed, pushed_ranged, flushed_ranged}
+use Rattle.rules.specs.Refusals.{Args, clear}
 use Rattle.rules.specs.Making.{table_words, hall_of}
 use Rattle.rules.specs.Samples.{State, fresh, pushed, flushed}
 use Rattle.rules.specs.Ranges.{HallRanged, Ranged}
 use Rattle.rules.specs.Held.{HeldStill}
-use Rattle.rules.specs.Calls.{Call, make, make_with, is_refused, frame_of, step}
+use Rattle.rules.specs.Calls.{Call, make, make_with, is_refused, frame_of, found, asked, step}
 use Rattle.rules.specs.BlockCalls.{made}
 use Rattle.rules.proofs.Theorems as rules
-use Rattle.rules.proofs.Keeps.{step_ranged}
+use Rattle.rules.proofs.Keeps.{fresh_all, asked_ranged, step_ranged}
 use Rattle.theorem.specs.Instance.{hall, block}
 use Rattle.theorem.specs.Halls.{MakesHall}
 use Rattle.theorem.proofs.Sound.{Sound, Within}
-use Rattle.theorem.proofs.Checked.{Checked, checked}
+use Rattle.theorem.proofs.AheadRanges.{Ahead, Kept, ahead_none, kept_none}
+use Rattle.theorem.proofs.AheadSettled.{ahead_settle, kept_settle}
+use Rattle.theorem.proofs.Checked.{Checked, Shaped, checked, shaped}
 use Rattle.theorem.proofs.Applied.{sound_apply, within_apply}
 use Rattle.theorem.proofs.TimedShapes.{mixable, shape_apply, shape_slot, shape_objects, shape_beds}
 use Rattle.theorem.proofs.SlotSound.{sound_slot}
 use Rattle.theorem.proofs.SlotWithin.{within_slot}
 use Rattle.theorem.proofs.Wanting.{sound_want, within_want, shape_want, beds_want, objects_want, wants_want, want_back, wants_other, wants_blank, wants_slot, held_slot, wants_apply, objects_apply, ends_apply}
 use Rattle.theorem.proofs.Blank.{sound_blank, within_blank, within_later}
-use Rattle.theorem.proofs.BlockRanges.{setup_of, size_of, valid_of, hall_valid_of, back_of, decoded_of}
+use Rattle.theorem.proofs.BlockRanges.{AllRanged, setup_of, size_of, valid_of, hall_valid_of, back_of, decoded_of}
 
 -- what the rules take from the crates `timed`, `updates`, `records` and `store`
 unfoldable pub facts : Facts hall block
 facts =
     record {
+      Ahead = Ahead;
+      Kept = Kept;
+      ahead_none = ahead_none;
+      kept_none = kept_none;
+      ahead_settle = ahead_settle;
+      kept_settle = kept_settle;
       Checked = Checked;
       checked = checked;
+      Shaped = Shaped;
+      shaped = shaped;
       Sound = Sound;
       sound_blank = sound_blank;
       sound_apply = sound_apply;
@@ -124,17 +134,23 @@ pub find_alike : FindAlike hall block
 find_alike = rules.find_alike hall block
 
 -- the same of the renderers between blocks
-pub stepped_within : (r : State hall) (c : Call) → Lent c → Ranged hall Within r → Ranged hall Within (step hall r c).next
+pub stepped_within : (r : State hall) (c : Call) → Lent c → AllRanged r → AllRanged (step hall r c).next
 unfolding facts
 stepped_within = step_ranged hall block facts
 
-pub fresh_within : (h : Setup) → HallRanged h → Ranged hall Within (fresh hall h)
+pub fresh_within : (h : Setup) → HallRanged h → AllRanged (fresh hall h)
 unfolding facts
-fresh_within = fresh_ranged hall block facts
+fresh_within = fresh_all hall block facts
 
-pub pushed_within : (r : State hall) (a : Args) → Bytes a.meta → Passed hall r a → Ranged hall Within r → Ranged hall Within (pushed hall (frame_of hall a) r).next
+-- an accepted push needs its metadata alone to be bytes
+pub accepted_within : (r : State hall) (a : Args) → Bytes a.meta → found hall r a ≡ clear → AllRanged r → AllRanged (asked hall clear a r).next
 unfolding facts
-pushed_within = pushed_ranged hall block facts
+accepted_within r a h e g = asked_ranged hall block facts r a h clear e g
+
+-- within a push, before what waits is settled; and a flush
+pub pushed_within : (r : State hall) (a : Args) → Bytes a.meta → Passed hall r a → AllRanged r → Ranged hall Within (pushed hall (frame_of hall r a) r).next
+unfolding facts
+pushed_within r a b p g = pushed_ranged hall block facts r a b p g.renderer g.ahead
 
 pub flushed_within : (r : State hall) → Ranged hall Within r → Ranged hall Within (flushed hall r).next
 unfolding facts

@@ -8,7 +8,8 @@ use mathlib.Core.Bool.{true, cond}
 use mathlib.Core.List.{List, [], ◌∷◌, ◌++◌}
 use lib.Dec.{T, eqb, lit≤, lit<}
 use lib.ListN.{length, length-append, replicate}
-use lib.Ieee.{Float, lt, le, fits}
+use lib.Ieee as ieee
+use lib.Ieee.{Float, lt, le}
 use Rattle.ieee.specs.Bounds.{All}
 use Rattle.words.specs.Words.{Bytes}
 use Rattle.lowpass.specs.Lowpass.{new}
@@ -20,23 +21,22 @@ use Rattle.panning.specs.Setup.{hall_with}
 use Rattle.panning.proofs.Theorems.{hall_fits}
 use Rattle.rules.specs.Parts.{0·0, 1·0}
 use Rattle.rules.specs.Samples.{State, fresh, opened, pushed}
-use Rattle.rules.specs.Refusals.{Args, Found, clear}
-use Rattle.rules.specs.Calls.{Call, push, flush, make, frame_of, found, asked, step, final}
+use Rattle.rules.specs.Refusals.{Args, Found, clear, never}
+use Rattle.rules.specs.Calls.{Call, push, flush, make, updates_in, ahead_after, frame_of, found, asked, step, final}
 use Rattle.rules.specs.Accepted.{Suits, Acceptable}
-use Rattle.rules.specs.Ranges.{Ranged}
 use Rattle.rules.specs.BlockCalls.{made, final_on}
 use Rattle.rules.specs.Demand3.{AllLent}
 use Rattle.rules.specs.Returning.{pushes_blocks, completed, all_completed, Unbroken, QuietRow}
 use Rattle.rules.proofs.EachOf.{all_append}
-use Rattle.rules.proofs.Invariant.{Rest, fresh_rest}
+use Rattle.rules.proofs.Invariant.{Rest, fresh_rest, settled_good}
 use Rattle.rules.proofs.Called.{called}
 use Rattle.rules.proofs.EmptyScene as scene
 use Rattle.rules.proofs.EmptyScene.{empty}
 use Rattle.rules.proofs.Theorems.{accepts}
-use Rattle.theorem.specs.Instance.{hall, block}
-use Rattle.theorem.proofs.Blank.{zero_bytes}
-use Rattle.theorem.proofs.Sound.{Within}
-use Rattle.theorem.proofs.BlockRanges.{back_of}
+use Rattle.waits.specs.Settled.{fits, area_settled}
+use Rattle.theorem.specs.Instance.{Sent, sent_in, hall, block}
+use Rattle.theorem.proofs.ZeroBytes.{zero_bytes}
+use Rattle.theorem.proofs.BlockRanges.{AllRanged, back_of}
 use Rattle.theorem.proofs.Demand3.{facts, layout_made, made_ranged, demand3_in, fresh_within, stepped_within}
 use Rattle.theorem.proofs.Heard.{four, one_bed, small_bytes}
 use Rattle.theorem.specs.GainPlace.{gain_held}
@@ -78,7 +78,7 @@ unfolding everything
 turned_down = refl
 
 from_there : ZeroToOne struck.limiter.gain
-unfolding everything fits
+unfolding everything ieee.fits
 from_there = record { fit = tt; low = tt; high = tt }
 
 remembers : Still struck.filter
@@ -93,6 +93,7 @@ record Ready (n : ℕ) (r : State hall) : Type 0 where
   room : r.clock.position + 64 * n ≤ 1099511627776
   scene : hall.shape r.meta ≡ empty
   quiet : Still r.filter
+  alone : r.waits ≡ hall.no_waits
 
 rest_along : (cs : List Call) (r : State hall) → AllLent cs → Rest hall block facts r → Rest hall block facts (final hall r cs)
 rest_along [] r h i = i
@@ -110,10 +111,27 @@ struck_ready = record {
   room = lit≤ tt;
   scene = refl;
   quiet = remembers;
+  alone = refl;
 }
+
+-- ---- nothing waits, and nothing is sent that could
+no_updates_in : (start : ℕ) → sent_in start 64 hall.no_waits [] ≡ []
+unfolding everything
+no_updates_in start = refl
+
+fits_in : (start : ℕ) → fits start 64 hall.no_waits [] ≡ true
+unfolding everything
+fits_in start = refl
+
+settled_in : (start : ℕ) → area_settled start 64 hall.no_waits [] ≡ hall.no_waits
+unfolding everything
+settled_in start = refl
 
 -- ---- one push
 module _ (n : ℕ) (r : State hall) (i : Ready (suc n) r) where
+  no_updates : updates_in hall r still ≡ []
+  no_updates = subst (λ (ws : List ℕ). sent_in r.clock.position 64 ws [] ≡ []) (sym i.alone) (no_updates_in r.clock.position)
+
   acceptable : Acceptable hall r still
   unfolding everything
   acceptable =
@@ -128,22 +146,19 @@ module _ (n : ℕ) (r : State hall) (i : Ready (suc n) r) where
         passes = refl;
         rate = inr i.rate;
         told = inl (ap (λ s. s.started) i.scene);
+        fits = subst (λ (ws : List ℕ). fits r.clock.position 64 ws [] ≡ true) (sym i.alone) (fits_in r.clock.position);
         some = lit< tt;
         present = λ e. subst (λ s. Suits 0 (0 ∷ []) s) (sym i.scene) (record { objects = refl; beds = tt });
-        updates = tt;
+        updates = subst (All (λ (u : Sent). (u.offset ≡ never → ⊥) → Suits 0 (0 ∷ []) (hall.sent u))) (sym no_updates) tt;
       }
 
   taken : found hall r still ≡ clear
   taken = accepts hall r still acceptable
 
-  no_updates : hall.updates [] ≡ []
-  unfolding everything
-  no_updates = refl
-
   opened_still : Still (opened hall 8000 r).filter
   opened_still = subst (λ (k : ℕ). Still (cond (eqb k 0) (new 8000) r.filter)) (sym i.rate) i.quiet
 
-  passes : scene.Passes hall block facts r still (pushed hall (frame_of hall still) r).next
+  passes : scene.Passes hall block facts r still (pushed hall (frame_of hall r still) r).next
   passes = scene.passes hall block facts r still (zero_bytes 256) (small_bytes [] tt) i.rest taken no_updates i.scene opened_still
 
   -- its one block is silent
@@ -158,8 +173,10 @@ module _ (n : ℕ) (r : State hall) (i : Ready (suc n) r) where
       let p = passes in
       let room = i.room in
       let at = p.position in
+      let settled : ahead_after hall r still ≡ hall.no_waits = subst (λ (ws : List ℕ). area_settled r.clock.position 64 ws [] ≡ hall.no_waits) (sym i.alone) (settled_in r.clock.position) in
+      let kept : facts.Kept (ahead_after hall r still) = subst facts.Kept (sym settled) facts.kept_none in
       subst (λ (v : Found). Ready n (asked hall v still r).next) (sym taken)
-      (record { rest = inr p.good; rate = p.rate; none = p.count ∙ ap (λ (k : ℕ). (k + 64) % 64) i.none; room = omega arith; scene = p.scene; quiet = p.still })
+      (record { rest = inr (settled_good hall block facts (ahead_after hall r still) (pushed hall (frame_of hall r still) r).next kept p.good); rate = p.rate; none = p.count ∙ ap (λ (k : ℕ). (k + 64) % 64) i.none; room = omega arith; scene = p.scene; quiet = p.still; alone = settled })
 
 -- ---- all of them
 all_silent : (n : ℕ) (r : State hall) → Ready n r → let ps = all_completed hall r (stills n) in All Zero ps × (length ps ≡ n)
@@ -182,7 +199,7 @@ unbroken (suc n) r = (tt, unbroken n (step hall r (push still)).next)
 
 -- silence is a level, at most 1
 silent_levels : (ps : List Float) → All Zero ps → All Level ps × All (λ (p : Float). T (le p 1·0)) ps
-unfolding everything fits
+unfolding everything ieee.fits
 silent_levels [] h = (tt, tt)
 silent_levels (p ∷ ps) h =
     let one : Level 0·0 × T (le 0·0 1·0) = (record { fit = tt; number = refl; plus = refl }, tt) in
@@ -212,7 +229,7 @@ lent_stills : (n : ℕ) → AllLent (stills n)
 lent_stills zero = tt
 lent_stills (suc n) = ((zero_bytes 256, small_bytes [] tt, zero_bytes 3072, small_bytes still.codes tt), lent_stills n)
 
-ranged_along : (cs : List Call) (r : State hall) → AllLent cs → Ranged hall Within r → Ranged hall Within (final hall r cs)
+ranged_along : (cs : List Call) (r : State hall) → AllLent cs → AllRanged r → AllRanged (final hall r cs)
 ranged_along [] r h g = g
 ranged_along (c ∷ cs) r h g = ranged_along cs (step hall r c).next h.1 (stepped_within r c h.0 g)
 

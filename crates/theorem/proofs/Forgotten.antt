@@ -17,7 +17,7 @@ use Rattle.rules.specs.Sounds.{sound_at}
 use Rattle.rules.specs.Demand3.{AllLent}
 use Rattle.rules.proofs.Theorems.{right_hall}
 use Rattle.theorem.specs.Instance.{hall}
-use Rattle.theorem.proofs.Blank.{zero_bytes}
+use Rattle.theorem.proofs.ZeroBytes.{zero_bytes}
 use Rattle.theorem.proofs.Demand3.{demand3_from}
 use Rattle.theorem.proofs.Opened.{everything}
 use Rattle.theorem.proofs.Heard.{small_bytes}

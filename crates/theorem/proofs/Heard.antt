@@ -22,7 +22,7 @@ use Rattle.rules.specs.BlockCalls.{made, Seen, seen_on, told}
 use Rattle.rules.specs.Demand3.{AllLent}
 use Rattle.theorem.specs.Instance.{hall, block}
 use Rattle.theorem.specs.Halls.{MakesHall}
-use Rattle.theorem.proofs.Blank.{zero_bytes}
+use Rattle.theorem.proofs.ZeroBytes.{zero_bytes}
 use Rattle.theorem.proofs.Demand3.{layout_made, made_ranged, demand3_in}
 use Rattle.theorem.proofs.Opened.{everything}
 

@@ -7,15 +7,14 @@ use mathlib.Core.List.{List, [], ◌∷◌, ◌++◌}
 use lib.Dec.{lit≤}
 use lib.ListN.{length, get_or, replicate}
 use Rattle.words.specs.Words.{Bytes}
-use Rattle.panning.specs.Setup.{Setup, hall_with}
+use Rattle.panning.specs.Setup.{hall_with}
 use Rattle.rules.specs.Samples.{fresh}
 use Rattle.rules.specs.Refusals.{Args}
 use Rattle.rules.specs.Calls.{Call, push, flush, hold, release, make}
 use Rattle.rules.specs.BlockCalls.{made, Seen, seen_on, told}
 use Rattle.rules.specs.Demand3.{Lent, AllLent}
 use Rattle.theorem.specs.Instance.{hall, block}
-use Rattle.theorem.specs.Halls.{MakesHall}
-use Rattle.theorem.proofs.Blank.{zero_bytes}
+use Rattle.theorem.proofs.ZeroBytes.{zero_bytes}
 use Rattle.theorem.proofs.Demand3.{layout_made, demand3_in}
 use Rattle.theorem.proofs.Opened.{everything, judging}
 use Rattle.theorem.proofs.Heard.{frame, half, small_bytes, unseen}
@@ -23,48 +22,51 @@ use Rattle.theorem.proofs.Elsewhere.{HeardOn}
 
 -- ---- the calls
 
-abbrev zero_word : List ℕ
+abbrev pub zero_word : List ℕ
 zero_word = replicate 4 0
 
-abbrev one_word : List ℕ
+abbrev pub one_word : List ℕ
 one_word = 0 ∷ 0 ∷ 128 ∷ 63 ∷ []
 
 -- a block with an offset and a ramp of eight bytes each
-abbrev block_from : List ℕ → List ℕ → List ℕ
+abbrev pub block_from : List ℕ → List ℕ → List ℕ
 block_from offset ramp = (3 ∷ replicate 7 0) ++ (offset ++ (ramp ++ replicate 16 0))
 
-abbrev eight : ℕ → List ℕ
+abbrev pub eight : ℕ → List ℕ
 eight n = n ∷ replicate 7 0
 
-abbrev at_once : List ℕ
+abbrev pub at_once : List ℕ
 at_once = replicate 8 255
 
 -- an object in a block: one that says nothing; at gain 1 and x on the floor at the front. Its factors are 1.
 abbrev factors : List ℕ
 factors = one_word ++ (one_word ++ zero_word)
 
-abbrev silent : List ℕ
+abbrev pub silent : List ℕ
 silent = (4 ∷ replicate 27 0) ++ factors
 
-abbrev at_front : List ℕ → List ℕ
+abbrev pub at_front : List ℕ → List ℕ
 at_front x = (4 ∷ 0 ∷ 13 ∷ 0 ∷ []) ++ (one_word ++ (x ++ (replicate 16 0 ++ factors)))
 
--- an update of one object, and an element of two blocks: the first has the offset 0 and says nothing
+-- an element of one object and two blocks: the first has the offset 0 and says nothing
+abbrev pub element : List ℕ → List ℕ → List ℕ
+element second said = (2 ∷ 2 ∷ replicate 38 0) ++ (block_from (eight 0) (eight 0) ++ (second ++ (silent ++ said)))
+
+-- an update of one object and such an element, at offset 0
 abbrev update : List ℕ → List ℕ → List ℕ
-update second said =
-    (1 ∷ 0 ∷ 0 ∷ 0 ∷ 1 ∷ 0 ∷ 0 ∷ 1 ∷ replicate 32 0) ++ ((2 ∷ 2 ∷ replicate 38 0) ++ (block_from (eight 0) (eight 0) ++ (second ++ (silent ++ said))))
+update second said = (1 ∷ 0 ∷ 0 ∷ 0 ∷ 1 ∷ 0 ∷ 0 ∷ 1 ∷ replicate 32 0) ++ element second said
 
 -- at the front left; moved to the front right by a ramp of which so much is left at once; a new slot of the same element, no block of which is due
-abbrev at_left : Args
+abbrev pub at_left : Args
 at_left = frame half (update (block_from at_once (eight 0)) (at_front zero_word)) [] 1
 
-abbrev to_right : ℕ → Args
+abbrev pub to_right : ℕ → Args
 to_right left = frame half (update (block_from at_once (eight (1 + left))) (at_front one_word)) [] 1
 
 abbrev next_slot : Args
 next_slot = frame half (update (block_from (eight 5) (eight 0)) silent) [] 1
 
-abbrev emptied : Call
+abbrev pub emptied : Call
 emptied = flush (replicate 3072 0) 64
 
 -- with and without the hold
@@ -84,7 +86,7 @@ releasing_late = push at_left ∷ emptied ∷ hold 0 ∷ push (to_right 64) ∷ 
 
 -- ---- by the rules, of call number i of the list
 
-abbrev Told : List Call → ℕ → List ℕ → Type 0
+abbrev pub Told : List Call → ℕ → List ℕ → Type 0
 Told cs i channels = HeardOn channels (get_or (told hall block (fresh hall (hall_with 0)) cs) i unseen)
 
 told_before : Told holding 1 (0 ∷ [])
@@ -113,7 +115,7 @@ abbrev pub Hears : List Call → ℕ → List ℕ → Type 0
 Hears cs i channels =
     (b : List ℕ) → Bytes b → length b ≡ block.size → HeardOn channels (get_or (seen_on hall block (made hall block (make 0) b).state cs) i unseen)
 
-hears : (cs : List Call) (i : ℕ) (channels : List ℕ) → AllLent cs → Told cs i channels → Hears cs i channels
+pub hears : (cs : List Call) (i : ℕ) (channels : List ℕ) → AllLent cs → Told cs i channels → Hears cs i channels
 hears cs i channels l t b bs e = subst (λ (s : List (Seen hall block)). HeardOn channels (get_or s i unseen)) (sym (demand3_in (layout_made 0 (lit≤ tt)) b bs e cs l).seen) t
 
 lent_left : Lent (push at_left)
@@ -128,7 +130,7 @@ lent_soon = (small_bytes half tt, small_bytes (to_right 64).meta tt, zero_bytes 
 lent_next : Lent (push next_slot)
 lent_next = (small_bytes half tt, small_bytes next_slot.meta tt, zero_bytes 3072, small_bytes [] tt)
 
-lent_out : Lent emptied
+pub lent_out : Lent emptied
 lent_out = zero_bytes 3072
 
 lent_holding : AllLent holding

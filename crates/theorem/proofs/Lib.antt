@@ -5,12 +5,17 @@ pub mod SlotState
 pub mod SlotSound
 pub mod SlotWithin
 pub mod InfosWritten
+pub mod ZeroBytes
+pub mod AheadRanges
+pub mod AheadSettled
 pub mod Checked
 pub mod Applied
 pub mod TimedShapes
+pub mod SentFrom
 pub mod Wanting
 pub mod Blank
 pub mod BlockRanges
+pub mod Front
 pub mod Demand3
 pub mod Appends
 pub mod AbsentKept
@@ -18,6 +23,7 @@ pub mod Opened
 pub mod Heard
 pub mod Elsewhere
 pub mod HoldHeard
+pub mod AheadHeard
 pub mod Waiting
 pub mod LevelReturned
 pub mod Explosion

@@ -17,6 +17,9 @@ use Rattle.fields.specs.Object as object
 use Rattle.records.specs.Runs as runs
 use Rattle.records.specs.Laid as laid
 use Rattle.records.specs.ValuesInRange as ranges
+use Rattle.records.specs.Falls as falls
+use Rattle.waits.specs.Area as area
+use Rattle.waits.specs.Settled as settled
 use Rattle.timed.specs.Infos as infos
 use Rattle.timed.specs.State as timed
 use Rattle.timed.specs.Holds as holds
@@ -48,7 +51,7 @@ unfoldable pub metadata : Unit {0}
 unfolding
     fields.all update.codes_fit update.is_update block.is_element block.is_block object.values_fit object.is_object object.maybe_of object.depth_code
     runs.some runs.last runs.each laid.is_whole_element laid.element_at laid.is_whole_update laid.update_at laid.is_updates laid.laid_out laid.count
-    ranges.record_in_range ranges.in_range
+    ranges.record_in_range ranges.in_range falls.offset_in area.waits_of settled.falls_at settled.fits settled.area_settled
 metadata = tt
 
 unfoldable pub time : Unit {0}

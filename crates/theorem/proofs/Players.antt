@@ -14,6 +14,9 @@ use Rattle.fields.specs.Update.{codes_fit, is_update}
 use Rattle.records.specs.Runs.{some, last, each}
 use Rattle.records.specs.Laid.{is_whole_update, is_updates, update_at, element_at, laid_out, count}
 use Rattle.records.specs.ValuesInRange.{record_in_range, in_range}
+use Rattle.records.specs.Falls.{offset_in}
+use Rattle.waits.specs.Area.{waits_of}
+use Rattle.waits.specs.Settled.{fits}
 use Rattle.timed.specs.Turns.{times}
 use Rattle.store.specs.Layout.{blank}
 use Rattle.words.specs.Words.{number}
@@ -59,12 +62,12 @@ module _ (h : Setup) (ranged : HallRanged h) where
 
   -- "one that refuses all frames": a push that no reason of document 01 speaks against is rendered
   pub not_all_refused : (cs : List Call) → AllLent cs → (a : Args) → Lent (push a) → Acceptable hall (after cs) a
-      → (step hall (after cs) (push a)).answer ≡ answered hall (pushed hall (frame_of hall a) (after cs))
+      → (step hall (after cs) (push a)).answer ≡ answered hall (pushed hall (frame_of hall (after cs) a) (after cs))
   not_all_refused cs lent a l k = (pushed_holds cs lent a l (accepts hall (after cs) a k)).answer
 
   -- such a push: the bed of `not_silent`, on a new renderer
   pub bed_acceptable : Acceptable hall (after []) bed
-  unfolding laid_out is_updates is_whole_update is_update codes_fit all some last count update_at element_at in_range record_in_range each times number blank le neg of_bits
+  unfolding laid_out fits waits_of offset_in is_updates is_whole_update is_update codes_fit all some last count update_at element_at in_range record_in_range each times number blank le neg of_bits
   bed_acceptable = record {
     room = refl;
     sized = refl;
@@ -74,10 +77,11 @@ module _ (h : Setup) (ranged : HallRanged h) where
     in_range = refl;
     passes = refl;
     rate = inl refl;
-    told = inr (λ e. let z : ◌≡◌ {A = ℕ} 1 0 = ap length e in omega arith);
+    fits = refl;
+    told = inr refl;
     some = lit< tt;
     present = λ e. absurd (subst T (sym e) tt);
-    updates = (record { objects = refl; beds = ((λ e. omega arith, λ e. omega arith), tt) }, tt);
+    updates = (λ _. record { objects = refl; beds = ((λ e. omega arith, λ e. omega arith), tt) }, tt);
   }
 
   -- "one that leaves input unmixed": at each sample every bed has its input and every object is there, they are heard with the PCM's samples, and the sums are laid

@@ -9,6 +9,8 @@ pub use Rattle.theorem.proofs.Heard.{meters_show}
 pub use Rattle.theorem.proofs.Demand3.{held_still, left_alone, find_alike}
 -- an object that is held and released, as it is heard
 pub use Rattle.theorem.proofs.HoldHeard.{hold_heard, release_heard}
+-- R-12: an update sent ahead is heard in the frame where it falls, before that frame's own
+pub use Rattle.theorem.proofs.AheadHeard.{heard_ahead, own_decides}
 -- R-5: in a hall without a bed's speaker the bed is heard on another; no call writes an output's places of absent channels, no push and no flush a block's
 pub use Rattle.theorem.proofs.Heard.{absent_heard}
 pub use Rattle.theorem.proofs.Unwritten.{absent_unwritten}
@@ -28,10 +30,12 @@ pub use Rattle.theorem.proofs.OneLess.{one_less}
 pub use Rattle.theorem.proofs.Marked.{table}
 -- what a valid block holds is within its ranges, and what a push or a flush leaves of it
 pub use Rattle.theorem.proofs.Sound.{Within}
-pub use Rattle.theorem.proofs.BlockRanges.{ranged, decoded_of}
+pub use Rattle.theorem.proofs.BlockRanges.{ranged, front_ranged, decoded_of}
 pub use Rattle.theorem.proofs.Demand3.{pushed_within, flushed_within}
 unfoldable pub use Rattle.theorem.proofs.Demand3.{facts}
 -- the shape that an update and a slot give, and the codes and updates of metadata
-pub use Rattle.theorem.proofs.TimedShapes.{shape_apply, shape_slot, each_same, codes_are}
+pub use Rattle.theorem.proofs.TimedShapes.{shape_apply, shape_given, shape_slot, each_same, codes_are}
 pub use Rattle.theorem.proofs.Checked.{each_all}
 pub use Rattle.theorem.proofs.Applied.{codes_long}
+-- metadata placed in its frame gives the rules' updates: a frame's own, and those that wait
+pub use Rattle.theorem.proofs.SentFrom.{own_sent, kept_sent}

@@ -6,7 +6,7 @@ use mathlib.Core.List.{List, ◌∷◌, map}
 use lib.ListN.{length, get_or}
 use native.Mathlib.Omega.{arith}
 use Rattle.records.specs.Runs.{each}
-use Rattle.records.proofs.Theorems.{each_length}
+use Rattle.records.proofs.Theorems.{each_length, in_range_fits}
 use Rattle.timed.specs.State.{Timed}
 use Rattle.timed.proofs.Theorems.{turned_at}
 use Rattle.updates.specs.Said.{Update}
@@ -15,7 +15,7 @@ use Rattle.rules.specs.Leaves.{Bed}
 use Rattle.rules.proofs.Theorems.{Mixable}
 use Rattle.theorem.specs.Instance.{Sent, bed_of, source_of, hall}
 use Rattle.theorem.proofs.Sound.{Sound}
-use Rattle.theorem.proofs.Checked.{Checked, each_all, whole}
+use Rattle.theorem.proofs.Checked.{Checked, Shaped, each_all, whole}
 use Rattle.theorem.proofs.SlotShape as slots
 
 -- ---- what is heard
@@ -59,12 +59,18 @@ codes_are u cs k e l = turned_at (λ j _. u.code j) 0 18 k cs l (omega arith)
 
 -- ---- shapes
 
-pub shape_apply : (n : ℕ) (u : Sent) (m : Timed) → Checked u → length m.state.codes ≡ 18 → hall.shape (hall.apply n u m) ≡ hall.sent u
+-- gains of any bits
+pub shape_given : (n : ℕ) (u : Sent) (m : Timed) → Shaped u → length m.state.codes ≡ 18 → hall.shape (hall.apply n u m) ≡ hall.sent u
 unfolding applied
-shape_apply n u m c h =
-    let few : u.said.beds ≤ 18 = subst (λ (v : Sent). v.said.beds ≤ 18) (sym c.is) (whole c.meta c.bytes c.laid c.fit c.index c.there).few_beds in
+shape_given n u m c h =
+    let few : u.said.beds ≤ 18 = subst (λ (v : Update). v.beds ≤ 18) (sym c.is) (whole c.meta c.bytes c.laid c.fit c.index c.there).few_beds in
     ap (λ (l : List ℕ). record { started = true; objects = u.said.objects - u.said.isf; beds = l })
     (each_same (λ k. get_or (codes_given u.said m.state.codes) k 0) u.said.code u.said.beds (λ k l. codes_are u.said m.state.codes k h (omega arith)))
+
+pub shape_apply : (n : ℕ) (u : Sent) (m : Timed) → Checked u → length m.state.codes ≡ 18 → hall.shape (hall.apply n u m) ≡ hall.sent u
+shape_apply n u m c =
+    shape_given n u m
+    (record { meta = c.meta; index = c.index; bytes = c.bytes; laid = c.laid; fit = in_range_fits c.meta c.range; there = c.there; is = c.is })
 
 pub shape_slot : (n : ℕ) (m : Timed) → hall.shape (hall.slot n m) ≡ hall.shape m
 shape_slot n m = let s = slots.shape_slot n m in rw (s.initialized, s.objects, s.isf, s.beds, s.codes) refl

@@ -10,19 +10,18 @@ use lib.Ieee.{Float, binary32, lt, of_bits}
 use Rattle.words.specs.Words.{Bytes, word, float_at}
 use Rattle.formats.specs.Areas.{row_places}
 use Rattle.rules.specs.Parts.{0·0}
-use Rattle.rules.specs.Samples.{hall_with, State, fresh, pushed}
-use Rattle.rules.specs.Ranges.{Ranged}
-use Rattle.rules.specs.Refusals.{Args, clear}
-use Rattle.rules.specs.Calls.{Call, push, make, frame_of, found, final}
+use Rattle.rules.specs.Samples.{hall_with, State, fresh}
+use Rattle.rules.specs.Refusals.{Args}
+use Rattle.rules.specs.Demand3.{AllLent}
+use Rattle.rules.specs.Calls.{Call, push, make, step, final}
 use Rattle.rules.specs.BlockCalls.{made, final_on}
-use Rattle.rules.proofs.Theorems.{is_passed, right_hall}
-use Rattle.store.specs.Layout.{encode}
-use Rattle.theorem.specs.Instance.{hall, block}
+use Rattle.rules.proofs.Theorems.{right_hall}
+use Rattle.theorem.specs.Instance.{hall, block, block_encode}
 use Rattle.theorem.specs.Appends.{place_at}
-use Rattle.theorem.proofs.Sound.{Within}
-use Rattle.theorem.proofs.Demand3.{layout_made, demand3_in, fresh_within, pushed_within}
+use Rattle.theorem.proofs.BlockRanges.{AllRanged}
+use Rattle.theorem.proofs.Demand3.{layout_made, demand3_in, fresh_within, stepped_within}
 use Rattle.theorem.proofs.Opened.{everything}
-use Rattle.theorem.proofs.Heard.{frame, bed, accepted_bed, small_bytes, lent}
+use Rattle.theorem.proofs.Heard.{frame, bed, lent}
 use Rattle.theorem.proofs.Appends.{encoded_word}
 
 -- a sample of 0.25 more, behind the 0.5
@@ -32,15 +31,8 @@ again = frame (0 ∷ 0 ∷ 128 ∷ 62 ∷ []) [] (0 ∷ []) 0
 abbrev calls : List Call
 calls = push bed ∷ push again ∷ []
 
-abbrev first : State hall
-first = (pushed hall (frame_of hall bed) (fresh hall (hall_with 0))).next
-
 abbrev second : State hall
-second = (pushed hall (frame_of hall again) first).next
-
-accepted_again : found hall first again ≡ clear
-unfolding everything
-accepted_again = refl
+second = final hall (fresh hall (hall_with 0)) calls
 
 -- y is heard, and x is louder
 abbrev pub Louder : Float → Float → Type 0
@@ -52,15 +44,13 @@ told_both : Louder (of_bits binary32 (get_or (second.pending.places 0) 0 0)) (of
 unfolding everything
 told_both = tt
 
-ends_so : final hall (fresh hall (hall_with 0)) calls ≡ second
-unfolding everything
-ends_so = refl
+lent_calls : AllLent calls
+lent_calls = ((lent bed.pcm bed.meta bed.codes 0 tt tt tt).0, ((lent again.pcm [] again.codes 0 tt tt tt).0, tt))
 
-ranged : Ranged hall Within second
+ranged : AllRanged second
 ranged =
-    pushed_within first again (small_bytes [] tt) (is_passed hall first again accepted_again)
-    (pushed_within (fresh hall (hall_with 0)) bed (small_bytes bed.meta tt) (is_passed hall (fresh hall (hall_with 0)) bed accepted_bed)
-    (fresh_within (hall_with 0) (right_hall 0 (lit≤ tt))))
+    stepped_within (step hall (fresh hall (hall_with 0)) (push bed)).next (push again) lent_calls.1.0
+    (stepped_within (fresh hall (hall_with 0)) (push bed) lent_calls.0 (fresh_within (hall_with 0) (right_hall 0 (lit≤ tt))))
 
 -- ---- on the block's bytes
 
@@ -71,9 +61,7 @@ float_of b at = refl
 pub both_wait : (b : List ℕ) → Bytes b → length b ≡ block.size → let d = final_on hall block (made hall block (make 0) b).state calls in
     Louder (float_at d (place_at 0 0)) (float_at d (place_at 0 1))
 both_wait b bytes e =
-    let one = (lent bed.pcm bed.meta bed.codes 0 tt tt tt).0 in
-    let two = (lent again.pcm [] again.codes 0 tt tt tt).0 in
-    let d : final_on hall block (made hall block (make 0) b).state calls ≡ encode second = (demand3_in (layout_made 0 (lit≤ tt)) b bytes e calls (one, (two, tt))).block ∙ ap encode ends_so in
-    let at : (i : ℕ) → i < row_places → float_at (encode second) (place_at 0 i) ≡ of_bits binary32 (get_or (second.pending.places 0) i 0) =
-    λ i h. float_of (encode second) (place_at 0 i) ∙ ap (of_bits binary32) (encoded_word second ranged 0 i (lit< tt) h) in
+    let d : final_on hall block (made hall block (make 0) b).state calls ≡ block_encode second = (demand3_in (layout_made 0 (lit≤ tt)) b bytes e calls lent_calls).block in
+    let at : (i : ℕ) → i < row_places → float_at (block_encode second) (place_at 0 i) ≡ of_bits binary32 (get_or (second.pending.places 0) i 0) =
+    λ i h. float_of (block_encode second) (place_at 0 i) ∙ ap (of_bits binary32) (encoded_word second ranged 0 i (lit< tt) h) in
     rw (d, at 0 (lit< tt), at 1 (lit< tt)) told_both

@@ -1,19 +1,18 @@
 -- What a hold that is asked for, or no more, leaves of the timed state; what slots and updates make of the marks. Assumes nothing.
-use Prim.Native.Nat.{ℕ, zero, suc, ◌-◌, ◌≤◌, ◌<◌}
+use Prim.Native.Nat.{ℕ, zero, suc, ◌-◌, ◌<◌}
 use mathlib.Core.Path.{◌≡◌, refl, sym, ap, ◌∙◌, subst}
-use mathlib.Core.Bool.{Bool, true, false, not, cond}
-use mathlib.Core.List.{List, [], ◌∷◌}
+use mathlib.Core.Bool.{Bool, true, false, not}
+use mathlib.Core.List.{List}
 use native.Mathlib.Omega.{arith}
-use borrow.Author.Tests.{eq-eqb, eqb-true}
-use lib.Dec.{T, eqb}
+use lib.Dec.{T}
 use lib.ListN.{length, get_or, set, replicate}
-use Rattle.std.proofs.lemmas.List.{get_or-set_same, set-get_or}
+use Rattle.std.proofs.lemmas.List.{get_or-set_same}
 use Rattle.records.specs.Runs.{each}
 use Rattle.records.proofs.Theorems.{each_at}
 use Rattle.vectors.specs.declared.Vec3.{Vec3}
 use Rattle.timed.specs.Objects.{no_source}
-use Rattle.timed.specs.Holds.{with_sources, with_marks, wants, wanting}
-use Rattle.timed.specs.State.{Timed, element_of}
+use Rattle.timed.specs.Holds.{with_marks, wants, wanting}
+use Rattle.timed.specs.State.{Timed}
 use Rattle.timed.specs.declared.state.DynamicSourceState.{DynamicSourceState}
 use Rattle.timed.specs.declared.state.MetadataRendererState.{MetadataRendererState}
 use Rattle.timed.proofs.Theorems.{set_each, held_stays, still_wanted, undone}

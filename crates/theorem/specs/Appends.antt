@@ -8,8 +8,8 @@ use Rattle.formats.specs.Areas.{row_count, row_places, row_bytes}
 use Rattle.panning.specs.Setup.{present}
 use Rattle.rules.specs.Refusals.{Args}
 use Rattle.rules.specs.Sounds.{sound_at}
-use Rattle.store.specs.Layout.{places_at, decode}
-use Rattle.theorem.specs.Instance.{hall}
+use Rattle.store.specs.Layout.{places_at}
+use Rattle.theorem.specs.Instance.{hall, block_decode}
 
 -- the byte of the block at which place i of channel c starts
 abbrev pub place_at : ℕ → ℕ → ℕ
@@ -24,4 +24,4 @@ pub record Appends (here : ℕ → Bool) (p n : ℕ) (sound : ℕ → ℕ → Fl
 
 -- The push a, which leaves d of the block b: where it completes no block, what waited on b and what the rules let a sound like.
 abbrev pub AppendsIfOpen : Args → List ℕ → List ℕ → Type 0
-AppendsIfOpen a b d = let r = decode b in r.pending.count + a.samples < 64 → Appends (present r.setup.layout) r.pending.count a.samples (sound_at hall r a) b d
+AppendsIfOpen a b d = let r = block_decode b in r.pending.count + a.samples < 64 → Appends (present r.setup.layout) r.pending.count a.samples (sound_at hall r a) b d

@@ -18,6 +18,8 @@ pub const ROW: usize = 256;
 /// Where the layout's code stands, and the hall table.
 pub const LAYOUT: usize = PLACES + 12 * ROW;
 pub const TABLE: usize = LAYOUT + 4;
+/// Where the area of updates that wait begins, behind the renderer's part.
+pub const AREA: usize = TABLE + 144;
 /// Where a source has its marks: 1 it was given a place, 2 a hold is wanted, 4 one is in effect.
 pub const SOURCE_MARKS: usize = 20;
 pub const WANTED: u32 = 2;
@@ -199,7 +201,7 @@ pub fn layout(block: &[u8]) -> u32 {
 
 /// The hall table that it holds.
 pub fn table(block: &[u8]) -> Table {
-    block[TABLE..].try_into().unwrap()
+    block[TABLE..AREA].try_into().unwrap()
 }
 
 /// Whether a layout has a channel (document 02, R-5).

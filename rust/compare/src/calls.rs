@@ -103,6 +103,8 @@ pub struct Calls {
     holds: bool,
     /// The last one that was to be held.
     held: u32,
+    /// Updates are sent that lie far ahead.
+    far: bool,
 }
 
 impl Calls {
@@ -113,6 +115,7 @@ impl Calls {
             makes: None,
             holds: false,
             held: 0,
+            far: false,
         }
     }
 
@@ -124,6 +127,7 @@ impl Calls {
             makes: None,
             holds: false,
             held: 0,
+            far: false,
         }
     }
 
@@ -135,6 +139,7 @@ impl Calls {
             makes: None,
             holds: false,
             held: 0,
+            far: false,
         }
     }
 
@@ -146,6 +151,7 @@ impl Calls {
             makes: None,
             holds: false,
             held: 0,
+            far: false,
         }
     }
 
@@ -157,6 +163,7 @@ impl Calls {
             makes: None,
             holds: true,
             held: 0,
+            far: false,
         }
     }
 
@@ -184,6 +191,12 @@ impl Calls {
         self
     }
 
+    /// Two updates in three are of kind 9, at or past the frame's end, or in it.
+    pub fn with_far(mut self) -> Self {
+        self.far = true;
+        self
+    }
+
     pub fn next_step(&mut self) -> Step {
         let likely = if self.frames.has_started() { 3 } else { 30 };
         if self.holds && self.inputs.chance(likely) {
@@ -194,6 +207,9 @@ impl Calls {
             1..4 => Step::Flush,
             _ => {
                 let mut call = Call::from(&self.frames.next_frame());
+                if self.far {
+                    send_ahead(&mut self.inputs, &mut call);
+                }
                 if self.inputs.chance(6) {
                     spoil(&mut self.inputs, &mut call);
                 }
@@ -247,6 +263,30 @@ fn any_table(inputs: &mut Generator) -> Vec<u8> {
         0..3 => tables::spoilt(inputs),
         3 => setup::built_in().to_vec(),
         _ => tables::accepted(inputs).to_vec(),
+    }
+}
+
+/// Makes kind 9 of two in three of a frame's updates, and gives these other offsets.
+pub fn send_ahead(inputs: &mut Generator, call: &mut Call) {
+    let samples = u64::from(call.samples);
+    let updates = call.meta.as_chunks_mut::<40>().0.iter_mut();
+    for update in updates.filter(|record| record[0] == 1) {
+        if inputs.chance(3) {
+            continue;
+        }
+        let offset = match inputs.below(24) {
+            0 => inputs.pick(&[u32::MAX.into(), 1 << 31, 65_536]),
+            1 => inputs.bits() & 0xffff_ffff,
+            2..5 => inputs.below(samples + 1),
+            5..8 => samples.saturating_sub(1),
+            8..13 => samples,
+            13..15 => samples + 1,
+            15..18 => samples + 64 * inputs.below(6),
+            _ => samples + inputs.below(400),
+        };
+        update[0] = 9;
+        update[2..4].fill(0);
+        update[28..32].copy_from_slice(&(offset as u32).to_le_bytes());
     }
 }
 
@@ -349,7 +389,8 @@ fn spoil_value(inputs: &mut Generator, meta: &mut [u8]) {
         i64::MAX,
     ];
     match r[0] {
-        1 => {
+        9 if inputs.chance(2) => r[inputs.pick(&[2, 3, 26, 27, 32, 39])] = 1,
+        1 | 9 => {
             let (place, most) = inputs.pick(&[(4, 33), (4, 32), (5, 255), (6, 19), (7, 3), (2, 0)]);
             r[place] = most;
         }

@@ -4,7 +4,7 @@
 use crate::calls::Step;
 use crate::entry::{Answer, BLOCK, same_answer};
 use crate::host::only_ready_is_written;
-use crate::model::{Model, Outcome, holds, judged, rightly_lent};
+use crate::model::{Model, Outcome, holds, judged, rightly_lent, waits};
 use crate::setup::Setup;
 use crate::{block, ranges};
 
@@ -31,7 +31,7 @@ impl Case {
         Seen { answer, state, out }
     }
 
-    /// The refusal among 1 to 8 but 7, 15 to 18 and 24, by a reading that needs no Rust; else 0.
+    /// The refusal among 1 to 8 but 7, 15 to 18, 24 and 25, by a reading that needs no Rust; else 0.
     pub fn early(&self) -> u32 {
         let lent = || rightly_lent(&self.state, self.out.len(), self.stride);
         match &self.step {
@@ -50,7 +50,8 @@ impl Case {
             Step::Flush => 0,
             Step::Push(call) => {
                 let state = block::state(&self.state);
-                let judged = judged(&state, 0, call, self.stride as usize);
+                let waits = waits::read(&self.state, state.stream_sample_offset as u64).unwrap();
+                let judged = judged(&state, 0, &waits, call, self.stride as usize);
                 judged.err().unwrap_or(0)
             }
         }

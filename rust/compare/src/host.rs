@@ -1,8 +1,9 @@
 //! A host: the memory that the calls of a run are lent, and what must stand in it after each call.
 
+use crate::block::AREA;
 use crate::calls::{Call, Step};
 use crate::entry::{self, Answer, BLOCK, same_answer};
-use crate::model::{Model, Outcome, STREAM_END};
+use crate::model::{Model, Outcome, STREAM_END, waits};
 use crate::setup::Setup;
 use crate::{Frames, Generator, block, same, tables};
 
@@ -131,9 +132,10 @@ impl Host {
     /// Moves a renderer to so many samples before the stream's end.
     pub fn move_on(&mut self, model: &mut Model, room: u64) {
         let position = model.state().stream_sample_offset as u64;
-        model.before = STREAM_END - room - position;
-        // Position, slot start, payload position.
-        for at in [8, 16, 72] {
+        model.move_on(STREAM_END - room - position);
+        // Position, slot start, payload position, and those of the updates that wait.
+        let waits = (0..model.waits().len()).map(|k| AREA + waits::POSITIONS + 8 * k);
+        for at in [8, 16, 72].into_iter().chain(waits) {
             let number: &mut [u8; 8] = (&mut self.state[at..at + 8]).try_into().unwrap();
             *number = (u64::from_le_bytes(*number) + model.before).to_le_bytes();
         }

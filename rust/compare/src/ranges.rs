@@ -2,11 +2,12 @@
 //! which blocks are in range, and blocks drawn from all of these.
 
 use crate::block::{
-    ELEMENT, ELEMENTS, INFO, INFO_SEND, INFOS, LAYOUT, SOURCE, SOURCE_MARKS, SOURCE_SEND, SOURCES,
-    TABLE,
+    AREA, ELEMENT, ELEMENTS, INFO, INFO_SEND, INFOS, LAYOUT, SOURCE, SOURCE_MARKS, SOURCE_SEND,
+    SOURCES, TABLE,
 };
 use crate::entry::BLOCK;
-use crate::model::STREAM_END;
+use crate::model::{STREAM_END, waits};
+use crate::records::record;
 use crate::setup::{Setup, Table, built_in};
 use crate::{Generator, tables};
 use std::sync::LazyLock;
@@ -80,6 +81,7 @@ fn table() -> Vec<Field> {
         fields.extend((0..4).map(|k| field(head + k, 1, 0, most[k])));
     }
     fields.push(layout());
+    fields.extend(waiting());
     fields
 }
 
@@ -104,6 +106,11 @@ fn counts() -> [Field; 4] {
         field(88, 4, 0, 18),
         field(92, 4, 0, 2),
     ]
+}
+
+/// Of the area: updates that wait, and their records in all.
+fn waiting() -> [Field; 2] {
+    [field(AREA, 4, 0, 8), field(AREA + 4, 4, 0, 1_200)]
 }
 
 /// The layout's code.
@@ -170,6 +177,7 @@ pub fn hold(block: &[u8]) -> bool {
         && others.iter().all(|field| field.holds(block))
         && related(block).iter().all(|field| field.holds(block))
         && Setup::of_block(block).holds()
+        && waits::read(block, clock()[2].number(block)).is_some()
 }
 
 /// The least, the most, or a number between.
@@ -179,6 +187,83 @@ fn end(inputs: &mut Generator, field: &Field) -> u64 {
         1 => field.most,
         _ => field.least + inputs.below(field.most - field.least + 1),
     }
+}
+
+/// Records of an update of kind 9, of 138 records or of a few, with floats of any bits where they may be.
+fn far_records(inputs: &mut Generator, large: bool) -> Vec<u8> {
+    let [elements, blocks, objects] = match large {
+        true => [1, 8, 16],
+        false => [3, 3, 4].map(|most| inputs.below(most) as u8),
+    };
+    let mut records = vec![record(9)];
+    records[0][4] = objects;
+    records[0][5] = inputs.below(u64::from(objects) + 1) as u8;
+    records[0][7] = elements;
+    for _ in 0..elements {
+        let mut element = record(2);
+        element[1] = blocks;
+        records.push(element);
+        records.extend((0..blocks).map(|_| record(3)));
+        records.extend((0..blocks * objects).map(|_| any_object(inputs)));
+    }
+    let offset = (inputs.bits() as u32).to_le_bytes();
+    records[0][28..32].copy_from_slice(&offset);
+    records.concat()
+}
+
+/// A gain, a size and a send of any bits, among them such as 6 refuses where they are sent.
+fn any_object(inputs: &mut Generator) -> [u8; 40] {
+    let mut object = record(4);
+    object[2] = 1 | 4 | 8 | 32;
+    object[32..36].copy_from_slice(&1f32.to_le_bytes());
+    for at in [4, 8, 12, 16, 24, 36] {
+        let any = match inputs.chance(4) {
+            true => inputs.float(),
+            false => inputs.between(0.0, 1.0),
+        };
+        object[at..at + 4].copy_from_slice(&any.to_le_bytes());
+    }
+    object
+}
+
+/// In every second block updates wait, up to eight, at positions from the stream's own on; one time in
+/// four of 1,200 records.
+fn waiting_drawn(inputs: &mut Generator, block: &mut [u8]) {
+    let from = clock()[2].number(block);
+    let mut records = Vec::new();
+    let count = match inputs.below(8) {
+        0..4 => 0,
+        4 => 8,
+        _ => inputs.below(9) as usize,
+    };
+    let mut all = (0..count)
+        .map(|_| far_records(inputs, false))
+        .collect::<Vec<_>>();
+    if count == 8 && inputs.chance(2) {
+        // 7 x 138 and 234.
+        all = (0..8).map(|_| far_records(inputs, true)).collect();
+        all[7] = silent_records();
+    }
+    all.iter().for_each(|update| records.extend(update));
+    let positions = all.iter().map(|_| match inputs.below(6) {
+        0 => from,
+        1 => waits::END - 1,
+        _ => from + inputs.below(2_000),
+    });
+    let positions: Vec<u64> = positions.collect();
+    waits::put(block, &positions, &records);
+}
+
+/// 234 records: an element of eight blocks and 28 objects that say nothing.
+fn silent_records() -> Vec<u8> {
+    let (mut update, mut element, mut silent) = (record(9), record(2), record(4));
+    (update[4], update[5], update[7]) = (28, 20, 1);
+    element[1] = 8;
+    silent[32..36].copy_from_slice(&1f32.to_le_bytes());
+    let mut records = vec![update, element];
+    records.extend([record(3); 8]);
+    records.extend([silent; 8 * 28]);
+    records.concat()
 }
 
 /// A block in range: each number at an end of its range or between; floats of any bits, in every
@@ -218,6 +303,7 @@ pub fn drawn(inputs: &mut Generator) -> Vec<u8> {
         false => tables::accepted(inputs),
     };
     put_table(&mut block, &table);
+    waiting_drawn(inputs, &mut block);
     // The phase before the slot's start, which depends on it.
     let elements = EACH_ELEMENT.map(|at| [at + 4, at + 8]);
     for place in [4, 16, 64, 84, 88].into_iter().chain(elements.concat()) {

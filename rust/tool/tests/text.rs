@@ -65,6 +65,10 @@ fn object(anchor: u8, flags: u8, floats: [f32; 8]) -> [u8; 40] {
 fn records() -> Vec<u8> {
     let mut update = [0u8; 40];
     update[..12].copy_from_slice(&[1, 0, 0, 1, 3, 2, 2, 1, 2, 3, 0, 0]);
+    // 0x11170 samples ahead.
+    let mut ahead = [0u8; 40];
+    ahead[..9].copy_from_slice(&[9, 0, 0, 0, 1, 0, 1, 0, 2]);
+    ahead[28..31].copy_from_slice(&[0x70, 0x11, 1]);
     let mut element = [0u8; 40];
     (element[0], element[1]) = (2, 1);
     let mut block = [0u8; 40];
@@ -75,6 +79,7 @@ fn records() -> Vec<u8> {
     let mut sent = object(2, 63, [nan, 0.5, 0.25, -0.0, f32::INFINITY, 1.0, 0.0, 0.25]);
     sent[36..].copy_from_slice(&0.75f32.to_le_bytes());
     [
+        ahead,
         update,
         element,
         block,
@@ -101,6 +106,7 @@ fn example() -> Vec<u8> {
 
 const EXAMPLE: &str = "\
 frame 48000 samples 3 beds FC,LFE objects 1
+  update ahead at 70000 objects 1 fixed 0 beds FC elements 0 # at sample 70000
   update at 256 objects 3 fixed 2 beds FC,LFE elements 1
     element blocks 1
       block offset -64 ramp 256
@@ -128,7 +134,7 @@ fn each_kind_of_record_as_text() {
 }
 
 /// Texts, and what is said of them, behind the line's number.
-const WRONG: [(&str, &str); 13] = [
+const WRONG: [(&str, &str); 15] = [
     ("flush\nsing 3\n", "2: no record is called sing"),
     ("frame x", "1: x is not a number that fits its place"),
     (
@@ -142,6 +148,14 @@ const WRONG: [(&str, &str); 13] = [
     (
         "update at 0 objects 1 fixed 0 elements 0",
         "1: update stands outside of a frame",
+    ),
+    (
+        "frame 8000 samples 0 objects 0\nupdate at 65536 objects 1 fixed 0 elements 0",
+        "2: 65536 is not a number that fits its place",
+    ),
+    (
+        "frame 8000 samples 0 objects 0\nupdate ahead 5 objects 1 fixed 0 elements 0",
+        "2: at must stand where 5 stands",
     ),
     ("pcm 00000000", "1: pcm stands outside of a frame"),
     (

@@ -63,6 +63,16 @@ static inline uint8_t *hall_put_update(uint8_t *to, uint16_t at, uint8_t objects
   return end;
 }
 
+/* The same with an offset of 32 bits (kind 9): at or past the frame's end the update is not dropped, but waits, and is
+   applied in the frame in which its sample falls. `at` counts from the start of the frame that brings it. */
+static inline uint8_t *hall_put_update_ahead(uint8_t *to, uint32_t at, uint8_t objects, uint8_t fixed,
+                                             const uint8_t *codes, uint8_t beds, uint8_t elements) {
+  uint8_t *end = hall_put_update(to, 0, objects, fixed, codes, beds, elements), i;
+  to[0] = 9;
+  for (i = 0; i < 4; i++) to[28 + i] = (uint8_t)(at >> (8 * i));
+  return end;
+}
+
 /* An element of at most 8 blocks. */
 static inline uint8_t *hall_put_element(uint8_t *to, uint8_t blocks) {
   uint8_t *end = hall_put_kind(to, 2);
@@ -134,6 +144,7 @@ static inline const char *hall_refusal_text(uint32_t number) {
     case 22: return "more than 1,536 samples to convert";
     case 23: return "the samples to convert have another length, or the destination is too short";
     case 24: return "no such object: its number is not below the dynamic objects of the last update";
+    case 25: return "more than 8 updates would wait, or more than 1,200 records of them";
     default: return "an unknown refusal";
   }
 }

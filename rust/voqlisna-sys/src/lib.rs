@@ -18,11 +18,15 @@
 
 /// The version of the interface that these declarations are of; [`hall_version`] answers the
 /// library's.
-pub const VERSION: u32 = 6;
+pub const VERSION: u32 = 7;
 
 /// Bytes of a state block of this version, for blocks that are not on a heap; [`hall_state_size`]
 /// answers the library's.
-pub const STATE_SIZE: usize = 29_220;
+pub const STATE_SIZE: usize = 77_292;
+
+/// Where a block of this version has the updates that wait: its last bytes, first how many there are,
+/// a little-endian u32.
+pub const WAITS_AT: usize = 29_220;
 
 /// Where a block of this version has its dynamic objects, and the bytes of each: gain, size, the
 /// place's x, y and z, the marks (1 placed, 2 wanted held, 4 held), the send.
@@ -33,8 +37,8 @@ pub const SOURCE_SIZE: usize = 28;
 /// Bytes of a hall table: x, y and z of each of the twelve channels, little-endian f32.
 pub const TABLE_SIZE: usize = 144;
 
-/// Where a block of this version has its hall table: its last bytes.
-pub const TABLE_AT: usize = STATE_SIZE - TABLE_SIZE;
+/// Where a block of this version has its hall table: before the updates that wait.
+pub const TABLE_AT: usize = WAITS_AT - TABLE_SIZE;
 
 /// Where it has its layout's code, a little-endian u32: before the table.
 pub const LAYOUT_AT: usize = TABLE_AT - 4;
@@ -88,7 +92,8 @@ unsafe extern "C" {
     pub safe fn hall_version() -> u32;
 
     /// Renders a frame: kind 0 or 1. Nothing is written to the output's places of channels that the
-    /// layout lacks.
+    /// layout lacks. An update of kind 9 at or past the frame's end waits in the block for the frame
+    /// in which its sample falls.
     pub fn hall_push(
         state: *mut u8,
         state_length: usize,

@@ -52,13 +52,13 @@ struct Channels {
 pub enum Way {
     /// By the frame itself.
     Whole,
-    /// By its sound, at the places that stood (after 5 and 6, and after 11, 13 and 14 where it has
+    /// By its sound, at the places that stood (after 5, 6 and 25, and after 11, 13 and 14 where it has
     /// metadata): its updates are lost.
     SoundOnly,
     /// By silence with its metadata (after 8): objects move on.
     MetadataOnly,
-    /// By silence on the channels of the last frame whose channels were taken: its updates are
-    /// lost.
+    /// By silence on the channels of the last frame whose channels were taken, with another number of
+    /// objects where an update that waited asks for one: its updates are lost.
     Silence,
 }
 
@@ -128,13 +128,11 @@ impl<M: Floats> Concealer<M> {
         Frame::new(frame.rate(), frame.beds(), pcm, frame.metadata()).ok()
     }
 
-    /// Silence of so many samples on the last channels.
-    fn silence(&self, samples: usize) -> Option<Frame<'_>> {
-        let Channels {
-            rate,
-            beds,
-            objects,
-        } = self.last?;
+    /// Silence of so many samples on the last channels, or on their beds and so many objects.
+    fn silence(&self, samples: usize, objects: Option<u32>) -> Option<Frame<'_>> {
+        let last = self.last?;
+        let (rate, beds) = (last.rate, last.beds);
+        let objects = objects.map_or(Some(last.objects), |n| usize::try_from(n).ok())?;
         let pcm = self.zeros(samples, beds.saturating_add(objects))?;
         Frame::new(rate, self.beds.get(..beds)?, pcm, Metadata::NONE).ok()
     }
@@ -147,7 +145,7 @@ impl<M: Floats> Concealer<M> {
 
 impl<B: Bytes> Renderer<B> {
     /// Pushes the frame, or what comes nearest to it, so that the clock moves by its samples. At
-    /// most three pushes.
+    /// most four pushes.
     ///
     /// Refused for good, with the frame's own refusal and nothing changed: 1 to 4 and 12 (the
     /// host's to mend), 9 (flush, reset and push again), 10 (nothing has begun: play silence), and
@@ -189,7 +187,7 @@ impl<B: Bytes> Renderer<B> {
         self.push(frame, out).map(|rendered| rendered.answer())
     }
 
-    /// The second and the third try.
+    /// The second try, and those behind it.
     fn conceal<M: Floats, S: Floats>(
         &mut self,
         frame: &Frame<'_>,
@@ -198,7 +196,7 @@ impl<B: Bytes> Renderer<B> {
         concealer: &Concealer<S>,
     ) -> Option<(Answer, Way)> {
         let second = match refusal.number() {
-            5 | 6 | 11 | 13 | 14 => {
+            5 | 6 | 11 | 13 | 14 | 25 => {
                 let with_metadata = !frame.metadata().is_empty();
                 with_metadata.then(|| (frame.without_metadata(), Way::SoundOnly))
             }
@@ -207,13 +205,21 @@ impl<B: Bytes> Renderer<B> {
                 .map(|frame| (frame, Way::MetadataOnly)),
             _ => return None,
         };
-        let third = concealer
-            .silence(frame.pcm().samples())
-            .map(|frame| (frame, Way::Silence));
-        [second, third]
-            .into_iter()
-            .flatten()
-            .find_map(|(frame, way)| self.answer(&frame, out).ok().map(|answer| (answer, way)))
+        if let Some((nearest, way)) = second {
+            if let Ok(answer) = self.answer(&nearest, out) {
+                return Some((answer, way));
+            }
+        }
+        let samples = frame.pcm().samples();
+        let silence = self.answer(&concealer.silence(samples, None)?, out);
+        let answer = match silence {
+            // An update that waited falls on the first sample, or has fallen, and asks for so many.
+            Err(Refusal::Objects { expected, .. }) => {
+                self.answer(&concealer.silence(samples, Some(expected))?, out)
+            }
+            answer => answer,
+        };
+        answer.ok().map(|answer| (answer, Way::Silence))
     }
 }
 

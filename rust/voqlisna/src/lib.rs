@@ -98,4 +98,4 @@ pub use steady::Steady;
 pub use table::{Axis, HallTable, TableError};
 /// The C entries and their declarations, for hosts that call them themselves.
 pub use voqlisna_sys as sys;
-pub use writer::{BuildError, MetadataWriter, Update, UpdateWriter};
+pub use writer::{Ahead, BuildError, MetadataWriter, Update, UpdateWriter};

@@ -82,6 +82,8 @@ pub enum Refusal {
     /// 24: the number of an object that is to be held or released is not below the dynamic objects of
     /// the last applied update, of which there are none before the first.
     ObjectNumber,
+    /// 25: more than 8 updates would wait for their samples, or more than 1,200 records of them.
+    TooManyAhead,
     /// A number that this version does not know.
     Other {
         /// The library's number.
@@ -150,6 +152,7 @@ impl Refusal {
             22 => Self::ConvertedSamples,
             23 => Self::ConvertedLength,
             24 => Self::ObjectNumber,
+            25 => Self::TooManyAhead,
             number => Self::Other {
                 number,
                 first,
@@ -184,6 +187,7 @@ impl Refusal {
             Self::ConvertedSamples => 22,
             Self::ConvertedLength => 23,
             Self::ObjectNumber => 24,
+            Self::TooManyAhead => 25,
             Self::Other { number, .. } => number,
         }
     }
@@ -204,7 +208,7 @@ impl Refusal {
     /// Whose fault it is.
     pub const fn blame(self) -> Blame {
         match self.number() {
-            5 | 6 => Blame::Programme,
+            5 | 6 | 25 => Blame::Programme,
             8 => Blame::Decoder,
             9..=14 => Blame::Stream,
             _ => Blame::Host,
@@ -239,6 +243,9 @@ impl fmt::Display for Refusal {
             }
             Self::ObjectNumber => {
                 "no such object: its number is not below the dynamic objects of the last update"
+            }
+            Self::TooManyAhead => {
+                "more than 8 updates would wait, or more than 1,200 records of them"
             }
             _ => return self.with_counts(f),
         })

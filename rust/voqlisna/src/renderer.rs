@@ -184,11 +184,18 @@ impl<B: Bytes> Renderer<B> {
         read.ok().filter(|_| answer.kind == 0)
     }
 
-    /// A new stream in the same hall: layout and table stay, and no object is held. Samples that wait
-    /// are lost: flush first.
+    /// A new stream in the same hall: layout and table stay, no object is held, and no update waits.
+    /// Samples that wait are lost: flush first.
     pub fn reset(&mut self) {
         // Refuses a block of another length, or without a layout or a right table, which this is not.
         entry::reset(self.block.lend());
+    }
+
+    /// How many updates wait for their samples: at most 8 ([`Ahead`](crate::Ahead)).
+    pub fn waiting(&self) -> u32 {
+        let waits = self.block.get().get(sys::WAITS_AT..);
+        let count = waits.and_then(<[u8]>::first_chunk);
+        count.map_or(0, |count| u32::from_le_bytes(*count))
     }
 
     /// The state block, as docs/STATE-BLOCK.md lays it out.

@@ -28,6 +28,60 @@ pub struct Update<'a> {
     pub beds: &'a [Bed],
 }
 
+/// The head of an update that may lie ahead of its frame (kind 9): at or past the frame's end it is
+/// not dropped, but waits, and is applied in the frame in which its sample falls, before that frame's
+/// own updates at the same sample.
+///
+/// Up to eight may wait after a frame, of at most 1,200 records in all ([`Refusal`](crate::Refusal)
+/// 25). Number of objects and beds are judged when the update is applied: a frame with other channels
+/// is refused by 11, 13 or 14 then, and the update goes on waiting; one that changes the number of
+/// objects must fall on a frame's first sample, as one of [`Update`] must. [`Renderer::reset`](crate::Renderer::reset)
+/// forgets all that wait.
+///
+/// ```
+/// use voqlisna::*;
+/// let mut memory = [0; MetadataWriter::bytes_for(1, &[]) + MetadataWriter::bytes_for(1, &[1])];
+/// let mut writer = MetadataWriter::new(&mut memory);
+/// writer.update(Update { at: 0, objects: 1, fixed: 0, beds: &[] })?;
+/// writer
+///     .update_ahead(Ahead { at: 96_000, objects: 1, fixed: 0, beds: &[] })? // in two seconds
+///     .element(&[Block::default()], |_, _| Object::at(Room::CENTER).gain(1.0))?;
+///
+/// let (mut renderer, mut out) = (Renderer::new(Layout::Hall714)?, Output::new(Stride::MAX));
+/// let frame = |metadata| Frame::new(Rate::HZ_48000, &[], Pcm::packed(&[0.5; 480], 1)?, metadata);
+/// renderer.push(&frame(writer.finish())?, &mut out)?;
+/// for _ in 1..200 {
+///     assert_eq!(renderer.waiting(), 1);
+///     renderer.push(&frame(Metadata::NONE)?, &mut out)?;
+/// }
+/// renderer.push(&frame(Metadata::NONE)?, &mut out)?; // from sample 96,000 on
+/// assert_eq!(renderer.waiting(), 0);
+/// # Ok::<(), Box<dyn std::error::Error>>(())
+/// ```
+#[derive(Clone, Copy, Debug, PartialEq, Eq)]
+pub struct Ahead<'a> {
+    /// So many samples behind the start of the frame that brings it.
+    pub at: u32,
+    /// As in [`Update`].
+    pub objects: u8,
+    /// As in [`Update`].
+    pub fixed: u8,
+    /// As in [`Update`].
+    pub beds: &'a [Bed],
+}
+
+impl<'a> Ahead<'a> {
+    /// The same at the frame's start.
+    const fn update(self) -> Update<'a> {
+        Update {
+            at: 0,
+            objects: self.objects,
+            fixed: self.fixed,
+            beds: self.beds,
+        }
+    }
+}
+
 impl Update<'_> {
     fn check(&self) -> Result<(), BuildError> {
         if self.objects > OBJECTS_IN_ALL {
@@ -104,14 +158,31 @@ impl<'m> MetadataWriter<'m> {
         records.saturating_mul(RECORD)
     }
 
-    /// Starts an update; at most 16.
+    /// Starts an update; at most 16, those ahead included.
     pub fn update(&mut self, update: Update<'_>) -> Result<UpdateWriter<'_, 'm>, BuildError> {
+        self.start(update, update.record())
+    }
+
+    /// Starts one that may lie ahead of the frame.
+    pub fn update_ahead(&mut self, ahead: Ahead<'_>) -> Result<UpdateWriter<'_, 'm>, BuildError> {
+        let update = ahead.update();
+        let mut record = update.record();
+        record[0] = 9;
+        record[28..32].copy_from_slice(&ahead.at.to_le_bytes());
+        self.start(update, record)
+    }
+
+    fn start(
+        &mut self,
+        update: Update<'_>,
+        record: Bytes40,
+    ) -> Result<UpdateWriter<'_, 'm>, BuildError> {
         if self.updates == UPDATES {
             return Err(BuildError::Updates);
         }
         update.check()?;
         let head = self.length;
-        let end = put(self.grow(1)?, [Ok(update.record())])?;
+        let end = put(self.grow(1)?, [Ok(record)])?;
         self.length = head.saturating_add(end);
         self.updates = self.updates.saturating_add(1);
         Ok(UpdateWriter {

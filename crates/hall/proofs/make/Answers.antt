@@ -1,4 +1,5 @@
 -- `make`: a block of another length, or a code above 3, is left; any other is filled.
+use mathlib.Core.Path.{refl}
 use native.Mathlib.Omega.{arith}
 use lib.Ieee.{to_bits}
 use borrow.Author.Tests.{eq-eqb, ne_eqb}
@@ -9,18 +10,16 @@ use Rattle.hall.proofs.WaysOut.{is_make, not_taken, not_made, makes}
 use Rattle.hall.proofs.FoundOfTable.{layout_stops, layout_passes}
 use Rattle.hall.proofs.make.Goals as goal
 
-pub returns-in_default : goal.returns-in_default
-returns-in_default c = let a = c.args in not_taken (is_make a.layout) a.state.now (ne_eqb _ _ c.in_default.ensures.cases)
+pub returns-then-state-ne-STATE_BYTES : goal.returns-then-state-ne-STATE_BYTES
+returns-then-state-ne-STATE_BYTES c = let a = c.args in not_taken (is_make a.layout) a.state.now (ne_eqb _ _ c.if-state-ne-STATE_BYTES.true)
 
 pub returns-then-layout-gt-LAST_LAYOUT : goal.returns-then-layout-gt-LAST_LAYOUT
 returns-then-layout-gt-LAST_LAYOUT c =
     let a = c.args in
-    let h = c.in-Some.ensures.cases in
-    not_made (is_make a.layout) a.state.now (eq-eqb _ _ h.long) Layout (layout_stops a.layout c.if-layout-gt-LAST_LAYOUT.true) h.same
+    not_made (is_make a.layout) a.state.now (eq-eqb _ _ c.if-state-ne-STATE_BYTES.false) Layout (layout_stops a.layout c.if-layout-gt-LAST_LAYOUT.true) refl
 
 pub returns : goal.returns
 unfolding setup.table_of speakers.positions714 to_bits
 returns c =
     let a = c.args in
-    let h = c.in-Some.ensures.cases in
-    makes (is_make a.layout) a.state.now (eq-eqb _ _ h.long) (layout_passes a.layout (omega (arith, c.if-layout-gt-LAST_LAYOUT.false))) c.make.ensures
+    makes (is_make a.layout) a.state.now (eq-eqb _ _ c.if-state-ne-STATE_BYTES.false) (layout_passes a.layout (omega (arith, c.if-layout-gt-LAST_LAYOUT.false))) c.make.ensures

@@ -84,6 +84,9 @@ fn list(seed: u64) -> Vec<u8> {
     if inputs.chance(2) {
         calls = calls.with_holds();
     }
+    if inputs.chance(2) {
+        calls = calls.with_far();
+    }
     let mut list = make(layout).to_vec();
     let mut records = 0;
     for _ in 0..4 + inputs.below(9) {

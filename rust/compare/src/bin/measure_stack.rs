@@ -83,6 +83,17 @@ fn frame(samples: usize) -> Call {
     })
 }
 
+/// One sample with two of the largest updates, due 64 samples on.
+fn far() -> Call {
+    let mut far = frame(1);
+    far.meta.extend_from_within(..);
+    for at in [0, far.meta.len() / 2] {
+        far.meta[at] = 9;
+        far.meta[at + 28..at + 32].copy_from_slice(&64u32.to_le_bytes());
+    }
+    far
+}
+
 fn tell(what: &str, (bytes, answer): (usize, Answer)) {
     let Answer { kind, number, .. } = answer;
     println!("{what}: {bytes} bytes (kind {kind}, number {number})");
@@ -123,6 +134,12 @@ fn calls(state: &mut [u8], out: &mut [u8]) {
         let mut push = || entry::push(state, &call, out, STRIDE as u32);
         tell(&format!("push of {samples} samples"), depth(&mut push));
     }
+    let (mut fallen, far) = (frame(1_536), far());
+    let mut push = || entry::push(state, &far, out, STRIDE as u32);
+    tell("push that brings 1,062 records that wait", depth(&mut push));
+    fallen.meta.clear();
+    let mut push = || entry::push(state, &fallen, out, STRIDE as u32);
+    tell("push in which they fall", depth(&mut push));
     for (name, wanted) in [("hold", true), ("release", false)] {
         tell(name, depth(&mut || entry::mark(state, 0, wanted)));
     }

@@ -233,7 +233,7 @@ impl Frames {
         let many = self.most_records == ENTRY_RECORDS && inputs.chance(20);
         for _ in 0..15 {
             let one_in = if self.moving { 4 } else { 2 };
-            if !many && inputs.chance(one_in) == !self.moving {
+            if !many && inputs.chance(one_in) != self.moving {
                 break;
             }
             let offset = offset(inputs, samples);

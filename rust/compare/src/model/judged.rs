@@ -1,8 +1,9 @@
-//! Document 01's refusals 1 to 6 and 8.
+//! Document 01's refusals 1 to 6 and 8, and document 02's 25.
 
 use super::STREAM_END;
+use super::waits::{self, Settled, Waiting};
 use crate::calls::Call;
-use crate::records::{self, read};
+use crate::records;
 use crate::{floats, ranges};
 use oracle::frame::Frame;
 use oracle::state::State;
@@ -27,8 +28,15 @@ fn counts_fit(call: &Call, stride: usize) -> bool {
         && (samples == 0 || channels > 0)
 }
 
-/// The frame, or the least of 2 to 6 and 8 that refuses it.
-pub fn judged(state: &State, before: u64, call: &Call, stride: usize) -> Result<Frame, u32> {
+/// The frame with the updates that are due in it, how many of these waited, and what waits after it; or
+/// the least of 2 to 6 and 8 that refuses it, else 25.
+pub fn judged(
+    state: &State,
+    before: u64,
+    waits: &[Waiting],
+    call: &Call,
+    stride: usize,
+) -> Result<(Frame, usize, Vec<Waiting>), u32> {
     if !counts_fit(call, stride) {
         return Err(2);
     }
@@ -45,16 +53,22 @@ pub fn judged(state: &State, before: u64, call: &Call, stride: usize) -> Result<
     if outside != 0 {
         return Err(outside);
     }
+    let pcm = floats(&call.pcm);
+    if !pcm.iter().all(|x| x.abs() <= 16.0) {
+        return Err(8);
+    }
+    let Settled { due, fallen, next } =
+        waits::settled(waits, position, call.samples.into(), &updates, &call.meta);
+    if !waits::fit(&next) {
+        return Err(25);
+    }
     let frame = Frame {
         rate: call.rate,
         samples: call.samples as usize,
         beds: call.codes.clone(),
         objects: call.objects as usize,
-        pcm: floats(&call.pcm),
-        updates: updates.iter().map(read::Update::update).collect(),
+        pcm,
+        updates: due,
     };
-    if !frame.pcm.iter().all(|x| x.abs() <= 16.0) {
-        return Err(8);
-    }
-    Ok(frame)
+    Ok((frame, fallen, next))
 }

@@ -13,6 +13,7 @@ mod meters;
 pub mod pcm24;
 pub mod planes;
 mod sends;
+pub mod waits;
 
 use crate::calls::{Call, Step};
 use crate::entry::Answer;
@@ -27,6 +28,7 @@ pub use judged::{judged, rightly_lent};
 pub use met::{Met, lifts, met};
 pub use meters::{Limited, Meters};
 pub use sends::with_sends;
+pub use waits::Waiting;
 
 #[derive(Clone, Debug, PartialEq)]
 pub enum Outcome {
@@ -81,6 +83,10 @@ pub struct Model {
     lifted: bool,
     sent: bool,
     held: bool,
+    /// The updates that wait, at the stream's own positions.
+    waits: Vec<Waiting>,
+    /// How many fell in the last accepted push.
+    fallen: usize,
     /// Samples of the stream before the oracle's first.
     pub before: u64,
     /// The last push that 1 to 8 let pass.
@@ -95,6 +101,7 @@ pub struct Model {
 pub struct Judged {
     /// The renderer before it.
     pub before: State,
+    /// With the updates that are due in it, those that waited first.
     pub frame: Frame,
 }
 
@@ -121,6 +128,8 @@ impl Model {
             lifted: false,
             sent: false,
             held: false,
+            waits: Vec::new(),
+            fallen: 0,
             before: 0,
             judged: None,
             read: false,
@@ -139,6 +148,7 @@ impl Model {
             rust: alike.then(|| Oracle::in_state(&state)),
             sent,
             held,
+            waits: waits::read(bytes, state.stream_sample_offset as u64).unwrap(),
             ..model
         }
     }
@@ -164,7 +174,9 @@ impl Model {
 
     /// The part of a block that is another renderer's.
     pub fn difference(&self, bytes: &[u8]) -> Option<&'static str> {
-        block::difference(bytes, &self.setup, &self.moved_state())
+        let waits = waits::stand_in(&self.waits, bytes);
+        let front = block::difference(bytes, &self.setup, &self.moved_state());
+        front.or((!waits).then_some("updates that wait"))
     }
 
     /// The unchanged Rust's while it is there, with the sends, which it has not.
@@ -188,6 +200,22 @@ impl Model {
         state.metadata_timeslot_stream_sample += before;
         state.metadata.payload_stream_sample += before;
         state
+    }
+
+    /// The updates that wait.
+    pub fn waits(&self) -> &[Waiting] {
+        &self.waits
+    }
+
+    /// How many fell in the last accepted push.
+    pub fn fallen(&self) -> usize {
+        self.fallen
+    }
+
+    /// So many samples come before the oracle's first.
+    pub fn move_on(&mut self, by: u64) {
+        self.before += by;
+        self.waits.iter_mut().for_each(|w| w.position += by);
     }
 
     /// A channel was lifted since the last reset.
@@ -222,10 +250,14 @@ impl Model {
     pub fn push(&mut self, call: &Call, stride: usize) -> Outcome {
         (self.judged, self.read) = (None, false);
         self.effects = Effects::default();
+        self.fallen = 0;
         let before = self.state();
-        match judged(&before, self.before, call, stride) {
-            Ok(frame) => {
+        match judged(&before, self.before, &self.waits, call, stride) {
+            Ok((frame, fallen, next)) => {
                 let outcome = self.render(&before, &frame);
+                if let Outcome::Ready(..) = outcome {
+                    (self.fallen, self.waits) = (fallen, next);
+                }
                 self.judged = Some(Judged { before, frame });
                 outcome
             }
@@ -358,6 +390,7 @@ impl Model {
             self.rust = Some(Oracle::new());
         }
         (self.lifted, self.sent, self.held) = (false, false, false);
+        self.waits.clear();
         self.before = 0;
         Outcome::New(self.setup)
     }

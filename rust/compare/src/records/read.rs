@@ -7,6 +7,10 @@ use oracle::frame::{self, ANCHORS, DEPTHS, Object};
 
 pub struct Update {
     pub place: usize,
+    /// The record behind its last one.
+    pub end: usize,
+    /// It may lie far ahead: kind 9 (document 02, R-12).
+    pub far: bool,
     pub header: Header,
     pub codes: Vec<usize>,
     pub elements: Vec<Element>,
@@ -21,10 +25,10 @@ pub struct Element {
 }
 
 impl Update {
-    /// In document 01's terms.
-    pub fn update(&self) -> frame::Update {
+    /// In document 01's terms, at that offset.
+    pub fn update(&self, offset: u16) -> frame::Update {
         frame::Update {
-            offset: self.header.offset as u16,
+            offset,
             objects: self.header.objects as u8,
             bed_or_isf_objects: self.header.bed_or_isf as u8,
             beds: self.codes.iter().map(|&code| code as u8).collect(),
@@ -70,6 +74,8 @@ struct Cursor<'a> {
     place: usize,
     /// A value outside its range was met: refusal 6, unless a 5 follows.
     outside: bool,
+    /// One of these was a block's offset or ramp, or a depth factor.
+    unfit: bool,
 }
 
 impl<'a> Cursor<'a> {
@@ -88,9 +94,17 @@ impl<'a> Cursor<'a> {
 
     fn update(&mut self) -> Result<Update, Broken> {
         let place = self.place;
-        let r = self.record(1)?;
+        let far = self.bytes.get(40 * place) == Some(&9);
+        let r = self.record(if far { 9 } else { 1 })?;
+        let half = u16::from_le_bytes([r[2], r[3]]);
+        let word = u32::from_le_bytes(r[28..32].try_into().unwrap());
+        // "Kind 9 is kind 1 with the offset in bytes 28 to 31, unsigned 32-bit, bytes 2 and 3 zero"
+        let (offset, misplaced) = match far {
+            true => (word, half != 0 || !zero(&r[32..])),
+            false => (half.into(), !zero(&r[28..])),
+        };
         let header = Header {
-            offset: u16::from_le_bytes([r[2], r[3]]).into(),
+            offset,
             objects: r[4].into(),
             bed_or_isf: r[5].into(),
             beds: r[6].into(),
@@ -98,12 +112,13 @@ impl<'a> Cursor<'a> {
         };
         let dynamic = header.objects.saturating_sub(header.bed_or_isf);
         if r[1] != 0
+            || misplaced
             || header.objects > 32
             || dynamic > 16
             || header.beds > 18.min(header.objects)
             || header.elements > 2
             || r[8..8 + header.beds].iter().any(|&code| code > 17)
-            || !zero(&r[8 + header.beds..])
+            || !zero(&r[8 + header.beds..28])
         {
             return Err(Broken);
         }
@@ -116,6 +131,8 @@ impl<'a> Cursor<'a> {
             .collect::<Result<_, _>>()?;
         Ok(Update {
             place,
+            end: self.place,
+            far,
             header,
             codes,
             elements,
@@ -148,7 +165,7 @@ impl<'a> Cursor<'a> {
         }
         let [offset, ramp] =
             [8, 16].map(|at| i64::from_le_bytes(r[at..at + 8].try_into().unwrap()));
-        self.outside |= offset.unsigned_abs() > 1_048_576 || ramp.unsigned_abs() > 1_048_576;
+        self.unfit |= offset.unsigned_abs() > 1_048_576 || ramp.unsigned_abs() > 1_048_576;
         Ok(Block { offset, ramp })
     }
 
@@ -171,10 +188,9 @@ impl<'a> Cursor<'a> {
         let float = |at: usize| f32::from_bits(word(at));
         let depth = DEPTHS.iter().position(|&factor| factor == float(32));
         let over = |at: usize, most: f32| !(0.0..=most).contains(&float(at));
-        self.outside |= flags & 4 != 0 && over(4, 8.0)
-            || flags & 32 != 0 && over(24, 1.0)
-            || depth.is_none()
-            || over(36, 1.0);
+        self.unfit |= depth.is_none();
+        self.outside |=
+            flags & 4 != 0 && over(4, 8.0) || flags & 32 != 0 && over(24, 1.0) || over(36, 1.0);
         let info = Info {
             head: u32::from(flags) | u32::from(anchor) << 8 | (depth.unwrap_or(4) as u32) << 16,
             gain: word(4),
@@ -192,10 +208,25 @@ impl<'a> Cursor<'a> {
 
 /// The updates with refusal 0 or 6, or refusal 5.
 pub fn read(bytes: &[u8]) -> Result<(Vec<Update>, u32), Broken> {
+    let (updates, outside, unfit) = parsed(bytes)?;
+    Ok((updates, if outside || unfit { 6 } else { 0 }))
+}
+
+/// The updates of records that wait: of kind 9, their blocks and depth factors in range, their
+/// floats of any bits.
+pub fn read_waiting(bytes: &[u8]) -> Option<Vec<Update>> {
+    let (updates, _, unfit) = parsed(bytes).ok()?;
+    let holds = !unfit && updates.iter().all(|update| update.far);
+    holds.then_some(updates)
+}
+
+/// The updates, whether a value is outside its range, and whether a block's or a depth factor is.
+fn parsed(bytes: &[u8]) -> Result<(Vec<Update>, bool, bool), Broken> {
     let mut cursor = Cursor {
         bytes,
         place: 0,
         outside: false,
+        unfit: false,
     };
     let mut updates = Vec::new();
     while 40 * cursor.place < bytes.len() {
@@ -204,5 +235,5 @@ pub fn read(bytes: &[u8]) -> Result<(Vec<Update>, u32), Broken> {
         }
         updates.push(cursor.update()?);
     }
-    Ok((updates, if cursor.outside { 6 } else { 0 }))
+    Ok((updates, cursor.outside, cursor.unfit))
 }

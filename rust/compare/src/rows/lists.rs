@@ -10,7 +10,7 @@ use oracle::frame::{Anchor, Element, Object};
 type Part = (&'static str, fn(&mut Rows));
 
 pub fn groups() -> Vec<Group> {
-    let parts: [Part; 11] = [
+    let parts: [Part; 12] = [
         ("refusals", refusals),
         ("outputs", outputs),
         ("block_rows", blocks),
@@ -22,6 +22,7 @@ pub fn groups() -> Vec<Group> {
         ("tables", tables),
         ("hold_rows", holds),
         ("searches", searches),
+        ("ahead_rows", ahead),
     ];
     let group = |(name, part): Part| {
         let mut rows = Rows(vec![]);
@@ -699,4 +700,34 @@ fn searches(rows: &mut Rows) {
         .find(3 << 4)
         .make(1)
         .find(1 << 6);
+}
+
+fn ahead(rows: &mut Rows) {
+    let new = || update(0, &[], 1, &[]);
+    let left = || set(0, &[at(0.0, 0.0, 0.0)]);
+    rows.row("falls_ahead")
+        .shows("an update of kind 9 is applied in the frame where its sample falls, though that brings none")
+        .push(of_object().ahead(2, left()).with(new()))
+        .push(of_object())
+        .push(of_object())
+        .flush();
+    rows.row("own_behind")
+        .shows("one that waited comes before the frame's own of the same offset, one of kind 1 past the end never")
+        .push(of_object().ahead(1, left()).with(new()).with(update(1, &[], 1, &[])))
+        .push(of_object().with(set(0, &[at(1.0, 0.0, 0.0)])))
+        .flush();
+    let nine = (0..9).fold(of_object(), |push, _| push.ahead(5, new()));
+    let eight = (0..8).fold(of_object(), |push, _| push.ahead(5, new()));
+    rows.row("too_many_ahead")
+        .shows("25: nine would wait, and one more than eight; a reset leaves none")
+        .push(nine.with(new()))
+        .push(eight.with(new()))
+        .push(of_object().ahead(1, new()))
+        .push(of_object().ahead(0, new()))
+        .reset()
+        .push(of_object().ahead(1, new()).with(new()));
+    rows.row("none_falls")
+        .shows("10: a first frame whose one update only waits")
+        .push(of_object().ahead(1, new()))
+        .push(of_object().ahead(0, new()));
 }

@@ -23,6 +23,8 @@ pub struct Push {
     pub objects: u32,
     /// Channel after channel.
     pub pcm: Vec<f32>,
+    /// Updates of kind 9, with their offsets; they come before the others.
+    pub ahead: Vec<(u32, Update)>,
     pub updates: Vec<Update>,
     /// Bytes put wrong in the first update: place and value.
     pub spoilt: Vec<(usize, u8)>,
@@ -75,9 +77,18 @@ pub fn text() -> String {
     text::text(&groups())
 }
 
+/// Kind 9 "is kind 1 with the offset in bytes 28 to 31, unsigned 32-bit, bytes 2 and 3 zero".
+fn far_records((offset, update): &(u32, Update)) -> Vec<u8> {
+    let mut bytes = records::write(std::slice::from_ref(update));
+    bytes[0] = 9;
+    bytes[28..32].copy_from_slice(&offset.to_le_bytes());
+    bytes
+}
+
 impl From<&Push> for Call {
     fn from(push: &Push) -> Self {
-        let mut meta = records::write(&push.updates);
+        let mut meta: Vec<u8> = push.ahead.iter().flat_map(far_records).collect();
+        meta.extend(records::write(&push.updates));
         for &(at, byte) in &push.spoilt {
             meta[at] = byte;
         }

@@ -15,6 +15,7 @@ pub fn frame<T: AsRef<[f32]>>(codes: &[u8], channels: &[T]) -> Push {
         codes: codes.to_vec(),
         objects: (channels.len() - codes.len()) as u32,
         pcm: channels.iter().flat_map(|x| x.as_ref()).copied().collect(),
+        ahead: vec![],
         updates: vec![],
         spoilt: vec![],
     }
@@ -35,6 +36,12 @@ pub fn lone(n: usize, heard: &[(usize, f32)]) -> Vec<f32> {
 impl Push {
     pub fn with(mut self, update: Update) -> Self {
         self.updates.push(update);
+        self
+    }
+
+    /// An update of kind 9, so many samples ahead.
+    pub fn ahead(mut self, offset: u32, update: Update) -> Self {
+        self.ahead.push((offset, update));
         self
     }
 

@@ -11,7 +11,7 @@ use Rattle.std.specs.Prelude.{true, false, List, [], ◌∷◌, ◌++◌, replic
 use Rattle.rules.specs.Calls.{reset, make, make_with, hold, release, find}
 use Rattle.rows.specs.Rows.{Row, ◌⇒◌, refusal, ready, none, renewed, noted, found}
 use Rattle.rows.specs.Notation.{concat, as_row, row_at, sent, sent_by, of_bed, of_object, flush_at, short, quiet, diagonal_words, silence, only}
-use Rattle.rows.specs.Notation.{update, bed, spoilt, element, at_once, block_from, minus, object, at, valid_position, place, differential, gain, distance, with_size}
+use Rattle.rows.specs.Notation.{update, far, bed, spoilt, element, at_once, block_from, minus, object, at, valid_position, place, differential, gain, distance, with_size}
 use Rattle.rows.specs.Notation.{screen, depth, screen_anchor, on_speakers, words}
 ";
 
@@ -102,13 +102,20 @@ fn table_text(table: &[u8]) -> String {
 
 fn push_text(push: &Push) -> String {
     let spoil = |text: String, (at, byte): &(usize, u8)| format!("spoilt {at} {byte} ({text})");
-    let mut updates: Vec<String> = push.updates.iter().map(update_text).collect();
+    let far = push.ahead.iter().map(far_text);
+    let mut updates: Vec<String> = far.chain(push.updates.iter().map(update_text)).collect();
     if let Some(first) = updates.first_mut() {
         *first = push.spoilt.iter().fold(first.clone(), spoil);
     }
     let meta = match updates.as_slice() {
         [first, _, _, ..] if updates.iter().all(|u| u == first) => {
             format!("(replicate {} {})", updates.len(), within(first.clone()))
+        }
+        [first, _, .., last] if updates.iter().rev().skip(1).all(|u| u == first) => {
+            let (count, first) = (updates.len() - 1, within(first.clone()));
+            within(format!(
+                "replicate {count} {first} ++{BREAK}{last} ∷{BREAK}[]"
+            ))
         }
         _ => within(list(BREAK, updates)),
     };
@@ -126,6 +133,10 @@ fn push_text(push: &Push) -> String {
         head => head,
     };
     format!("{head}{BREAK}{meta}")
+}
+
+fn far_text((offset, update): &(u32, Update)) -> String {
+    format!("far {offset} {}", within(update_text(update)))
 }
 
 fn update_text(update: &Update) -> String {

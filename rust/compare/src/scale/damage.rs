@@ -1,11 +1,11 @@
 // SPDX-License-Identifier: Apache-2.0
 //! What a host can do wrong: memory, counts and lengths, and bytes of the block.
 
-use crate::block::{INFOS, TABLE};
+use crate::block::{AREA, INFOS, TABLE};
 use crate::calls::{Call, spoil_record};
 use crate::entry::{self, BLOCK};
 use crate::host::Host;
-use crate::model::Outcome;
+use crate::model::{Outcome, waits};
 use crate::{Generator, ranges, tables};
 
 const ONE: Outcome = Outcome::Refused([1, 0, 0]);
@@ -90,18 +90,27 @@ fn table(inputs: &mut Generator, state: &mut [u8]) {
     let any = tables::spoilt(inputs);
     match inputs.below(3) {
         0 => ranges::put_table(state, &tables::accepted(inputs)),
-        1 => spoil_record(inputs, &mut state[TABLE..]),
-        _ => state[TABLE..]
+        1 => spoil_record(inputs, &mut state[TABLE..AREA]),
+        _ => state[TABLE..AREA]
             .iter_mut()
             .zip(any)
             .for_each(|(to, byte)| *to = byte),
     }
 }
 
+/// Of the area bytes in use, mostly a count, a position or a record.
+fn spoil_area(inputs: &mut Generator, state: &mut [u8]) {
+    let records = u32::from_le_bytes(state[AREA + 4..AREA + 8].try_into().unwrap()) as usize;
+    let used = waits::RECORDS + 40 * records.min(waits::MOST_RECORDS);
+    let until = inputs.pick(&[8, waits::RECORDS, used, used]);
+    spoil_record(inputs, &mut state[AREA..AREA + until]);
+}
+
 /// Some bytes of a block, a number of it at or past an end of its range, its table, the limiter's gain,
 /// or another block.
 pub fn block(inputs: &mut Generator, state: &mut Vec<u8>) {
-    match inputs.below(11) {
+    match inputs.below(12) {
+        11 => spoil_area(inputs, state),
         0 => spoil_record(inputs, state),
         1..4 => spoil_record(inputs, &mut state[..INFOS]),
         4 => *state = ranges::drawn(inputs),

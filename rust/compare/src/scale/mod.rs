@@ -11,7 +11,7 @@ mod table;
 use crate::calls::{Call, Calls, Step};
 use crate::case::Case;
 use crate::host::Host;
-use crate::model::{Effects, Judged, Model, Outcome};
+use crate::model::{Effects, Judged, Model, Outcome, waits};
 use crate::setup::Setup;
 use crate::{Generator, ranges, streams, tables};
 use oracle::frame::Update;
@@ -92,7 +92,12 @@ impl<'a> Run<'a> {
                     3 | 4 => Calls::holding(calls, samples),
                     _ => Calls::for_entries(calls, samples),
                 };
-                Source::Drawn(calls.with_making(layout))
+                let calls = calls.with_making(layout);
+                Source::Drawn(if seed.is_multiple_of(3) {
+                    calls.with_far()
+                } else {
+                    calls
+                })
             }
         };
         let mut setup = Setup::built_in(layout);
@@ -231,6 +236,19 @@ impl<'a> Run<'a> {
         reached.add(What::Jumps, jumps);
         reached.add(What::Unchanged, self.model.beside_the_rust().into());
         reached.add(What::Read, self.model.was_read().into());
+        reached.add(What::Waiting, (!self.model.waits().is_empty()).into());
+        let fallen = &frame.updates[..self.model.fallen()];
+        reached.add(What::Fallen, fallen.len() as u64);
+        let at = |at: usize| {
+            fallen
+                .iter()
+                .filter(|u| usize::from(u.offset) == at)
+                .count() as u64
+        };
+        reached.add(What::FallenFirst, at(0));
+        reached.add(What::FallenLast, at(frame.samples - 1));
+        let most = self.model.waits().len() == waits::MOST;
+        reached.add(What::MostWaiting, most.into());
         let Setup { layout, table } = self.model.setup();
         reached.one(What::Layout(*layout));
         reached.kinds(table, What::Table);

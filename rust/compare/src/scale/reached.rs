@@ -52,6 +52,13 @@ pub enum What {
     Stopped,
     GoesOn,
     Jumps,
+    /// An accepted push that leaves updates waiting, and one that leaves eight; waiting ones that fell in
+    /// accepted pushes, at offset 0, and at the last sample.
+    Waiting,
+    MostWaiting,
+    Fallen,
+    FallenFirst,
+    FallenLast,
     /// An accepted push that is held against the unchanged Rust.
     Unchanged,
     /// In another hall than the Rust's, one that is held against the reading of its hall.

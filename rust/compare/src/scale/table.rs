@@ -8,7 +8,7 @@ use crate::tables::{KINDS, Kind};
 type Line = (&'static str, Vec<(String, What)>);
 
 /// What has a name.
-const NAMED: [(&str, &[(&str, What)]); 17] = [
+const NAMED: [(&str, &[(&str, What)]); 18] = [
     (
         "compared",
         &[
@@ -71,6 +71,16 @@ const NAMED: [(&str, &[(&str, What)]); 17] = [
             ("released on a ramp", GoesOn),
             ("released behind it", Jumps),
             ("frames from a hold on", Held),
+        ],
+    ),
+    (
+        "updates far ahead",
+        &[
+            ("frames that leave some", Waiting),
+            ("that leave eight", MostWaiting),
+            ("updates that fell", Fallen),
+            ("at offset 0", FallenFirst),
+            ("at the last sample", FallenLast),
         ],
     ),
     (
@@ -142,7 +152,7 @@ fn numbered() -> [Line; 6] {
         line("made, by layout", 0..4, Make),
         line(
             "refusals",
-            (1..=18).filter(|&n| n != 7).chain([24]),
+            (1..=18).filter(|&n| n != 7).chain([24, 25]),
             Refusal,
         ),
         line("bed channels of frames", 0..18, Input),

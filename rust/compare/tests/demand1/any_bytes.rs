@@ -1,8 +1,8 @@
 //! Arguments of any bytes and lengths, and arguments that are right but for some of them, so that
 //! every answer arises.
 
-use compare::block::TABLE;
-use compare::calls::{Call, Step, spoil, spoil_record};
+use compare::block::{AREA, TABLE};
+use compare::calls::{Call, Step, send_ahead, spoil, spoil_record};
 use compare::case::{Case, Seen};
 use compare::entry::{Answer, BLOCK};
 use compare::host::{fresh, used_block};
@@ -37,7 +37,7 @@ fn any_state(inputs: &mut Generator) -> Vec<u8> {
         3 => {
             let mut block = ranges::drawn(inputs);
             let table = any_table(inputs);
-            let places = block[TABLE..].iter_mut().zip(table);
+            let places = block[TABLE..AREA].iter_mut().zip(table);
             places.for_each(|(place, byte)| *place = byte);
             block
         }
@@ -71,6 +71,9 @@ fn any_call(inputs: &mut Generator) -> Call {
 fn fitting_call(inputs: &mut Generator, state: &[u8]) -> Call {
     let mut frames = Frames::after(&block::state(state), inputs.bits(), 256);
     let mut call = Call::from(&frames.next_frame());
+    if inputs.chance(3) {
+        send_ahead(inputs, &mut call);
+    }
     if inputs.chance(3) {
         spoil(inputs, &mut call);
     }
@@ -228,7 +231,7 @@ fn any_bytes() {
     }
     println!("{answers:?}");
     let kinds = [(0, 0), (2, 0), (3, 0)].into_iter();
-    for kind in kinds.chain((1..=18).chain([24]).map(|number| (1, number))) {
+    for kind in kinds.chain((1..=18).chain([24, 25]).map(|number| (1, number))) {
         let arises = kind != (1, 7);
         let seen = answers.contains_key(&kind);
         assert!(seen == arises || !seeds::all() && !seen, "{kind:?}");

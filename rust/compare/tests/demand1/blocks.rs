@@ -1,7 +1,7 @@
 //! State blocks (docs/STATE-BLOCK.md): out of range they are refused, in range they are taken, at
 //! the ends of every range and with floats of any bits.
 
-use compare::block::{ELEMENT, ELEMENTS};
+use compare::block::{AREA, ELEMENT, ELEMENTS};
 use compare::calls::{Call, Step, bed_frame};
 use compare::entry::{self, BLOCK};
 use compare::host::{Host, used_block};
@@ -139,6 +139,8 @@ fn all_at_one_end() {
         (88, 18),
         (8, 1 << 40),
         (16, (1 << 40) - 63),
+        (AREA, 0),
+        (AREA + 4, 0),
     ];
     for (most, nan) in [(false, 0x7f80_0001u32), (true, 0xffff_ffff)] {
         let mut host = Host::new(64);

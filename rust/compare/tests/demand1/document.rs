@@ -2,7 +2,9 @@
 //! those that the other tests hold the entries to, the names are those of the decoded fields, and
 //! making and reset leave what is written there.
 
+use compare::block::AREA;
 use compare::entry::{self, BLOCK};
+use compare::model::waits;
 use compare::ranges::{self, Field};
 use compare::setup::built_in;
 use compare::{Generator, block, seeds, tables};
@@ -124,7 +126,10 @@ fn written() -> Vec<(String, Field)> {
 fn ranges_are_those_tested() {
     let any = |field: &Field| (field.least, field.most) == ANY;
     let (floats, said): (Vec<_>, Vec<_>) = written().iter().map(|w| w.1).partition(any);
-    assert!(floats.iter().all(|field| field.width == 4), "floats");
+    let positions = AREA + waits::POSITIONS..AREA + waits::RECORDS;
+    let width = |field: &Field| if positions.contains(&field.at) { 8 } else { 4 };
+    let is_float = |field: &Field| field.width == width(field);
+    assert!(floats.iter().all(is_float), "floats, positions, records");
     let table = |field: &Field| (field.least, field.most) == COORDINATE;
     let (table, said): (Vec<_>, Vec<_>) = said.into_iter().partition(table);
     let word = |k: usize| field(block::TABLE + 4 * k, 4, COORDINATE);

@@ -3,6 +3,7 @@
 //! with R-9's 24-bit samples and with R-10's planes, and their destination, with R-11's holds, and with
 //! R-13's search.
 
+mod ahead;
 mod any_bytes;
 mod blocks;
 mod document;

@@ -6,6 +6,7 @@
 //! the channels and places that are there. R-9's 24-bit samples and R-10's planes, which the Rust has not,
 //! are what the document says, and R-13's searches find what is first on the grid.
 
+mod ahead;
 mod appended;
 mod edges;
 mod entries;

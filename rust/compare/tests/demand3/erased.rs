@@ -38,13 +38,16 @@ fn first(seed: u64) -> Setup {
 }
 
 /// A list whose stride changes, with outputs that are longer than they must be, or too short; in every
-/// second objects are held.
+/// second objects are held, in every third updates wait.
 fn list(seed: u64) -> Vec<Turn> {
     let mut inputs = Generator::new(seed);
     let calls = Calls::for_entries(seed + 5_000_000, 64);
     let mut calls = calls.with_making(first(seed).layout);
     if seed % 2 == 1 {
         calls = calls.with_holds();
+    }
+    if seed % 3 == 1 {
+        calls = calls.with_far();
     }
     let mut stride = 64;
     let mut turn = || {

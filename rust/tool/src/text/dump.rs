@@ -6,9 +6,10 @@ use crate::programme::{Header, LENGTH, Record, Window, is_pcm, is_plain};
 use crate::trouble::Trouble;
 use std::io::Read;
 
-/// Shows all that is read.
+/// Shows all that is read; beside an update that lies ahead the sample of the programme where it falls.
 pub fn dump(from: impl Read, name: &str, out: &mut Out) -> Result<(), Trouble> {
     let mut window = Window::new(from);
+    let mut start = 0;
     loop {
         let failed = |e| Trouble::io(name, &e);
         let bytes = window.look(LENGTH).map_err(failed)?;
@@ -21,7 +22,7 @@ pub fn dump(from: impl Read, name: &str, out: &mut Out) -> Result<(), Trouble> {
         let taken = match Header::read(&first) {
             Some(header) => {
                 let whole = LENGTH * (1 + usize::from(header.records) + header.pcm_records());
-                frame(&header, window.look(whole).map_err(failed)?, out)?
+                frame(&header, start, window.look(whole).map_err(failed)?, out)?
             }
             None => 0,
         };
@@ -29,12 +30,15 @@ pub fn dump(from: impl Read, name: &str, out: &mut Out) -> Result<(), Trouble> {
             let bad = if is_plain(&first) { "" } else { "bad " };
             out.line(&format!("{bad}{}", record::show(&first)))?;
         }
+        if taken > 0 {
+            start += Header::read(&first).map_or(0, |header| header.samples.into());
+        }
         window.take(taken.max(LENGTH));
     }
 }
 
 /// A whole frame; how many bytes it is, or 0 where it is cut or its PCM is not as laid out.
-fn frame(header: &Header, bytes: &[u8], out: &mut Out) -> Result<usize, Trouble> {
+fn frame(header: &Header, start: u64, bytes: &[u8], out: &mut Out) -> Result<usize, Trouble> {
     let behind = LENGTH + header.metadata_bytes();
     let whole = behind + LENGTH * header.pcm_records();
     if bytes.len() < whole {
@@ -49,15 +53,16 @@ fn frame(header: &Header, bytes: &[u8], out: &mut Out) -> Result<usize, Trouble>
         pcm.extend_from_slice(&r[4..4 + n]);
     }
     out.line(&record::frame(header))?;
-    metadata(&bytes[LENGTH..behind], out)?;
+    metadata(&bytes[LENGTH..behind], start, out)?;
     for channel in pcm.chunks_exact(4 * usize::from(header.samples).max(1)) {
         out.line(&words(channel))?;
     }
     Ok(whole)
 }
 
-/// Records indented by what they belong to; an object with its number, from 0, and the block's.
-fn metadata(bytes: &[u8], out: &mut Out) -> Result<(), Trouble> {
+/// Records indented by what they belong to; an object with its number, from 0, and the block's; an update that lies
+/// ahead of a frame that begins at `start` with its sample.
+fn metadata(bytes: &[u8], start: u64, out: &mut Out) -> Result<(), Trouble> {
     let (mut blocks, mut objects) = (0, 0);
     for r in bytes.chunks_exact(LENGTH) {
         let mut record = [0; LENGTH];
@@ -75,6 +80,10 @@ fn metadata(bytes: &[u8], out: &mut Out) -> Result<(), Trouble> {
                 format!("        {text} # object {o}, block {b}")
             }
             4 => format!("        {text}"),
+            record::AHEAD if text.starts_with("update") => {
+                let falls = start + u64::from(record::offset(&record));
+                format!("  {text} # at sample {falls}")
+            }
             _ => format!("  {text}"),
         };
         out.line(&line)?;

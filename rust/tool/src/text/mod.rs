@@ -5,6 +5,7 @@
 //! ```text
 //! frame 48000 samples 256 beds FC,LFE objects 1
 //!   update at 0 objects 3 fixed 2 beds FC,LFE elements 1
+//!   update ahead at 96000 objects 3 fixed 2 beds FC,LFE elements 0 # at sample 96000
 //!     element blocks 1
 //!       block offset 0 ramp 256
 //!         object room gain 1 at 0.5 0.25 0 valid depth 1 send 0.5

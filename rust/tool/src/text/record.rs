@@ -12,12 +12,15 @@ const POSITION: u8 = 8;
 const DISTANCE: u8 = 16;
 const SIZE: u8 = 32;
 
+/// The kind of an update that may lie ahead of its frame.
+pub const AHEAD: u8 = 9;
+
 const ANCHORS: [&str; 3] = ["room", "screen", "speaker"];
 
 /// A record of any kind: by its fields, or as `raw` where these do not read back as it.
 pub fn show(r: &Record) -> String {
     let text = match r[0] {
-        1 => update(r),
+        1 | AHEAD => update(r),
         2 => format!("element blocks {}", r[1]),
         3 => format!("block offset {} ramp {}", long(r, 8), long(r, 16)),
         4 => object(r),
@@ -45,9 +48,18 @@ pub fn frame(h: &Header) -> String {
 
 fn update(r: &Record) -> String {
     let codes = r.get(8..8 + usize::from(r[6])).unwrap_or(&[]);
-    let at = u16::from_le_bytes([r[2], r[3]]);
     let (objects, fixed, elements, beds) = (r[4], r[5], r[7], listed(codes));
-    format!("update at {at} objects {objects} fixed {fixed}{beds} elements {elements}")
+    let ahead = if r[0] == AHEAD { " ahead" } else { "" };
+    let at = offset(r);
+    format!("update{ahead} at {at} objects {objects} fixed {fixed}{beds} elements {elements}")
+}
+
+/// Of an update, in samples from the start of its frame.
+pub fn offset(r: &Record) -> u32 {
+    match r[0] {
+        AHEAD => u32::from_le_bytes([r[28], r[29], r[30], r[31]]),
+        _ => u16::from_le_bytes([r[2], r[3]]).into(),
+    }
 }
 
 fn listed(codes: &[u8]) -> String {
@@ -171,8 +183,15 @@ fn read_frame(words: &mut Words<'_>) -> Result<(Header, bool), String> {
 
 fn read_update(words: &mut Words<'_>, r: &mut Record) -> Result<(), String> {
     r[0] = 1;
+    if words.peek() == Some("ahead") {
+        words.key("ahead")?;
+        r[0] = AHEAD;
+    }
     words.key("at")?;
-    put(r, 2, &words.number::<u16>()?.to_le_bytes());
+    match r[0] {
+        AHEAD => put(r, 28, &words.number::<u32>()?.to_le_bytes()),
+        _ => put(r, 2, &words.number::<u16>()?.to_le_bytes()),
+    }
     words.key("objects")?;
     r[4] = words.number()?;
     words.key("fixed")?;

@@ -68,6 +68,9 @@ impl fmt::Display for Fault {
 impl fmt::Display for Why {
     fn fmt(&self, f: &mut fmt::Formatter<'_>) -> fmt::Result {
         match *self {
+            Self::Kind { expected: 1, found } => {
+                write!(f, "the kind must be 1 or 9, an update; it is {found}")
+            }
             Self::Kind { expected, found } => {
                 write!(
                     f,

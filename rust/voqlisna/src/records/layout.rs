@@ -29,9 +29,15 @@ pub(super) fn update(r: &Bytes40, index: usize) -> Result<Said<'_>, Wrong> {
     if index == 16 {
         return Err((0, Why::Updates));
     }
-    zeros(r, 1, 2)?;
-    let (at, objects, fixed, beds, elements) =
-        (u16::from_le_bytes([r[2], r[3]]), r[4], r[5], r[6], r[7]);
+    let ahead = r[0] == 9;
+    let at = if ahead {
+        zeros(r, 1, 4)?;
+        u32::from_le_bytes(word(r, 28))
+    } else {
+        zeros(r, 1, 2)?;
+        u16::from_le_bytes([r[2], r[3]]).into()
+    };
+    let (objects, fixed, beds, elements) = (r[4], r[5], r[6], r[7]);
     limit(4, "objects", objects, 32)?;
     limit(
         5,
@@ -45,9 +51,16 @@ pub(super) fn update(r: &Bytes40, index: usize) -> Result<Said<'_>, Wrong> {
     for (byte, code) in (8..).zip(codes) {
         limit(byte, "as a bed code", *code, 17)?;
     }
-    zeros(r, usize::from(beds).saturating_add(8), 40)?;
+    let unused = usize::from(beds).saturating_add(8);
+    if ahead {
+        zeros(r, unused, 28)?;
+        zeros(r, 32, 40)?;
+    } else {
+        zeros(r, unused, 40)?;
+    }
     Ok(Record::Update {
         at,
+        ahead,
         objects,
         fixed,
         elements,

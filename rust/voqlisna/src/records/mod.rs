@@ -29,10 +29,12 @@ use place::Counts;
 /// One record, read.
 #[derive(Clone, Copy, Debug, PartialEq)]
 pub enum Record<'a> {
-    /// Kind 1.
+    /// Kind 1, or 9.
     Update {
         /// The sample offset.
-        at: u16,
+        at: u32,
+        /// Kind 9: at or past the frame's end it waits, where one of kind 1 is dropped.
+        ahead: bool,
         /// In all.
         objects: u8,
         /// Not dynamic.
@@ -155,7 +157,8 @@ impl<'a> Records<'a> {
 
     fn judge(&self, r: &'a Bytes40) -> Result<Said<'a>, (usize, Why)> {
         let (expected, found) = (self.place.kind(), r[0]);
-        if found != expected {
+        let ahead = matches!(self.place, Place::Update { .. }) && found == 9;
+        if found != expected && !ahead {
             return Err((0, Why::Kind { expected, found }));
         }
         match self.place {

@@ -59,7 +59,7 @@ impl Counts {
 impl Place {
     pub(super) const FIRST: Self = Self::Update { update: 0 };
 
-    /// The kind of a record at this place.
+    /// The kind of a record at this place; for an update 9 will do, too.
     pub const fn kind(self) -> u8 {
         match self {
             Self::Update { .. } => 1,

@@ -94,7 +94,7 @@ impl Draw {
 
     pub fn refusal(&mut self) -> Refusal {
         let (number, first, second) = (
-            self.below(26) as u32,
+            self.below(28) as u32,
             self.word() as u32,
             self.word() as u32,
         );
@@ -172,8 +172,12 @@ impl Scene {
                 beds: &self.beds,
             };
             let blocks: Vec<_> = (0..draw.below(4)).map(|_| block(draw)).collect();
-            writer
-                .update(update)
+            let writing = if draw.once_in(6) {
+                writer.update_ahead(ahead(draw, update))
+            } else {
+                writer.update(update)
+            };
+            writing
                 .unwrap()
                 .element(&blocks, |_, _| object(draw))
                 .unwrap();
@@ -186,6 +190,22 @@ impl Scene {
             channels,
             metadata,
         }
+    }
+}
+
+/// The same within the frame, or in one of the next.
+fn ahead<'a>(draw: &mut Draw, update: Update<'a>) -> Ahead<'a> {
+    let Update {
+        at,
+        objects,
+        fixed,
+        beds,
+    } = update;
+    Ahead {
+        at: u32::from(at) + draw.pick(&[0, 1, 700, 70_000]),
+        objects,
+        fixed,
+        beds,
     }
 }
 

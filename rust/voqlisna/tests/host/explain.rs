@@ -44,7 +44,9 @@ impl Call {
             1 => self.out.truncate(draw.below(48 * 64)),
             2 => self.state.truncate(draw.below(sys::STATE_SIZE)),
             3 => self.state.push(0),
-            4 if self.state.len() > 64 => self.state[draw.pick(&[4, 64])] = 64,
+            4 if self.state.len() > sys::WAITS_AT => {
+                self.state[draw.pick(&[4, 64, sys::WAITS_AT])] = 64;
+            }
             5 => self.samples = draw.pick(&[0, 101, 1537, u32::MAX]),
             6 => self.codes = vec![2; draw.pick(&[19, 40, 300])],
             7 => self.objects = draw.pick(&[17, 1000, u32::MAX]),

@@ -2,6 +2,7 @@
 //! The crate held against the entries under it, and the entries' other hosts: C, and a cargo
 //! project elsewhere.
 
+mod ahead;
 mod c;
 mod conceal;
 mod draw;

@@ -43,7 +43,7 @@ pub fn hangs(block: &mut [u8], table: &[u8], places: &[Panned; 12]) -> Result<Ha
 pub fn holds(block: &mut [u8], object: u32, speakers: &[Speaker]) -> Option<Panned> {
     let mut renderer = Renderer::over(block, Layout::Hall714).ok()?;
     renderer.hold(object).and(renderer.release(object)).ok()?;
-    renderer.find(speakers).filter(|_| renderer.is_held(object))
+    renderer.find(speakers).filter(|_| renderer.is_held(object) && renderer.waiting() == 0)
 }
 
 pub fn conceals(block: &mut [u8], frame: &Frame<'_>, out: &mut [f32], silence: &mut [f32]) -> Option<Way> {
@@ -74,6 +74,8 @@ pub fn delays(ring: &mut [f32], samples: usize, rendered: &Rendered<'_>, to: &mu
 pub fn writes(memory: &mut [u8], head: Update<'_>, blocks: &[Block], objects: &[Object]) -> Option<usize> {
     let mut writer = MetadataWriter::new(memory);
     let object = |o: usize, b: usize| objects.get(o ^ b).copied().unwrap_or_default();
+    let Update { objects, fixed, beds, .. } = head;
+    writer.update_ahead(Ahead { at: 70_000, objects, fixed, beds }).ok()?;
     writer.update(head).ok()?.element(blocks, object).ok()?;
     Some(writer.finish().records())
 }

@@ -182,7 +182,7 @@ fn drawn(draw: &mut Draw, scene: &Scene, stride: Stride) -> Owned {
 
 #[test]
 fn the_crate_answers_as_the_entries_do() {
-    let (mut met, mut ready, mut limited, mut marked) = ([0; 25], 0, 0, 0);
+    let (mut met, mut ready, mut limited, mut marked) = ([0; 26], 0, 0, 0);
     for case in 0..RUNS {
         let mut draw = Draw::new(1, case);
         let (scene, stride) = (

@@ -24,13 +24,13 @@ fn a_refusal_keeps_its_number_and_counts() {
         let expected = match number {
             9 | 11 => (7, 8),
             13 | 14 => (7, 0),
-            1..=6 | 8 | 10 | 12 | 15..=24 => (0, 0),
+            1..=6 | 8 | 10 | 12 | 15..=25 => (0, 0),
             _ => (7, 8),
         };
         assert_eq!(refusal.counts(), expected, "{number}");
         assert_eq!(
             matches!(refusal, Refusal::Other { .. }),
-            !matches!(number, 1..=6 | 8..=24),
+            !matches!(number, 1..=6 | 8..=25),
             "{number}"
         );
     }
@@ -51,6 +51,7 @@ fn blame_is_as_the_interface_has_it() {
     for (numbers, blame) in [
         (1..=4, Blame::Host),
         (5..=6, Blame::Programme),
+        (25..=25, Blame::Programme),
         (8..=8, Blame::Decoder),
         (9..=14, Blame::Stream),
         (15..=24, Blame::Host),

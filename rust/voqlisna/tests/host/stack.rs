@@ -46,6 +46,35 @@ fn largest(draw: &mut Draw) -> Owned {
     }
 }
 
+/// An update at the frame's start, and the longest, 531 records, at a sample ahead: of 15 dynamic
+/// objects.
+fn longest_ahead(at: u32) -> Vec<u8> {
+    let (objects, fixed, beds) = (32, 17, &[][..]);
+    let length = MetadataWriter::bytes_for(32, &[]) + MetadataWriter::bytes_for(32, &[8, 8]);
+    let mut memory = vec![0; length];
+    let mut writer = MetadataWriter::new(&mut memory);
+    let now = Update {
+        at: 0,
+        objects,
+        fixed,
+        beds,
+    };
+    writer.update(now).unwrap();
+    let head = Ahead {
+        at,
+        objects,
+        fixed,
+        beds,
+    };
+    let mut writing = writer.update_ahead(head).unwrap();
+    for _ in 0..2 {
+        writing = writing
+            .element(&[Block::default(); 8], |_, _| Object::KEEP)
+            .unwrap();
+    }
+    memory
+}
+
 #[test]
 fn a_call_stays_within_what_is_promised() {
     let mut owned = largest(&mut Draw::new(10, 0));
@@ -83,6 +112,15 @@ fn a_call_stays_within_what_is_promised() {
         assert!(Renderer::restore_over(saved, &mut block).is_ok())
     }));
     told.push(depth(&mut || assert!(renderer.flush(&mut out).is_none())));
+    // Two of the longest updates wait, and in a third frame the first falls while another comes.
+    own.reset();
+    for (at, waiting) in [(2 * 1_536, 1), (3 * 1_536, 2), (3 * 1_536, 2)] {
+        owned.metadata = longest_ahead(at);
+        told.push(depth(&mut || {
+            assert!(own.push(&owned.frame(), &mut out).is_ok());
+        }));
+        assert_eq!(own.waiting(), waiting);
+    }
     told.push(depth(&mut || {
         assert!(own.hold(14).is_ok() && own.release(14).is_ok())
     }));
@@ -102,7 +140,7 @@ fn a_call_stays_within_what_is_promised() {
         assert_eq!(write_24(&sound, 1_536, 1_536, &mut pcm), Ok(1_536))
     }));
     println!(
-        "bytes of stack: push, concealed push, with a table, made with it, restore, flush, held and released, found, 24 bits of a small hall, read, written: {told:?}"
+        "bytes of stack: push, concealed push, with a table, made with it, restore, flush, three with updates ahead, held and released, found, 24 bits of a small hall, read, written: {told:?}"
     );
     assert!(
         told.iter().all(|bytes| (1..PROMISED).contains(bytes)),

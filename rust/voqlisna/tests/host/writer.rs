@@ -56,12 +56,22 @@ fn add(draw: &mut Draw, writer: &mut MetadataWriter<'_>) -> Result<(), BuildErro
     } else {
         objects.saturating_sub(draw.below(18) as u8)
     };
-    let mut update = writer.update(Update {
-        at: draw.word() as u16,
-        objects,
-        fixed,
-        beds: &beds,
-    })?;
+    let beds = &beds;
+    let mut update = if draw.once_in(3) {
+        writer.update_ahead(Ahead {
+            at: draw.word() as u32,
+            objects,
+            fixed,
+            beds,
+        })?
+    } else {
+        writer.update(Update {
+            at: draw.word() as u16,
+            objects,
+            fixed,
+            beds,
+        })?
+    };
     for _ in 0..draw.below(4) {
         let count = if draw.once_in(20) {
             draw.below(12)
@@ -107,6 +117,7 @@ fn again(bytes: &[u8]) -> Vec<u8> {
 fn begin<'w, 'm>(writer: &'w mut MetadataWriter<'m>, record: &Record<'_>) -> UpdateWriter<'w, 'm> {
     let Record::Update {
         at,
+        ahead,
         objects,
         fixed,
         codes,
@@ -120,14 +131,22 @@ fn begin<'w, 'm>(writer: &'w mut MetadataWriter<'m>, record: &Record<'_>) -> Upd
         .map(|code| Bed::from_code(*code).unwrap())
         .collect();
     let beds = &beds;
-    writer
-        .update(Update {
+    let writing = if ahead {
+        writer.update_ahead(Ahead {
             at,
             objects,
             fixed,
             beds,
         })
-        .unwrap()
+    } else {
+        writer.update(Update {
+            at: at.try_into().unwrap(),
+            objects,
+            fixed,
+            beds,
+        })
+    };
+    writing.unwrap()
 }
 
 #[test]

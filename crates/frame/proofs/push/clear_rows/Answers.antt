@@ -1,7 +1,6 @@
 -- `frame::push::clear_rows` meets its contract: where another turn follows, each place is +0.0. Assumes nothing.
-use mathlib.Core.Path.{refl, sym, ap, ◌∙◌}
+use mathlib.Core.Path.{sym, ap}
 use mathlib.Core.Bool.{Bool}
-use mathlib.Core.List.{List}
 use lib.Ieee.{of_bits}
 use Rattle.std.proofs.Common.{cond}
 use Rattle.render.specs.Run.{silent_rows}

@@ -3,12 +3,12 @@ use Prim.Native.Nat.{◌-◌, ◌<◌}
 use mathlib.Core.Path.{◌≡◌}
 use Rattle.refusals.specs.FirstFound.{args_in}
 use Rattle.render.specs.Run.{silent_rows}
-use Rattle.frame.proofs.Running.{Running}
+use Rattle.frame.proofs.Running.{both_sent, Running}
 use Rattle.frame.proofs.push.render_in.Given as goal
 
 abbrev pub invariant-loop-pcm : goal.invariant-loop-pcm
 invariant-loop-pcm l =
-    Running l.initial.state (args_in l.fn.frame l.initial.out) l.t.0 l.work l.state l.out × (l.end.0 ≡ l.fn.frame.n.samples) × (l.t.0 < l.fn.frame.n.samples → l.rows ≡ silent_rows)
+    Running l.initial.state (args_in l.fn.frame l.initial.out) (both_sent l.fn.kept l.fn.frame.metadata) l.t.0 l.work l.state l.out × (l.end.0 ≡ l.fn.frame.n.samples) × (l.t.0 < l.fn.frame.n.samples → l.rows ≡ silent_rows)
 
 abbrev pub decreases-loop-pcm : goal.decreases-loop-pcm
 decreases-loop-pcm l = l.fn.frame.n.samples - l.t.0

@@ -1,7 +1,7 @@
 -- The layout has the offsets of the updates; a list that is not laid out has none. Assumes nothing.
 use Prim.Native.Nat.{ℕ}
 use mathlib.Core.Path.{refl, ap, ◌∙◌}
-use Rattle.fields.specs.Update.{offset}
+use Rattle.records.specs.Falls.{offset_in}
 use Rattle.records.specs.Laid.{update_at, count}
 use Rattle.records.specs.UpdateWalk.{next_offset}
 use Rattle.records.specs.LayoutAnswers.{offset_at}
@@ -15,8 +15,8 @@ returns-in-Some c =
     let l = c.in-Some.l in
     let g = c.in-Some.ensures in
     c.next_offset.ensures
-    ∙ ap (λ (n : ℕ). next_offset (offset_at l) n a.t.0 a.end.0) g.counted
-    ∙ next_same (offset_at l) (λ i. offset m (update_at m i)) (count m) a.t.0 a.end.0 g.offsets
+    ∙ ap (λ (n : ℕ). next_offset (offset_at l) n a.t.0 a.end.0) g.0.counted
+    ∙ next_same (offset_at l) (λ i. offset_in a.end.0 m (update_at m i)) (count m) a.t.0 a.end.0 g.1
 
 pub returns-in-None : goal.returns-in-None
 unfolding next_offset

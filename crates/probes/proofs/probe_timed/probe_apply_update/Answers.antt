@@ -22,7 +22,7 @@ pub returns-in-Ok : goal.returns-in-Ok
 returns-in-Ok c =
     let a = c.args in
     let k = c.in-Ok.metadata in
-    let same = c.in-Ok.ensures.same in
+    let same = c.in-Ok.ensures.same.0 in
     let fit = faultless a.meta.now c.in-Ok.ensures.number in
     let below : a.i < count a.meta.now = omega (arith, c.if-i-metadata.true, k.laid.counted ∙ ap count same) in
     rw (eq-eqb _ _ c.if-infos-eq-INFOS_BYTES.true, fit.0, fit.1, lt-ltb a.i (count a.meta.now) below) (rw (c.update.ensures.0, c.update.ensures.1, same) at c.apply_update.ensures)

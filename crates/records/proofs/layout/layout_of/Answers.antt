@@ -6,12 +6,12 @@ use Rattle.records.proofs.Walked.{walk_begins, walk_goes_on, walk_ends}
 use Rattle.records.proofs.layout.layout_of.Goals as goal
 
 pub loop-place-init : goal.loop-place-init
-loop-place-init c = walk_begins _
+loop-place-init c = walk_begins _ _
 
 pub loop-place-preserved : goal.loop-place-preserved
 loop-place-preserved c =
     let e = sym c.update_end.ensures ∙ c.in_ok-next.was in
-    walk_goes_on _ _ _ _ _ _ c.if-meta-ne0.false c.loop-place.invariant (omega arith) (end_whole _ _ _ e) (end_at _ _ _ e) c.offset-offset.ensures
+    walk_goes_on _ _ _ _ _ _ _ c.if-meta-ne0.false c.loop-place.invariant (omega arith) (end_whole _ _ _ e) (end_at _ _ _ e) c.offset_in-offset.ensures
 
 pub returns : goal.returns
-returns c = walk_ends _ _ _ _ c.if-meta-ne0.false c.loop-place.invariant c.loop-place-test.false _
+returns c = walk_ends _ _ _ _ _ c.if-meta-ne0.false c.loop-place.invariant c.loop-place-test.false _

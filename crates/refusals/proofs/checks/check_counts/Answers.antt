@@ -1,10 +1,9 @@
 -- `checks::check_counts`: nothing was found before update i. Assumes nothing.
-use Prim.Native.Nat.{ℕ, ◌-◌, ◌<◌}
+use Prim.Native.Nat.{ℕ, ◌-◌}
 use mathlib.Core.Path.{refl, ap, ◌∙◌}
 use native.Mathlib.Omega.{arith}
 use Rattle.std.proofs.lemmas.Result.{err_from_is_err_and}
 use Rattle.fields.specs.declared.update.Header.{Header}
-use Rattle.records.specs.Laid.{count}
 use Rattle.refusals.specs.FirstFound.{matched}
 use Rattle.refusals.proofs.Sent.{counts_stop, counts_go, counts_end}
 use Rattle.refusals.proofs.checks.check_counts.Goals as goal
@@ -13,29 +12,23 @@ use Rattle.refusals.proofs.checks.check_counts.Goals.{then-eq+in_ok-check_match,
 pub returns-in_err-check_match : goal.returns-in_err-check_match
 returns-in_err-check_match c =
     let s = c.args in
-    let i = c.loop-i.i in
-    let g = s.metadata.laid in
-    let b : i < count s.metadata.records.now = omega (arith, c.loop-i-test.true, g.counted) in
     let p = err_from_is_err_and c.from_residual.result c.from_residual.ensures.1 in
     let h = ap (λ (x : Header). x.objects - x.bed_or_isf) c.header.ensures in
-    rw (p.1, p.2) (counts_stop s.metadata.records.now s.objects s.t.0 i b c.loop-i.invariant c.in_err-check_match.field-0.0
-    (rw (← g.offsets i b, ← c.eq.ensures, c.if-eq.true)
+    rw (p.1, p.2) (counts_stop s.metadata s.objects s.t.0 c.loop-i.i c.loop-i-test.true c.loop-i.invariant c.in_err-check_match.field-0.0
+    (rw (← c.eq.ensures, c.if-eq.true)
     (rw (c.update.ensures.0, c.update.ensures.1) at (c.in_err-check_match.ensures ∙ ap (λ (n : ℕ). matched n s.objects) (c.dynamic.ensures ∙ h)))))
 
 pub loop-i-preserved : goal.loop-i-preserved
 loop-i-preserved c =
     let s = c.args in
-    let i = c.loop-i.i in
-    let g = s.metadata.laid in
-    let b : i < count s.metadata.records.now = omega (arith, c.loop-i-test.true, g.counted) in
-    counts_go s.metadata.records.now s.objects s.t.0 i b c.loop-i.invariant
+    counts_go s.metadata s.objects s.t.0 c.loop-i.i c.loop-i-test.true c.loop-i.invariant
     (elim c.if-eq.branch [
       | then-eq+in_ok-check_match w ↦
           let h = ap (λ (x : Header). x.objects - x.bed_or_isf) w.header.ensures in
-          rw (← g.offsets i b, ← c.eq.ensures, w.if-eq.true)
+          rw (← c.eq.ensures, w.if-eq.true)
           (rw (w.update.ensures.0, w.update.ensures.1) at (w.in_ok-check_match.ensures ∙ ap (λ (n : ℕ). matched n s.objects) (w.dynamic.ensures ∙ h)))
-      | else-eq w ↦ rw (← g.offsets i b, ← c.eq.ensures, w.if-eq.false) refl
+      | else-eq w ↦ rw (← c.eq.ensures, w.if-eq.false) refl
     ])
 
 pub returns : goal.returns
-returns c = counts_end c.args.metadata.records.now c.args.objects c.args.t.0 c.loop-i.i (omega (arith, c.loop-i-test.false, c.args.metadata.laid.counted)) c.loop-i.invariant
+returns c = counts_end c.args.metadata c.args.objects c.args.t.0 c.loop-i.i (omega (arith, c.loop-i-test.false)) c.loop-i.invariant

@@ -64,4 +64,4 @@ pub returns-clause-frame : goal.returns-clause-frame
 returns-clause-frame c =
     let p = c.args.push in
     let args : List ℕ → (List ℕ → Args) = λ m out. args_of p.pcm.now m out p.codes.now p.n.rate p.n.samples p.n.objects p.n.stride in
-    ap args c.in_ok-metadata.ensures.same
+    record { same = λ out. ap (λ (m : List ℕ). args m out) c.in_ok-metadata.ensures.same.0; placed = c.in_ok-metadata.ensures.same.1 }

@@ -1,8 +1,6 @@
 -- `present::present_after`: the updates from i on lead from the shape now to that at the end. Assumes nothing.
-use Prim.Native.Nat.{◌<◌}
 use mathlib.Core.Path.{refl}
 use native.Mathlib.Omega.{arith}
-use Rattle.records.specs.Laid.{count}
 use Rattle.refusals.proofs.Sent.{shape_go, shape_end}
 use Rattle.refusals.proofs.shapes.present_after.Goals as goal
 use Rattle.refusals.proofs.shapes.present_after.Goals.{then-eq, else-eq}
@@ -11,16 +9,12 @@ pub loop-i-preserved : goal.loop-i-preserved
 loop-i-preserved c =
     let s = c.args in
     let i = c.loop-i.i in
-    let g = s.metadata.laid in
     let q = c.loop-i.present in
-    let b : i < count s.metadata.records.now = omega (arith, c.loop-i-test.true, g.counted) in
-    let go = shape_go s.metadata.records.now s.t.0 s.p i q c.if-eq.present b c.loop-i.invariant in
+    let go = shape_go s.metadata s.t.0 s.p i q c.if-eq.present c.loop-i-test.true c.loop-i.invariant in
     elim c.if-eq.branch [
-      | then-eq w ↦ go (rw (w.present-is, ← g.offsets i b, ← c.eq.ensures, w.if-eq.true) (rw (w.update.ensures.0, w.update.ensures.1) at w.present_said-present.ensures))
-      | else-eq w ↦ go (rw (w.present-is, ← g.offsets i b, ← c.eq.ensures, w.if-eq.false) refl)
+      | then-eq w ↦ go (rw (w.present-is, ← c.eq.ensures, w.if-eq.true) (rw (w.update.ensures.0, w.update.ensures.1) at w.present_said-present.ensures))
+      | else-eq w ↦ go (rw (w.present-is, ← c.eq.ensures, w.if-eq.false) refl)
     ]
 
 pub returns : goal.returns
-returns c =
-    let l = c.loop-i in
-    shape_end c.args.metadata.records.now c.args.t.0 c.args.p l.i l.present (omega (arith, c.loop-i-test.false, c.args.metadata.laid.counted)) l.invariant
+returns c = let l = c.loop-i in shape_end c.args.metadata c.args.t.0 c.args.p l.i l.present (omega (arith, c.loop-i-test.false)) l.invariant

@@ -105,16 +105,17 @@ impl Library {
         }
     }
 
-    /// A library from before R-6 has blocks of another length, of which reset makes a renderer of
-    /// layout 0 if they are zeros: one from before R-5 has no making call.
+    /// A library from before R-12 has blocks that are the first bytes of today's, and one from before
+    /// R-6 shorter ones, of which reset makes a renderer of layout 0 if they are zeros: one from
+    /// before R-5 has no making call.
     #[cfg(base)]
     fn base() -> Self {
         let (new, size) = (fresh(0), base::state_size());
         Library {
             push: base::push,
             reset: base::reset,
-            state: if size == new.len() {
-                new
+            state: if size >= voqlisna_sys::WAITS_AT {
+                new[..size].to_vec()
             } else {
                 vec![0; size]
             },

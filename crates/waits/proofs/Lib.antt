@@ -1,0 +1,17 @@
+pub mod Runs
+pub mod LaidFrom
+pub mod Prefixes
+pub mod Alike
+pub mod Moved
+pub mod Pieces
+pub mod Joined
+pub mod Written
+pub mod Settling
+pub mod Ahead
+pub mod Nothing
+pub mod Examples
+pub mod Theorems
+pub mod ValidArea
+pub mod Placing
+pub mod Loads
+pub mod Keeping
