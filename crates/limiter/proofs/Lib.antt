@@ -1,6 +1,11 @@
 pub mod Levels
 pub mod Peaks
+pub mod RaisedLanes
+pub mod Lanes
 pub mod Scaled
+pub mod LaneBits
+pub mod LaneBytes
+pub mod LaneFloats
 pub mod Blocks
 pub mod Lowered
 pub mod Growth

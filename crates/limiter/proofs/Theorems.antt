@@ -12,7 +12,9 @@ pub use Rattle.limiter.proofs.Return.{full_after}
 pub use Rattle.limiter.proofs.Growth.{Decay, decay_is, HalfUlp, Grows, grows}
 -- one channel more of a block, empty where it is not there, their number, and one channel more that is written
 pub use Rattle.limiter.proofs.Blocks.{channel, channels_more, length_channels, written_more}
--- scaling keeps the number of samples
-pub use Rattle.limiter.proofs.Scaled.{length_scaled}
+-- samples that are scaled into a part that is lent are so in the whole
+pub use Rattle.limiter.proofs.Blocks.{store_part}
+-- scaling keeps the number of samples; by 1 it keeps each
+pub use Rattle.limiter.proofs.Scaled.{length_scaled, scaled_one}
 -- the meters of a call: blocks are met one behind the other, none are 0 and 1, and blocks in range give meters in range
 pub use Rattle.limiter.proofs.CallMeters.{meets_append, none_met, one_gain, idle_in_range, call_in_range}

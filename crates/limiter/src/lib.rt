@@ -7,7 +7,9 @@
 pub mod meters;
 pub mod places;
 
-ghost use Rattle.std.specs.Prelude.{◌≡◌, ◌≤◌};
+ghost use Rattle.std.specs.Prelude.{◌≡◌, ◌≤◌, map};
+ghost use Rattle.std.specs.Simd.Lanes.{zip2};
+ghost use Rattle.ieee.specs.Bounds.{All};
 ghost use Rattle.ieee.specs.Small.{absolute, larger};
 ghost use Rattle.limiter.specs.Level.{Level};
 ghost use Rattle.limiter.specs.Limiter.{0·0, 1·0, peak_from, peak, lowered, grown};
@@ -17,6 +19,7 @@ ghost use Rattle.limiter.specs.ChannelPlaces.{channels, Room, Given};
 use formats::areas;
 use meters::Meters;
 use places::Taken;
+use std::simd::prelude::*;
 
 #[derive(Clone, Copy)]
 pub struct Limiter {
@@ -31,7 +34,7 @@ pub struct Limited {
 }
 
 // The maximum of a level and the size of a sample: one plain comparison, since a level is no NaN. `ieee::max` tests for one.
-// That `max` is one stands in the contract: a type of levels would wrap and unwrap each of the four lanes at each comparison.
+// That `max` is one stands in the contract: a type of levels would be wrapped and unwrapped at each comparison, and cannot be a lane.
 #[tactic(auto, using(crate::proofs::Levels::raise_left))]
 fn raise(max: f32, sample: f32) -> f32
     requires { Level max }
@@ -52,18 +55,27 @@ fn max_abs_from(max: f32, samples: &[f32]) -> f32
     m
 }
 
-// Four running maxima, so that no comparison waits for the one before it, and then the rest.
+// Sixteen levels and sixteen samples, lane by lane as in `raise`. Vectors are written out, since the compiler fences each operand of a comparison of two f32 and makes none of a loop.
+fn raise_lanes(max: f32x16, samples: f32x16) -> f32x16
+    requires { All Level max }
+    ensures { (result ≡ zip2 larger max (map absolute samples)) × All Level result }
+{
+    let negated = f32x16::splat(0.0) - samples;
+    let size = samples.simd_gt(negated).select(samples, negated);
+    max.simd_lt(size).select(size, max)
+}
+
+// Sixteen running maxima, so that no comparison waits for the one before it, and then the rest.
 pub fn max_abs_slice(samples: &[f32]) -> f32
     ensures { (result ≡ peak samples.now) × Level result }
 {
-    let mut lanes = [0.0f32; 4];
-    let fours = samples.len() / 4;
-    for j in 0..fours {
-        for k in 0..4 {
-            lanes[k] = raise(lanes[k], samples[4 * j + k]);
-        }
+    let mut lanes = f32x16::splat(0.0);
+    let (sixteens, rest) = samples.as_chunks::<16>();
+    for x in sixteens {
+        lanes = raise_lanes(lanes, f32x16::from_array(*x));
     }
-    max_abs_from(max_abs_from(0.0, &lanes), &samples[4 * fours..])
+    let all: [f32; 16] = lanes.to_array();
+    max_abs_from(max_abs_from(0.0, &all), rest)
 }
 
 // The peak of a block: twelve channels of 64 places, over those that are there.

@@ -1,29 +1,20 @@
--- Rows written into bytes: one sample more, one channel more. Assumes nothing.
+-- Rows written into bytes: one channel more. Assumes nothing.
 use mathlib.Core.Path.{◌≡◌, sym, ap, ap₂, ◌∙◌}
 use mathlib.Core.Bool.{Bool, true, false, cond}
 use mathlib.Core.List.{List, []}
 use Prim.Native.Nat.{ℕ, ◌+◌, ◌-◌, ◌*◌, ◌<◌, ◌≤◌}
 use native.Mathlib.Omega.{arith}
 use native.Mathlib.Nat.{le_of_lt}
-use native.Mathlib.Numerals.{add-one}
-use lib.ListN.{length, get_or, take, drop, drop_of_length-le}
-use lib.Seq.{drop-cons, length-take-le}
-use lib.Ieee.{Float, nan}
-use Rattle.words.specs.Words.{with_float}
+use borrow.Rule.Slice.PartMut.{put_mid}
+use lib.ListN.{length, get_or, take, drop}
+use lib.Seq.{get_or-drop, length-take-le}
+use lib.Ieee.{Float}
+use Rattle.ieee.specs.Numbers.{1·0f}
+use Rattle.ieee.proofs.Theorems.{one_bits}
 use Rattle.limiter.specs.ChannelPlaces.{channels, with_floats, with_channels}
-use Rattle.limiter.proofs.Theorems.{channel, channels_more, length_channels, written_more}
-
-pub store_start : (s : List ℕ) (at : ℕ) (xs : List Float) → with_floats s (at + 4 * 0) xs ≡ with_floats s at xs
-store_start s at xs = let e : at + 4 * 0 ≡ at = omega arith in rw e
-
-pub store_step : (at i : ℕ) (xs : List Float) (s : List ℕ) {new end : List ℕ} → i < length xs → new ≡ with_float s (at + 4 * i) (get_or xs i nan)
-    → with_floats s (at + 4 * i) (drop i xs) ≡ end → with_floats new (at + 4 * (i + 1)) (drop (i + 1) xs) ≡ end
-store_step at i xs s h p q =
-    let e : at + 4 * (i + 1) ≡ at + 4 * i + 4 = omega arith in
-    rw (p, e) (rw (drop-cons xs i nan h, ← add-one i) at q)
-
-pub store_done : (at i : ℕ) (xs : List Float) (s : List ℕ) {end : List ℕ} → length xs ≤ i → with_floats s at (drop i xs) ≡ end → s ≡ end
-store_done at i xs s h q = rw (drop_of_length-le xs h) at q
+use Rattle.limiter.specs.Limiter.{scaled}
+use Rattle.limiter.proofs.Theorems.{channel, channels_more, length_channels, written_more, store_part, scaled_one}
+use Rattle.render.specs.MixedRows.{AreFloats}
 
 -- channel c, from its place behind the pending samples on
 module _ (here : List Bool) (c k pending : ℕ) (xs : List Float) (s : List ℕ) {t : List ℕ} (p : t ≡ with_channels (channels (take c here) k xs) 256 (4 * pending) s)
@@ -36,12 +27,18 @@ module _ (here : List Bool) (c k pending : ℕ) (xs : List Float) (s : List ℕ)
       ∙ written_more cs ys 256 (4 * pending) s
       ∙ ap₂ (λ (u : List ℕ) (n : ℕ). with_floats u (256 * n + 4 * pending) ys) (sym p) (length_channels (take c here) k xs ∙ length-take-le c here (le_of_lt h))
 
-  pub channel_step : {new : List ℕ} → get_or here c false ≡ true → new ≡ with_floats t (256 * c + 4 * pending) (take (64 * c + k - 64 * c) (drop (64 * c) xs))
-      → new ≡ with_channels (channels (take (c + 1) here) k xs) 256 (4 * pending) s
-  channel_step e q =
+  -- written by `scale_slice_into`, times 1
+  pub channel_step : (at : ℕ) (list : List Float) (z : List ℕ) → at ≡ 256 * c + 4 * pending → list ≡ xs → AreFloats list → get_or here c false ≡ true
+      → 64 * c + k ≤ length list → at + 4 * k ≤ length t
+      → z ≡ with_floats (take (at + 4 * k - at) (drop at t)) 0 (scaled 1·0f (take (64 * c + k - 64 * c) (drop (64 * c) list)))
+      → put_mid at (at + 4 * k - at) t z ≡ with_channels (channels (take (c + 1) here) k xs) 256 (4 * pending) s
+  channel_step at list z place same fine e f g q =
       let w : 64 * c + k - 64 * c ≡ k = omega arith in
-      q ∙ ap (λ (n : ℕ). with_floats t (256 * c + 4 * pending) (take n (drop (64 * c) xs))) w
-      ∙ ap (λ (b : Bool). with_floats t (256 * c + 4 * pending) (cond b (take k (drop (64 * c) xs)) [])) (sym e)
+      store_part 1·0f k (64 * c) at list t z f g q
+      ∙ ap (λ (x : Float). with_floats t at (scaled x (take (64 * c + k - 64 * c) (drop (64 * c) list)))) one_bits
+      ∙ ap (with_floats t at) (scaled_one (64 * c + k - 64 * c) (drop (64 * c) list) (λ i. rw get_or-drop (fine (64 * c + i))))
+      ∙ ap₂ (λ (n : ℕ) (l : List Float). with_floats t at (take n (drop (64 * c) l))) w same
+      ∙ ap₂ (λ (n : ℕ) (b : Bool). with_floats t n (cond b (take k (drop (64 * c) xs)) [])) place (sym e)
       ∙ sym row_more
 
   -- of a channel that is not there nothing is written

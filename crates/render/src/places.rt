@@ -1,25 +1,14 @@
 // The rows of a run in the places of a state block: a row for each channel.
 ghost use Rattle.std.specs.Prelude.{◌≡◌, ◌+◌, ◌*◌, ◌≤◌, length};
 ghost use Rattle.formats.specs.Areas.{row_places, row_bytes, places_bytes};
-ghost use Rattle.limiter.specs.ChannelPlaces.{channels, with_floats, with_channels};
+ghost use Rattle.limiter.specs.ChannelPlaces.{channels, with_channels};
 ghost use Rattle.render.specs.MixedRows.{AreFloats};
 
 use crate::Rows;
 use formats::areas;
 
-// The samples written from `at` on. `limiter::places::scale_slice_into` times a gain: one function for both would take a closure, and say by `post` what a sample becomes.
-#[tactic(auto, using(crate::proofs::WrittenRows::store_start, crate::proofs::WrittenRows::store_step, crate::proofs::WrittenRows::store_done))]
-fn store_samples(samples: &[f32], places: &mut [u8], at: usize)
-    requires { at + 4 * length samples.now ≤ length places.old }
-    ensures { places.new ≡ with_floats places.old at samples.now }
-{
-    for (i, x) in samples.iter().enumerate() {
-        words::put_f32(places, at + 4 * i, *x);
-    }
-}
-
-// The first k places of each row behind the pending samples of its channel, where the channel is there. That the rows are f32s, which a slice says and an array does not, is
-// what lets them be read back.
+// The first k places of each row behind the pending samples of its channel, where the channel is there: times 1.0, which changes no float. That the rows are f32s, which a slice
+// says and an array does not, is what lets them be read back.
 #[tactic(auto, using(crate::proofs::WrittenRows::channel_step, crate::proofs::WrittenRows::channel_skip), unfolding(limiter::specs::ChannelPlaces::channels, limiter::specs::ChannelPlaces::with_channels))]
 pub fn append_rows(
     rows: &Rows,
@@ -37,10 +26,7 @@ pub fn append_rows(
             continue;
         }
         let from = areas::ROW_PLACES * c;
-        store_samples(
-            &list[from..from + k],
-            places,
-            areas::ROW_BYTES * c + 4 * pending,
-        );
+        let at = areas::ROW_BYTES * c + 4 * pending;
+        limiter::places::scale_slice_into(&list[from..from + k], 1.0, &mut places[at..at + 4 * k]);
     }
 }

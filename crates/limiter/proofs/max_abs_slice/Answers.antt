@@ -1,29 +1,29 @@
--- `limiter::max_abs_slice` meets its contract: the four maxima and what is left have the bounds of the whole. Assumes nothing.
-use mathlib.Core.Path.{◌≡◌, ◌∙◌, subst}
-use Prim.Native.Nat.{ℕ, ◌+◌, ◌*◌, ◌/◌}
-use native.Mathlib.Nat.{add_assoc}
+-- `limiter::max_abs_slice` meets its contract: the sixteen maxima and what is left have the bounds of the whole. Assumes nothing.
+use mathlib.Core.Path.{◌≡◌, ap, ◌∙◌, sym, subst}
+use mathlib.Core.List.{List, [], map}
+use Prim.Native.Nat.{ℕ, ◌*◌, ◌/◌}
 use native.Mathlib.Omega.{arith}
-use borrow.Author.Rules.{rules}
-use lib.ListN.{length, get_or, set, drop}
-use lib.Ieee.{of_bits, nan}
-use Rattle.limiter.proofs.Levels.{Fit}
-use Rattle.limiter.proofs.Peaks.{Lanes, zero_level, lane_level, lanes_start, lanes_next, lanes_rest}
+use lib.ListN.{length, get_or, take, drop}
+use lib.Ieee.{Float, of_bits}
+use lib.Lanes.{zip2}
+use Rattle.ieee.specs.Small.{absolute, larger}
+use Rattle.limiter.specs.Limiter.{peak_from}
+use Rattle.limiter.proofs.Peaks.{zero_level}
+use Rattle.limiter.proofs.Lanes.{Lanes, lanes_start, lanes_next, lanes_rest, chunk_is}
 use Rattle.limiter.proofs.max_abs_slice.Goals as goal
 
-pub loop-j-init : goal.loop-j-init
+pub loop-x-init : goal.loop-x-init
 unfolding of_bits
-loop-j-init c = lanes_start c.args.samples.now
+loop-x-init c = lanes_start c.args.samples.now c.type_inv.samples
 
-pub raise-requires : goal.raise-requires
-raise-requires c = lane_level c.loop-k.lanes c.loop-k.k c.loop-k.invariant (omega arith)
-
-pub loop-k-preserved : goal.loop-k-preserved
-loop-k-preserved c =
+pub loop-x-preserved : goal.loop-x-preserved
+loop-x-preserved c =
     let xs = c.args.samples.now in
-    let i = 4 * c.loop-j.j + c.loop-k.k in
-    let w : (k : ℕ) → Fit (get_or xs k nan) = search rules in
-    subst (λ (n : ℕ). Lanes (set c.loop-k.lanes c.loop-k.k c.raise.result) (drop n xs) xs) (add_assoc (4 * c.loop-j.j) c.loop-k.k 1)
-    (lanes_next c.loop-k.lanes xs c.loop-k.k i (omega arith) (omega arith) (w i) c.loop-k.invariant c.raise.ensures.0)
+    let l = c.loop-x in
+    let r = c.raise_lanes-lanes in
+    let e : get_or c.as_chunks.result.0.now l.x-index [] ≡ take 16 (drop (16 * l.x-index) xs) =
+    ap (λ (zs : List (List Float)). get_or zs l.x-index []) c.as_chunks.ensures.front ∙ chunk_is 16 (length xs / 16) l.x-index xs (omega arith) in
+    lanes_next l.lanes r.result xs l.x-index (omega arith) (omega arith) l.invariant (r.ensures.0 ∙ ap (λ (ys : List Float). zip2 larger l.lanes (map absolute ys)) e) r.ensures.1
 
 pub max_abs_from-requires : goal.max_abs_from-requires
 unfolding of_bits
@@ -33,7 +33,9 @@ pub returns : goal.returns
 unfolding of_bits
 returns c =
     let xs = c.args.samples.now in
-    let w : (k : ℕ) → Fit (get_or xs k nan) = search rules in
-    let e : c.loop-j.j ≡ length xs / 4 = omega arith in
-    let l : Lanes c.loop-j.lanes (drop (4 * (length xs / 4)) xs) xs = subst (λ (j : ℕ). Lanes c.loop-j.lanes (drop (4 * j) xs) xs) e c.loop-j.invariant in
-    (c.max_abs_from-2.ensures.0 ∙ lanes_rest c.loop-j.lanes xs _ w l c.max_abs_from.ensures.0, c.max_abs_from-2.ensures.1)
+    let ms = c.loop-x.lanes in
+    let rest = c.as_chunks.result.1.now in
+    let e : 16 * c.loop-x.x-index ≡ length xs / 16 * 16 = omega arith in
+    let l : Lanes ms rest xs = subst (λ (ys : List Float). Lanes ms ys xs) (ap (λ (j : ℕ). drop j xs) e ∙ sym c.as_chunks.ensures.back) c.loop-x.invariant in
+    let r = c.max_abs_from-2.ensures in
+    (r.0 ∙ ap (λ (m : Float). peak_from m rest) c.max_abs_from.ensures.0 ∙ lanes_rest ms rest xs c.type_inv.samples l, r.1)
