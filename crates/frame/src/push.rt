@@ -41,8 +41,8 @@ fn run_length(started: bool, phase: u32, pending: u32, t: FrameOffset, end: Fram
 }
 
 // Whether an update is sent for sample offset t.
-fn is_sent(l: Layout, t: FrameOffset) -> bool
-    ensures { cond result (NoneSent l t.0 → ⊥) (NoneSent l t.0) }
+fn is_sent(l: &Layout, t: FrameOffset) -> bool
+    ensures { cond result (NoneSent l.now t.0 → ⊥) (NoneSent l.now t.0) }
 {
     l.sent_at(t, 0) < l.count
 }
@@ -98,11 +98,11 @@ fn render_in(
     let mut t = START;
     // By `while`: how many samples a turn takes is found as it goes.
     while t < end {
-        if is_sent(kept.layout, t) {
-            work = work.apply_sent(state, *kept, t);
+        if is_sent(&kept.layout, t) {
+            work = work.apply_sent(state, kept, t);
         }
-        if is_sent(metadata.layout, t) {
-            work = work.apply_sent(state, metadata, t);
+        if is_sent(&metadata.layout, t) {
+            work = work.apply_sent(state, &metadata, t);
         }
         if slot_starts(work.renderer.state.initialized, work.renderer.clock.phase)
             && !work.renderer.state.rests(work.renderer.clock.start)

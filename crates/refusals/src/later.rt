@@ -61,7 +61,7 @@ fn check_walk(start: Present, kept: &Metadata<'_>, frame: Frame<'_>) -> Result<(
     let mut t = START;
     while t < end {
         check_both(kept, frame, t)?;
-        present = present_after(present_after(present, *kept, t), metadata, t);
+        present = present_after(present_after(present, kept, t), &metadata, t);
         check_beds(present, codes)?;
         t = metadata
             .layout
@@ -91,7 +91,7 @@ pub fn check(
     if n.samples == 0 {
         return Err(Refusal::UnsupportedSampleCount);
     }
-    let first = present_after(present_after(start, *kept, START), metadata, START);
+    let first = present_after(present_after(start, kept, START), &metadata, START);
     check_objects(first, n.objects)?;
     check_walk(start, kept, frame)
 }

@@ -40,8 +40,8 @@ fn present_said(said: Update<'_>) -> Present
 }
 
 // The shape after the updates at sample offset t.
-pub fn present_after(p: Present, metadata: Metadata<'_>, t: FrameOffset) -> Present
-    ensures { IsAfter metadata.entry t.0 p result }
+pub fn present_after(p: Present, metadata: &Metadata<'_>, t: FrameOffset) -> Present
+    ensures { IsAfter metadata.now t.0 p result }
 {
     let mut present = p;
     for i in 0..metadata.layout.count {

@@ -54,10 +54,10 @@ impl Rendering {
     pub fn apply_sent(
         mut self,
         state: &mut Block,
-        metadata: Metadata<'_>,
+        metadata: &Metadata<'_>,
         t: FrameOffset,
     ) -> Rendering
-        ensures { Leads (updated hall t.0 (sent_from metadata.entry) (held self.renderer state.old)) self state.old result state.new }
+        ensures { Leads (updated hall t.0 (sent_from metadata.now) (held self.renderer state.old)) self state.old result state.new }
     {
         for i in 0..metadata.layout.count {
             let sent = metadata.layout.sent[i];

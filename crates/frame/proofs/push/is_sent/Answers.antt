@@ -15,4 +15,4 @@ sent f n t i true e h = λ g. let l = ltb-true i n e in g.none i (omega arith) l
 sent f n t i false e h = past h (ltb-false i n e)
 
 pub returns : goal.returns
-returns c = let a = c.args in sent (offset_at a.l) a.l.count a.t.0 c.sent_at.result _ refl c.sent_at.ensures
+returns c = let a = c.args in sent (offset_at a.l.now) a.l.now.count a.t.0 c.sent_at.result _ refl c.sent_at.ensures

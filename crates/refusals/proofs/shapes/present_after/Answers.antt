@@ -10,11 +10,11 @@ loop-i-preserved c =
     let s = c.args in
     let i = c.loop-i.i in
     let q = c.loop-i.present in
-    let go = shape_go s.metadata s.t.0 s.p i q c.if-eq.present c.loop-i-test.true c.loop-i.invariant in
+    let go = shape_go s.metadata.now s.t.0 s.p i q c.if-eq.present c.loop-i-test.true c.loop-i.invariant in
     elim c.if-eq.branch [
       | then-eq w ↦ go (rw (w.present-is, ← c.eq.ensures, w.if-eq.true) (rw (w.update.ensures.0, w.update.ensures.1) at w.present_said-present.ensures))
       | else-eq w ↦ go (rw (w.present-is, ← c.eq.ensures, w.if-eq.false) refl)
     ]
 
 pub returns : goal.returns
-returns c = let l = c.loop-i in shape_end c.args.metadata c.args.t.0 c.args.p l.i l.present (omega (arith, c.loop-i-test.false)) l.invariant
+returns c = let l = c.loop-i in shape_end c.args.metadata.now c.args.t.0 c.args.p l.i l.present (omega (arith, c.loop-i-test.false)) l.invariant

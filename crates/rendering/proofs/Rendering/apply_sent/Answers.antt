@@ -12,7 +12,7 @@ use Rattle.rendering.proofs.Rendering.apply_sent.Goals.{then-eq, else-eq}
 pub loop-i-init : goal.loop-i-init
 loop-i-init c =
     let s = c.args in
-    let d = s.metadata in (
+    let d = s.metadata.now in (
       record { small = refl; hall = refl; left = from_first d s.t.0 (held s.self.renderer s.state.now) },
       refl,
       refl,
@@ -21,7 +21,7 @@ loop-i-init c =
 pub loop-i-preserved : goal.loop-i-preserved
 loop-i-preserved c =
     let s = c.args in
-    let d = s.metadata in
+    let d = s.metadata.now in
     let l = c.loop-i in
     let all = updated hall s.t.0 (sent_from d) (held s.self.renderer s.state.now) in
     elim c.if-eq.branch [
@@ -44,7 +44,7 @@ loop-i-preserved c =
 pub returns : goal.returns
 returns c =
     let s = c.args in
-    let d = s.metadata in
+    let d = s.metadata.now in
     let l = c.loop-i in
     record {
       next = ends d s.t.0 (updated hall s.t.0 (sent_from d) (held s.self.renderer s.state.now)) s.state.now
