@@ -6,10 +6,16 @@ use Rattle.rules.specs.Parts.{laid}
 use Rattle.store.specs.Layout.{infos_at, hall_at, infos_of, places_of}
 use Rattle.rules.specs.Mix.{Moment}
 use Rattle.render.specs.Run.{beds_of, sources_of, moment_of}
+use Rattle.render.specs.Listed.{ListsFit}
+use Rattle.render.specs.declared.lists.Lists.{Lists}
 
 -- "Samples before the first update are silent": what sounds of a timed state in the hall h, of whose objects the first are those of the frame
 abbrev pub chunk_moment : Setup → MetadataRendererState → ℕ → List ℕ → List ℕ → ℕ → ℕ → Moment
 chunk_moment h m objects = moment_of h (beds_of (cond m.initialized m.beds 0) m.codes m.gains) (sources_of (cond m.initialized objects 0) m.sources)
+
+-- the lists are those of what sounds there, or nothing is said of them
+abbrev pub Listing : Setup → MetadataRendererState → ℕ → List ℕ → Lists → Type 0
+Listing h m objects codes = ListsFit h codes (beds_of (cond m.initialized m.beds 0) m.codes m.gains) (sources_of (cond m.initialized objects 0) m.sources)
 
 -- the first bytes of a block, where its small part stands between calls
 abbrev pub small_bytes : List ℕ → List ℕ

@@ -8,11 +8,12 @@ ghost use Rattle.std.specs.Prelude.{◌≡◌, cond, ◌+◌, ◌≤◌};
 ghost use Rattle.formats.specs.Areas.{row_places};
 ghost use Rattle.render.specs.Run.{silent_rows, Passed};
 ghost use Rattle.panning.specs.Hall.{setup_of};
-ghost use Rattle.chunk.specs.ChunkRows.{chunk_moment, Laid};
+ghost use Rattle.chunk.specs.ChunkRows.{chunk_moment, Listing, Laid};
 
 use formats::areas;
 use lowpass::BiquadLowpassState;
 use panning::Hall;
+use render::lists::Lists;
 use render::{Input, Rows, Run, Scene};
 use store::Block;
 use timed::state::MetadataRendererState;
@@ -31,10 +32,12 @@ pub fn mix(
     m: &MetadataRendererState,
     filter: &mut BiquadLowpassState,
     rows: &mut Rows,
+    lists: &mut Lists,
     input: Input,
 )
-    requires { (rows.old ≡ silent_rows) × (m.now.beds ≤ 18) }
-    ensures { Passed (chunk_moment (setup_of hall.now) m.now input.entry.objects input.entry.codes.list.now input.entry.pcm.now input.entry.span.frame) filter.old
+    requires { (rows.old ≡ silent_rows) × (m.now.beds ≤ 18) × Listing (setup_of hall.now) m.now input.objects input.codes.list.now lists.old }
+    ensures lists { Listing (setup_of hall.now) m.now input.entry.objects input.entry.codes.list.now lists.new }
+    ensures passed { Passed (chunk_moment (setup_of hall.now) m.now input.entry.objects input.entry.codes.list.now input.entry.pcm.now input.entry.span.frame) filter.old
         input.entry.span.first input.entry.span.count rows.new filter.new }
 {
     let beds = audible(m.initialized, m.beds);
@@ -45,7 +48,7 @@ pub fn mix(
         gains: &m.gains[..beds],
         sources: &m.sources[..objects],
     };
-    Run { input, scene }.pass(rows, filter);
+    Run { input, scene }.pass(rows, filter, lists);
 }
 
 // The rows' first k places behind the pending samples of the block, of the channels that are there. Both counts go on to `append_rows` alone: a type that says there is room

@@ -6,4 +6,5 @@ pub mod Going
 pub mod Silent
 pub mod ChunkOnBlock
 pub mod Opening
+pub mod ListsKept
 pub mod Running

@@ -21,6 +21,7 @@ use panning::Hall;
 use records::metadata::Metadata;
 use records::sent::Layout;
 use refusals::Frame;
+use render::lists::NO_LISTS;
 use render::{Input, Span};
 use rendering::Rendering;
 use store::Block;
@@ -95,19 +96,23 @@ fn render_in(
     let end = FrameOffset(n.samples);
     let mut work = Rendering::of(s.open(n.rate));
     let mut rows = [0.0f32; areas::PLACE_COUNT];
+    let mut lists = NO_LISTS;
     let mut t = START;
     // By `while`: how many samples a turn takes is found as it goes.
     while t < end {
         if is_sent(&kept.layout, t) {
             work = work.apply_sent(state, kept, t);
+            lists.forget();
         }
         if is_sent(&metadata.layout, t) {
             work = work.apply_sent(state, &metadata, t);
+            lists.forget();
         }
         if slot_starts(work.renderer.state.initialized, work.renderer.clock.phase)
             && !work.renderer.state.rests(work.renderer.clock.start)
         {
             work = work.start_slot(state);
+            lists.forget();
         }
         let next = metadata
             .layout
@@ -131,7 +136,7 @@ fn render_in(
             span,
         };
         let pending = work.renderer.pending as usize;
-        work = work.pass(setup, &mut rows, input);
+        work = work.pass(setup, &mut rows, &mut lists, input);
         if is_kept(k, t.up_to(end)) {
             lay(state, &rows, &setup.present, pending, k);
         }

@@ -6,6 +6,8 @@ pub use Rattle.render.proofs.HeardRows.{silent_long, run_heard}
 pub use Rattle.render.proofs.BassRow.{passed}
 -- moments at which the same is heard leave the same rows and the same filter
 pub use Rattle.render.proofs.SameHeard.{filter_as, run_as}
+-- full lists fit whatever sounds, and those that a frame starts with are full and have room
+pub use Rattle.render.proofs.Fitting.{full_fits, no_lists_sized}
 -- the beds and the objects of a table with its count, as the hall's instance lists them
 pub use Rattle.render.proofs.ListedScenes.{beds_each, sources_each}
 -- rows written behind the pending samples are `laid` there, and the block keeps its length

@@ -5,9 +5,11 @@ ghost use Rattle.std.specs.Prelude.{◌≡◌, ◌+◌, ◌≤◌, length};
 ghost use Rattle.formats.specs.Areas.{row_places};
 ghost use Rattle.render.specs.Framed.{Framed};
 
+pub mod lists;
 mod pass;
 pub mod places;
 mod sources;
+mod strips;
 mod terms;
 
 use beds::Codes;

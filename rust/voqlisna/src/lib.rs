@@ -28,7 +28,7 @@
 //! only by the functions named `new`, `with_table`, `fixed`, `up_to` and `restore`; each has a twin
 //! over lent memory, so that the crate works without `std` and, without the feature `alloc`, without
 //! a heap. An audio thread may call everything but those, [`explain`], [`Renderer::find`] and
-//! [`Renderer::save`]; a call takes less than 32 KiB of its stack. [`sys`] has the C entries
+//! [`Renderer::save`]; a call takes less than 40 KiB of its stack. [`sys`] has the C entries
 //! themselves.
 #![no_std]
 #![deny(

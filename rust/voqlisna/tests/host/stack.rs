@@ -1,11 +1,11 @@
 // SPDX-License-Identifier: Apache-2.0
-//! The stack below a call: less than the 32 KiB that the crate and the header ask for.
+//! The stack below a call: less than the 40 KiB that the crate and the header ask for.
 
 use crate::draw::{Draw, Owned, Scene};
 use std::arch::asm;
 use voqlisna::*;
 
-const PROMISED: usize = 32 * 1024;
+const PROMISED: usize = 40 * 1024;
 const PAINT: u8 = 0xa5;
 const PAINTED: usize = 256 * 1024;
 /// Bytes below the stack pointer that `depth` itself may use.

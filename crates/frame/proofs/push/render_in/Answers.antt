@@ -26,13 +26,15 @@ use Rattle.rendering.specs.declared.Rendering.{Rendering}
 use Rattle.rendering.specs.Begin.{CanStart}
 use Rattle.rendering.specs.Give.{AbsentSilent, GaveRows}
 use Rattle.rendering.specs.Pass.{moment_here, Waits}
-use Rattle.chunk.specs.ChunkRows.{Laid}
+use Rattle.chunk.specs.ChunkRows.{Listing, Laid}
 use Rattle.rendering.proofs.Theorems.{slotted_after, none_applied, slot_rests, slot_changes_nothing}
 use Rattle.frame.proofs.Running.{both_sent, both_leads, next_sent, all_shaped, Taken, takes, is_rate, Running, opens, can_begin, end_above, few, Turning, turn_some, turn_within, turn_passes}
 use Rattle.clock.proofs.Before.{more_left, none_left}
 use Rattle.frame.proofs.Running.{turn_setup, turn_runs, turn_skips, rendered}
 use Rattle.frame.proofs.ChunkOnBlock.{rows_silent, can_give_rows, same_layout, can_give, passes_on, passes_given, passes_whole}
 use Rattle.chunk.proofs.Theorems.{fit_all, as_laid}
+use Rattle.render.proofs.Theorems.{full_fits, no_lists_sized}
+use Rattle.frame.proofs.ListsKept.{listed_given, listed_rows}
 use Rattle.frame.proofs.push.render_in.Goals as goal
 use Rattle.frame.proofs.push.render_in.Goals.{In-loop-pcm, After-pass-work, After-run_length-k, After-open, Joined-is_kept, Joined-is_sent, Joined-is_sent-2, Joined-slot_starts, then-is_sent, else-is_sent, then-is_sent-2, else-is_sent-2, then-slot_starts+then-not-rests, else-slot_starts, else-slot_starts-via-then-slot_starts+else-not-rests, else-slot_starts-via-else-slot_starts, then-is_kept, else-is_kept, then-k-eq64, else-k-eq64+then-work-eq64, else-k-eq64+else-work-eq64}
 
@@ -60,6 +62,7 @@ loop-pcm-init c =
           (c.of-work.ensures ∙ ap (λ (r : Renderer714). record { renderer = r; ready = 0; meters = unmet }) c.«open».ensures),
       refl,
       (λ h. refl),
+      full_fits _ _ _ _ no_lists_sized refl,
     )
 
 -- ---- a turn
@@ -126,6 +129,38 @@ start_slot-work-requires c =
     let k = taken p.After-open in
     let a = updates_done p.Joined-is_sent-2 (kept_done p.Joined-is_sent) in
     (slot_at p.Joined-is_sent-2 (may_begin p.In-loop-pcm k) a, sym c.slot_starts.ensures ∙ c.if-slot_starts.true)
+
+-- After the updates and the slot the lists are those of the timed state, or full: each of them forgets the lists.
+kept_listed : (c : Joined-is_sent) → let s = c.args in
+    Listing (setup_of s.setup.now) c.if-is_sent.work.renderer.state s.frame.n.objects s.frame.codes.list.now c.if-is_sent.lists
+kept_listed c =
+    elim c.if-is_sent.branch [
+      | then-is_sent w ↦ rw (w.work-is, w.lists-is) (full_fits _ _ _ _ w.forget.ensures.0 w.forget.ensures.1)
+      | else-is_sent w ↦ rw (w.work-is, w.lists-is) c.loop-pcm.invariant.3
+    ]
+
+updates_listed : (c : Joined-is_sent-2) → let s = c.args in let v = c.if-is_sent in let x = c.if-is_sent-2 in
+    Listing (setup_of s.setup.now) v.work.renderer.state s.frame.n.objects s.frame.codes.list.now v.lists
+    → Listing (setup_of s.setup.now) x.work.renderer.state s.frame.n.objects s.frame.codes.list.now x.lists
+updates_listed c k =
+    elim c.if-is_sent-2.branch [
+      | then-is_sent-2 w ↦ rw (w.work-is, w.lists-is) (full_fits _ _ _ _ w.forget-then-is_sent-2.ensures.0 w.forget-then-is_sent-2.ensures.1)
+      | else-is_sent-2 w ↦ rw (w.work-is, w.lists-is) k
+    ]
+
+slot_listed : (c : Joined-slot_starts) → let s = c.args in let v = c.if-is_sent-2 in let x = c.if-slot_starts in
+    Listing (setup_of s.setup.now) v.work.renderer.state s.frame.n.objects s.frame.codes.list.now v.lists
+    → Listing (setup_of s.setup.now) x.work.renderer.state s.frame.n.objects s.frame.codes.list.now x.lists
+slot_listed c k =
+    elim c.if-slot_starts.branch [
+      | then-slot_starts+then-not-rests w ↦ rw (w.work-is, w.lists-is) (full_fits _ _ _ _ w.forget-then-not-rests.ensures.0 w.forget-then-not-rests.ensures.1)
+      | else-slot_starts w ↦ rw (w.work-is, w.lists-is) k
+    ]
+
+pub forget-requires-then-not-rests : goal.forget-requires-then-not-rests
+forget-requires-then-not-rests c =
+    let p = goal.at.forget-requires-then-not-rests c in
+    (updates_listed p.Joined-is_sent-2 (kept_listed p.Joined-is_sent)).sized
 
 -- with no slot, or one that changes nothing, what the updates left goes on
 leads_on : {r : Renderer Timed (List ℕ)} {w w' : Rendering} {b b' : List ℕ} → Leads r w b w' b' → IsNext (slotted hall (held w'.renderer b')) b' w'.renderer b'
@@ -210,14 +245,18 @@ pub pass-work-requires : goal.pass-work-requires
 pass-work-requires c =
     let p = goal.at.pass-work-requires c in
     let k = taken p.After-open in
-    ((turn_passes (turning p.After-run_length-k k (begun p.Joined-slot_starts (updates_done p.Joined-is_sent-2 (kept_done p.Joined-is_sent))))).passes, c.loop-pcm.invariant.2 (more_left _ _ _ c.lt.ensures c.loop-pcm-test.true))
+    let q = turn_passes (turning p.After-run_length-k k (begun p.Joined-slot_starts (updates_done p.Joined-is_sent-2 (kept_done p.Joined-is_sent)))) in (
+      q.passes,
+      c.loop-pcm.invariant.2 (more_left _ _ _ c.lt.ensures c.loop-pcm-test.true),
+      slot_listed p.Joined-slot_starts (updates_listed p.Joined-is_sent-2 (kept_listed p.Joined-is_sent)),
+    )
 
 -- what it leaves, by the offset
 passed_at : (c : After-pass-work) → let s = c.args in let v = c.if-slot_starts in
     setup_of c.args.setup.now ≡ setup_in v.state
     → Waits (moment_here (frame_with hall (both_sent s.kept.now s.frame.metadata) (args_in s.frame s.out.now)) c.loop-pcm.t.0 c.run_length-k.result v.work.renderer v.state)
     v.work c.loop-pcm.t.0 c.run_length-k.result c.pass-work.new.rows c.pass-work.result
-passed_at c h = rw c.index.ensures at (c.pass-work.ensures c.args.frame.n.rate (both_sent c.args.kept.now c.args.frame.metadata) c.if-slot_starts.state h)
+passed_at c h = rw c.index.ensures at (c.pass-work.ensures.waits c.args.frame.n.rate (both_sent c.args.kept.now c.args.frame.metadata) c.if-slot_starts.state h)
 
 pub up_to-requires : goal.up_to-requires
 up_to-requires c =
@@ -361,6 +400,12 @@ loop-pcm-preserved c =
           ]),
       c.loop-pcm.invariant.1,
       (λ h. c.clear_rows.ensures ∙ ap (λ (more : Bool). cond more silent_rows c.pass-work.new.rows) (is_more _ _ _ c.lt-in-loop-pcm.ensures (subst (λ (n : ℕ). c.plus-t.result.0 < n) (sym c.loop-pcm.invariant.1) h))),
+      (let h = setup_of s.setup.now in let i = s.frame.codes.list.now in let l = c.pass-work.ensures.lists in
+          elim z.branch [
+            | then-k-eq64 w ↦ rw w.work-is (listed_rows h s.frame.n.objects i c.pass-work.new.lists w.give_rows-work.ensures l)
+            | else-k-eq64+then-work-eq64 w ↦ rw w.work-is (listed_given h s.frame.n.objects i c.pass-work.new.lists w.give-work.ensures l)
+            | else-k-eq64+else-work-eq64 w ↦ rw w.work-is l
+          ]),
     )
 
 -- ---- at the end

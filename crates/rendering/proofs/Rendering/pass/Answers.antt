@@ -10,8 +10,8 @@ use Rattle.rendering.specs.Pass.{frame_here}
 use Rattle.rendering.proofs.MixedMoments.{Full, same_heard, waits}
 use Rattle.rendering.proofs.Rendering.pass.Goals as goal
 
-pub returns : goal.returns
-returns c =
+pub returns-clause-waits : goal.returns-clause-waits
+returns-clause-waits c =
     let w = c.args.self in
     let i = c.args.input in
     let mx = c.mix in
@@ -27,5 +27,5 @@ returns c =
     (chunk_moment (setup_in b) m i.objects i.codes.list.now i.pcm.now i.span.frame)
     (same_heard rate us i.codes.list.now i.pcm.now i.objects i.span.frame w.renderer b full p.dynamic) mx.new.rows mx.new.filter
     (subst (λ (h : Setup). Passed (chunk_moment h m i.objects i.codes.list.now i.pcm.now i.span.frame) w.renderer.filter i.span.first i.span.count mx.new.rows mx.new.filter) e
-    mx.ensures)
+    mx.ensures.passed)
     c.settle.ensures
