@@ -5,7 +5,7 @@ pub mod read;
 mod write;
 
 pub use read::read;
-pub use write::write;
+pub use write::{write, write_ahead};
 
 /// A record of that kind, else zero.
 pub fn record(kind: u8) -> [u8; 40] {

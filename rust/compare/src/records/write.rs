@@ -1,12 +1,23 @@
 //! Updates as records.
 
 use oracle::frame::{Block, Element, Object, Update};
+use std::slice;
 
 type Record = [u8; 40];
 
 /// The records of these updates.
 pub fn write(updates: &[Update]) -> Vec<u8> {
     updates.iter().flat_map(update).flatten().collect()
+}
+
+/// Those of an update so many samples ahead, its own offset unread: kind 9 "is kind 1 with the offset
+/// in bytes 28 to 31, unsigned 32-bit, bytes 2 and 3 zero" (document 02, R-12).
+pub fn write_ahead(update: &Update, offset: u32) -> Vec<u8> {
+    let mut bytes = write(slice::from_ref(update));
+    bytes[0] = 9;
+    bytes[2..4].fill(0);
+    bytes[28..32].copy_from_slice(&offset.to_le_bytes());
+    bytes
 }
 
 fn update(update: &Update) -> Vec<Record> {

@@ -77,17 +77,12 @@ pub fn text() -> String {
     text::text(&groups())
 }
 
-/// Kind 9 "is kind 1 with the offset in bytes 28 to 31, unsigned 32-bit, bytes 2 and 3 zero".
-fn far_records((offset, update): &(u32, Update)) -> Vec<u8> {
-    let mut bytes = records::write(std::slice::from_ref(update));
-    bytes[0] = 9;
-    bytes[28..32].copy_from_slice(&offset.to_le_bytes());
-    bytes
-}
-
 impl From<&Push> for Call {
     fn from(push: &Push) -> Self {
-        let mut meta: Vec<u8> = push.ahead.iter().flat_map(far_records).collect();
+        let ahead = push.ahead.iter();
+        let mut meta: Vec<u8> = ahead
+            .flat_map(|(offset, update)| records::write_ahead(update, *offset))
+            .collect();
         meta.extend(records::write(&push.updates));
         for &(at, byte) in &push.spoilt {
             meta[at] = byte;

@@ -106,13 +106,21 @@ impl Case {
         }
     }
 
-    /// Each block has a ramp to the next.
     fn update(&self, inputs: &mut Generator, offset: usize) -> Update {
         let (elements, blocks, span) = match self.updates {
             Updates::Still => (1, 1, 0),
             Updates::Moving | Updates::Askew(_) => (1, 3, 512),
             Updates::Each { elements, blocks } => (elements, blocks, self.samples / blocks),
         };
+        Update {
+            offset: offset as u16,
+            ..self.update_of(inputs, &vec![blocks; elements], span)
+        }
+    }
+
+    /// At offset 0, with elements of so many blocks, each of which has a ramp to the next, so many
+    /// samples on.
+    pub fn update_of(&self, inputs: &mut Generator, elements: &[usize], span: usize) -> Update {
         let objects = self.beds + self.objects;
         let mut object = |o: usize| Object {
             position_valid: o >= self.beds,
@@ -122,7 +130,7 @@ impl Case {
             send: self.send,
             ..Object::default()
         };
-        let mut element = || Element {
+        let mut element = |&blocks: &usize| Element {
             blocks: (0..blocks)
                 .map(|b| Block {
                     offset: (span * b) as i64,
@@ -134,11 +142,11 @@ impl Case {
                 .collect(),
         };
         Update {
-            offset: offset as u16,
+            offset: 0,
             objects: objects as u8,
             bed_or_isf_objects: self.beds as u8,
             beds: BEDS[..self.beds].to_vec(),
-            elements: (0..elements).map(|_| element()).collect(),
+            elements: elements.iter().map(&mut element).collect(),
         }
     }
 }

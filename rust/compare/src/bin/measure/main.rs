@@ -3,6 +3,7 @@
 //! named one when this was built: the same frames, all sides in turn. Prints the figures of
 //! docs/PERFORMANCE.md. Stops where the samples of a timed frame differ.
 
+mod ahead;
 mod case;
 mod counts;
 mod find;
@@ -28,11 +29,12 @@ use std::{env, fs, process, thread};
 use table::{Row, rows};
 
 const USAGE: &str = "\
-usage: measure [SECONDS] | million | sends | halls | leaves | planes | pcm24 | holds | find | counts
+usage: measure [SECONDS] | million | sends | halls | ahead | leaves | planes | pcm24 | holds | find | counts
   SECONDS   for each case (0.8)
   million   only a million pushes of one sample
   sends     only what sends to the bass feed cost
   halls     only what a hall table of its own costs
+  ahead     only what updates that wait cost
   leaves    times of single functions
   planes    times of the archive's planes, both ways
   pcm24     times of 24-bit samples, both ways
@@ -105,25 +107,35 @@ const SWEEPS: usize = 6;
 const SWEEP: &str = "sweep";
 const SWEEP_SENDS: &str = "sweep-sends";
 const SWEEP_HALLS: &str = "sweep-halls";
+const SWEEP_AHEAD: &str = "sweep-ahead";
 
-/// What sends cost.
-fn sends(seconds: f64) -> Vec<sends::Row> {
-    let mut rows = sends::rows();
+/// The rows with their rounds, by processes of that word.
+fn swept<R>(
+    mut rows: Vec<R>,
+    word: &str,
+    seconds: f64,
+    times: fn(&mut R) -> &mut Vec<Vec<f64>>,
+) -> Vec<R> {
     for _ in 0..SWEEPS {
-        let sides = rows.iter_mut().flat_map(|row| &mut row.times);
-        sweep_apart(SWEEP_SENDS, sides, seconds / SWEEPS as f64);
+        let sides = rows.iter_mut().flat_map(times);
+        sweep_apart(word, sides, seconds / SWEEPS as f64);
     }
     rows
 }
 
+/// What sends cost.
+fn sends(seconds: f64) -> Vec<sends::Row> {
+    swept(sends::rows(), SWEEP_SENDS, seconds, |row| &mut row.times)
+}
+
 /// What a hall table of its own costs.
 fn halls(seconds: f64) -> Vec<halls::Row> {
-    let mut rows = halls::rows();
-    for _ in 0..SWEEPS {
-        let sides = rows.iter_mut().flat_map(|row| &mut row.times);
-        sweep_apart(SWEEP_HALLS, sides, seconds / SWEEPS as f64);
-    }
-    rows
+    swept(halls::rows(), SWEEP_HALLS, seconds, |row| &mut row.times)
+}
+
+/// What updates that wait cost.
+fn ahead(seconds: f64) -> Vec<ahead::Row> {
+    swept(ahead::rows(), SWEEP_AHEAD, seconds, |row| &mut row.times)
 }
 
 fn all(seconds: f64) {
@@ -179,7 +191,9 @@ fn main() {
         ["million"] => million::print(),
         ["sends"] => sends::print(&sends(0.8)),
         ["halls"] => halls::print(&halls(0.8)),
+        ["ahead"] => ahead::print(&ahead(0.8)),
         [SWEEP_HALLS, seconds] => halls::sweep(seconds.parse().unwrap()),
+        [SWEEP_AHEAD, seconds] => ahead::sweep(seconds.parse().unwrap()),
         [SWEEP_SENDS, seconds] => sends::sweep(seconds.parse().unwrap()),
         [SWEEP, seconds] => sweep(seconds.parse().unwrap()),
         [counts::COUNTED] => counts::counted(&warm()),
