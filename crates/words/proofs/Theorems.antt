@@ -14,7 +14,7 @@ pub use Rattle.words.proofs.Small.{number_small, run_small, number_bytes}
 -- bytes are known by their numbers
 pub use Rattle.words.proofs.Same.{same_bytes, same_words}
 -- the lower bytes of a number and those above them
-pub use Rattle.words.proofs.Numbers.{number_parts}
+pub use Rattle.words.proofs.Numbers.{number_parts, written_joined}
 -- a run of floats: its length, its elements, one more
 pub use Rattle.words.proofs.Runs.{length_floats, float_at_is, floats_more}
 -- what is written into a part that is lent is written into the whole
