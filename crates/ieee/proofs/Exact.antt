@@ -9,7 +9,7 @@ use native.Mathlib.Omega.{arith}
 use mathlib.Core.Bool.{Bool, true, false, ◌&&◌}
 use lib.IntN.{ℤ, pos, negsuc}
 use lib.Dec.{T, eqb→eq}
-use lib.Ieee.{Float, nan, inf, fin, binary32, unlike, fits, neg, add, sub, mul, sum, round, lt}
+use lib.Ieee.{Float, nan, inf, fin, binary32, unlike, fits, neg, add, sub, mul, sum, round, lt, eq}
 use lib.Ieee.Scale.{finite}
 use lib.Ieee.Positive.{den, first_pos}
 use lib.Ieee.Fits.{up_pos}
@@ -17,8 +17,9 @@ use Rattle.ieee.proofs.Grid.{rnd, rnd_zero, rnd_exact}
 use Rattle.ieee.proofs.Value.{One, one_pos, Top, F32, sign, mag, P, N, shape, Is}
 use Rattle.ieee.proofs.Constants.{0·0, 1·0, zero_f32, one_f32, zero_mag, one_P, top_pos}
 use Rattle.ieee.proofs.Unique.{same_value, is_same}
-use Rattle.ieee.proofs.Ops.{add_rounds, mul_round, sub_open, neg_f32, neg_P, neg_N}
+use Rattle.ieee.proofs.Ops.{add_rounds, sub_rounds, mul_round, sub_open, neg_f32, neg_P, neg_N}
 use Rattle.ieee.proofs.Signed.{P-grid, N-grid, P-less, N-less, mag_is, one_sided}
+use Rattle.ieee.proofs.Compare.{→eq}
 
 -- a parameter or an element of a slice is known to fit by an equation
 pub fine : (x : Float) → fits binary32 x ≡ true → T (finite x) → F32 x
@@ -107,7 +108,17 @@ zero_not_above true = refl
 pub mag_pos : (s : Bool) (m : ℕ) (e : ℤ) → F32 (fin s (suc m) e) → 0 < mag (fin s (suc m) e)
 mag_pos s m e f = let x = fin s (suc m) e in first_pos (mag x) (den x) (subst (λ (k : ℕ). 0 < k) (shape x f).value (mul-pos (mul-pos (zero-lt-suc m) (up_pos e)) one_pos))
 
--- ---- x - x is a NaN where x is infinite
+-- ---- x - x is 0 where x is finite, and a NaN otherwise
+pub less_itself : (x : Float) → F32 x → T (eq (sub binary32 x x) 0·0)
+less_itself x f =
+    let z = zero_mag in
+    let a : P x + N x - (N x + P x) ≡ 0 = omega arith in
+    let b : N x + P x - (P x + N x) ≡ 0 = omega arith in
+    let ha : rnd (P x + N x - (N x + P x)) 1 ≡ 0 = ap (λ (k : ℕ). rnd k 1) a ∙ rnd_zero 1 (zero-lt-suc 0) in
+    let hb : rnd (N x + P x - (P x + N x)) 1 ≡ 0 = ap (λ (k : ℕ). rnd k 1) b ∙ rnd_zero 1 (zero-lt-suc 0) in
+    let r = sub_rounds x x f f (record { high = subst (λ (k : ℕ). k < Top) (sym ha) top_pos; deep = subst (λ (k : ℕ). k < Top) (sym hb) top_pos }) in
+    →eq (sub binary32 x x) 0·0 r.f32 zero_f32 (omega (arith, r.up ∙ ha, r.down ∙ hb))
+
 pub inf_less_itself : (s : Bool) → sub binary32 (inf s) (inf s) ≡ nan
 unfolding sub add neg
 inf_less_itself false = refl

@@ -1,12 +1,13 @@
 -- The laws of the small functions on f32: `abs` by 0.0 - x, `is_infinite` by the library's. Assumes nothing.
 use mathlib.Core.Path.{◌≡◌, refl, sym, ap, ◌∙◌, subst}
-use Prim.Native.Nat.{zero, suc}
+use Prim.Native.Nat.{ℕ, zero, suc, ◌*◌}
 use native.Mathlib.Omega.{arith}
-use mathlib.Core.Bool.{true, false, true≢false}
+use mathlib.Core.Bool.{Bool, true, false, not, ◌&&◌, ◌||◌, beq, true≢false}
 use lib.IntN.{ℤ, pos}
-use lib.Dec.{T}
-use lib.Ieee.{Float, nan, inf, fin, binary32, fits, neg, add, sub, lt}
-use lib.Ieee.Bits.{is_true}
+use lib.Dec.{T, eqb, eqb_refl}
+use lib.Ieee.{Float, nan, inf, fin, binary32, up, down, fits, neg, add, sub, level, lt, eq, ne, is_nan}
+use lib.Ieee.Bits.{is_true, is_false}
+use lib.Ieee.Compare.{nan_differs}
 use Rattle.std.specs.Float.{float_is_infinite}
 use Rattle.ieee.specs.Small.{absolute, infinite}
 use Rattle.ieee.proofs.Value.{F32}
@@ -74,6 +75,24 @@ abs_turned (fin false (suc m) e) g h = absurd (true≢false (sym (is_true (lt (n
 
     above : T (lt (neg x) x)
     above = →lt (neg x) x (neg_f32 x f) f (omega (arith, neg_P x f, neg_N x f, mag_is x, mag_pos false m e f))
+
+-- ---- a float differs from itself where it is a NaN
+pub self_nan : (x : Float) → ne x x ≡ is_nan x
+unfolding is_nan
+self_nan nan = nan_differs
+self_nan (inf s) = unfold ne eq in go s
+  where
+    go : (s : Bool) → not (beq s s) ≡ false
+    go false = refl
+    go true = refl
+self_nan (fin s m e) = unfold ne eq in level_self s (m * up e * down e)
+  where
+    level_self : (s : Bool) (a : ℕ) → not (level s a s a) ≡ false
+    level_self s a = is_false (not (level s a s a)) (subst (λ (b : Bool). T (not (not (b && (beq s s || eqb a 0))))) (sym (is_true (eqb a a) (eqb_refl a))) (both s a))
+      where
+        both : (s : Bool) (a : ℕ) → T (not (not (beq s s || eqb a 0)))
+        both false a = tt
+        both true a = tt
 
 -- ---- the library's test
 pub infinite_is : (x : Float) → float_is_infinite x ≡ infinite x

@@ -21,7 +21,7 @@ pub use Rattle.ieee.proofs.Ops.{neg_f32, neg_P, neg_N}
 -- a bound of the format bounds the result, either side
 pub use Rattle.ieee.proofs.Signed.{at_most, at_least, minus_at_most, not_negative, not_positive}
 -- a result is the float itself
-pub use Rattle.ieee.proofs.Exact.{mul_one, zero_add, zero_minus, times_zero, add_zeros}
+pub use Rattle.ieee.proofs.Exact.{mul_one, zero_add, zero_minus, less_itself, times_zero, add_zeros}
 -- two floats are the same: by sign and size; by a value that is not 0
 pub use Rattle.ieee.proofs.Unique.{unique, same_value}
 -- an f32 that is finite, and one whose size is not 0
