@@ -12,6 +12,8 @@ pub use Rattle.formats.proofs.Places.{round, passes, spelled}
 pub use Rattle.formats.proofs.Places.{stands_all, word_of_run, word_of_bytes}
 -- two runs of words, or two values, one after the other
 pub use Rattle.formats.proofs.Loops.{runs_at, pair_stored}
+-- a turn of a loop that reads an array, that stores one, that tests one
+pub use Rattle.formats.proofs.Loops.{room, gets_filled, gets_full, store_turn, store_none, store_all, all_step, all_stop, all_done}
 -- tests at each place of an array, and of a column of it
 pub use Rattle.formats.proofs.Loops.{all_same, all_any, all_both, most}
 -- the heads of infos are valid exactly if the infos pass the test of their format
