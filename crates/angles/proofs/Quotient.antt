@@ -74,6 +74,9 @@ module _ {r : ℕ} (l : Listed r) where
   pub s_pos : 0 < s
   s_pos = subst (λ (k : ℕ). 0 < k) (sym σ.is) (pow_pos σ.e)
 
+  pub step_size : (0 < r * s) × (r * s ≤ 386048)
+  step_size = (mul-pos r_pos s_pos, σ.near)
+
   -- ---- the division
   power : 2 ^ (117 + σ.e) ≡ 2 ^ 117 * s
   power = pow-add 2 117 σ.e ∙ ap (λ (x : ℕ). 2 ^ 117 * x) (sym σ.is)
