@@ -1,10 +1,12 @@
 -- The peak of a list, by ranks: a bound on the peak is a bound on each sample. So lists with the same bounds have the same peak, in whatever order or number of running maxima
 -- it is taken. Assumes nothing.
-use mathlib.Core.Path.{◌≡◌, refl, sym, subst}
+use mathlib.Core.Path.{◌≡◌, refl, sym, ap, ◌∙◌, subst}
 use mathlib.Core.List.{List, [], ◌∷◌}
-use Prim.Native.Nat.{ℕ, suc, ◌≤◌, zero-le}
+use Prim.Native.Nat.{ℕ, suc, ◌+◌, ◌≤◌, ◌<◌, zero-le}
+use native.Mathlib.Numerals.{add-one}
 use native.Mathlib.Nat.{le_refl, le_trans, le_antisymm}
-use lib.ListN.{get_or}
+use lib.ListN.{length, get_or, drop, drop_of_length-le}
+use lib.Seq.{drop-cons}
 use lib.Ieee.{Float, nan, fits}
 use Rattle.ieee.specs.Units.{mag}
 use Rattle.ieee.specs.Bounds.{All}
@@ -58,6 +60,14 @@ peak_from_is m (x ∷ xs) p f =
 pub all_fit : (xs : List Float) → ((k : ℕ) → Fit (get_or xs k nan)) → All Fit xs
 all_fit [] f = tt
 all_fit (x ∷ xs) f = (f 0, all_fit xs (λ k. f (suc k)))
+
+-- the next sample is taken in, or none is left
+pub from_next : (m r : Float) (xs : List Float) (i : ℕ) → i < length xs → r ≡ larger m (absolute (get_or xs i nan)) → peak_from r (drop (i + 1) xs) ≡ peak_from m (drop i xs)
+from_next m r xs i h e = ap (λ (v : Float). peak_from v (drop (i + 1) xs)) e ∙ ap (λ (n : ℕ). peak_from (larger m (absolute (get_or xs i nan))) (drop n xs)) (add-one i)
+    ∙ sym (ap (peak_from m) (drop-cons xs i nan h))
+
+pub from_end : (m : Float) (xs : List Float) (i : ℕ) → length xs ≤ i → m ≡ peak_from m (drop i xs)
+from_end m xs i h = sym (ap (peak_from m) (drop_of_length-le xs h))
 
 -- ---- a block
 -- p bounds each channel, and is the least such level from m on
