@@ -74,3 +74,6 @@ squeezed a b v f g w e h k =
 -- the outcome of a test, as the code has it
 pub passed : {b : Bool} → b ≡ true → T b
 passed e = subst T (sym e) tt
+
+pub failed : {b : Bool} → b ≡ false → T (not b)
+failed e = subst (λ (x : Bool). T (not x)) (sym e) tt

@@ -21,6 +21,18 @@ abbrev pub HighAt : ℕ → ℕ → ℕ → ℕ → Type 0
 HighAt b low i high = ((i < b) × (high ≡ i)) ⊎ ((i ≡ b) × (high ≡ low))
 
 module _ {c : ℕ → Float} {e : ℕ → ℕ} {a b : ℕ} {v : Float} where
+  pub walk_start : a < b → Walked c e a b v a a
+  walk_start q = record {
+    from = le_refl a;
+    to = le_of_lt q;
+    up = λ j aj ja. absurd (empty aj ja);
+    start = λ j aj ja ab t. empty aj ja;
+    last = inl (refl, refl);
+  }
+    where
+      empty : {i j : ℕ} → i ≤ j → j < i → ⊥
+      empty h k = omega arith
+
   pub walk_step : {low i : ℕ} → T (fits binary32 v) → Runs c e a b → Walked c e a b v low i → i < b → T (le (c i) v) → Walked c e a b v i (e i)
   walk_step {low} {i} w r q ib t = record {
     from = le_trans q.from (le_of_lt further);

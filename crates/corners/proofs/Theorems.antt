@@ -3,7 +3,7 @@
 -- where channels stand in order along an axis, the ends of a list with these members are runs of indexes; the order in the list, and repetition, do not matter
 pub use Rattle.corners.proofs.Segments.{part, or_some, or_none, only_first, below_run, above_run}
 -- a walk over runs that has stopped has found the two ends, or the two sides, of the choice
-pub use Rattle.corners.proofs.Stops.{walk_step, ends_at, level_at, sides_at, row_passed}
+pub use Rattle.corners.proofs.Stops.{walk_start, walk_step, ends_at, level_at, sides_at, row_passed}
 -- the order by (y, z, x) of finite places can be chained, and two that differ stand in it one way round
 pub use Rattle.corners.proofs.Lexical.{Fine, Lex, lex_of, of_lex, lex_chain, other_way}
 -- the marked channels, and what a table says of each
