@@ -4,7 +4,7 @@ use mathlib.Core.List.{List, ◌++◌}
 use Prim.Native.Nat.{ℕ, ◌+◌, ◌*◌, ◌%◌, ◌<◌, ◌≤◌}
 use native.Mathlib.Omega.{arith}
 use native.Mathlib.Nat.{mul-le-mul_right}
-use lib.ListN.{length, take}
+use lib.ListN.{length, length-append, take}
 use lib.Seq.{take_at}
 use lib.Ieee.{Float}
 use Rattle.words.specs.Words.{word}
@@ -42,3 +42,6 @@ module _ (pcm : List ℕ) (s : Span) where
 
     pub row_length : length (take s.count row) ≡ s.count
     row_length = ap length row_start ∙ length-samples pcm (channel_start s i) s.count
+
+    pub row_reaches : s.count ≤ length row
+    row_reaches = rw e (omega (arith, length-append (channel_row pcm s i) rest, length-samples pcm (channel_start s i) s.count))

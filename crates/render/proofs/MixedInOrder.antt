@@ -1,7 +1,7 @@
 -- One bed and one object more of their loops: what is left to mix still gives `end`. Assumes nothing.
 use mathlib.Core.Path.{◌≡◌}
 use mathlib.Core.List.{List, map}
-use Prim.Native.Nat.{ℕ, suc, ◌+◌, ◌<◌, ◌≤◌}
+use Prim.Native.Nat.{ℕ, suc, ◌+◌, ◌-◌, ◌<◌, ◌≤◌}
 use native.Mathlib.Omega.{arith}
 use native.Mathlib.Numerals.{add-one}
 use lib.ListN.{length, get_or, drop, drop_of_length-le}
@@ -13,12 +13,20 @@ use Rattle.panning.specs.Setup.{Setup}
 use Rattle.rules.specs.Mix.{added_terms}
 use Rattle.render.specs.MixedRows.{mixed_terms}
 use Rattle.render.specs.declared.Span.{Span}
-use Rattle.render.specs.Run.{bed_with, zipped, plain_source}
+use Rattle.render.specs.Run.{bed_with, zipped, plain_source, sources_of}
 use Rattle.render.specs.MixedSources.{bed_terms, channel_row, mixed_found, mixed_beds, mixed_objects}
 
 -- ---- beds and objects
 
 module _ (h : Setup) (pcm : List ℕ) (s : Span) where
+  -- at the first object nothing is left out
+  pub objects_start : (i m : ℕ) (ds : List DynamicSourceState) (os : List Float)
+      → mixed_objects h pcm s (i + 0) (sources_of (m - 0) ds) os ≡ mixed_objects h pcm s i (sources_of m ds) os
+  objects_start i m ds os =
+      let e : m - 0 ≡ m = omega arith in
+      let f : i + 0 ≡ i = omega arith in
+      rw (e, f)
+
   pub bed_step : (codes : List ℕ) (j : ℕ) (cs : List ℕ) (gs os : List Float) {new end : List Float} → j < length cs → j < length gs
       → new ≡ mixed_found pcm s (bed_terms h (bed_with (get_or cs j 0) (get_or gs j nan))) (matching (get_or cs j 0) codes) os
       → mixed_beds h pcm s codes (zipped (drop j cs) (drop j gs)) os ≡ end
