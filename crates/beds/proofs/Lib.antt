@@ -1,4 +1,5 @@
 pub mod Range
 pub mod Channels
+pub mod Search
 pub mod Matches
 pub mod Theorems

@@ -4,6 +4,7 @@ pub mod Rising
 pub mod Segments
 pub mod Stops
 pub mod WalkedCorners
+pub mod Writes
 pub mod Triples
 pub mod Lexical
 pub mod Lined

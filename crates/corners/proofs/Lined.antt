@@ -1,11 +1,11 @@
--- The channels in line: one more channel is put in its place, and which channels there are at the end. Assumes nothing.
+-- The channels in line: one more channel, absent or put in its place, and which channels there are at the end. Assumes nothing.
 use mathlib.Core.Path.{◌≡◌, sym, subst, ◌∙◌}
 use mathlib.Core.Logic.{◌⊎◌, inl, inr}
 use mathlib.Core.Bool.{Bool, not, ◌&&◌}
 use mathlib.Core.List.Memᴰ
 use mathlib.Core.List.{List, [], ◌∷◌}
 use Prim.Native.Nat.{ℕ, suc, zero, ◌+◌, ◌-◌, ◌≤◌, ◌<◌}
-use native.Mathlib.Nat.{eq-or-lt_of_le}
+use native.Mathlib.Nat.{le_refl, eq-or-lt_of_le}
 use native.Mathlib.Omega.{arith}
 use lib.Dec.{T, T_not, eqb}
 use lib.Ieee.{Float, eq}
@@ -93,7 +93,31 @@ module _ (sp : ℕ → Vec3) where
 pub fine_in : (sp : ℕ → Vec3) (l : List ℕ) → Table sp l → Each (λ k. Fine (sp k)) l
 fine_in sp l t k m = let a = all_tame sp l t.placed k m in record { x = a.x.f32; y = a.y.f32; z = a.z.f32 }
 
--- ---- one more channel is put in its place
+-- ---- one more channel
+pub line_start : (sp : ℕ → Vec3) (here : ℕ → Bool) (channel : ℕ → ℕ) → InLine sp here 0 0 channel
+line_start sp here channel = record {
+  few = le_refl 0;
+  into = λ i q. absurd (none q);
+  out = λ j q t. absurd (none q);
+  rising = λ i j p q. absurd (none q);
+}
+  where
+    none : {j : ℕ} → j < 0 → ⊥
+    none h = omega arith
+
+-- it is absent
+pub line_past : {sp : ℕ → Vec3} {here : ℕ → Bool} {k n : ℕ} {channel : ℕ → ℕ} → InLine sp here k n channel → T (not (here k)) → InLine sp here (k + 1) n channel
+line_past {sp} {here} {k} {n} {channel} r t = record {
+  few = omega (arith, r.few);
+  into = λ i q. let h = r.into i q in (omega (arith, h.0), h.1);
+  out = λ j q u. elim (less_or_not j k) [
+    | inl h ↦ r.out j h u
+    | inr h ↦ let e : j ≡ k = omega arith in absurd (T_not (here k) t (subst (λ (x : ℕ). T (here x)) e u))
+  ];
+  rising = r.rising;
+}
+
+-- it is put in its place
 module _ {sp : ℕ → Vec3} {here : ℕ → Bool} {k n : ℕ} {was after : ℕ → ℕ} (r : InLine sp here k n was) (s : Inserted sp was n k after) (t : T (here k))
     (fine : (j : ℕ) → j < k + 1 → T (here j) → Fine (sp j)) (away : (j : ℕ) → j < k → T (here j) → T (alike (sp k) (sp j)) → ⊥) where
   -- where a channel was

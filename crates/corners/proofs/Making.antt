@@ -22,6 +22,9 @@ use Rattle.corners.proofs.RunEnds.{layer_most, walkable}
 
 module _ (P : List Vec3) (p : List Bool) (t : Table (place_among P) (speakers_of p)) (n : ℕ) (ch : List ℕ)
     (line : InLine (place_among P) (is_marked p) 12 n (index_at ch)) where
+  pub channel_below : (i : ℕ) → i < n → index_at ch i < 12
+  channel_below i q = (line.into i q).0
+
   some_there : 0 < n
   some_there =
       let m = some_of (speakers_of p) t.some in

@@ -97,6 +97,12 @@ module _ (here : List Bool) (c n : ℕ) (xs : List Float) {m : Float} (d : m ≡
       ∙ sym (peak_more 0·0 (channels (take c here) n xs) (channel here c n xs))
       ∙ sym (ap (block_peak 0·0) (channels_more here c n xs h))
 
+-- no channel is left
+pub peak_end : (here : List Bool) (n : ℕ) (xs : List Float) (m : Float) → length here ≤ 0 → m ≡ block_peak m (channels here n xs)
+unfolding block_peak channels
+peak_end [] n xs m h = refl
+peak_end (b ∷ here) n xs m h = absurd (not-suc-le-zero h)
+
 -- ---- z in the place of the first n of the 64 from the end of p on
 module _ (p z t : List Float) (n : ℕ) (e : length z ≡ n) (h : n ≤ 64) where
   split : 64 ≡ length z + (64 - n)
@@ -228,6 +234,24 @@ module _ (g : Float) (here : List Bool) (c n step to : ℕ) (xs : List Float) (s
       → t ≡ with_channels (scaled_block g (channels (take (c + 1) here) n xs)) step to s
   store_skip {t} d q =
       ap₂ (λ (v : List ℕ) (b : Bool). with_floats v (step * c + to) (scaled g (cond b (take n (drop (64 * c) xs)) []))) d (sym q) ∙ sym store_more
+
+-- no channel is left
+pub store_end : (g : Float) (here : List Bool) (n step at : ℕ) (xs : List Float) (s : List ℕ) → length here ≤ 0
+    → s ≡ with_channels (scaled_block g (channels here n xs)) step at s
+unfolding with_channels scaled_block channels
+store_end g [] n step at xs s h = refl
+store_end g (b ∷ here) n step at xs s h = absurd (not-suc-le-zero h)
+
+-- the room that k channels need
+pub room_next : (k step : ℕ) → 0 < k → step + (k - 1) * step ≡ k * step
+room_next zero step h = absurd (not-suc-le-zero h)
+room_next (suc k) step h = ap (λ (j : ℕ). step + j * step) (less k) ∙ more k step
+  where
+    less : (k : ℕ) → suc k - 1 ≡ k
+    less k = omega arith
+
+    more : (k step : ℕ) → step + k * step ≡ suc k * step
+    more k step = omega arith
 
 -- the room that a channel needs
 pub room_at : (c k step : ℕ) → c < k → step * c + step ≤ k * step

@@ -6,7 +6,7 @@ use Prim.Native.Nat.{ℕ, zero, suc, ◌+◌, ◌*◌, ◌≤◌, ◌<◌}
 use native.Mathlib.Nat.{le_trans, le_of_suc-le-suc, not-suc-le-zero, suc-ne-zero, suc_inj, mul-suc, mul-zero}
 use native.Mathlib.Omega.{arith}
 use lib.ListN.{length, get_or, take, drop, replicate, length-drop}
-use lib.Seq.{drop-drop, length-take-le}
+use lib.Seq.{drop-cons, drop-drop, length-take-le}
 use lib.Lanes.{zip2}
 use lib.LanesLaws.{chunk-drop}
 use lib.Ieee.{Float, nan}
@@ -14,8 +14,8 @@ use Rattle.std.specs.Simd.{first_chunks}
 use Rattle.ieee.specs.Bounds.{All}
 use Rattle.ieee.specs.Small.{absolute, larger}
 use Rattle.limiter.specs.Limiter.{0·0, peak_from, peak}
-use Rattle.limiter.proofs.Levels.{Level, Fit, rank, raised}
-use Rattle.limiter.proofs.Peaks.{Under, Same, same_as, only, zero_level, zero_under, peak_from_is, all_fit}
+use Rattle.limiter.proofs.Levels.{Level, Fit, rank, Raised, raised, raised_by}
+use Rattle.limiter.proofs.Peaks.{Under, Same, same_as, only, zero_level, zero_under, taken_in, peak_from_is, all_fit}
 
 -- ---- a fact of each element: of lists joined, of their parts, of copies of one
 module _ (P : Float → Type 0) where
@@ -105,6 +105,67 @@ lanes_rest ms rest xs f l =
     levels_fit : (ms : List Float) → All Level ms → All Fit ms
     levels_fit [] l = tt
     levels_fit (m ∷ ms) l = (l.0.fit, levels_fit ms l.1)
+
+-- ---- four of them
+-- four samples taken in
+four_in : {a b c d x y z w a' b' c' d' : Float} {rest whole : List Float} → Lanes (a ∷ b ∷ c ∷ d ∷ []) (x ∷ y ∷ z ∷ w ∷ rest) whole
+    → Raised a x a' → Raised b y b' → Raised c z c' → Raised d w d' → Lanes (a' ∷ b' ∷ c' ∷ d' ∷ []) rest whole
+four_in h p q r s = record {
+  levels = (p.level, (q.level, (r.level, (s.level, tt))));
+  fit = h.fit.1.1.1.1;
+  same = same_as (record {
+    to = λ k u. (
+      le_trans p.first u.0,
+      (
+        le_trans q.first u.1.0,
+        (
+          le_trans r.first u.1.1.0,
+          (
+            le_trans s.first u.1.1.1.0,
+            (le_trans p.second u.0, (le_trans q.second u.1.0, (le_trans r.second u.1.1.0, (le_trans s.second u.1.1.1.0, u.1.1.1.1)))),
+          ),
+        ),
+      ),
+    );
+    from = λ k u. (
+      p.least k u.0 u.1.1.1.1.0,
+      (
+        q.least k u.1.0 u.1.1.1.1.1.0,
+        (r.least k u.1.1.0 u.1.1.1.1.1.1.0, (s.least k u.1.1.1.0 u.1.1.1.1.1.1.1.0, u.1.1.1.1.1.1.1.1)),
+      ),
+    );
+  }) h.same;
+}
+
+-- joined, and the rest taken in one by one
+pub lanes_end : {a b c d p q r : Float} {rest whole : List Float} → Lanes (a ∷ b ∷ c ∷ d ∷ []) rest whole → Raised a b p → Raised p c q → Raised q d r → All Fit rest
+    → All Fit whole → peak_from r rest ≡ peak whole
+lanes_end {a} {b} {c} {d} {p} {q} {r} {rest} {whole} h i j l f g =
+    let left = peak_from_is r rest l.level f in
+    let right = peak_from_is 0·0 whole zero_level g in
+    only (peak_from r rest) (peak whole) left.0 right.0
+    (same_as left.1 (same_as (taken_in l) (same_as (taken_in j) (same_as (taken_in i) h.same))))
+    (same_as right.1 (record { to = λ k u. u.1; from = λ k u. (zero_under k, u) }))
+
+four : (xs : List Float) (i : ℕ) → i + 4 ≤ length xs → drop i xs ≡ get_or xs i nan ∷ get_or xs (i + 1) nan ∷ get_or xs (i + 2) nan ∷ get_or xs (i + 3) nan ∷ drop (i + 4) xs
+four xs i h =
+    one i (i + 1) (omega arith) (omega arith)
+    ∙ ap (λ (l : List Float). get_or xs i nan ∷ l) (one (i + 1) (i + 2) (omega arith) (omega arith)
+    ∙ ap (λ (l : List Float). get_or xs (i + 1) nan ∷ l) (one (i + 2) (i + 3) (omega arith) (omega arith)
+    ∙ ap (λ (l : List Float). get_or xs (i + 2) nan ∷ l) (one (i + 3) (i + 4) (omega arith) (omega arith))))
+  where
+    one : (k n : ℕ) → k < length xs → suc k ≡ n → drop k xs ≡ get_or xs k nan ∷ drop n xs
+    one k n h e = drop-cons xs k nan h ∙ ap (λ (n : ℕ). get_or xs k nan ∷ drop n xs) e
+
+pub lanes_again : (xs : List Float) (i : ℕ) {a b c d a' b' c' d' : Float} → i + 4 ≤ length xs → ((k : ℕ) → Fit (get_or xs k nan))
+    → Lanes (a ∷ b ∷ c ∷ d ∷ []) (drop i xs) xs
+    → a' ≡ larger a (absolute (get_or xs i nan)) → b' ≡ larger b (absolute (get_or xs (i + 1) nan)) → c' ≡ larger c (absolute (get_or xs (i + 2) nan))
+    → d' ≡ larger d (absolute (get_or xs (i + 3) nan))
+    → Lanes (a' ∷ b' ∷ c' ∷ d' ∷ []) (drop (i + 4) xs) xs
+lanes_again xs i {a} {b} {c} {d} {a'} {b'} {c'} {d'} h f l p q r s =
+    four_in (subst (λ (ys : List Float). Lanes (a ∷ b ∷ c ∷ d ∷ []) ys xs) (four xs i h) l)
+    (raised_by a (get_or xs i nan) a' l.levels.0 (f i) p) (raised_by b (get_or xs (i + 1) nan) b' l.levels.1.0 (f (i + 1)) q)
+    (raised_by c (get_or xs (i + 2) nan) c' l.levels.1.1.0 (f (i + 2)) r) (raised_by d (get_or xs (i + 3) nan) d' l.levels.1.1.1.0 (f (i + 3)) s)
 
 -- ---- chunk i of n samples
 pub chunk_is : (n k i : ℕ) (xs : List Float) → i < k → get_or (first_chunks n k xs) i [] ≡ take n (drop (n * i) xs)

@@ -5,20 +5,37 @@ use mathlib.Core.List.{List, [], ◌∷◌, map}
 use Prim.Native.Nat.{ℕ, zero, suc, ◌<◌}
 use lib.Dec.{lit<}
 use lib.ListN.{get_or, replicate}
-use lib.Ieee.{Float, nan, binary32, mul, eq}
+use lib.Ieee.{Float, nan, binary32, mul, eq, ne}
+use Rattle.roots.specs.Root.{root}
 use Rattle.vectors.specs.declared.Vec3.{Vec3}
 use Rattle.corners.specs.Choice.{Corner, corner, corners, 0·0}
-use Rattle.panning.specs.Terms.{up, ahead, across, part, row_weight, weighted, coefficient, inner_gain, extra, nothing, panned}
+use Rattle.panning.specs.Terms.{ratio, up, ahead, across, part, row_weight, weighted, coefficient, inner_gain, extra, nothing, panned}
 use Rattle.corners.specs.Found.{Inside, chosen}
 use Rattle.panning.specs.Shares.{layer_coefficients, SharesOf}
+use Rattle.corners.specs.declared.Ends.{Ends}
 use Rattle.corners.specs.declared.Cube.{Cube}
 use Rattle.panning.specs.declared.Shares.{Shares}
 use Rattle.panning.specs.declared.Panned.{Panned}
+
+-- the coefficient of a side, by the test of its row's weight
+pub side_yes : (w s : Float) {r : Float} → ne w 0·0 ≡ true → r ≡ root (mul binary32 w s) → r ≡ weighted w s
+side_yes w s t e = e ∙ sym (ap (λ (y : Bool). cond y (root (mul binary32 w s)) 0·0) t)
+
+pub side_no : (w s : Float) → ne w 0·0 ≡ false → 0·0 ≡ weighted w s
+side_no w s t = sym (ap (λ (y : Bool). cond y (root (mul binary32 w s)) 0·0) t)
+
+-- the two ends of a row
+pub ends_of : {l h l' h' : ℕ} → l ≡ l' → h ≡ h' → ◌≡◌ {A = Ends} (record { low = l; high = h }) (record { low = l'; high = h' })
+ends_of p q = cc
 
 -- ---- the eight coefficients
 eight : {A : Type 0} {a b c d e f g h a' b' c' d' e' f' g' h' : A} → a ≡ a' → b ≡ b' → c ≡ c' → d ≡ d' → e ≡ e' → f ≡ f' → g ≡ g' → h ≡ h'
     → a ∷ b ∷ c ∷ d ∷ e ∷ f ∷ g ∷ h ∷ [] ≡ a' ∷ b' ∷ c' ∷ d' ∷ e' ∷ f' ∷ g' ∷ h' ∷ []
 eight i j k l m n o p = cc
+
+-- a share from its two ends
+pub ratio_of : (v : Float) {a b a' b' r : Float} → a ≡ a' → b ≡ b' → r ≡ ratio a b v → r ≡ ratio a' b' v
+ratio_of v h i e = cc
 
 module _ (sp : ℕ → Vec3) (c : Cube) (p : Vec3) (g : Float) where
   -- one of them, from the three shares that it rests on

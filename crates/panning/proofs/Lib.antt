@@ -1,4 +1,5 @@
 pub mod Answers
+pub mod Arms
 pub mod Axis
 pub mod Tables
 pub mod SharesInUnit

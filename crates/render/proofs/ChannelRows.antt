@@ -35,6 +35,12 @@ module _ (pcm : List ℕ) (s : Span) where
         plain = λ j l. subst (λ (a : ℕ). word pcm a % 0x8000_0000 ≤ 0x7f80_0000) (omega arith) (f.plain (i * n + t + j) (omega arith));
       }
 
+  -- fewer channels
+  pub fewer : (a b : ℕ) → Framed pcm (a + b) s.frame → Framed pcm a s.frame
+  fewer a b f =
+      let e : a * s.frame ≤ (a + b) * s.frame = mul-le-mul_right s.frame (omega arith) in
+      record { room = let r = f.room in omega arith; plain = λ j l. f.plain j (omega arith) }
+
   -- a row that starts with the samples of channel i
   module _ (i : ℕ) (row rest : List Float) (e : row ≡ channel_row pcm s i ++ rest) where
     pub row_start : take s.count row ≡ channel_row pcm s i

@@ -15,6 +15,7 @@ use Rattle.render.specs.MixedRows.{mixed_terms}
 use Rattle.render.specs.declared.Span.{Span}
 use Rattle.render.specs.Run.{bed_with, zipped, plain_source, sources_of}
 use Rattle.render.specs.MixedSources.{bed_terms, channel_row, mixed_found, mixed_beds, mixed_objects}
+use Rattle.render.specs.Run.{beds_of}
 
 -- ---- beds and objects
 
@@ -32,6 +33,13 @@ module _ (h : Setup) (pcm : List ℕ) (s : Span) where
       → mixed_beds h pcm s codes (zipped (drop j cs) (drop j gs)) os ≡ end
       → mixed_beds h pcm s codes (zipped (drop (j + 1) cs) (drop (j + 1) gs)) new ≡ end
   bed_step codes j cs gs os k l p q = rw (add-one j, p) (rw (drop-cons cs j 0 k, drop-cons gs j nan l) at q)
+
+  -- at the first bed nothing is left out
+  pub beds_start : (codes : List ℕ) (m : ℕ) (cs : List ℕ) (gs os : List Float)
+      → mixed_beds h pcm s codes (beds_of (m - 0) cs gs) os ≡ mixed_beds h pcm s codes (beds_of m cs gs) os
+  beds_start codes m cs gs os =
+      let e : m - 0 ≡ m = omega arith in
+      rw e
 
   pub beds_done : (codes : List ℕ) (j : ℕ) (cs : List ℕ) (gs os : List Float) {end : List Float} → length cs ≤ j
       → mixed_beds h pcm s codes (zipped (drop j cs) (drop j gs)) os ≡ end → os ≡ end

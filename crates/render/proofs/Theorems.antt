@@ -10,5 +10,7 @@ pub use Rattle.render.proofs.SameHeard.{filter_as, run_as}
 pub use Rattle.render.proofs.Fitting.{full_fits, no_lists_sized}
 -- the beds and the objects of a table with its count, as the hall's instance lists them
 pub use Rattle.render.proofs.ListedScenes.{beds_each, sources_each}
+-- PCM that suffices for more channels suffices for fewer
+pub use Rattle.render.proofs.ChannelRows.{fewer}
 -- rows written behind the pending samples are `laid` there, and the block keeps its length
 pub use Rattle.render.proofs.Behind.{Fit, append_laid, length_channels}

@@ -1,10 +1,10 @@
--- Rows written into bytes: one channel more. Assumes nothing.
+-- Rows written into bytes: one channel more, or none left. Assumes nothing.
 use mathlib.Core.Path.{◌≡◌, sym, ap, ap₂, ◌∙◌}
 use mathlib.Core.Bool.{Bool, true, false, cond}
-use mathlib.Core.List.{List, []}
+use mathlib.Core.List.{List, [], ◌∷◌}
 use Prim.Native.Nat.{ℕ, ◌+◌, ◌-◌, ◌*◌, ◌<◌, ◌≤◌}
 use native.Mathlib.Omega.{arith}
-use native.Mathlib.Nat.{le_of_lt}
+use native.Mathlib.Nat.{le_of_lt, not-suc-le-zero}
 use borrow.Rule.Slice.PartMut.{put_mid}
 use lib.ListN.{length, get_or, take, drop}
 use lib.Seq.{get_or-drop, length-take-le}
@@ -15,6 +15,13 @@ use Rattle.limiter.specs.ChannelPlaces.{channels, with_floats, with_channels}
 use Rattle.limiter.specs.Limiter.{scaled}
 use Rattle.limiter.proofs.Theorems.{channel, channels_more, length_channels, written_more, store_part, scaled_one}
 use Rattle.render.specs.MixedRows.{AreFloats}
+
+-- no channel is left
+pub channels_done : (to : ℕ) (here : List Bool) (k : ℕ) (xs : List Float) (s : List ℕ) {end : List ℕ} → length here ≤ 0
+    → with_channels (channels here k xs) 256 to s ≡ end → s ≡ end
+unfolding channels with_channels
+channels_done to [] k xs s h q = q
+channels_done to (b ∷ here) k xs s h q = absurd (not-suc-le-zero h)
 
 -- channel c, from its place behind the pending samples on
 module _ (here : List Bool) (c k pending : ℕ) (xs : List Float) (s : List ℕ) {t : List ℕ} (p : t ≡ with_channels (channels (take c here) k xs) 256 (4 * pending) s)
