@@ -49,6 +49,11 @@ module _ (p : ℕ → Bool) where
       ap (λ (b : Bool). cond b n (last p n)) no ∙ last_only n i l e (λ k b. f k (omega arith)))
       (eq-or-lt_of_le (let l : i ≤ n = omega arith in l))
 
+  pub last_none : (n : ℕ) → ((i : ℕ) → i < n → p i ≡ false) → last p n ≡ 0
+  unfolding last
+  last_none zero f = refl
+  last_none (suc n) f = rw (f n (omega arith)) (last_none n (λ i h. f i (omega arith)))
+
   pub some_last : (n : ℕ) → some p n ≡ true → p (last p n) ≡ true
   unfolding some last
   some_last zero e = absurd (let z : ◌≡◌ {A = ℕ} 0 1 = cc in omega arith)

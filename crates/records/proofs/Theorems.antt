@@ -21,8 +21,8 @@ pub use Rattle.records.proofs.Placed.{AtPlaces, every_record_placed}
 pub use Rattle.records.proofs.RefusalSix.{Within, all_within, none_outside}
 -- the next offset: at most the end, above t, the least such
 pub use Rattle.records.proofs.Times.{next_within, next_above, next_least}
--- offsets that agree have the same next one
-pub use Rattle.records.proofs.Times.{next_same}
+-- offsets that agree have the same next one, and the same first update at t
+pub use Rattle.records.proofs.Times.{next_same, first_same}
 -- `each`: its length and its elements
 pub use Rattle.records.proofs.Each.{each_length, each_at}
 -- what the first fault of a list, or none, says of it
