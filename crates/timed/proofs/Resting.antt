@@ -5,7 +5,7 @@ use mathlib.Core.Bool.{Bool, true, false, cond, not, ◌&&◌, ◌||◌}
 use mathlib.Core.List.{List}
 use native.Mathlib.Nat.{not-suc-le-zero}
 use native.Mathlib.Omega.{arith}
-use borrow.Author.Tests.{eqb-true, eqb-false, le-leb, lt-leb}
+use borrow.Author.Tests.{eq-eqb, ne_eqb, eqb-true, eqb-false, le-leb, lt-leb}
 use lib.Dec.{eqb}
 use lib.ListN.{get_or, length, take}
 use Rattle.std.specs.List.{list_all}
@@ -18,6 +18,7 @@ use Rattle.timed.specs.Holds.{holds_settled, all_settled}
 use Rattle.timed.specs.Resting.{none_due, resting, rests_at}
 use Rattle.timed.specs.declared.state.BlockState.{BlockState}
 use Rattle.timed.specs.declared.state.ElementRendererState.{ElementRendererState}
+use Rattle.timed.specs.declared.state.MetadataRendererState.{MetadataRendererState}
 use Rattle.timed.specs.declared.slot.Timing.{Timing}
 use Rattle.timed.specs.declared.slot.Reach.{Reach}
 use Rattle.timed.proofs.Invariants.{times_in}
@@ -52,11 +53,27 @@ all_due w bs (suc n) h =
     let e : suc n ≡ n + 1 = omega arith in
     rw e (list_all_more (λ b. not (due w b)) bs n no_block (omega arith)) ∙ ap (λ (b : Bool). b && not (due w (get_or bs n no_block))) (all_due w bs n (omega arith))
 
+-- one that is due
+some_due : (w : Timing) (bs : List BlockState) (n i : ℕ) → due w (get_or bs i no_block) ≡ true → i < n → none_due w bs n ≡ false
+some_due w bs n i d l = by (none_due w bs n) refl
+  where
+    by : (b : Bool) → none_due w bs n ≡ b → b ≡ false
+    by true e = let f = not_due w bs n i e l in cc
+    by false e = refl
+
 -- the test, way by way
 module _ (w : Timing) (e : ElementRendererState) where
   pub ramp_left : middle < e.remaining → resting w e ≡ false
   unfolding resting
   ramp_left h = rw (over_shifted e.remaining, lt-leb e.remaining middle h)
+
+  pub block_due : (i : ℕ) → i < e.blocks → due w (get_or e.schedule i no_block) ≡ true → resting w e ≡ false
+  unfolding resting
+  block_due i l d = rw (some_due w e.schedule e.blocks i d l) (by (ramp_over (remaining_of e.remaining)))
+    where
+      by : (b : Bool) → (b && false) ≡ false
+      by true = refl
+      by false = refl
 
   pub blocks_rest : e.remaining ≤ middle → e.blocks ≤ length e.schedule → list_all (λ b. not (due w b)) (take e.blocks e.schedule) ≡ resting w e
   unfolding resting
@@ -96,3 +113,21 @@ slot_rests start t h =
     by true on still after e f = refl
     by false true still after e f = f e
     by false false still after e f = refl
+
+and_true : (b : Bool) → (b && true) ≡ b
+and_true true = refl
+and_true false = refl
+
+-- the code's ways to `rests_at`, where holds and releases may wait
+pub rests_empty : (start : ℕ) (s : MetadataRendererState) → s.elements ≡ 0 → rests_at start s ≡ all_settled s.sources (s.objects - s.isf)
+unfolding rests_at
+rests_empty start s e = rw (eq-eqb s.elements 0 e) (and_true (all_settled s.sources (s.objects - s.isf)))
+
+module _ (start : ℕ) (s : MetadataRendererState) (i : ℕ) (some : s.elements ≡ 0 → ⊥) (found : i ≡ element_taken (timing_of start s) s.states s.elements) where
+  pub rests_idle : active (element_of s i) ≡ false → rests_at start s ≡ all_settled s.sources (s.objects - s.isf)
+  unfolding rests_at
+  rests_idle a = rw (ne_eqb s.elements 0 some, ← found, a) (and_true (all_settled s.sources (s.objects - s.isf)))
+
+  pub rests_element : active (element_of s i) ≡ true → rests_at start s ≡ (all_settled s.sources (s.objects - s.isf) && resting (timing_of start s) (element_of s i))
+  unfolding rests_at
+  rests_element a = rw (ne_eqb s.elements 0 some, ← found, a)
