@@ -69,6 +69,24 @@ module _ (w : List ℕ) where
   unfolding small_of gets
   related_words = refl
 
+  -- the same, from what is computed one after the other
+  pub related_from : {position start rate phase pending objects isf elements beds i f first j g second : ℕ} {k n e d : Bool}
+      → position ≡ long_of w position_at → start ≡ long_of w start_at → rate ≡ get_or w 0 0 → phase ≡ get_or w phase_at 0 → pending ≡ get_or w pending_at 0
+      → k ≡ clock_in rate phase position start pending
+      → objects ≡ get_or w objects_at 0 → isf ≡ get_or w isf_at 0 → elements ≡ get_or w in_use_at 0 → beds ≡ get_or w beds_at 0
+      → n ≡ counts_in objects isf beds
+      → i ≡ least 0 elements objects isf → f ≡ get_or w (first_at + flags_in) 0 → first ≡ long_of w (first_at + remaining_in) → e ≡ element_in position i f first
+      → j ≡ least 1 elements objects isf → g ≡ get_or w (second_at + flags_in) 0 → second ≡ long_of w (second_at + remaining_in) → d ≡ element_in position j g second
+      → (k && (n && (e && d))) ≡ related (small_of w)
+  related_from p s r h q k o b u v n i f x e j g y d =
+      (λ t. k t && (n t && (e t && d t)))
+      ∙ (λ t. clock_in (r t) (h t) (p t) (s t) (q t) && (counts_in (o t) (b t) (v t) && (element_in (p t) (i t) (f t) (x t) && element_in (p t) (j t) (g t) (y t))))
+      ∙ (λ t. clock_in (get_or w 0 0) (get_or w phase_at 0) (long_of w position_at) (long_of w start_at) (get_or w pending_at 0)
+      && (counts_in (get_or w objects_at 0) (get_or w isf_at 0) (get_or w beds_at 0)
+      && (element_in (long_of w position_at) (least 0 (u t) (o t) (b t)) (get_or w (first_at + flags_in) 0) (long_of w (first_at + remaining_in))
+      && element_in (long_of w position_at) (least 1 (u t) (o t) (b t)) (get_or w (second_at + flags_in) 0) (long_of w (second_at + remaining_in)))))
+      ∙ sym related_words
+
 -- the numbers of two words, where each field is in its range
 pub record Longs (w : List ℕ) : Type 0 where
   pub position : long_of w position_at ≤ longest
@@ -108,7 +126,7 @@ module _ (b : List ℕ) (h : length b ≡ size) where
   unfolding small_of
   position_in_block = ap (λ (s : Renderer714). s.clock.position.0) small_in_block
 
-  valid_in_block : small_valid (in_words b) ≡ small_valid (words_at b 0 small_width)
+  pub valid_in_block : small_valid (in_words b) ≡ small_valid (words_at b 0 small_width)
   unfolding small_valid
   valid_in_block = lawful_small_part.untouched (in_words b) 0 (words_at b 0 small_width) 0 words_same
 
