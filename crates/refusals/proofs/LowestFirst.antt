@@ -43,6 +43,12 @@ at ts k = get_or ts k (test 0 true)
 abbrev pub Hold : List Test → Type 0
 Hold ts = All (λ t. t.holds ≡ true) ts
 
+-- k tests that hold, and one more
+pub more : (ts : List Test) (k : ℕ) → Hold (take k ts) → (at ts k).holds ≡ true → Hold (take (suc k) ts)
+more [] k h e = tt
+more (t ∷ ts) zero h e = (e, tt)
+more (t ∷ ts) (suc k) h e = (h.0, more ts k h.1 e)
+
 stops : (ts : List Test) (k : ℕ) → Hold (take k ts) → (at ts k).holds ≡ false → stop (at ts k).number 0 0 ≡ first_of ts
 stops [] k h e = absurd (subst T e tt)
 stops (t ∷ ts) zero h e = rw e

@@ -1,7 +1,7 @@
 -- What others may cite of this crate, a line each. Assumes nothing.
 
 -- a refusal is found
-pub use Rattle.refusals.proofs.Cleared.{not_clear, is_none_is}
+pub use Rattle.refusals.proofs.Cleared.{told, not_clear, is_none_is}
 -- the small part of a block, with the block's infos, places and hall, is what the block decodes to
 pub use Rattle.refusals.proofs.Loaded.{loaded}
 -- 1 to 8: the first test that does not hold is what is found; where all hold nothing is
