@@ -176,6 +176,9 @@ from_first m t r =
 
 -- ---- the slot after them
 
+pub can_start : {x : Renderer Timed (List ℕ)} (s : Renderer714) (b : List ℕ) → held s b ≡ x → CanStart x → CanStart (held s b)
+can_start s b h c = rw h c
+
 pub slotted_after : {x : Renderer Timed (List ℕ)} {s r : Renderer714} {b₀ b c : List ℕ} → IsNext x b₀ s b → IsNext (slotted hall (held s b)) b r c → IsNext (slotted hall x) b₀ r c
 slotted_after h g = record { holds = g.holds ∙ ap (slotted hall) h.holds; small = g.small ∙ h.small; hall = g.hall ∙ h.hall }
 

@@ -4,7 +4,7 @@ use mathlib.Core.Path.{◌≡◌, sym, ap, ◌∙◌, subst}
 use mathlib.Core.List.{List, ◌++◌}
 use native.Mathlib.Omega.{arith}
 use lib.Dec.{lit≤}
-use lib.ListN.{length, take, drop}
+use lib.ListN.{length, take, drop, length-append, length-drop}
 use lib.Seq.{length-take-le, take_at, drop_at, drop-drop}
 use Rattle.store.specs.declared.renderer.Renderer714.{Renderer714}
 use Rattle.store.specs.Layout.{infos_at, places_at, size, assembled, infos_of, places_of, setup_in}
@@ -29,6 +29,11 @@ module _ (a n : ℕ) (b is : List ℕ) (within : a + n ≤ length b) (long : len
   rest : drop a put ≡ is ++ drop n (drop a b)
   rest = drop_at (take a b) (is ++ drop n (drop a b)) a front
 
+  put_long : length put ≡ length b
+  put_long =
+      let f = front in
+      rw (length-append, length-append, length-drop, length-drop) (omega arith)
+
   put_front : take a put ≡ take a b
   put_front = take_at (take a b) (is ++ drop n (drop a b)) a front
 
@@ -43,6 +48,9 @@ module _ (a n : ℕ) (b is : List ℕ) (within : a + n ≤ length b) (long : len
 module _ (b is : List ℕ) (whole : length b ≡ size) (long : length is ≡ infos_bytes) where
   within : infos_at + infos_bytes ≤ length b
   within = subst (λ (m : ℕ). infos_at + infos_bytes ≤ m) (sym whole) (lit≤ tt)
+
+  pub changed_long : length (changed b is) ≡ size
+  changed_long = put_long infos_at infos_bytes b is within long ∙ whole
 
   pub changed_small : small_bytes (changed b is) ≡ small_bytes b
   changed_small = put_front infos_at infos_bytes b is within long
