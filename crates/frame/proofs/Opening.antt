@@ -1,12 +1,20 @@
 -- The length of a turn. Assumes nothing.
 use Prim.Native.Nat.{ℕ, ◌+◌, ◌-◌, ◌≤◌, ◌<◌}
 use native.Mathlib.Omega.{arith}
-use mathlib.Core.Path.{◌≡◌}
+use mathlib.Core.Path.{◌≡◌, ap, ◌∙◌}
 use mathlib.Core.Bool.{Bool, true, false}
 use Rattle.frame.specs.Loop.{run_length}
 use Rattle.std.specs.Prelude.{min}
 
 -- ---- the length of a turn
+
+pub run_started : (b : Bool) (phase pending left room k : ℕ) → b ≡ true → room ≡ min (64 - pending) left → k ≡ min (64 - phase) room → k ≡ run_length b phase pending left
+run_started true phase pending left room k e h i = i ∙ ap (λ (x : ℕ). min (64 - phase) x) h
+run_started false phase pending left room k e h i = let z : ◌≡◌ {A = ℕ} 0 1 = cc in absurd (omega arith)
+
+pub run_silent : (b : Bool) (phase pending left room : ℕ) → b ≡ false → room ≡ min (64 - pending) left → room ≡ run_length b phase pending left
+run_silent true phase pending left room e h = let z : ◌≡◌ {A = ℕ} 0 1 = cc in absurd (omega arith)
+run_silent false phase pending left room e h = h
 
 -- a turn takes at least a sample, and ends no later than the block, the slot where the clock runs, and the samples that are left
 pub record RunLength (started : Bool) (phase pending left k : ℕ) : Type 0 where
