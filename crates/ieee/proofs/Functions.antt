@@ -12,7 +12,7 @@ use Rattle.std.specs.Float.{float_is_infinite}
 use Rattle.ieee.specs.Small.{absolute, infinite}
 use Rattle.ieee.proofs.Value.{F32}
 use Rattle.ieee.proofs.Constants.{0·0}
-use Rattle.ieee.proofs.Exact.{fine, zero_form, zero_minus, zero_minus_zero, zero_not_above, mag_pos}
+use Rattle.ieee.proofs.Exact.{fine, zero_form, zero_minus, zero_minus_zero, zero_not_above, mag_pos, less_itself, inf_less_itself}
 use Rattle.ieee.proofs.Ops.{neg_f32, neg_P, neg_N}
 use Rattle.ieee.proofs.Signed.{mag_is}
 use Rattle.ieee.proofs.Compare.{→lt}
@@ -93,6 +93,20 @@ self_nan (fin s m e) = unfold ne eq in level_self s (m * up e * down e)
         both : (s : Bool) (a : ℕ) → T (not (not (beq s s || eqb a 0)))
         both false a = tt
         both true a = tt
+
+-- ---- x - x is 0 where x is finite, and a NaN otherwise
+pub infinite_by_difference : (x : Float) → fits binary32 x ≡ true → ne x x ≡ false → ne (sub binary32 x x) (sub binary32 x x) ≡ infinite x
+infinite_by_difference nan g h = absurd (true≢false (sym nan_differs ∙ h))
+infinite_by_difference (inf s) g h = ap (λ (y : Float). ne y y) (inf_less_itself s) ∙ nan_differs
+infinite_by_difference (fin s m e) g h = self_nan (sub binary32 x x) ∙ no_nan (sub binary32 x x) (less_itself x (fine x g tt))
+  where
+    x : Float
+    x = fin s m e
+
+    no_nan : (z : Float) → T (eq z 0·0) → is_nan z ≡ false
+    no_nan nan t = absurd (unfold eq in t)
+    no_nan (inf s) t = unfold is_nan in refl
+    no_nan (fin s m e) t = unfold is_nan in refl
 
 -- ---- the library's test
 pub infinite_is : (x : Float) → float_is_infinite x ≡ infinite x
