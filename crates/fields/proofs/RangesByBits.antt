@@ -10,7 +10,7 @@ use Rattle.vectors.specs.Head.{has}
 use Rattle.fields.specs.RecordBytes.{byte}
 use Rattle.fields.specs.Object.{depth_code, maybe_of, from_zero_to, absent_or, object_of, object_in_range}
 
-eight_bits : of_bits binary32 0x41000000 ≡ 8·0
+pub eight_bits : of_bits binary32 0x41000000 ≡ 8·0
 unfolding of_bits
 eight_bits = refl
 
@@ -19,7 +19,7 @@ unfolding float_at
 float_bits m at = refl
 
 -- absent, or from 0 to the float y of the bits `most`
-range_by_bits : (most : ℕ) (y : Float) → of_bits binary32 most ≡ y → (m : List ℕ) (flags bit at : ℕ)
+pub range_by_bits : (most : ℕ) (y : Float) → of_bits binary32 most ≡ y → (m : List ℕ) (flags bit at : ℕ)
     → (not (has flags bit) || from_zero_to (of_bits binary32 most) (of_bits binary32 (word m at))) ≡ absent_or y (maybe_of m flags bit at)
 unfolding maybe_of float_at
 range_by_bits most y e m flags bit at =
