@@ -4,6 +4,7 @@ use mathlib.Core.Path.{◌≡◌, refl, ap, ◌∙◌}
 use mathlib.Core.Bool.{Bool, true, false, cond, not, ◌&&◌, ◌||◌}
 use mathlib.Core.List.{List}
 use native.Mathlib.Nat.{not-suc-le-zero}
+use native.Mathlib.Numerals.{add-one}
 use native.Mathlib.Omega.{arith}
 use borrow.Author.Tests.{eq-eqb, ne_eqb, eqb-true, eqb-false, le-leb, lt-leb}
 use lib.Dec.{eqb}
@@ -53,6 +54,11 @@ all_due w bs (suc n) h =
     let e : suc n ≡ n + 1 = omega arith in
     rw e (list_all_more (λ b. not (due w b)) bs n no_block (omega arith)) ∙ ap (λ (b : Bool). b && not (due w (get_or bs n no_block))) (all_due w bs n (omega arith))
 
+-- one that is not due more
+pub none_more : (w : Timing) (bs : List BlockState) (n : ℕ) → none_due w bs n ≡ true → due w (get_or bs n no_block) ≡ false → none_due w bs (n + 1) ≡ true
+unfolding none_due
+none_more w bs n h d = rw (add-one, h, d)
+
 -- one that is due
 some_due : (w : Timing) (bs : List BlockState) (n i : ℕ) → due w (get_or bs i no_block) ≡ true → i < n → none_due w bs n ≡ false
 some_due w bs n i d l = by (none_due w bs n) refl
@@ -74,6 +80,10 @@ module _ (w : Timing) (e : ElementRendererState) where
       by : (b : Bool) → (b && false) ≡ false
       by true = refl
       by false = refl
+
+  pub all_rests : e.remaining ≤ middle → none_due w e.schedule e.blocks ≡ true → resting w e ≡ true
+  unfolding resting
+  all_rests h n = rw (over_shifted e.remaining, le-leb e.remaining middle h, n)
 
   pub blocks_rest : e.remaining ≤ middle → e.blocks ≤ length e.schedule → list_all (λ b. not (due w b)) (take e.blocks e.schedule) ≡ resting w e
   unfolding resting
