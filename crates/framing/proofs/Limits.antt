@@ -57,6 +57,10 @@ pub frame_metadata : (r : List ℕ) → is_frame r ≡ true → metadata_bytes r
 frame_metadata r e = let l = frame_limits r e in omega (arith, l.records)
 
 -- 34 channels of 256 samples
+pub pcm_fits : (r : List ℕ) {a b s : ℕ} → Limits r → a ≡ bed_count r → b ≡ get_or r 11 0 → s ≡ half r 8 → (a + b) * s ≤ 8704
+pcm_fits r {a} {b} {s} l p q e =
+    let m : (a + b) * s ≤ 34 * 256 = mul-le-mul {n₂ = 34} {m₂ = 256} (omega (arith, l.beds, l.objects)) (omega (arith, l.samples)) in m
+
 pub frame_pcm : (r : List ℕ) → is_frame r ≡ true → pcm_bytes r ≤ 34816
 frame_pcm r e =
     let l = frame_limits r e in

@@ -12,7 +12,22 @@ use lib.ListN.{length, take, drop, length-drop, drop_of_length-le}
 use lib.Seq.{take_at, take_all, length-take-le, drop-length, take-append-add}
 use borrow.Rule.Slice.PartMut.{put_mid, mid_of, post_of, mid_len, Post-is}
 use Rattle.framing.specs.Framing.{is_pcm, record_count, record_bytes, record_at, in_use, are_pcm, held_in}
-use Rattle.framing.specs.PcmTaken.{Taken}
+use Rattle.framing.specs.PcmTaken.{Taken, Unpacked}
+
+-- ---- one record
+
+-- a record that is not as laid out leaves the rest as it was
+pub none_taken : {A E : Type 0} (rec rest : List ℕ) (got : Result A E) {e : E} {n : ℕ} → got ≡ Err e → n ≡ min (length rest) 36 → is_pcm n rec ≡ false → Taken rec rest got rest
+none_taken {A} {E} rec rest got g h p = subst (λ (b : Result A E). Taken rec rest b rest) (sym g) (ap (λ (i : ℕ). is_pcm i rec) (sym h) ∙ p, refl)
+
+-- one that is has its bytes put at the front
+pub nine_taken : {A E : Type 0} (rec rest : List ℕ) (got : Result A E) {v : A} {n : ℕ} {now : List ℕ} → got ≡ Ok v → n ≡ min (length rest) 36 → length rec ≡ 40
+    → is_pcm n rec ≡ true → now ≡ take (4 + n - 4) (drop 4 rec) ++ drop (length (take (4 + n - 4) (drop 4 rec))) rest → Taken rec rest got now
+nine_taken {A} {E} rec rest got {v} {n} {now} g e h p q =
+    let m : 4 + n - 4 ≡ n = omega arith in
+    let l : length (take n (drop 4 rec)) ≡ n = length-take-le n (drop 4 rec) (omega (arith, length-drop 4 rec)) in
+    let w = subst (λ (i : ℕ). (is_pcm i rec ≡ true) × (now ≡ take i (drop 4 rec) ++ drop i rest)) e (p, q ∙ rw (m, l)) in
+    subst (λ (b : Result A E). Taken rec rest b now) (sym g) w
 
 -- ---- the records in a row
 
@@ -98,3 +113,11 @@ module _ (n : ℕ) (s : List ℕ) where
         let d = record_count n - suc k in
         let e : suc k + d ≡ record_count n = omega arith in
         ap (are_pcm n s) (sym e) ∙ stays (suc k) d (ends_are k q are)
+
+  -- all of the records are taken
+  pub records_done : {A E : Type 0} (pcm : List ℕ) (k : ℕ) (got : Result A E) {v : A} → got ≡ Ok v → length pcm ≡ n → n ≤ 36 * k → 36 * k ≤ n + 35 → are_pcm n s k ≡ true
+      → take (36 * k) pcm ≡ held_in n s k → Unpacked s n got pcm
+  records_done {A} {E} pcm k got g whole past few are held =
+      let e : k ≡ record_count n = omega arith in
+      let w : (are_pcm n s k ≡ true) × (pcm ≡ held_in n s k) = (are, sym (take_all (36 * k) pcm (omega arith)) ∙ held) in
+      subst (λ (b : Result A E). Unpacked s n b pcm) (sym g) (subst (λ (i : ℕ). (are_pcm n s i ≡ true) × (pcm ≡ held_in n s i)) e w)
