@@ -1,14 +1,15 @@
 -- A number's digits are its decimal, a word's its eight; a text that grows piece by piece. Assumes nothing.
 use Prim.Native.Nat.{ℕ, zero, suc, ◌+◌, ◌-◌, ◌*◌, ◌/◌, ◌%◌, ◌^◌, ◌≤◌, ◌<◌}
-use mathlib.Core.Path.{◌≡◌, refl, sym, ap, ◌∙◌}
+use mathlib.Core.Path.{◌≡◌, refl, sym, ap, subst, ◌∙◌}
 use mathlib.Core.List.{List, [], ◌∷◌, ◌++◌, append_assoc, append-nil}
 use mathlib.Core.Logic.{⊎_elim}
-use native.Mathlib.Nat.{eq-or-lt_of_le, pow-suc, pow-le-pow_right, mod-eq_of_lt, div-lt_iff_lt-mul, le-div_iff_mul-le}
+use native.Mathlib.Nat.{eq-zero-or-pos, eq-or-lt_of_le, pow-suc, pow-le-pow_right, mod-eq_of_lt, div-lt_iff_lt-mul, le-div_iff_mul-le}
 use native.Mathlib.Numerals.{add-one}
 use native.Mathlib.Omega.{arith}
 use borrow.Author.Tests.{lt-ltb, le-ltb}
 use lib.Dec.{lit<}
-use lib.ListN.{take}
+use lib.ListN.{length, take, length-append}
+use lib.Seq.{take_at, length-take-le}
 use Rattle.words.specs.Words.{word}
 use Rattle.io.specs.Digits.{hex_digit_ascii, last_digits, IsDigitCount}
 use Rattle.listing.specs.Line.{hex8, cells, line_of}
@@ -50,6 +51,16 @@ pub spelt_decimal : (n k : ℕ) (t : List ℕ) → IsDigitCount 10 1 n k → tak
 unfolding decimal
 spelt_decimal n k t w e = e ∙ spelt_to n n k (omega arith) w
 
+-- a u64 has no more than twenty digits
+pub twenty : (n k : ℕ) → n < 2 ^ 64 → IsDigitCount 10 1 n k → k ≤ 20
+twenty n k h w =
+    ⊎_elim
+    (λ l. omega arith)
+    (λ l.
+    let p : 10 ^ 20 ≤ 10 ^ (k - 1) = pow-le-pow_right (lit< tt) {i = 20} {j = k - 1} (omega arith) in
+    absurd (omega (arith, w.2 (omega arith))))
+    (eq-zero-or-pos (k - 20))
+
 -- ---- hexadecimal
 
 -- a word has no more than eight digits
@@ -65,6 +76,24 @@ unfolding hex8
 spelt w k t h f e = rw (eight w k h f) at e
 
 -- ---- a text that grows
+
+-- a piece behind the first `at` bytes of a buffer
+pub put_at : (at : ℕ) (text s x y : List ℕ) → at + length s ≤ length text → take (at + length s) (take at text ++ ((s ++ x) ++ y)) ≡ take at text ++ s
+put_at at text s x y h =
+    let n : length (take at text ++ s) ≡ at + length s = length-append (take at text) s ∙ ap (λ (i : ℕ). i + length s) (length-take-le at text (omega arith)) in
+    let e : take at text ++ ((s ++ x) ++ y) ≡ (take at text ++ s) ++ (x ++ y) = simp append_assoc in
+    ap (take (at + length s)) e ∙ take_at (take at text ++ s) (x ++ y) (at + length s) n
+
+-- two pieces put one behind the other are one piece put
+pub grown : (a s t : List ℕ) {b c : List ℕ} → b ≡ a ++ s → c ≡ b ++ t → c ≡ a ++ (s ++ t)
+grown a s t p q = q ∙ ap (λ (x : List ℕ). x ++ t) p ∙ append_assoc a s t
+
+pub renamed : (a : List ℕ) {s t b : List ℕ} → s ≡ t → b ≡ a ++ s → b ≡ a ++ t
+renamed a {s} {t} {b} p q = subst (λ (x : List ℕ). b ≡ a ++ x) p q
+
+-- what is put into an empty text is all of it, and some
+pub said : {s text : List ℕ} → 0 < length s → text ≡ [] ++ s → (0 < length text) × (text ≡ s)
+said {s} {text} h p = (subst (λ (x : List ℕ). 0 < length x) (sym p) h, p)
 
 pub no_cell : (out : List ℕ) (i : ℕ) (text : List ℕ) → text ≡ text ++ cells out i 0
 unfolding cells
