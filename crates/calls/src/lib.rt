@@ -18,21 +18,21 @@ const STRIDE: u32 = 256;
 
 // The text of an answer.
 #[tactic(auto, unfolding(crate::specs::CallResults::text_of_code))]
-fn tell(answer: Result<Outcome, Refusal>, out: &[u8; 12288]) -> Text
-    ensures { result ≡ text_of_code (coded answer) out.now }
+fn tell(text: &mut Text, answer: Result<Outcome, Refusal>, out: &[u8; 12288])
+    ensures { text.new ≡ text_of_code (coded answer) out.now }
 {
     match answer {
-        Ok(Outcome::Ready(given)) => listing::ready(given.samples, out),
-        Ok(Outcome::Nothing) => listing::none(),
+        Ok(Outcome::Ready(given)) => listing::ready(text, given.samples, out),
+        Ok(Outcome::Nothing) => listing::none(text),
         // no record holds an object
-        Ok(Outcome::Fresh | Outcome::Marked) => listing::reset(),
+        Ok(Outcome::Fresh | Outcome::Marked) => listing::reset(text),
         Err(refusal) => {
             let Stop {
                 number,
                 first,
                 second,
             } = refusal.stop();
-            listing::refused(number, first, second)
+            listing::refused(text, number, first, second)
         }
     }
 }
@@ -44,10 +44,11 @@ pub fn push(
     meta: &[u8],
     pcm: &[u8],
     out: &mut [u8; 12288],
+    text: &mut Text,
     header: &Header,
-) -> Text
+)
     ensures { Called (push (frame_args header.now.rec meta.now pcm.now out.old))
-        state.old out.old state.new out.new result }
+        state.old out.old state.new out.new text.new }
 {
     let rec = &header.rec;
     let codes = &rec[14..14 + header.beds()];
@@ -55,17 +56,17 @@ pub fn push(
     let samples = u32::from(words::u16_at(rec, 8));
     let objects = u32::from(rec[11]);
     let answer = hall::push(state, pcm, meta, out, codes, rate, samples, objects, STRIDE);
-    tell(answer, out)
+    tell(text, answer, out);
 }
 
 // A flush or a reset, and its answer's text.
 #[tactic(auto, using(crate::proofs::Calling::code_text))]
-pub fn plain(state: &mut [u8], out: &mut [u8; 12288], call: Plain) -> Text
-    ensures { Called (asked_alone call out.old) state.old out.old state.new out.new result }
+pub fn plain(state: &mut [u8], out: &mut [u8; 12288], text: &mut Text, call: Plain)
+    ensures { Called (asked_alone call out.old) state.old out.old state.new out.new text.new }
 {
     let answer = match call {
         Plain::Flush => hall::flush(state, out, STRIDE),
         Plain::Reset => hall::reset(state),
     };
-    tell(answer, out)
+    tell(text, answer, out);
 }

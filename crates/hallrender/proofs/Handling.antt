@@ -1,10 +1,9 @@
 -- A record's call, or none; calls in a row. Assumes nothing.
-use Rattle.std.specs.Prelude.{Result, Ok, Err, replicate}
-use Rattle.std.proofs.lemmas.List.{length-replicate}
-use Prim.Native.Nat.{ℕ}
+use Rattle.std.specs.Prelude.{Result, Ok, Err}
+use Prim.Native.Nat.{ℕ, ◌+◌, ◌<◌}
 use mathlib.Core.Path.{◌≡◌, refl, sym, ap, subst, ◌∙◌}
 use mathlib.Core.Bool.{Bool, true, false, cond, ◌&&◌, ◌||◌}
-use mathlib.Core.List.{List, ◌∷◌, ◌++◌}
+use mathlib.Core.List.{List, [], ◌∷◌, ◌++◌}
 use native.Mathlib.Omega.{arith}
 use lib.Dec.{eqb}
 use lib.ListN.{get_or, length, take, drop}
@@ -24,9 +23,16 @@ use Rattle.calls.specs.CallResults.{Called}
 use Rattle.hallrender.specs.declared.End.{End}
 use Rattle.hallrender.specs.declared.Program.{Program}
 use Rattle.hallrender.specs.ProgramRun.{calls_of, out_on, Ran}
-use Rattle.hallrender.specs.RunResults.{NotAlone, Pushed, FrameTaken, Answered, Handled, Took}
+use Rattle.hallrender.specs.RunResults.{NotAlone, Pushed, FrameTaken, Answered, Handled, Took, RecordTaken}
 
 -- ---- a frame
+
+pub clash : {t : Bool} → t ≡ false → t ≡ true → ⊥
+clash e f = let z : ◌≡◌ {A = ℕ} 0 1 = cc in omega arith
+
+-- a body that is all empty is not cut
+pub cut_alone : (r : List ℕ) {m n k got : ℕ} → m ≡ metadata_bytes r → n ≡ pcm_bytes r → k ≡ record_bytes n → got < m + k → NotAlone r
+cut_alone r p q e l f z = omega arith
 
 -- a body that is all empty has no record that is not as laid out
 pub bad_alone : (r s pcm : List ℕ) (n : ℕ) {A E : Type 0} (got : Result A E) {e : E} → n ≡ pcm_bytes r → got ≡ Err e → Unpacked s n got pcm → NotAlone r
@@ -38,10 +44,10 @@ bad_alone r s pcm n got q g u f z =
     cc
 
 -- a frame of which the body was read and unpacked
-pub framed : (r body pcm rest : List ℕ) (p q : Program) (text : List ℕ) (m n i x : ℕ) {A E : Type 0} (got : Result A E) {v : A}
-    → m ≡ metadata_bytes r → n ≡ pcm_bytes r → is_frame r ≡ true → i ≡ record_bytes n → x ≡ n → length pcm ≡ n → length body ≡ 86720 → got ≡ Ok v
-    → Unpacked (take i (drop m body)) x got pcm → Called (push (frame_args r (take m body) (take n (pcm ++ rest)) p.out)) p.state p.out q.state q.out text → Pushed r p q text
-framed r body pcm rest p q text m n i x got pm pn f e h l room g u c =
+pub framed : (r body pcm rest : List ℕ) (p q : Program) (m n i x : ℕ) {A E : Type 0} (got : Result A E) {v : A}
+    → m ≡ metadata_bytes r → n ≡ pcm_bytes r → is_frame r ≡ true → i ≡ record_bytes n → x ≡ n → length pcm ≡ n → got ≡ Ok v
+    → Unpacked (take i (drop m body)) x got pcm → Called (push (frame_args r (take m body) (take n (pcm ++ rest)) p.out)) p.state p.out q.state q.out q.text → Pushed r body p q
+framed r body pcm rest p q m n i x got pm pn f e h l g u c =
     let w = subst (λ t. Unpacked (take i (drop m body)) x t pcm) g u in
     let same : take i (drop m body) ≡ pcm_records r body = rw (e, pm, pn) in
     let count : x ≡ pcm_bytes r = h ∙ pn in
@@ -49,10 +55,8 @@ framed r body pcm rest p q text m n i x got pm pn f e h l room g u c =
     let held : take n (pcm ++ rest) ≡ pcm_of r body = take_at pcm rest n l ∙ w.1 ∙ rw (same, count) in
     let call : push (frame_args r (take m body) (take n (pcm ++ rest)) p.out) ≡ push_of r body p.out = rw (held, pm) in
     record {
-      body = body;
-      room = room;
       laid = rw (f, are);
-      called = subst (λ z. Called z p.state p.out q.state q.out text) call c;
+      called = subst (λ z. Called z p.state p.out q.state q.out q.text) call c;
     }
 
 -- ---- a record's call
@@ -74,13 +78,11 @@ module _ (r : List ℕ) where
   unfolding is_plain
   frame_not_plain k = rw k
 
-  pub frame_handled : (p q : Program) (got : Result (List ℕ) End) → is_frame r ≡ true → FrameTaken r p q got → Handled r p q got
-  frame_handled p q (Err e) f (l, k) = (frame_not_plain (frame_kind r f), l, k)
-  frame_handled p q (Ok text) f t = record {
-    body = t.body;
-    room = t.room;
+  pub frame_handled : (body : List ℕ) (p q : Program) {A : Type 0} (got : Result A End) → is_frame r ≡ true → FrameTaken r body p q got → Handled r body p q got
+  frame_handled body p q (Err e) f (l, k) = (frame_not_plain (frame_kind r f), l, k)
+  frame_handled body p q (Ok v) f t = record {
     laid = rw (t.laid);
-    called = subst (λ x. Called x p.state p.out q.state q.out text) (frame_call t.body p.out (frame_kind r f)) t.called;
+    called = subst (λ x. Called x p.state p.out q.state q.out q.text) (frame_call body p.out (frame_kind r f)) t.called;
   }
 
   not_five : is_plain r ≡ true → eqb (get_or r 0 0) 5 ≡ false
@@ -90,30 +92,37 @@ module _ (r : List ℕ) where
   unfolding plain_of plain_call call_of
   plain_is body o e = alone_is (eqb (get_or r 0 0) 7) o ∙ simp (not_five e)
 
-  pub plain_handled : (p q : Program) (call : Plain) (text : List ℕ) → is_plain r ≡ true → call ≡ plain_of r
-      → Called (asked_alone call p.out) p.state p.out q.state q.out text → Answered r p q text
-  plain_handled p q call text e k c =
-      let none : List ℕ = replicate 86720 0 in
-      record {
-        body = none;
-        room = length-replicate {A = ℕ} 86720 0;
-        laid = either (is_frame r && is_body r none) e;
-        called = subst (λ x. Called x p.state p.out q.state q.out text) (ap (λ x. asked_alone x p.out) k ∙ plain_is none p.out e) c;
-      }
+  pub plain_handled : (body : List ℕ) (p q : Program) (call : Plain) → is_plain r ≡ true → call ≡ plain_of r
+      → Called (asked_alone call p.out) p.state p.out q.state q.out q.text → Answered r body p q
+  plain_handled body p q call e k c = record {
+    laid = either (is_frame r && is_body r body) e;
+    called = subst (λ x. Called x p.state p.out q.state q.out q.text) (ap (λ x. asked_alone x p.out) k ∙ plain_is body p.out e) c;
+  }
+
+  -- a record that was read and handled
+  pub handled_one : (body : List ℕ) (p q : Program) {A : Type 0} (got : Result A End) → length r ≡ 40 → Handled r body p q got → RecordTaken body p q got
+  handled_one body p q (Err e) w (l, n, k) = k
+  handled_one body p q (Ok v) w a = record { rec = r; whole = w; call = a }
 
 -- ---- calls in a row: what is run from q on was run from p on
 
 abbrev pub From : Program → Program → Type 0
 From p q = (u v : List ℕ) → Ran q.state q.out u v → Ran p.state p.out u v
 
-pub goes : (p q s : Program) (text : List ℕ) → From p q → Took q s text → From p s
-goes p q s text f t u v ran =
+-- a record that makes no call ends the run
+pub stops : (body : List ℕ) (p q s : Program) {A : Type 0} (got : Result A End) {e : End} → got ≡ Err e → From p q → RecordTaken body q s got → Ran p.state p.out s.state s.out
+stops body p q s got g f k =
+    let w = subst (λ r. RecordTaken body q s r) g k in
+    f s.state s.out (record { inputs = []; block = w.block; output = w.output })
+
+pub goes : (body : List ℕ) (p q s : Program) → length body ≡ 86720 → From p q → Took body q s → From p s
+goes body p q s room f t u v ran =
     let a = t.call in
-    let c = call_of t.rec a.body q.out in
+    let c = call_of t.rec body q.out in
     let xs = ran.inputs in
     let now : List ℕ = (made hall block c q.state).state in
     f u v (record {
-      inputs = record { rec = t.rec; body = a.body; whole = t.whole; laid = a.laid; room = a.room } ∷ xs;
+      inputs = record { rec = t.rec; body = body; whole = t.whole; laid = a.laid; room = room } ∷ xs;
       block = ran.block ∙ ap (λ z. final_on hall block z (calls_of xs z s.out)) a.called.block ∙ ap (λ z. final_on hall block now (calls_of xs now z)) a.called.output;
       output = ran.output ∙ ap (λ z. out_on xs z s.out) a.called.block ∙ ap (λ z. out_on xs now z) a.called.output;
     })

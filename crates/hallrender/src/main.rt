@@ -37,11 +37,17 @@ impl From<io::Error> for End {
     }
 }
 
-// The renderer's block, and the output that its calls are lent.
+// What a frame's body is read into, and the PCM that it holds.
+type Body = [u8; 86720];
+
+type Pcm = [u8; 34816];
+
+// The renderer's block, the output that its calls are lent, and the text of an answer.
 #[derive(Drop)]
 struct Program {
     state: [u8; hall::STATE_BYTES],
     out: [u8; 12288],
+    text: Text,
 }
 
 // Fills `bytes` from standard input, as far as it goes; how many were read. Where a read fails, the input ends.
@@ -72,58 +78,74 @@ fn say(rt: &HostRuntime, bytes: &[u8]) -> io::Result<()> {
 impl Program {
     // The push of a frame, and its answer's text.
     // All that belongs to a frame is read at once, and nothing of a frame that is cut is pushed.
-    fn frame(&mut self, rt: &HostRuntime, header: Header) -> Result<Text, End>
-        ensures { FrameTaken header.rec self.old self.new result }
+    fn frame(
+        &mut self,
+        rt: &HostRuntime,
+        body: &mut Body,
+        pcm: &mut Pcm,
+        header: Header,
+    ) -> Result<(), End>
+        ensures { FrameTaken header.rec body.new self.old self.new result }
     {
         let m = header.metadata_bytes();
         let n = header.pcm_bytes();
         let size = m + framing::record_bytes(n);
-        let mut body = [0; 86720];
-        let mut pcm = [0; 34816];
         if read_full(rt, &mut body[..size]) < size {
             return Err(End::BadRecord);
         }
         framing::unpack(&body[m..size], &mut pcm[..n])?;
-        let text = calls::push(
+        calls::push(
             &mut self.state,
             &body[..m],
             &pcm[..n],
             &mut self.out,
+            &mut self.text,
             &header,
         );
-        Ok(text)
+        Ok(())
     }
 
     // What a record asks for, and its answer's text.
-    fn handle(&mut self, rt: &HostRuntime, rec: [u8; 40]) -> Result<Text, End>
-        ensures { Handled rec self.old self.new result }
+    fn handle(
+        &mut self,
+        rt: &HostRuntime,
+        body: &mut Body,
+        pcm: &mut Pcm,
+        rec: [u8; 40],
+    ) -> Result<(), End>
+        ensures { Handled rec body.new self.old self.new result }
     {
         match Request::try_from(rec)? {
-            Request::Frame(header) => self.frame(rt, header),
-            Request::Plain(call) => Ok(calls::plain(&mut self.state, &mut self.out, call)),
+            Request::Frame(header) => self.frame(rt, body, pcm, header),
+            Request::Plain(call) => {
+                calls::plain(&mut self.state, &mut self.out, &mut self.text, call);
+                Ok(())
+            }
         }
     }
 
     // One record and what belongs to it, and its answer's text.
-    fn one(&mut self, rt: &HostRuntime) -> Result<Text, End>
-        ensures { RecordTaken self.old self.new result }
+    fn one(&mut self, rt: &HostRuntime, body: &mut Body, pcm: &mut Pcm) -> Result<(), End>
+        ensures { RecordTaken body.new self.old self.new result }
     {
         let mut rec = [0u8; 40];
         match read_full(rt, &mut rec) {
             0 => Err(End::Input),
-            40 => self.handle(rt, rec),
+            40 => self.handle(rt, body, pcm, rec),
             _ => Err(End::BadRecord),
         }
     }
 
-    // Its budget of turns is more than any input has. An answer is one write.
+    // Its budget of turns is more than any input has. An answer is one write. What a frame is read into is made here, once: made for each frame, all of it would be cleared for each.
     fn run(&mut self, rt: &HostRuntime) -> Result<(), End>
         requires { self.old.state ≡ new_block }
         ensures { Ran self.old.state self.old.out self.new.state self.new.out }
     {
+        let mut body = [0; 86720];
+        let mut pcm = [0; 34816];
         for _ in 0..u64::MAX {
-            let text = self.one(rt)?;
-            say(rt, text.as_bytes())?;
+            self.one(rt, &mut body, &mut pcm)?;
+            say(rt, self.text.as_bytes())?;
         }
         Ok(())
     }
@@ -134,6 +156,7 @@ fn main(rt: HostRuntime) {
     let mut program = Program {
         state: [0; hall::STATE_BYTES],
         out: [0; 12288],
+        text: Text::new(),
     };
     let _ = hall::make(&mut program.state, LAYOUT);
     if let Err(End::BadRecord) = program.run(&rt) {

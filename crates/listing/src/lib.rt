@@ -10,24 +10,23 @@ pub mod text;
 
 // `ready N` and its lines. No more than the output holds, whatever is asked for.
 #[tactic(auto, using(crate::proofs::Spelling::no_line, crate::proofs::Spelling::line_more))]
-pub fn ready(count: usize, out: &[u8; 12288]) -> Text
-    ensures { result ≡ ready_text count out.now }
+pub fn ready(text: &mut Text, count: usize, out: &[u8; 12288])
+    ensures { text.new ≡ ready_text count out.now }
 {
-    let mut text = Text::new();
+    text.clear();
     text.put(b"ready ");
     text.put_decimal(count as u64);
     text.put(b"\n");
     for i in 0..count.min(256) {
         text.put_line(out, i);
     }
-    text
 }
 
 // "`refused K A B` in decimal". Three numbers and no `refusals::Stop`: of this crate's callers one has it, and the crate knows no refusals.
-pub fn refused(number: u32, first: u32, second: u32) -> Text
-    ensures { result ≡ refused_text number first second }
+pub fn refused(text: &mut Text, number: u32, first: u32, second: u32)
+    ensures { text.new ≡ refused_text number first second }
 {
-    let mut text = Text::new();
+    text.clear();
     text.put(b"refused ");
     text.put_decimal(u64::from(number));
     text.put(b" ");
@@ -35,22 +34,19 @@ pub fn refused(number: u32, first: u32, second: u32) -> Text
     text.put(b" ");
     text.put_decimal(u64::from(second));
     text.put(b"\n");
-    text
 }
 
 // (d) `none` and `reset` are two functions: a parameter would be the word that each puts.
-pub fn none() -> Text
-    ensures { result ≡ none_text }
+pub fn none(text: &mut Text)
+    ensures { text.new ≡ none_text }
 {
-    let mut text = Text::new();
+    text.clear();
     text.put(b"none\n");
-    text
 }
 
-pub fn reset() -> Text
-    ensures { result ≡ reset_text }
+pub fn reset(text: &mut Text)
+    ensures { text.new ≡ reset_text }
 {
-    let mut text = Text::new();
+    text.clear();
     text.put(b"reset\n");
-    text
 }

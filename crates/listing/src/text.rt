@@ -24,12 +24,19 @@ impl Model for Text {
 }
 
 impl Text {
-    pub(crate) fn new() -> Text
+    // A text is made once and lent to what tells answers: what it has room for is filled and copied where it goes by value.
+    pub fn new() -> Text
         ensures { result ≡ [] }
     {
         Text {
             bytes: ArrayVec::new(),
         }
+    }
+
+    pub(crate) fn clear(&mut self)
+        ensures { self.new ≡ [] }
+    {
+        self.bytes.clear();
     }
 
     pub fn as_bytes(&self) -> &[u8]

@@ -15,7 +15,7 @@ use Rattle.calls.proofs.plain.Goals.{in-Flush, in-Reset}
 pub returns : goal.returns
 returns c =
     let out = c.match-call.out in
-    let As : Plain → Type 0 = λ p. Called (asked_alone p c.args.out.now) c.args.state.now c.args.out.now c.match-call.state out c.tell.result in
+    let As : Plain → Type 0 = λ p. Called (asked_alone p c.args.out.now) c.args.state.now c.args.out.now c.match-call.state out c.tell.new.text in
     elim c.match-call.branch [
       | in-Flush w ↦ subst As (sym w.in-Flush.is) (record {
         block = w.state-is ∙ w.flush-answer.ensures.block;

@@ -2,12 +2,9 @@
 use Rattle.std.proofs.lemmas.Result.{err_from_is_err_and}
 use Rattle.hallrender.proofs.Handling.{bad_alone, framed}
 use native.Mathlib.Omega.{arith}
-use Prim.Native.Nat.{ℕ, ◌+◌, ◌-◌, ◌≤◌}
-use mathlib.Core.List.{List, ◌++◌}
+use Prim.Native.Nat.{◌+◌, ◌-◌}
 use mathlib.Core.Path.{◌≡◌, refl, ◌∙◌}
-use lib.ListN.{length, take, drop, length-append, length-drop}
-use Rattle.std.proofs.lemmas.List.{length-replicate}
-use Rattle.std.specs.Prelude.{replicate}
+use lib.ListN.{length, take}
 use lib.Seq.{length-take-le}
 use borrow.Author.Rules.{rules}
 use Rattle.hallrender.proofs.Program.frame.Goals as goal
@@ -26,14 +23,7 @@ returns c =
     let m = c.metadata_bytes-m in
     let n = c.pcm_bytes-n in
     let size = m.result + c.record_bytes.result in
-    let few : size ≤ 86720 = omega (arith, m.ensures.1, c.record_bytes.ensures.1) in
-    let zeros : List ℕ = replicate 86720 0 in
-    let whole : length zeros ≡ 86720 = length-replicate {A = ℕ} 86720 0 in
-    let empty : List ℕ = replicate 34816 0 in
-    let w : length (take n.result empty) ≡ n.result = length-take-le n.result empty (omega (arith, n.ensures.1, length-replicate {A = ℕ} 34816 0)) in
-    let read = c.read_full.new.bytes in
-    let r : length read ≡ size = c.read_full.auto.bytes ∙ length-take-le size zeros (omega (arith, few, whole)) in
-    let room : length (read ++ drop size zeros) ≡ 86720 = omega (arith, length-append read (drop size zeros), length-drop size zeros, few, whole, r) in
-    framed c.args.header.rec (read ++ drop size zeros) c.unpack.new.pcm _ _ _ _ m.result n.result (size - m.result) _ c.unpack.result
+    let w : length (take n.result c.args.pcm.now) ≡ n.result = length-take-le n.result c.args.pcm.now (search rules) in
+    framed c.args.header.rec _ c.unpack.new.pcm _ _ _ m.result n.result (size - m.result) _ c.unpack.result
     m.ensures.0 n.ensures.0 c.args.header.laid (omega (arith, c.record_bytes.ensures.0))
-    w (c.unpack.auto.pcm ∙ w) room c.in_ok-unpack.was c.unpack.ensures c.push-text.ensures
+    w (c.unpack.auto.pcm ∙ w) c.in_ok-unpack.was c.unpack.ensures c.push.ensures

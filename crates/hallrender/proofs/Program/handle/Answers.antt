@@ -10,9 +10,9 @@ pub returns-in-Frame : goal.returns-in-Frame
 returns-in-Frame c =
     let h = c.in-Frame.header in
     let e : h.rec ≡ c.args.rec = subst (λ x. Requested c.args.rec (Ok x)) c.in-Frame.is c.in_ok-header.ensures in
-    subst (λ r. Handled r c.args.self.now c.frame.new.self c.frame.result) e (frame_handled h.rec _ _ _ h.laid c.frame.ensures)
+    subst (λ r. Handled r c.frame.new.body c.args.self.now c.frame.new.self c.frame.result) e (frame_handled h.rec _ _ _ _ h.laid c.frame.ensures)
 
 pub returns-in-Plain : goal.returns-in-Plain
 returns-in-Plain c =
     let e = subst (λ x. Requested c.args.rec (Ok x)) c.in-Plain.is c.in_ok-header.ensures in
-    plain_handled c.args.rec _ _ c.in-Plain.call _ e.0 e.1 c.plain.ensures
+    plain_handled c.args.rec _ _ _ c.in-Plain.call e.0 e.1 c.plain.ensures
