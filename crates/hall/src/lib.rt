@@ -2,13 +2,14 @@
 // of a push that completes no block which bytes of the places stay (R-4).
 #![tactic(auto)]
 
-ghost use Rattle.std.specs.Prelude.{◌≡◌, ◌-◌, cond, OnOk};
+ghost use Rattle.std.specs.Prelude.{◌≡◌, ◌-◌, cond, OnOk, IfOk};
 ghost use Rattle.rules.specs.Calls.{push, flush, reset, make, make_with, hold, release, mark, find};
 ghost use Rattle.rules.specs.BlockCalls.{made};
 ghost use Rattle.theorem.specs.Instance.{hall, block, block_size};
 ghost use Rattle.theorem.specs.Appends.{AppendsIfOpen};
 ghost use Rattle.hall.specs.Answers.{Left, MadeNew, coded, version};
 ghost use Rattle.hall.specs.Places.{place_of, placed_as};
+ghost use Rattle.hall.specs.declared.answer.Outcome.TheVariants.{Fresh, Marked};
 ghost use Rattle.rules.specs.Refusals.{args_of};
 
 use answer::Outcome;
@@ -105,7 +106,8 @@ pub fn flush(state: &mut [u8], out: &mut [u8], stride: u32) -> Result<Outcome, R
 
 // Makes any block of the right length a new renderer for a layout: 0 is 7.1.4, 1 5.1.4, 2 7.1.0, 3 5.1.0.
 pub fn make(state: &mut [u8], layout: u32) -> Result<Outcome, Refusal>
-    ensures { MadeNew (made hall block (make layout) state.old) (coded result) state.new }
+    ensures left { MadeNew (made hall block (make layout) state.old) (coded result) state.new }
+    ensures done { IfOk result (λ o. o ≡ Fresh) }
 {
     if state.len() != STATE_BYTES {
         return Err(Refusal::Lent);
@@ -119,7 +121,8 @@ pub fn make(state: &mut [u8], layout: u32) -> Result<Outcome, Refusal>
 
 // The same with the hall's own table, twelve records of x, y and z in channel order, in place of the built-in one.
 pub fn make_with_table(state: &mut [u8], layout: u32, table: &[u8]) -> Result<Outcome, Refusal>
-    ensures { MadeNew (made hall block (make_with layout table.now) state.old) (coded result) state.new }
+    ensures left { MadeNew (made hall block (make_with layout table.now) state.old) (coded result) state.new }
+    ensures done { IfOk result (λ o. o ≡ Fresh) }
 {
     if state.len() != STATE_BYTES {
         return Err(Refusal::Lent);
@@ -140,7 +143,8 @@ pub fn make_with_table(state: &mut [u8], layout: u32, table: &[u8]) -> Result<Ou
 
 // Makes a block's renderer new: it keeps its layout and its table, and all else is as a making call leaves it.
 pub fn reset(state: &mut [u8]) -> Result<Outcome, Refusal>
-    ensures { MadeNew (made hall block reset state.old) (coded result) state.new }
+    ensures left { MadeNew (made hall block reset state.old) (coded result) state.new }
+    ensures done { IfOk result (λ o. o ≡ Fresh) }
 {
     if state.len() != STATE_BYTES {
         return Err(Refusal::Lent);
@@ -165,7 +169,8 @@ fn held_most(s: &MetadataRendererState) -> usize
 // Holds a dynamic object, numbered as in the PCM, from the next slot on, or releases it. What is asked for already leaves the block as it is, a NaN of any bits too.
 #[tactic(auto, using(crate::proofs::Known::valid_long))]
 fn mark(state: &mut [u8], object: u32, wanted: bool) -> Result<Outcome, Refusal>
-    ensures { MadeNew (made hall block (mark wanted object) state.old) (coded result) state.new }
+    ensures left { MadeNew (made hall block (mark wanted object) state.old) (coded result) state.new }
+    ensures done { IfOk result (λ o. o ≡ Marked) }
 {
     if !block::is_valid(state) {
         return Err(Refusal::Lent);
@@ -183,13 +188,15 @@ fn mark(state: &mut [u8], object: u32, wanted: bool) -> Result<Outcome, Refusal>
 }
 
 pub fn hold(state: &mut [u8], object: u32) -> Result<Outcome, Refusal>
-    ensures { MadeNew (made hall block (hold object) state.old) (coded result) state.new }
+    ensures left { MadeNew (made hall block (hold object) state.old) (coded result) state.new }
+    ensures done { IfOk result (λ o. o ≡ Marked) }
 {
     mark(state, object, true)
 }
 
 pub fn release(state: &mut [u8], object: u32) -> Result<Outcome, Refusal>
-    ensures { MadeNew (made hall block (release object) state.old) (coded result) state.new }
+    ensures left { MadeNew (made hall block (release object) state.old) (coded result) state.new }
+    ensures done { IfOk result (λ o. o ≡ Marked) }
 {
     mark(state, object, false)
 }

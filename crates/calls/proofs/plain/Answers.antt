@@ -24,9 +24,9 @@ returns c =
             ∙ code_text (made hall block (flush c.args.out.now 256) c.args.state.now).answer out;
       })
       | in-Reset w ↦ subst As (sym w.in-Reset.is) (record {
-        block = w.state-is ∙ w.reset-answer.ensures.block;
+        block = w.state-is ∙ w.reset-answer.ensures.left.block;
         output = w.out-is;
-        said = c.tell.ensures ∙ ap (λ (a : Answer). text_of_code a out) (ap coded w.answer-is ∙ w.reset-answer.ensures.answer)
+        said = c.tell.ensures ∙ ap (λ (a : Answer). text_of_code a out) (ap coded w.answer-is ∙ w.reset-answer.ensures.left.answer)
             ∙ code_text (made hall block reset c.args.state.now).answer out;
       })
     ]

@@ -10,16 +10,16 @@ use Rattle.hall.proofs.WaysOut.{is_make, not_taken, not_made, makes}
 use Rattle.hall.proofs.FoundOfTable.{layout_stops, layout_passes}
 use Rattle.hall.proofs.make.Goals as goal
 
-pub returns-then-state-ne-STATE_BYTES : goal.returns-then-state-ne-STATE_BYTES
-returns-then-state-ne-STATE_BYTES c = let a = c.args in not_taken (is_make a.layout) a.state.now (ne_eqb _ _ c.if-state-ne-STATE_BYTES.true)
+pub returns-then-state-ne-STATE_BYTES-clause-left : goal.returns-then-state-ne-STATE_BYTES-clause-left
+returns-then-state-ne-STATE_BYTES-clause-left c = let a = c.args in not_taken (is_make a.layout) a.state.now (ne_eqb _ _ c.if-state-ne-STATE_BYTES.true)
 
-pub returns-then-layout-gt-LAST_LAYOUT : goal.returns-then-layout-gt-LAST_LAYOUT
-returns-then-layout-gt-LAST_LAYOUT c =
+pub returns-then-layout-gt-LAST_LAYOUT-clause-left : goal.returns-then-layout-gt-LAST_LAYOUT-clause-left
+returns-then-layout-gt-LAST_LAYOUT-clause-left c =
     let a = c.args in
     not_made (is_make a.layout) a.state.now (eq-eqb _ _ c.if-state-ne-STATE_BYTES.false) Layout (layout_stops a.layout c.if-layout-gt-LAST_LAYOUT.true) refl
 
-pub returns : goal.returns
+pub returns-clause-left : goal.returns-clause-left
 unfolding setup.table_of speakers.positions714 to_bits
-returns c =
+returns-clause-left c =
     let a = c.args in
     makes (is_make a.layout) a.state.now (eq-eqb _ _ c.if-state-ne-STATE_BYTES.false) (layout_passes a.layout (omega (arith, c.if-layout-gt-LAST_LAYOUT.false))) c.make.ensures

@@ -14,23 +14,23 @@ use Rattle.hall.proofs.WaysOut.{is_make_with, not_taken, not_made, makes}
 use Rattle.hall.proofs.FoundOfTable.{layout_first, length_next, places_stop, places_pass}
 use Rattle.hall.proofs.make_with_table.Goals as goal
 
-pub returns-then-state-ne-STATE_BYTES : goal.returns-then-state-ne-STATE_BYTES
-returns-then-state-ne-STATE_BYTES c = let a = c.args in not_taken (is_make_with a.layout a.table.now) a.state.now (ne_eqb _ _ c.if-state-ne-STATE_BYTES.true)
+pub returns-then-state-ne-STATE_BYTES-clause-left : goal.returns-then-state-ne-STATE_BYTES-clause-left
+returns-then-state-ne-STATE_BYTES-clause-left c = let a = c.args in not_taken (is_make_with a.layout a.table.now) a.state.now (ne_eqb _ _ c.if-state-ne-STATE_BYTES.true)
 
-pub returns-then-layout-gt-LAST_LAYOUT : goal.returns-then-layout-gt-LAST_LAYOUT
-returns-then-layout-gt-LAST_LAYOUT c =
+pub returns-then-layout-gt-LAST_LAYOUT-clause-left : goal.returns-then-layout-gt-LAST_LAYOUT-clause-left
+returns-then-layout-gt-LAST_LAYOUT-clause-left c =
     let a = c.args in
     not_made (is_make_with a.layout a.table.now) a.state.now (eq-eqb _ _ c.if-state-ne-STATE_BYTES.false) Layout
     (layout_first a.layout a.table.now c.if-layout-gt-LAST_LAYOUT.true) refl
 
-pub returns-then-table-ne-TABLE_BYTES : goal.returns-then-table-ne-TABLE_BYTES
-returns-then-table-ne-TABLE_BYTES c =
+pub returns-then-table-ne-TABLE_BYTES-clause-left : goal.returns-then-table-ne-TABLE_BYTES-clause-left
+returns-then-table-ne-TABLE_BYTES-clause-left c =
     let a = c.args in
     not_made (is_make_with a.layout a.table.now) a.state.now (eq-eqb _ _ c.if-state-ne-STATE_BYTES.false) TableLength
     (length_next a.layout a.table.now (omega (arith, c.if-layout-gt-LAST_LAYOUT.false)) c.if-table-ne-TABLE_BYTES.true) refl
 
-pub returns-in-Some : goal.returns-in-Some
-returns-in-Some c =
+pub returns-in-Some-clause-left : goal.returns-in-Some-clause-left
+returns-in-Some-clause-left c =
     let a = c.args in
     let few : a.layout ≤ 3 = omega (arith, c.if-layout-gt-LAST_LAYOUT.false) in
     let f = c.in-Some.fault in
@@ -39,8 +39,8 @@ returns-in-Some c =
     (places_stop a.layout a.table.now few c.if-table-ne-TABLE_BYTES.false f
     (sym c.in-Some.is ∙ c.table_fault.ensures ∙ ap (λ (w : List ℕ). fault_of (table_place w)) c.table_words-table.ensures)) refl)
 
-pub returns : goal.returns
-returns c =
+pub returns-clause-left : goal.returns-clause-left
+returns-clause-left c =
     let a = c.args in
     let few : a.layout ≤ 3 = omega (arith, c.if-layout-gt-LAST_LAYOUT.false) in
     makes (is_make_with a.layout a.table.now) a.state.now (eq-eqb _ _ c.if-state-ne-STATE_BYTES.false)

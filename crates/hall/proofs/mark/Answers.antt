@@ -35,15 +35,15 @@ unwrap-block-requires c =
     let l = valid_whole c.args.state.now (sym c.is_valid.ensures ∙ c.if-not-is_valid.false) in
     c.first_chunk_mut.ensures.variant.1 (omega (arith, l))
 
-pub returns-then-not-is_valid : goal.returns-then-not-is_valid
-returns-then-not-is_valid c =
+pub returns-then-not-is_valid-clause-left : goal.returns-then-not-is_valid-clause-left
+returns-then-not-is_valid-clause-left c =
     let a = c.args in
     made_as (wrong (mark a.wanted a.object) a.state.now (sym c.is_valid.ensures ∙ c.if-not-is_valid.true)) (record { answer = refl; block = refl })
 
-pub returns-then-d-held_most : goal.returns-then-d-held_most
-returns-then-d-held_most c =
+pub returns-then-d-held_most-clause-left : goal.returns-then-d-held_most-clause-left
+returns-then-d-held_most-clause-left c =
     let a = c.args in
-    let p = (goal.at.returns-then-d-held_most c).After-load-s in
+    let p = (goal.at.returns-then-d-held_most-clause-left c).After-load-s in
     let whole = (rw c.unwrap-block.ensures at c.first_chunk_mut.ensures.cases).same in
     unnumbered a.wanted a.object a.state.now (is_valid p) c.load-s.result (is_loaded p) (rw c.held_most.ensures at c.if-d-held_most.true) (whole_again a.state.now whole)
 
@@ -57,20 +57,20 @@ want-requires c =
     let l = rw c.held_most.ensures at c.if-d-held_most.false in
     omega (arith, l, at_most (goal.at.want-requires c).After-load-s)
 
-pub returns-then-wants-wanted : goal.returns-then-wants-wanted
-returns-then-wants-wanted c =
+pub returns-then-wants-wanted-clause-left : goal.returns-then-wants-wanted-clause-left
+returns-then-wants-wanted-clause-left c =
     let a = c.args in
-    let p = (goal.at.returns-then-wants-wanted c).After-load-s in
+    let p = (goal.at.returns-then-wants-wanted-clause-left c).After-load-s in
     let whole = (rw c.unwrap-block.ensures at c.first_chunk_mut.ensures.cases).same in
     noted a.wanted a.object a.state.now (is_valid p) c.load-s.result (is_loaded p) (rw c.held_most.ensures at c.if-d-held_most.false)
     (ap (λ (b : Bool). not (beq b a.wanted)) (sym c.wants.ensures) ∙ c.if-wants-wanted.true)
     (ap (λ (t : List ℕ). t ++ area_of a.state.now) (c.save.ensures.1
     ∙ ap₂ (λ (x : Renderer714) (b : List ℕ). encode (held x b)) (c.with_state.ensures ∙ ap (with_state c.load-s.result) c.want.ensures) whole))
 
-pub returns-else-wants-wanted : goal.returns-else-wants-wanted
-returns-else-wants-wanted c =
+pub returns-else-wants-wanted-clause-left : goal.returns-else-wants-wanted-clause-left
+returns-else-wants-wanted-clause-left c =
     let a = c.args in
-    let p = (goal.at.returns-else-wants-wanted c).After-load-s in
+    let p = (goal.at.returns-else-wants-wanted-clause-left c).After-load-s in
     let whole = (rw c.unwrap-block.ensures at c.first_chunk_mut.ensures.cases).same in
     known a.wanted a.object a.state.now (is_valid p) c.load-s.result (is_loaded p) (rw c.held_most.ensures at c.if-d-held_most.false)
     (ap (λ (b : Bool). not (beq b a.wanted)) (sym c.wants.ensures) ∙ c.if-wants-wanted.false) (whole_again a.state.now whole)

@@ -11,19 +11,19 @@ use Rattle.theorem.specs.Instance.{hall, block_encode}
 use Rattle.hall.proofs.WaysOut.{made_as, wrong, too_short, no_hall, resets}
 use Rattle.hall.proofs.reset.Goals as goal
 
-pub returns-then-state-ne-STATE_BYTES : goal.returns-then-state-ne-STATE_BYTES
-returns-then-state-ne-STATE_BYTES c =
+pub returns-then-state-ne-STATE_BYTES-clause-left : goal.returns-then-state-ne-STATE_BYTES-clause-left
+returns-then-state-ne-STATE_BYTES-clause-left c =
     let b = c.args.state.now in
     made_as (wrong reset b (too_short b (ne_eqb _ _ c.if-state-ne-STATE_BYTES.true))) (record { answer = refl; block = refl })
 
-pub returns-then-not-hall_valid : goal.returns-then-not-hall_valid
-returns-then-not-hall_valid c =
+pub returns-then-not-hall_valid-clause-left : goal.returns-then-not-hall_valid-clause-left
+returns-then-not-hall_valid-clause-left c =
     let e = (rw c.unwrap-block.ensures at c.first_chunk.ensures.cases).same in
     made_as (no_hall c.args.state.now (eq-eqb _ _ c.if-state-ne-STATE_BYTES.false) (ap hall_valid (sym e) ∙ sym c.hall_valid.ensures ∙ c.if-not-hall_valid.true))
     (record { answer = refl; block = refl })
 
-pub returns : goal.returns
-returns c =
+pub returns-clause-left : goal.returns-clause-left
+returns-clause-left c =
     let e = (rw c.unwrap-block.ensures at c.first_chunk.ensures.cases).same in
     made_as (resets c.args.state.now (eq-eqb _ _ c.if-state-ne-STATE_BYTES.false) (ap hall_valid (sym e) ∙ sym c.hall_valid.ensures ∙ c.if-not-hall_valid.false))
     (record {
