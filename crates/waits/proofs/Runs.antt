@@ -1,7 +1,7 @@
 -- Runs of bytes put into a list: what is behind and before them stays. Assumes nothing.
 use Rattle.std.proofs.Common.{◌≡◌, ℕ, suc, ◌+◌, ◌-◌, ◌<◌, ◌≤◌, List, [], ◌∷◌, ◌++◌, length, take, drop, get_or, sym, ap, ap₂, ◌∙◌, append_assoc, append-nil, length-append, take-append-drop, zero-add, arith}
 use lib.ListN.{set, length-drop, get_or-append}
-use lib.Seq.{length-take-le, take-append_seam, take-append-add, drop-append-add, drop-drop, get_or-take, get_or-drop, set_split}
+use lib.Seq.{length-take-le, take-append_seam, take-append-add, take-add, drop-append-add, drop-drop, get_or-take, get_or-drop, set_split}
 use Rattle.std.proofs.lemmas.List.{take_more}
 use Rattle.words.specs.Words.{with_number}
 use Rattle.words.proofs.Theorems.{Kept, length_kept, number_part}
@@ -71,6 +71,14 @@ run_same Y at n h =
     ap (λ (t : List ℕ). take at Y ++ (take n (drop at Y) ++ t)) (ap (λ (k : ℕ). drop (at + k) Y) l ∙ sym (drop-drop n at Y))
     ∙ ap (λ (t : List ℕ). take at Y ++ t) (take-append-drop n (drop at Y))
     ∙ take-append-drop at Y
+
+-- the first k of xs, laid from `at` on: j more
+pub run_more : (Y xs : List ℕ) (at k j : ℕ) → at ≤ length Y → k ≤ length xs → with_run (with_run Y at (take k xs)) (at + k) (take j (drop k xs)) ≡ with_run Y at (take (k + j) xs)
+run_more Y xs at k j h b =
+    let l : length (take k xs) ≡ k = length-take-le k xs b in
+    ap (λ (i : ℕ). with_run (with_run Y at (take k xs)) i (take j (drop k xs))) (let e : at + k ≡ at + length (take k xs) = omega (arith, l) in e)
+    ∙ run_joined Y (take k xs) (take j (drop k xs)) at h
+    ∙ ap (with_run Y at) (sym (take-add k j xs))
 
 -- the bytes from `from` on, moved down to `to`, k of them: one more
 pub copied_more : (Y : List ℕ) (to from k : ℕ) → to ≤ from → from + k < length Y

@@ -1,5 +1,5 @@
 // Updates laid one behind the other.
-ghost use Rattle.std.specs.Prelude.{◌≡◌, ◌+◌, ◌*◌, ◌<◌, ◌≤◌, true, cond, ltb, length, take, drop};
+ghost use Rattle.std.specs.Prelude.{◌≡◌, ◌+◌, ◌*◌, ◌/◌, ◌<◌, ◌≤◌, true, cond, ltb, length, take, drop};
 ghost use Rattle.records.specs.Laid.{count};
 ghost use Rattle.records.specs.LayoutAnswers.{sent_place};
 ghost use Rattle.words.specs.Words.{with_long};
@@ -14,15 +14,26 @@ use clock::{FrameOffset, StreamSample};
 use records::metadata::Metadata;
 use records::sent::Layout;
 
+// Lays whole records from byte `to` on, each read before it is written: a copy of all at once compiles to a call of `memmove`, a name more that a host must have.
+fn lay(area: &mut [u8], to: usize, records: &[u8])
+    requires { (to + length records.now ≤ length area.old) × (length area.old ≤ 48072) × (40 * (length records.now / 40) ≡ length records.now) }
+    ensures { area.new ≡ with_run area.old to records.now }
+{
+    for k in 0..records.len() / 40 {
+        let record: [u8; 40] = *records[40 * k..].first_chunk().unwrap();
+        let at = to + 40 * k;
+        area[at..at + 40].copy_from_slice(&record);
+    }
+}
+
 // One update more behind those of a load.
 fn join(area: &mut [u8], at: Load, position: StreamSample, records: &[u8]) -> Load
-    requires { (at.count < 8) × (72 + at.bytes + length records.now ≤ length area.old) × (length area.old ≤ 48072) }
+    requires { (at.count < 8) × (72 + at.bytes + length records.now ≤ length area.old) × (length area.old ≤ 48072) × (40 * (length records.now / 40) ≡ length records.now) }
     ensures laid { area.new ≡ with_run (with_long area.old (8 + 8 * at.count) position.0) (72 + at.bytes) records.now }
     ensures load { (result.count ≡ at.count + 1) × (result.bytes ≡ at.bytes + length records.now) }
 {
     words::put_u64(area, 8 + 8 * at.count, position.0);
-    let from = 72 + at.bytes;
-    area[from..from + records.len()].copy_from_slice(records);
+    lay(area, 72 + at.bytes, records);
     at.with(records)
 }
 

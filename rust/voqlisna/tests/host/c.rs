@@ -315,7 +315,7 @@ fn a_host_in_c_hears_what_one_in_rust_hears() {
 }
 
 #[test]
-fn the_library_has_prefixed_names_and_needs_three() {
+fn the_library_has_prefixed_names_and_needs_two() {
     let library = library_folder().join("libhall.a");
     let names = |flag: &str| output(Command::new("nm").args(["-g", flag]).arg(&library));
     let last = |line: &str| line.split_whitespace().last().map(str::to_owned);
@@ -348,5 +348,5 @@ fn the_library_has_prefixed_names_and_needs_three() {
     );
     let mut needed = symbols(names("--undefined-only"));
     needed.sort();
-    assert_eq!(needed, ["memcpy", "memmove", "memset"]);
+    assert_eq!(needed, ["memcpy", "memset"]);
 }

@@ -1,11 +1,16 @@
 -- `waits::laid::add`: one own update after the other. Assumes nothing.
-use Rattle.std.proofs.Common.{◌≡◌, ℕ, ◌+◌, ◌*◌, ◌<◌, ◌≤◌, ◌&&◌, true, List, [], ◌∷◌, leb, length, sym, ap, ap₂, ◌∙◌, append-nil, length-append, arith}
+use Rattle.std.proofs.Common.{◌≡◌, ℕ, suc, ◌+◌, ◌-◌, ◌*◌, ◌/◌, ◌<◌, ◌≤◌, ◌&&◌, true, List, [], ◌∷◌, leb, length, drop, sym, ap, ap₂, ◌∙◌, append-nil, length-append, arith}
+use lib.ListN.{length-drop}
+use lib.Seq.{length-take-le}
 use Rattle.fields.specs.Update.{is_far, offset}
 use Rattle.words.specs.Words.{with_long}
-use Rattle.records.specs.Laid.{count}
+use Rattle.records.specs.Laid.{update_at, count}
+use Rattle.records.specs.LayoutAnswers.{IsLayout}
+use Rattle.records.specs.declared.sent.Layout.{Layout}
 use Rattle.waits.specs.Area.{Wait, records_of}
 use Rattle.waits.specs.Settled.{comes, come_at, coming, all_records, with_run, laid_from}
 use Rattle.waits.specs.declared.load.Load.{Load}
+use Rattle.waits.proofs.ValidArea.{update_ends, update_begins}
 use Rattle.waits.proofs.LaidFrom.{laid_none, laid_more, length_records}
 use Rattle.waits.proofs.Prefixes.{one_comes, none_comes, coming_fewer, coming_smaller}
 use Rattle.waits.proofs.laid.add.Goals as goal
@@ -30,6 +35,16 @@ room start n m i k b c s one e pk pb few small =
     let g = coming_smaller start n m (i + 1) (count m) (omega (arith, one)) in
     (omega (arith, l, f, pk, few), omega (arith, r, a, g, pb, small))
 
+-- an update has whole records
+whole : (m : List ℕ) (l : Layout) (is : IsLayout m l) (i : ℕ) → i < l.count → 40 * (length (records_of m i) / 40) ≡ length (records_of m i)
+whole m l is i one =
+    let e = update_ends m l is i one in
+    let b = update_begins m l is i one in
+    let next : update_at m (i + 1) ≡ update_at m (suc i) = ap (update_at m) (let k : i + 1 ≡ suc i = omega arith in k) in
+    let n : length (records_of m i) ≡ 40 * (update_at m (suc i) - update_at m i) =
+    length-take-le (40 * (update_at m (suc i) - update_at m i)) (drop (40 * update_at m i) m) (omega (arith, e, b, next, length-drop (40 * update_at m i) m)) in
+    omega (arith, n)
+
 pub join-load-requires : goal.join-load-requires
 join-load-requires c =
     let m = c.args.own.records.now in
@@ -41,8 +56,12 @@ join-load-requires c =
     let one : i < count m = let t = c.loop-i-test.true in let q = c.args.own.laid.counted in omega (arith, t, q) in
     let f = room c.args.start.0 n m i c.loop-i.load.count c.loop-i.load.bytes c.args.at.count c.args.at.bytes one come c.loop-i.invariant.1 c.loop-i.invariant.2 r.2 r.3 in
     let size = c.loop-i.auto.area in
-    let q = ap length c.records_of.ensures in
-    (f.0, omega (arith, f.1, size, r.0, q), omega (arith, size, r.0))
+    let q = ap length c.records_of.ensures in (
+      f.0,
+      omega (arith, f.1, size, r.0, q),
+      omega (arith, size, r.0),
+      ap (λ (xs : List ℕ). 40 * (length xs / 40)) c.records_of.ensures ∙ whole m c.args.own.layout c.args.own.laid i c.loop-i-test.true ∙ sym q,
+    )
 
 pub loop-i-preserved : goal.loop-i-preserved
 loop-i-preserved c =
