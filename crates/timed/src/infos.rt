@@ -30,35 +30,26 @@ pub fn has(head: u32, bit: u32) -> bool
     head / bit % 2 == 1
 }
 
-// The number of an info, which is one of all. The infos stand beside it: `update_source_state` writes an info between what it reads of it, and would make a view of
-// both twice.
-#[derive(Clone, Copy)]
-pub(crate) struct InfoNumber {
-    pub(crate) k: usize,
-    ghost one: { k < all_infos },
-}
-
-// The value at a place of an info that is present with `bit`.
+// The value at a place of info k that is present with `bit`.
 #[tactic(auto, unfolding(crate::specs::Infos::maybe_at))]
-pub(crate) fn maybe_at(infos: &Bytes, info: InfoNumber, bit: u32, at: usize) -> Option<f32>
-    requires { (at + 4 ≤ info_bytes) × (0 < bit) }
-    ensures { result ≡ maybe_at infos.now info.k bit at }
+pub fn maybe_at(infos: &[u8], k: usize, bit: u32, at: usize) -> Option<f32>
+    requires { (info_at k + info_bytes ≤ length infos.now) × (at + 4 ≤ info_bytes) × (k < all_infos) × (0 < bit) }
+    ensures { result ≡ maybe_at infos.now k bit at }
 {
-    let head = words::u32_at(infos, INFO_BYTES * info.k);
+    let head = words::u32_at(infos, INFO_BYTES * k);
     if has(head, bit) {
-        Some(words::f32_at(infos, INFO_BYTES * info.k + at))
+        Some(words::f32_at(infos, INFO_BYTES * k + at))
     } else {
         None
     }
 }
 
-// The position at a place of an info.
+// The position at a place.
 #[tactic(auto, unfolding(crate::specs::Infos::vec_at))]
-fn vec_at(infos: &Bytes, info: InfoNumber, at: usize) -> Vec3
-    requires { at + 12 ≤ info_bytes }
-    ensures { result ≡ vec_at infos.now (info_at info.k + at) }
+fn vec_at(infos: &[u8], at: usize) -> Vec3
+    requires { at + 12 ≤ length infos.now }
+    ensures { result ≡ vec_at infos.now at }
 {
-    let at = INFO_BYTES * info.k + at;
     Vec3 {
         x: words::f32_at(infos, at),
         y: words::f32_at(infos, at + 4),
@@ -66,15 +57,15 @@ fn vec_at(infos: &Bytes, info: InfoNumber, at: usize) -> Vec3
     }
 }
 
-// Stores a position at a place of an info.
+// Stores a position at a place.
 #[tactic(auto, unfolding(crate::specs::Infos::with_vec, crate::specs::Infos::with_three, words::specs::Words::with_float))]
-pub(crate) fn put_vec(infos: &mut Bytes, info: InfoNumber, at: usize, v: Vec3)
-    requires { at + 12 ≤ info_bytes }
-    ensures { infos.new ≡ with_vec infos.old (info_at info.k + at) v }
+pub fn put_vec(infos: &mut [u8], at: usize, v: Vec3)
+    requires { at + 12 ≤ length infos.old }
+    ensures { infos.new ≡ with_vec infos.old at v }
 {
     put_three(
         infos,
-        INFO_BYTES * info.k + at,
+        at,
         words::bits_of(v.x),
         words::bits_of(v.y),
         words::bits_of(v.z),
@@ -93,26 +84,28 @@ pub fn put_three(infos: &mut [u8], at: usize, x: u32, y: u32, z: u32)
 }
 
 // Its send, which is always there.
-pub(crate) fn send_at(infos: &Bytes, info: InfoNumber) -> f32
-    ensures { result ≡ send_at infos.now info.k }
+pub fn send_at(infos: &[u8], k: usize) -> f32
+    requires { (info_at k + info_bytes ≤ length infos.now) × (k < all_infos) }
+    ensures { result ≡ send_at infos.now k }
 {
-    words::f32_at(infos, INFO_BYTES * info.k + SEND)
+    words::f32_at(infos, INFO_BYTES * k + SEND)
 }
 
-// What an info says of its object's position.
+// What info k says of its object's position.
 #[tactic(auto, unfolding(crate::specs::Infos::block_position))]
-pub(crate) fn block_position(infos: &Bytes, info: InfoNumber) -> BlockPosition
-    ensures { result ≡ block_position infos.now info.k }
+pub fn block_position(infos: &[u8], k: usize) -> BlockPosition
+    requires { (info_at k + info_bytes ≤ length infos.now) × (k < all_infos) }
+    ensures { result ≡ block_position infos.now k }
 {
-    let head = words::u32_at(infos, INFO_BYTES * info.k);
+    let head = words::u32_at(infos, INFO_BYTES * k);
     BlockPosition {
         valid: has(head, 1),
         differential: has(head, 2),
         anchor: Anchor::from(head / 256 % 256),
-        position: vec_at(infos, info, POSITION),
-        last: vec_at(infos, info, LAST),
-        distance: maybe_at(infos, info, 16, DISTANCE),
-        screen: words::f32_at(infos, INFO_BYTES * info.k + SCREEN),
+        position: vec_at(infos, INFO_BYTES * k + POSITION),
+        last: vec_at(infos, INFO_BYTES * k + LAST),
+        distance: maybe_at(infos, k, 16, DISTANCE),
+        screen: words::f32_at(infos, INFO_BYTES * k + SCREEN),
         depth: Depth::from(head / 65536),
     }
 }

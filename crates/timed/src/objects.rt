@@ -2,23 +2,24 @@
 // Translated from libstarmine_ad render.rs; changed.
 
 // What a block and a ramp do to beds and dynamic objects.
-ghost use Rattle.std.specs.Prelude.{◌≡◌, ◌+◌, ◌<◌};
-ghost use Rattle.timed.specs.InfoSizes.{most_blocks};
+ghost use Rattle.std.specs.Prelude.{◌≡◌, ℕ, ◌+◌, ◌*◌, ◌<◌, ◌≤◌, length};
+ghost use Rattle.timed.specs.InfoSizes.{most_blocks, all_infos, info_bytes, all_bytes, info_at};
 ghost use Rattle.timed.specs.Objects.{with_levels, object_moved, moved_all, bed_gains, ramped, ramped_all, freed, freed_all};
 ghost use Rattle.timed.specs.TimedResults.{IsMoved, IsMovedAll};
 
 use crate::infos;
-use crate::infos::{BLOCKS, Bytes, GAIN, InfoNumber, LAST, POSITION, SIZE};
+use crate::infos::{BLOCKS, GAIN, INFO_BYTES, LAST, POSITION, SIZE};
 use crate::slot::Reach;
 use crate::state::{DynamicSourceState, Track};
 
-// The object with gain and size where an info has them, and with its send.
-fn with_levels(infos: &Bytes, info: InfoNumber, source: DynamicSourceState) -> DynamicSourceState
-    ensures { result ≡ with_levels infos.now info.k source }
+// The object with gain and size where info k has them, and with its send.
+fn with_levels(infos: &[u8], k: usize, source: DynamicSourceState) -> DynamicSourceState
+    requires { (info_at k + info_bytes ≤ length infos.now) × (k < all_infos) }
+    ensures { result ≡ with_levels infos.now k source }
 {
-    let gain = infos::maybe_at(infos, info, 4, GAIN).unwrap_or(source.gain);
-    let size = infos::maybe_at(infos, info, 32, SIZE).unwrap_or(source.size);
-    source.heard_with(gain, size, infos::send_at(infos, info))
+    let gain = infos::maybe_at(infos, k, 4, GAIN).unwrap_or(source.gain);
+    let size = infos::maybe_at(infos, k, 32, SIZE).unwrap_or(source.size);
+    source.heard_with(gain, size, infos::send_at(infos, k))
 }
 
 // A dynamic object and its track.
@@ -28,21 +29,22 @@ pub struct Moved {
     pub track: Track,
 }
 
-// `update_source_state` of an info; where no ramp remains (`arrived`, a fact of the block and no choice of a step), the object is put at its target.
+// `update_source_state` of info k; where no ramp remains (`arrived`, a fact of the block and no choice of a step), the object is put at its target.
 #[tactic(auto, unfolding(crate::specs::Objects::object_moved))]
 fn update_source_state(
-    infos: &mut Bytes,
-    info: InfoNumber,
+    infos: &mut [u8],
+    k: usize,
     source: DynamicSourceState,
     arrived: bool,
 ) -> Moved
-    ensures { IsMoved (object_moved arrived info.k source infos.old) result infos.new }
+    requires { (info_at k + info_bytes ≤ length infos.old) × (k < all_infos) }
+    ensures { IsMoved (object_moved arrived k source infos.old) result infos.new }
 {
-    let heard = with_levels(infos, info, source);
-    let block = infos::block_position(infos, info);
+    let heard = with_levels(infos, k, source);
+    let block = infos::block_position(infos, k);
     let to = block.placed(source.place);
-    infos::put_vec(infos, info, POSITION, to.position);
-    infos::put_vec(infos, info, LAST, to.last);
+    infos::put_vec(infos, INFO_BYTES * k + POSITION, to.position);
+    infos::put_vec(infos, INFO_BYTES * k + LAST, to.last);
     let track = Track {
         now: block.valid,
         future: to.target,
@@ -68,28 +70,26 @@ pub struct Moving {
 }
 
 impl Moving {
-    // Block b, applied to the objects that the element reaches.
+    // A block applied to `count` objects; the info of object d is `first` + 8 d.
     #[tactic(auto, using(crate::proofs::LoopTurns::turns), unfolding(crate::specs::Objects::moved_all))]
-    pub(crate) fn apply_block(&mut self, infos: &mut Bytes, reach: Reach, b: usize, arrived: bool)
-        requires { b < most_blocks }
-        ensures { IsMovedAll (moved_all arrived (reach.first + b) reach.count self.old infos.old) self.new infos.new }
+    pub fn apply_block(&mut self, infos: &mut [u8], first: usize, count: usize, arrived: bool)
+        requires { (length infos.old ≡ all_bytes) × (count ≤ 16) × ((d : ℕ) → d < count → first + most_blocks * d < all_infos) }
+        ensures { IsMovedAll (moved_all arrived first count self.old infos.old) self.new infos.new }
     {
-        for d in 0..reach.count {
-            let info = InfoNumber {
-                k: reach.first + b + BLOCKS * d,
-            };
-            let moved = update_source_state(infos, info, self.sources[d], arrived);
+        for d in 0..count {
+            let moved = update_source_state(infos, first + BLOCKS * d, self.sources[d], arrived);
             self.sources[d] = moved.source;
             self.tracks[d] = moved.track;
         }
     }
 
-    // The ramp's share t for the objects that the element reaches; `before` has their flags at its previous slot.
+    // The ramp's share t for `count` objects; `before` has their flags at the element's previous slot.
     #[tactic(auto, using(crate::proofs::LoopTurns::turns), unfolding(crate::specs::Objects::ramped_all))]
-    pub(crate) fn ramp(&mut self, before: &[Track; 16], reach: Reach, t: f32)
-        ensures { self.new ≡ ramped_all t before.now reach.count self.old }
+    pub fn ramp(&mut self, before: &[Track; 16], count: usize, t: f32)
+        requires { count ≤ 16 }
+        ensures { self.new ≡ ramped_all t before.now count self.old }
     {
-        for d in 0..reach.count {
+        for d in 0..count {
             self.sources[d] = ramp_one(self.sources[d], self.tracks[d], before[d].now, t);
         }
     }
@@ -135,16 +135,13 @@ fn free_one(source: DynamicSourceState, track: Track) -> DynamicSourceState
     }
 }
 
-// The gains after block b of the beds that the element reaches.
+// The gains after a block of `count` beds; the info of bed i is `first` + 8 i.
 #[tactic(auto, using(crate::proofs::LoopTurns::turns), unfolding(crate::specs::Objects::bed_gains))]
-pub(crate) fn bed_gains(gains: &mut [f32; 18], infos: &Bytes, reach: Reach, b: usize)
-    requires { b < most_blocks }
-    ensures { gains.new ≡ bed_gains infos.now (reach.beds + b) reach.channels gains.old }
+pub fn bed_gains(gains: &mut [f32; 18], infos: &[u8], first: usize, count: usize)
+    requires { (length infos.now ≡ all_bytes) × (count ≤ 18) × ((d : ℕ) → d < count → first + most_blocks * d < all_infos) }
+    ensures { gains.new ≡ bed_gains infos.now first count gains.old }
 {
-    for i in 0..reach.channels {
-        let info = InfoNumber {
-            k: reach.beds + b + BLOCKS * i,
-        };
-        gains[i] = infos::maybe_at(infos, info, 4, GAIN).unwrap_or(gains[i]);
+    for i in 0..count {
+        gains[i] = infos::maybe_at(infos, first + BLOCKS * i, 4, GAIN).unwrap_or(gains[i]);
     }
 }

@@ -101,7 +101,7 @@ pub struct Slot {
 }
 
 impl Slot {
-    // Block b, applied. That it is one of the element's is asked here and of what it does to beds and objects, and is no type: b is the counter of the one loop below.
+    // Block b, applied. That it is one of the element's is asked here and is no type: b is the counter of the one loop below.
     #[tactic(auto, using(crate::proofs::Shifted::left_over, crate::proofs::Shifted::left_shifted_is), unfolding(crate::specs::Slot::block_applied))]
     fn apply_block(&mut self, infos: &mut Bytes, b: usize, when: Timing, reach: Reach)
         requires { b < most_blocks }
@@ -114,8 +114,9 @@ impl Slot {
             ..block
         };
         self.remaining = left;
-        objects::bed_gains(&mut self.gains, infos, reach, b);
-        self.moving.apply_block(infos, reach, b, left <= RAMP_OVER);
+        objects::bed_gains(&mut self.gains, infos, reach.beds + b, reach.channels);
+        self.moving
+            .apply_block(infos, reach.first + b, reach.count, left <= RAMP_OVER);
     }
 
     // The first n blocks in order, each applied where it is due.
@@ -138,7 +139,7 @@ impl Slot {
         ensures { self.new ≡ ramp_applied before.now reach.count self.old }
     {
         if self.remaining > RAMP_OVER {
-            self.moving.ramp(before, reach, share(self.remaining));
+            self.moving.ramp(before, reach.count, share(self.remaining));
             self.remaining -= 64;
         } else {
             self.moving.free(reach);

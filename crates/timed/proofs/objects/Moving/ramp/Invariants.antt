@@ -4,4 +4,4 @@ use Rattle.timed.specs.Objects.{ramped_at}
 use Rattle.timed.proofs.objects.Moving.ramp.Given as goal
 
 abbrev pub invariant-loop-d : goal.invariant-loop-d
-invariant-loop-d l = Leads (ramped_at l.t l.before) l.d-end l.initial.self l.d l.self
+invariant-loop-d l = Leads (ramped_at l.t l.before) l.count l.initial.self l.d l.self
