@@ -136,7 +136,8 @@ impl Program {
         }
     }
 
-    // Its budget of turns is more than any input has. An answer is one write. What a frame is read into is made here, once: made for each frame, all of it would be cleared for each.
+    // Its budget of turns is more than any input has. An answer is one write.
+    // What a frame is read into is made here, once: made for each frame, all of it would be cleared for each.
     fn run(&mut self, rt: &HostRuntime) -> Result<(), End>
         requires { self.old.state ≡ new_block }
         ensures { Ran self.old.state self.old.out self.new.state self.new.out }
